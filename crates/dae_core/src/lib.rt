@@ -1,0 +1,2 @@
+// One processor.
+#![tactic(auto)]

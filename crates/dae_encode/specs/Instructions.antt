@@ -1,0 +1,206 @@
+-- The instructions of RV32I and its extension M: their words, and what each does with the values of its registers
+-- (RISC-V unprivileged manual, "RV32I Base Integer Instruction Set", ""M" Extension" and "RV32/64G Instruction Set Listings").
+use Rattle.std.specs.Prelude.{ℕ, ◌+◌, ◌-◌, ◌*◌, ◌/◌, ◌%◌, ◌^◌, ℤ, pos, negsuc, ◌*ℤ◌, Bool, not, nat_lt, ◌==◌, if◌then◌else◌, List, [], ◌∷◌, Option, Some, None, option_and_then, slice_get, bit_and, bit_or, bit_xor, int_lt, int_div, int_rem}
+use Rattle.std.specs.Int.{int_shr}
+use Rattle.dae_base.specs.Words.{word, signed, plus, minus, times}
+use Rattle.dae_base.specs.declared.Width.{Width}
+use Rattle.dae_base.specs.declared.Width.TheVariants.{B1, B2, B4}
+use Rattle.dae_base.specs.declared.LoadKind.{LoadKind}
+use Rattle.dae_base.specs.declared.LoadKind.TheVariants.{I8, U8, I16, U16, I32}
+use Rattle.dae_encode.specs.declared.Form.{Form}
+use Rattle.dae_encode.specs.declared.Form.TheVariants.{Computes, Loads, Stores, Calls}
+use Rattle.dae_encode.specs.declared.Inst.{Inst}
+use Rattle.dae_encode.specs.declared.Inst.TheVariants.{Lui, Auipc, Jal, Jalr, Beq, Bne, Blt, Bge, Bltu, Bgeu, Lb, Lh, Lw, Lbu, Lhu, Sb, Sh, Sw, Addi, Slti, Sltiu, Xori, Ori, Andi, Slli, Srli, Srai, Add, Sub, Sll, Slt, Sltu, Xor, Srl, Sra, Or, And, Mul, Mulh, Mulhsu, Mulhu, Div, Divu, Rem, Remu, Ecall}
+
+-- ---- arithmetic on words
+
+-- the signed number of so many bits (two's complement)
+abbrev pub signed_in : ℕ → ℕ → ℤ
+signed_in bits n = if nat_lt n (2 ^ (bits - 1)) then pos n else negsuc (2 ^ bits - 1 - n)
+
+abbrev pub flag : Bool → ℕ
+flag b = if b then 1 else 0
+
+abbrev pub shift_left : ℕ → ℕ → ℕ
+shift_left x y = (x * 2 ^ (y % 32)) % 2 ^ 32
+
+abbrev pub shift_right : ℕ → ℕ → ℕ
+shift_right x y = x / 2 ^ (y % 32)
+
+abbrev pub shift_signed : ℕ → ℕ → ℕ
+shift_signed x y = word (int_shr (signed x) (y % 32))
+
+abbrev pub quotient : ℕ → ℕ → ℕ
+quotient x y = if y == 0 then 2 ^ 32 - 1 else word (int_div (signed x) (signed y))
+
+abbrev pub remainder : ℕ → ℕ → ℕ
+remainder x y = if y == 0 then x else word (int_rem (signed x) (signed y))
+
+-- ---- what an instruction does
+
+-- DoesCompute: rd becomes value(counter, first, second), and the counter next(counter, first, second)
+pub data Effect : Type 0 where
+  DoesCompute : (rd first second : ℕ) (value next : ℕ → ℕ → ℕ → ℕ) → Effect
+  DoesLoad : (kind : LoadKind) (rd base offset : ℕ) → Effect
+  DoesStore : (width : Width) (base source offset : ℕ) → Effect
+  DoesCall : Effect
+
+abbrev pub on_two : ℕ → ℕ → ℕ → (ℕ → ℕ → ℕ) → Effect
+on_two rd first second f = DoesCompute rd first second (λ pc x y. f x y) (λ pc x y. plus pc 4)
+
+abbrev pub on_one : ℕ → ℕ → (ℕ → ℕ) → Effect
+on_one rd first f = DoesCompute rd first 0 (λ pc x y. f x) (λ pc x y. plus pc 4)
+
+abbrev pub branch : ℕ → ℕ → ℤ → (ℕ → ℕ → Bool) → Effect
+branch first second imm test = DoesCompute 0 first second (λ pc x y. 0) (λ pc x y. plus pc (if test x y then word imm else 4))
+
+abbrev pub effect : Inst → Effect
+effect (Lui rd imm) = DoesCompute rd 0 0 (λ pc x y. word imm) (λ pc x y. plus pc 4)
+effect (Auipc rd imm) = DoesCompute rd 0 0 (λ pc x y. plus pc (word imm)) (λ pc x y. plus pc 4)
+effect (Jal rd imm) = DoesCompute rd 0 0 (λ pc x y. plus pc 4) (λ pc x y. plus pc (word imm))
+effect (Jalr rd base imm) = DoesCompute rd base 0 (λ pc x y. plus pc 4) (λ pc x y. plus x (word imm) / 2 * 2)
+effect (Beq first second imm) = branch first second imm (λ x y. x == y)
+effect (Bne first second imm) = branch first second imm (λ x y. not (x == y))
+effect (Blt first second imm) = branch first second imm (λ x y. int_lt (signed x) (signed y))
+effect (Bge first second imm) = branch first second imm (λ x y. not (int_lt (signed x) (signed y)))
+effect (Bltu first second imm) = branch first second imm (λ x y. nat_lt x y)
+effect (Bgeu first second imm) = branch first second imm (λ x y. not (nat_lt x y))
+effect (Lb rd base imm) = DoesLoad I8 rd base (word imm)
+effect (Lh rd base imm) = DoesLoad I16 rd base (word imm)
+effect (Lw rd base imm) = DoesLoad I32 rd base (word imm)
+effect (Lbu rd base imm) = DoesLoad U8 rd base (word imm)
+effect (Lhu rd base imm) = DoesLoad U16 rd base (word imm)
+effect (Sb base source imm) = DoesStore B1 base source (word imm)
+effect (Sh base source imm) = DoesStore B2 base source (word imm)
+effect (Sw base source imm) = DoesStore B4 base source (word imm)
+effect (Addi rd first imm) = on_one rd first (λ x. plus x (word imm))
+effect (Slti rd first imm) = on_one rd first (λ x. flag (int_lt (signed x) imm))
+effect (Sltiu rd first imm) = on_one rd first (λ x. flag (nat_lt x (word imm)))
+effect (Xori rd first imm) = on_one rd first (λ x. bit_xor x (word imm))
+effect (Ori rd first imm) = on_one rd first (λ x. bit_or x (word imm))
+effect (Andi rd first imm) = on_one rd first (λ x. bit_and x (word imm))
+effect (Slli rd first imm) = on_one rd first (λ x. shift_left x (word imm))
+effect (Srli rd first imm) = on_one rd first (λ x. shift_right x (word imm))
+effect (Srai rd first imm) = on_one rd first (λ x. shift_signed x (word imm))
+effect (Add rd first second) = on_two rd first second plus
+effect (Sub rd first second) = on_two rd first second minus
+effect (Sll rd first second) = on_two rd first second shift_left
+effect (Slt rd first second) = on_two rd first second (λ x y. flag (int_lt (signed x) (signed y)))
+effect (Sltu rd first second) = on_two rd first second (λ x y. flag (nat_lt x y))
+effect (Xor rd first second) = on_two rd first second (λ x y. bit_xor x y)
+effect (Srl rd first second) = on_two rd first second shift_right
+effect (Sra rd first second) = on_two rd first second shift_signed
+effect (Or rd first second) = on_two rd first second (λ x y. bit_or x y)
+effect (And rd first second) = on_two rd first second (λ x y. bit_and x y)
+effect (Mul rd first second) = on_two rd first second times
+effect (Mulh rd first second) = on_two rd first second (λ x y. word (int_shr (signed x *ℤ signed y) 32))
+effect (Mulhsu rd first second) = on_two rd first second (λ x y. word (int_shr (signed x *ℤ pos y) 32))
+effect (Mulhu rd first second) = on_two rd first second (λ x y. x * y / 2 ^ 32)
+effect (Div rd first second) = on_two rd first second quotient
+effect (Divu rd first second) = on_two rd first second (λ x y. if y == 0 then 2 ^ 32 - 1 else x / y)
+effect (Rem rd first second) = on_two rd first second remainder
+effect (Remu rd first second) = on_two rd first second (λ x y. if y == 0 then x else x % y)
+effect Ecall = DoesCall
+
+-- the part of an effect that holds no function
+abbrev pub form_of : Effect → Form
+form_of (DoesCompute rd first second value next) = Computes rd first second
+form_of (DoesLoad kind rd base offset) = Loads kind rd base offset
+form_of (DoesStore width base source offset) = Stores width base source offset
+form_of DoesCall = Calls
+
+abbrev pub value_of : Effect → ℕ → ℕ → ℕ → ℕ
+value_of (DoesCompute rd first second value next) pc x y = value pc x y
+value_of (DoesLoad kind rd base offset) pc x y = 0
+value_of (DoesStore width base source offset) pc x y = 0
+value_of DoesCall pc x y = 0
+
+abbrev pub next_of : Effect → ℕ → ℕ → ℕ → ℕ
+next_of (DoesCompute rd first second value next) pc x y = next pc x y
+next_of (DoesLoad kind rd base offset) pc x y = plus pc 4
+next_of (DoesStore width base source offset) pc x y = plus pc 4
+next_of DoesCall pc x y = plus pc 4
+
+unfoldable pub form : Inst → Form
+form i = form_of (effect i)
+
+-- the result, from the counter and the sources
+unfoldable pub value : Inst → ℕ → ℕ → ℕ → ℕ
+value i pc x y = value_of (effect i) pc x y
+
+-- the counter after it
+unfoldable pub next : Inst → ℕ → ℕ → ℕ → ℕ
+next i pc x y = next_of (effect i) pc x y
+
+-- ---- words
+
+-- the bits from low on, count of them
+abbrev pub field : ℕ → ℕ → ℕ → ℕ
+field low count w = w / 2 ^ low % 2 ^ count
+
+unfoldable pub imm_i : ℕ → ℤ
+imm_i w = signed_in 12 (field 20 12 w)
+
+unfoldable pub imm_s : ℕ → ℤ
+imm_s w = signed_in 12 (field 25 7 w * 32 + field 7 5 w)
+
+unfoldable pub imm_b : ℕ → ℤ
+imm_b w = signed_in 13 (field 31 1 w * 2 ^ 12 + field 7 1 w * 2 ^ 11 + field 25 6 w * 32 + field 8 4 w * 2)
+
+unfoldable pub imm_u : ℕ → ℤ
+imm_u w = signed_in 32 (field 12 20 w * 2 ^ 12)
+
+unfoldable pub imm_j : ℕ → ℤ
+imm_j w = signed_in 21 (field 31 1 w * 2 ^ 20 + field 12 8 w * 2 ^ 12 + field 20 1 w * 2 ^ 11 + field 21 10 w * 2)
+
+abbrev pub row : {X : Type 0} → List (Option X) → ℕ → Option X
+row rows i = option_and_then (λ o. o) (slice_get rows i)
+
+unfoldable pub branches : ℕ → ℕ → ℕ → ℤ → Option Inst
+branches f3 x y imm = row (Some (Beq x y imm) ∷ (Some (Bne x y imm) ∷ (None ∷ (None ∷ (Some (Blt x y imm) ∷ (Some (Bge x y imm) ∷ (Some (Bltu x y imm) ∷ (Some (Bgeu x y imm) ∷ [])))))))) f3
+
+unfoldable pub loads : ℕ → ℕ → ℕ → ℤ → Option Inst
+loads f3 rd x imm = row (Some (Lb rd x imm) ∷ (Some (Lh rd x imm) ∷ (Some (Lw rd x imm) ∷ (None ∷ (Some (Lbu rd x imm) ∷ (Some (Lhu rd x imm) ∷ [])))))) f3
+
+unfoldable pub stores : ℕ → ℕ → ℕ → ℤ → Option Inst
+stores f3 x y imm = row (Some (Sb x y imm) ∷ (Some (Sh x y imm) ∷ (Some (Sw x y imm) ∷ []))) f3
+
+unfoldable pub immediates : ℕ → ℕ → ℕ → ℤ → Option Inst
+immediates f3 rd x imm = row (Some (Addi rd x imm) ∷ (None ∷ (Some (Slti rd x imm) ∷ (Some (Sltiu rd x imm) ∷ (Some (Xori rd x imm) ∷ (None ∷ (Some (Ori rd x imm) ∷ (Some (Andi rd x imm) ∷ [])))))))) f3
+
+abbrev pub operations : ℕ → ℕ → ℕ → ℕ → Option Inst
+operations f3 rd x y = row (Some (Add rd x y) ∷ (Some (Sll rd x y) ∷ (Some (Slt rd x y) ∷ (Some (Sltu rd x y) ∷ (Some (Xor rd x y) ∷ (Some (Srl rd x y) ∷ (Some (Or rd x y) ∷ (Some (And rd x y) ∷ [])))))))) f3
+
+abbrev pub multiplications : ℕ → ℕ → ℕ → ℕ → Option Inst
+multiplications f3 rd x y = row (Some (Mul rd x y) ∷ (Some (Mulh rd x y) ∷ (Some (Mulhsu rd x y) ∷ (Some (Mulhu rd x y) ∷ (Some (Div rd x y) ∷ (Some (Divu rd x y) ∷ (Some (Rem rd x y) ∷ (Some (Remu rd x y) ∷ [])))))))) f3
+
+unfoldable pub shifts : ℕ → ℕ → ℕ → ℕ → ℕ → Option Inst
+shifts f3 f7 rd x amount =
+    if f3 == 1 then (if f7 == 0 then Some (Slli rd x (pos amount)) else None)
+    else (if f7 == 0 then Some (Srli rd x (pos amount)) else (if f7 == 32 then Some (Srai rd x (pos amount)) else None))
+
+unfoldable pub registers_only : ℕ → ℕ → ℕ → ℕ → ℕ → Option Inst
+registers_only f3 f7 rd x y =
+    if f7 == 0 then operations f3 rd x y
+    else (if f7 == 1 then multiplications f3 rd x y
+    else (if f7 == 32 then (if f3 == 0 then Some (Sub rd x y) else (if f3 == 5 then Some (Sra rd x y) else None)) else None))
+
+abbrev pub decode_by : ℕ → ℕ → ℕ → ℕ → ℕ → ℕ → ℕ → Option Inst
+decode_by w op rd f3 rs1 rs2 f7 =
+    if w == 0x73 then Some Ecall
+    else (if op == 0b0110111 then Some (Lui rd (imm_u w))
+    else (if op == 0b0010111 then Some (Auipc rd (imm_u w))
+    else (if op == 0b1101111 then Some (Jal rd (imm_j w))
+    else (if op == 0b1100111 then (if f3 == 0 then Some (Jalr rd rs1 (imm_i w)) else None)
+    else (if op == 0b1100011 then branches f3 rs1 rs2 (imm_b w)
+    else (if op == 0b0000011 then loads f3 rd rs1 (imm_i w)
+    else (if op == 0b0100011 then stores f3 rs1 rs2 (imm_s w)
+    else (if op == 0b0010011 then (
+    if f3 % 4 == 1 then shifts f3 f7 rd rs1 rs2
+    else immediates f3 rd rs1 (imm_i w))
+    else (if op == 0b0110011 then registers_only f3 f7 rd rs1 rs2
+    else None)))))))))
+
+-- the instruction that a word spells
+unfoldable pub decode : ℕ → Option Inst
+decode w = decode_by w (field 0 7 w) (field 7 5 w) (field 12 3 w) (field 15 5 w) (field 20 5 w) (field 25 7 w)
