@@ -4,6 +4,7 @@ use Rattle.std.specs.Prelude.{Option, Some, is_some}
 use Rattle.std.specs.List.{AllByRecursion, find}
 use Rattle.std.proofs.lemmas.List.{map-append}
 use Rattle.std.proofs.lemmas.Bool.Decides.{nat_tests}
+use Rattle.dae_base.specs.declared.Width.{Width}
 use Rattle.dae_base.specs.declared.LoadKind.{LoadKind}
 use Rattle.dae_queues.specs.declared.Slot.{Slot}
 use Rattle.dae_queues.specs.declared.StoreAt.{StoreAt}
@@ -92,3 +93,15 @@ slots_given issued n w s c = record { numbers = rw (numbers_given n w s.slots) c
 sa_rest : (drained issued : ℕ) (as' : List StoreAt) (ws : List ℕ) (s : StoreAt × ℕ) → next_store as' ws ≡ Some s → Counts drained (map (λ (a : StoreAt). a.number) as') issued → Counts (drained + 1) (map (λ (a : StoreAt). a.number) (rest as')) issued
 sa_rest drained issued [] ws s n c = absurd (cc)
 sa_rest drained issued (a ∷ as') ws s n c = c.1
+
+-- where something waits, fewer were taken than were put in
+pub counts_front : (low high v : ℕ) (ss : List Slot) → Counts low (map (λ (slot : Slot). slot.number) ss) high → first_value ss ≡ Some v → low + 1 ≤ high
+counts_front low high v [] h f = cc
+counts_front low high v (s ∷ ss) h f = counts_le (low + 1) (map (λ (slot : Slot). slot.number) ss) high h.1
+
+pub counts_store : (low high : ℕ) (as' : List StoreAt) (ws : List ℕ) (s : StoreAt × ℕ) → Counts low (map (λ (a : StoreAt). a.number) as') high → next_store as' ws ≡ Some s → low + 1 ≤ high
+counts_store low high [] ws s h f = cc
+counts_store low high (a ∷ as') ws s h f = counts_le (low + 1) (map (λ (a : StoreAt). a.number) as') high h.1
+
+pub stores_more : (low high addr : ℕ) (width : Width) (as' : List StoreAt) → Counts low (map (λ (a : StoreAt). a.number) as') high → Counts low (map (λ (a : StoreAt). a.number) (as' ++ record { number = high; addr = addr; width = width } ∷ [])) (high + 1)
+stores_more low high addr width as' c = rw (map-append (λ (a : StoreAt). a.number) as' (record { number = high; addr = addr; width = width } ∷ [])) (counts_more low (map (λ (a : StoreAt). a.number) as') high c)
