@@ -29,9 +29,9 @@ no_stores = record { drained = 0; issued = 0; sa = []; sd = [] }
 
 -- ---- the two ends of a queue
 
-abbrev pub first : List ℕ → Option ℕ
+abbrev pub first : {X : Type 0} → List X → Option X
 first [] = None
-first (w ∷ ws) = Some w
+first (x ∷ xs) = Some x
 
 abbrev pub rest {ℓ} : {X : Type ℓ} → List X → List X
 rest [] = []

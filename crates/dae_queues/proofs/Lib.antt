@@ -1,0 +1,7 @@
+pub mod Bytes
+pub mod QueueLaws
+pub mod MemoryLaws
+pub mod CountLaws
+pub mod FillLaws
+pub mod DrainLaws
+pub mod Places

@@ -1,0 +1,20 @@
+-- What contracts see of the bounded queues: what they hold, and how much they can hold.
+use Rattle.std.specs.Prelude.{ℕ, ◌-◌, nat_lt, if◌then◌else◌, List, Option, Some, None, is_none, slice_get, option_and_then}
+use Rattle.dae_queues.specs.declared.Slot.{Slot}
+use Rattle.dae_queues.specs.Lists.{Slots, Stores}
+
+pub record SlotRing : Type 0 where
+  pub held : Slots
+  pub depth : ℕ
+
+pub record StoreRing : Type 0 where
+  pub held : Stores
+  pub sa_depth : ℕ
+  pub sd_depth : ℕ
+
+abbrev pub unfilled : Slot → Option Slot
+unfilled s = if is_none s.value then Some s else None
+
+-- the waiting slot of this number, by its place behind the first slot, whose number is low
+abbrev pub at_place : List Slot → ℕ → ℕ → Option Slot
+at_place ss low number = if nat_lt number low then None else option_and_then unfilled (slice_get ss (number - low))

@@ -1,0 +1,205 @@
+ghost use Rattle.std.specs.Prelude.{◌≡◌, ◌<◌, ◌^◌, length, nat_lt, is_some, if◌then◌else◌, IfOk, slice_get, slice_set, Some};
+ghost use Rattle.std.specs.List.{list_any};
+ghost use Rattle.circular_buffer.specs.Buffer.{buffer};
+ghost use Rattle.dae_queues.specs.Lists.{first_value, with_slot, without_front, waiting, with_value, no_slots, holds};
+ghost use Rattle.dae_queues.specs.Rings.{at_place};
+
+use crate::{Slot, StoreAt, overlap};
+use circular_buffer::HeapCircularBuffer;
+use dae_base::LoadKind;
+use std::alloc::{AllocError, Global};
+use std::marker::Model;
+
+/// A load queue: the slots that were reserved and not yet taken, oldest first, and how many it can hold. A slot counts
+/// against the depth from its reservation until it is taken.
+#[derive(Drop)]
+pub struct SlotQueue {
+    ring: HeapCircularBuffer<Slot>,
+    taken: u64,
+    reserved: u64,
+}
+
+impl Model for SlotQueue {
+    ghost use Rattle.std.specs.Prelude.{◌<◌, ◌^◌, map};
+    ghost use Rattle.dae_queues.specs.Numbers.{Counts};
+    ghost use Rattle.dae_queues.specs.Rings.{SlotRing};
+
+    ghost Value = { SlotRing };
+
+    ghost view = { λ q. record { held = record { taken = q.taken; reserved = q.reserved; slots = q.ring.items }; depth = q.ring.capacity } };
+
+    ghost invariant = { λ q. Counts q.taken (map (λ slot. slot.number) q.ring.items) q.reserved × (q.ring.capacity < 2 ^ 16) };
+}
+
+impl SlotQueue {
+    /// An empty queue of at most so many slots.
+    pub fn with_depth(alloc: Global, depth: u16) -> Result<SlotQueue, AllocError>
+        requires some { 0 < depth }
+        ensures { IfOk result (λ q. q ≡ record { held = no_slots; depth = depth }) }
+    {
+        let ring = HeapCircularBuffer::with_capacity(alloc, depth as usize)?;
+        Ok(SlotQueue {
+            ring,
+            taken: 0,
+            reserved: 0,
+        })
+    }
+
+    /// How many slots wait or are filled.
+    pub fn len(&self) -> u16
+        ensures { result ≡ length self.now.held.slots }
+    {
+        self.ring.len() as u16
+    }
+
+    /// How many slots there may be.
+    pub fn depth(&self) -> u16
+        ensures { result ≡ self.now.depth }
+    {
+        self.ring.capacity() as u16
+    }
+
+    /// Whether one more slot has room.
+    pub fn has_room(&self) -> bool
+        ensures { result ≡ nat_lt (length self.now.held.slots) self.now.depth }
+    {
+        self.ring.len() < self.ring.capacity()
+    }
+
+    /// How many slots were ever reserved, which is the number of the next one.
+    pub fn reserved(&self) -> u64
+        ensures { result ≡ self.now.held.reserved }
+    {
+        self.reserved
+    }
+
+    /// How many slots were ever taken, which is the number of the front one.
+    pub fn taken(&self) -> u64
+        ensures { result ≡ self.now.held.taken }
+    {
+        self.taken
+    }
+
+    /// The slot at a place from the front, filled or not, or None past the last.
+    pub fn at(&self, at: u16) -> Option<Slot>
+        ensures { result ≡ slice_get self.now.held.slots at }
+    {
+        self.ring.get(at as usize).copied()
+    }
+
+    /// Appends a slot that waits, and gives its number, or None where the queue is full.
+    pub fn reserve(&mut self, addr: u32, kind: LoadKind, stamp: u64) -> Option<u64>
+        requires can_count { self.old.held.reserved < 2 ^ 40 }
+        ensures number { result ≡ (if nat_lt (length self.old.held.slots) self.old.depth then Some self.old.held.reserved else None) }
+        ensures slots { self.new ≡ (if nat_lt (length self.old.held.slots) self.old.depth then record self.old { held = with_slot kind addr stamp self.old.held } else self.old) }
+    {
+        let number = self.reserved;
+        let slot = Slot {
+            number,
+            addr,
+            kind,
+            stamp,
+            value: None,
+        };
+        match self.ring.try_push_back(slot) {
+            Ok(()) => {
+                self.reserved = number + 1;
+                Some(number)
+            }
+            Err(_) => None,
+        }
+    }
+
+    /// The value of the front slot, or None where there is no slot or the front one isn't filled.
+    pub fn front(&self) -> Option<u32>
+        ensures { result ≡ first_value self.now.held.slots }
+    {
+        match self.ring.front() {
+            Some(slot) => slot.value,
+            None => None,
+        }
+    }
+
+    /// Takes the front slot out and gives its value, or None where there is no slot or the front one isn't filled.
+    pub fn take(&mut self) -> Option<u32>
+        ensures value { result ≡ first_value self.old.held.slots }
+        ensures slots { self.new ≡ (if is_some (first_value self.old.held.slots) then record self.old { held = without_front self.old.held } else self.old) }
+    {
+        let value = self.front()?;
+        let _ = self.ring.pop_front();
+        self.taken += 1;
+        Some(value)
+    }
+
+    /// The slot of this number, or None where no slot of this number waits for its value.
+    pub fn waiting(&self, number: u64) -> Option<Slot>
+        ensures { result ≡ waiting number self.now.held.slots }
+    {
+        slot_at(&self.ring, self.taken, number)
+    }
+
+    /// Gives the slot of this number its value, or answers false where no slot of this number waits for one.
+    pub fn fill(&mut self, number: u64, value: u32) -> bool
+        ensures found { result ≡ is_some (waiting number self.old.held.slots) }
+        ensures slots { self.new ≡ record self.old { held = record self.old.held { slots = with_value number value self.old.held.slots } } }
+    {
+        match slot_at(&self.ring, self.taken, number) {
+            None => false,
+            Some(slot) => {
+                let at = (number - self.taken) as usize;
+                put_at(&mut self.ring, at, slot, value);
+                true
+            }
+        }
+    }
+
+    /// Whether an older load that waits keeps this store from being drained: one whose stamp is at most the store's
+    /// number and that reads a byte of it.
+    pub fn holds(&self, at: &StoreAt) -> bool
+        ensures { result ≡ list_any (holds at.now) self.now.held.slots }
+    {
+        any_holds(&self.ring, at)
+    }
+}
+
+fn put_at(ring: &mut HeapCircularBuffer<Slot>, at: usize, mut slot: Slot, value: u32)
+    requires { slice_get ring.old.items at ≡ Some slot }
+    ensures { ring.new ≡ buffer (slice_set ring.old.items at (record slot { value = Some value })) ring.old.capacity }
+{
+    slot.value = Some(value);
+    if let Some(place) = ring.get_mut(at) {
+        *place = slot;
+    }
+}
+
+fn slot_at(ring: &HeapCircularBuffer<Slot>, taken: u64, number: u64) -> Option<Slot>
+    ensures { result ≡ at_place ring.now.items taken number }
+{
+    if number < taken {
+        return None;
+    }
+    match ring.get((number - taken) as usize) {
+        None => None,
+        Some(slot) => {
+            if slot.value.is_none() {
+                Some(*slot)
+            } else {
+                None
+            }
+        }
+    }
+}
+
+fn holds(at: &StoreAt, slot: &Slot) -> bool
+    ensures { result ≡ holds at.now slot.now }
+{
+    slot.value.is_none()
+        && slot.stamp <= at.number
+        && overlap(at.addr, at.width, slot.addr, slot.kind.width())
+}
+
+fn any_holds(slots: &HeapCircularBuffer<Slot>, at: &StoreAt) -> bool
+    ensures { result ≡ list_any (holds at.now) slots.now.items }
+{
+    slots.iter().any(|slot| holds(at, slot))
+}
