@@ -1,6 +1,14 @@
 // The instructions of RV32I and its extension M: their words, what each does, and its one access to a queue.
 #![tactic(auto)]
 
+pub use access::{bad_call, is_shared, is_within, queue_use};
+pub use effects::{form_of, next, value};
+pub use words::decode;
+
+mod access;
+mod effects;
+mod words;
+
 use dae_base::{LoadKind, Queue, Width};
 
 /// The one queue access of an instruction.

@@ -1,0 +1,189 @@
+ghost use Rattle.std.specs.Prelude.{◌≡◌, ℕ, ◌<◌, ◌^◌, ◌*ℤ◌, ◌-ℤ◌, ◌≤ℤ◌, ◌<ℤ◌, pos, if◌then◌else◌};
+ghost use Rattle.std.specs.Int.{int_shr};
+ghost use Rattle.dae_base.specs.Words.{word, signed, plus};
+ghost use Rattle.dae_encode.specs.Instructions.{form, value, next, shift_left, shift_right, shift_signed, quotient, remainder};
+
+use crate::{Form, Inst};
+use dae_base::{LoadKind, Width};
+
+fn shl(x: u32, y: u32) -> u32
+    ensures { result ≡ shift_left x y }
+{
+    x.wrapping_shl(y)
+}
+
+fn shr(x: u32, y: u32) -> u32
+    ensures { result ≡ shift_right x y }
+{
+    x >> (y % 32)
+}
+
+fn sar(x: u32, y: u32) -> u32
+    ensures { result ≡ shift_signed x y }
+{
+    (x.cast_signed() >> (y % 32)).cast_unsigned()
+}
+
+fn div(x: u32, y: u32) -> u32
+    ensures { result ≡ quotient x y }
+{
+    if y == 0 {
+        u32::MAX
+    } else {
+        x.cast_signed()
+            .wrapping_div(y.cast_signed())
+            .cast_unsigned()
+    }
+}
+
+fn rem(x: u32, y: u32) -> u32
+    ensures { result ≡ remainder x y }
+{
+    if y == 0 {
+        x
+    } else {
+        x.cast_signed()
+            .wrapping_rem(y.cast_signed())
+            .cast_unsigned()
+    }
+}
+
+fn product(x: i64, y: i64) -> i64
+    requires x { ((pos 0 -ℤ pos (2 ^ 31)) ≤ℤ x) × (x <ℤ pos (2 ^ 32)) }
+    requires y { ((pos 0 -ℤ pos (2 ^ 31)) ≤ℤ y) × (y <ℤ pos (2 ^ 31)) }
+    ensures { result ≡ x *ℤ y }
+{
+    x * y
+}
+
+fn upper(x: i64) -> u32
+    requires { ((pos 0 -ℤ pos (2 ^ 63)) ≤ℤ x) × (x <ℤ pos (2 ^ 63)) }
+    ensures { result ≡ word (int_shr x 32) }
+{
+    ((x >> 32) as i32).cast_unsigned()
+}
+
+fn mulh(x: u32, y: u32) -> u32
+    ensures { result ≡ word (int_shr (signed x *ℤ signed y) 32) }
+{
+    upper(product(i64::from(x.cast_signed()), i64::from(y.cast_signed())))
+}
+
+fn mulhsu(x: u32, y: u32) -> u32
+    ensures { result ≡ word (int_shr (signed x *ℤ pos y) 32) }
+{
+    upper(product(i64::from(y), i64::from(x.cast_signed())))
+}
+
+/// The word that an instruction computes from the counter and its operands.
+#[tactic(auto, unfolding(crate::specs::Instructions::value))]
+pub fn value(inst: &Inst, pc: u32, x: u32, y: u32) -> u32
+    ensures { result ≡ value inst.now pc x y }
+{
+    match *inst {
+        Inst::Lui(_, imm) => imm.cast_unsigned(),
+        Inst::Auipc(_, imm) => pc.wrapping_add(imm.cast_unsigned()),
+        Inst::Jal(_, _) | Inst::Jalr(_, _, _) => pc.wrapping_add(4),
+        Inst::Addi(_, _, imm) => x.wrapping_add(imm.cast_unsigned()),
+        Inst::Slti(_, _, imm) => u32::from(x.cast_signed() < imm),
+        Inst::Sltiu(_, _, imm) => u32::from(x < imm.cast_unsigned()),
+        Inst::Xori(_, _, imm) => x ^ imm.cast_unsigned(),
+        Inst::Ori(_, _, imm) => x | imm.cast_unsigned(),
+        Inst::Andi(_, _, imm) => x & imm.cast_unsigned(),
+        Inst::Slli(_, _, imm) => shl(x, imm.cast_unsigned()),
+        Inst::Srli(_, _, imm) => shr(x, imm.cast_unsigned()),
+        Inst::Srai(_, _, imm) => sar(x, imm.cast_unsigned()),
+        Inst::Add(_, _, _) => x.wrapping_add(y),
+        Inst::Sub(_, _, _) => x.wrapping_sub(y),
+        Inst::Sll(_, _, _) => shl(x, y),
+        Inst::Slt(_, _, _) => u32::from(x.cast_signed() < y.cast_signed()),
+        Inst::Sltu(_, _, _) => u32::from(x < y),
+        Inst::Xor(_, _, _) => x ^ y,
+        Inst::Srl(_, _, _) => shr(x, y),
+        Inst::Sra(_, _, _) => sar(x, y),
+        Inst::Or(_, _, _) => x | y,
+        Inst::And(_, _, _) => x & y,
+        Inst::Mul(_, _, _) => x.wrapping_mul(y),
+        Inst::Mulhu(_, _, _) => ((x as u64 * y as u64) / 0x1_0000_0000) as u32,
+        Inst::Div(_, _, _) => div(x, y),
+        Inst::Divu(_, _, _) => if y == 0 { u32::MAX } else { x / y },
+        Inst::Rem(_, _, _) => rem(x, y),
+        Inst::Remu(_, _, _) => if y == 0 { x } else { x % y },
+        Inst::Mulh(_, _, _) => mulh(x, y),
+        Inst::Mulhsu(_, _, _) => mulhsu(x, y),
+        _ => 0,
+    }
+}
+
+/// The registers of an instruction, and its offset.
+#[tactic(auto, unfolding(crate::specs::Instructions::form))]
+pub fn form_of(inst: &Inst) -> Form
+    ensures { result ≡ form inst.now }
+{
+    match *inst {
+        Inst::Lui(rd, _) | Inst::Auipc(rd, _) | Inst::Jal(rd, _) => Form::Computes(rd, 0, 0),
+        Inst::Jalr(rd, base, _) => Form::Computes(rd, base, 0),
+        Inst::Beq(x, y, _) | Inst::Bne(x, y, _) | Inst::Blt(x, y, _) => Form::Computes(0, x, y),
+        Inst::Bge(x, y, _) | Inst::Bltu(x, y, _) | Inst::Bgeu(x, y, _) => Form::Computes(0, x, y),
+        Inst::Lb(rd, base, imm) => Form::Loads(LoadKind::I8, rd, base, imm.cast_unsigned()),
+        Inst::Lh(rd, base, imm) => Form::Loads(LoadKind::I16, rd, base, imm.cast_unsigned()),
+        Inst::Lw(rd, base, imm) => Form::Loads(LoadKind::I32, rd, base, imm.cast_unsigned()),
+        Inst::Lbu(rd, base, imm) => Form::Loads(LoadKind::U8, rd, base, imm.cast_unsigned()),
+        Inst::Lhu(rd, base, imm) => Form::Loads(LoadKind::U16, rd, base, imm.cast_unsigned()),
+        Inst::Sb(base, source, imm) => Form::Stores(Width::B1, base, source, imm.cast_unsigned()),
+        Inst::Sh(base, source, imm) => Form::Stores(Width::B2, base, source, imm.cast_unsigned()),
+        Inst::Sw(base, source, imm) => Form::Stores(Width::B4, base, source, imm.cast_unsigned()),
+        Inst::Addi(rd, x, _) | Inst::Slti(rd, x, _) | Inst::Sltiu(rd, x, _) => Form::Computes(
+            rd, x, 0,
+        ),
+        Inst::Xori(rd, x, _) | Inst::Ori(rd, x, _) | Inst::Andi(rd, x, _) => Form::Computes(
+            rd, x, 0,
+        ),
+        Inst::Slli(rd, x, _) | Inst::Srli(rd, x, _) | Inst::Srai(rd, x, _) => Form::Computes(
+            rd, x, 0,
+        ),
+        Inst::Add(rd, x, y) | Inst::Sub(rd, x, y) | Inst::Sll(rd, x, y) => Form::Computes(rd, x, y),
+        Inst::Slt(rd, x, y) | Inst::Sltu(rd, x, y) | Inst::Xor(rd, x, y) => Form::Computes(
+            rd, x, y,
+        ),
+        Inst::Srl(rd, x, y) | Inst::Sra(rd, x, y) | Inst::Or(rd, x, y) => Form::Computes(rd, x, y),
+        Inst::And(rd, x, y) | Inst::Mul(rd, x, y) | Inst::Mulh(rd, x, y) => Form::Computes(
+            rd, x, y,
+        ),
+        Inst::Mulhsu(rd, x, y) | Inst::Mulhu(rd, x, y) | Inst::Div(rd, x, y) => Form::Computes(
+            rd, x, y,
+        ),
+        Inst::Divu(rd, x, y) | Inst::Rem(rd, x, y) | Inst::Remu(rd, x, y) => Form::Computes(
+            rd, x, y,
+        ),
+        Inst::Ecall => Form::Calls,
+    }
+}
+
+fn branched(pc: u32, taken: bool, imm: i32) -> u32
+    ensures { result ≡ plus pc (if taken then word imm else 4) }
+{
+    if taken {
+        pc.wrapping_add(imm.cast_unsigned())
+    } else {
+        pc.wrapping_add(4)
+    }
+}
+
+/// The counter after an instruction.
+#[tactic(auto, unfolding(crate::specs::Instructions::next))]
+pub fn next(inst: &Inst, pc: u32, x: u32, y: u32) -> u32
+    ensures { result ≡ next inst.now pc x y }
+{
+    match *inst {
+        Inst::Jal(_, imm) => pc.wrapping_add(imm.cast_unsigned()),
+        Inst::Jalr(_, _, imm) => x.wrapping_add(imm.cast_unsigned()) / 2 * 2,
+        Inst::Beq(_, _, imm) => branched(pc, x == y, imm),
+        Inst::Bne(_, _, imm) => branched(pc, x != y, imm),
+        Inst::Blt(_, _, imm) => branched(pc, x.cast_signed() < y.cast_signed(), imm),
+        Inst::Bge(_, _, imm) => branched(pc, x.cast_signed() >= y.cast_signed(), imm),
+        Inst::Bltu(_, _, imm) => branched(pc, x < y, imm),
+        Inst::Bgeu(_, _, imm) => branched(pc, x >= y, imm),
+        _ => pc.wrapping_add(4),
+    }
+}
