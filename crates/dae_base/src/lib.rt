@@ -7,7 +7,7 @@ ghost use Rattle.dae_base.specs.Budgets.{first_below, last_below};
 ghost use Rattle.dae_base.specs.Words.{extended, sign_extend, size, width_of};
 
 pub use items::{Items, Text};
-pub use pieces::Piece;
+pub use pieces::{Piece, byte_piece, decimal_piece, hex_piece};
 
 mod items;
 mod pieces;
