@@ -1,1 +1,3 @@
 pub mod Queues
+pub mod Moves
+pub mod Held

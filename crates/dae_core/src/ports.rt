@@ -1,0 +1,64 @@
+ghost use Rattle.std.specs.Prelude.{◌≡◌, ℕ, Bool, true, is_some, Option};
+ghost use Rattle.dae_base.specs.declared.Queue.{Queue};
+ghost use Rattle.dae_encode.specs.declared.QueueUse.{QueueUse};
+ghost use Rattle.dae_encode.specs.declared.QueueUse.TheVariants.{Nothing, Take};
+ghost use Rattle.dae_core.specs.Moves.{given_by, waits};
+
+use crate::CoreAnswer;
+use dae_base::{Piece, Queue};
+use dae_encode::QueueUse;
+
+/// The queues as a processor sees them.
+pub trait Ports {
+    /// Whether this access can be made now.
+    ghost is_ready: { Self → QueueUse → Bool };
+
+    /// The word that a take would give.
+    ghost front: { Self → Queue → Option ℕ };
+
+    /// The queues after an access, with the word that goes in.
+    ghost after: { Self → QueueUse → ℕ → Self };
+
+    /// The queues can count one more item.
+    ghost can_count: { Self → Type 0 };
+
+    /// Whether this access can be made now. An instruction that makes none is never held up.
+    fn ready(&self, access: QueueUse) -> bool
+        ensures ready { result ≡ is_ready self.now access }
+        ensures free { access ≡ Nothing → result ≡ true };
+
+    /// The word that a take from this queue would give, or None exactly where it can't be made now.
+    fn peek(&self, queue: Queue) -> Option<u32>
+        ensures word { result ≡ front self.now queue }
+        ensures ready { is_some result ≡ is_ready self.now (Take queue) };
+
+    /// Makes an access that is ready. The word goes in: the address of a load or a store address, the datum of a push. A
+    /// take doesn't use it.
+    fn commit(&mut self, access: QueueUse, word: u32)
+        requires ready { is_ready self.old access ≡ true }
+        requires count { can_count self.old }
+        ensures { self.new ≡ after self.old access word };
+}
+
+/// The word that an access gives.
+pub fn given<P: Ports>(ports: &P, access: QueueUse) -> u32
+    ensures { result ≡ given_by P.front ports.now access }
+{
+    match access {
+        QueueUse::Take(queue) => ports.peek(queue).unwrap_or(0),
+        _ => 0,
+    }
+}
+
+/// The answer of an access that its queue doesn't allow now.
+pub fn waits(access: QueueUse) -> CoreAnswer
+    ensures { result ≡ waits access }
+{
+    match access {
+        QueueUse::Nothing => CoreAnswer::Did(Piece::empty()),
+        QueueUse::Take(queue) | QueueUse::Push(queue) | QueueUse::Load(queue, _) => {
+            CoreAnswer::Waits(queue)
+        }
+        QueueUse::StoreAddress(_) => CoreAnswer::Waits(Queue::Sa),
+    }
+}

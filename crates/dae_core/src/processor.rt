@@ -1,0 +1,373 @@
+ghost use Rattle.std.specs.Prelude.{◌≡◌, ℕ, ◌<◌, ◌^◌, Bool, true, length, slice_index, Option, None, is_some, IfOk};
+ghost use Rattle.dae_base.specs.Words.{plus, stored, loaded, width_of};
+ghost use Rattle.dae_encode.specs.Instructions.{form};
+ghost use Rattle.dae_encode.specs.Processor.{operand, address, is_good_private, bad_address, early_fault, put_word, decoded, with_result, called, finish, halts, prints, request};
+ghost use Rattle.dae_core.specs.Held.{HeldCore, came_to, fresh};
+ghost use Rattle.dae_core.specs.Moves.{answered_by, granted_by, unprinted, Tells};
+
+use crate::memory::{load, store};
+use crate::ports::{given, waits};
+use crate::{CoreAnswer, Ports};
+use dae_base::{LoadKind, Piece, Side, Width, byte_piece, decimal_piece, hex_piece};
+use dae_encode::{
+    Fault, Form, Halt, Inst, QueueUse, Request, bad_call, decode, form_of, is_shared, is_within,
+    next, queue_use, value,
+};
+use std::alloc::{AllocError, Global};
+use std::marker::Model;
+
+/// A processor with its registers, its counter and its private memory.
+#[derive(Drop)]
+pub struct Core {
+    side: Side,
+    copies: bool,
+    registers: [u32; 32],
+    counter: u32,
+    private: Vec<u8>,
+    halted: Option<Halt>,
+}
+
+impl Model for Core {
+    ghost Value = { HeldCore };
+
+    ghost view = { λ c. record { side = c.side; copies = c.copies; processor = record { registers = c.registers; counter = c.counter; private = c.private.items; halt = c.halted } } };
+
+    ghost invariant = { λ c. length c.private.items < 2 ^ 32 };
+}
+
+impl Core {
+    /// A processor before its first instruction: the counter at the entry, the registers 0, and so many bytes of private
+    /// memory that hold zeros. Register 28 stands for a queue exactly where copies are allowed.
+    pub fn open(
+        alloc: Global,
+        side: Side,
+        entry: u32,
+        private: u32,
+        copies: bool,
+    ) -> Result<Core, AllocError>
+        ensures { IfOk result (λ core. core ≡ record { side = side; copies = copies; processor = fresh entry private }) }
+    {
+        let private = vec![in alloc; 0; private as usize]?;
+        Ok(Core {
+            side,
+            copies,
+            registers: [0; 32],
+            counter: entry,
+            private,
+            halted: None,
+        })
+    }
+
+    /// What a register holds.
+    pub fn register(&self, number: u8) -> u32
+        requires { number < 32 }
+        ensures { result ≡ slice_index self.now.processor.registers number }
+    {
+        self.registers[number as usize]
+    }
+
+    /// The byte address of the next instruction.
+    pub fn counter(&self) -> u32
+        ensures { result ≡ self.now.processor.counter }
+    {
+        self.counter
+    }
+
+    /// How it halted, or None where it didn't.
+    pub fn halted(&self) -> Option<Halt>
+        ensures { result ≡ self.now.processor.halt }
+    {
+        self.halted
+    }
+
+    fn read(&self, given: u32, register: u8) -> u32
+        ensures { result ≡ operand self.now.processor given register }
+    {
+        if register < 28 {
+            self.registers[register as usize]
+        } else {
+            given
+        }
+    }
+
+    fn address(&self, given: u32, base: u8, offset: u32) -> u32
+        ensures { result ≡ address self.now.processor given base offset }
+    {
+        self.read(given, base).wrapping_add(offset)
+    }
+
+    fn holds(&self, width: Width, addr: u32) -> bool
+        ensures { result ≡ is_good_private self.now.processor width addr }
+    {
+        is_within(0, self.private.len() as u32, width, addr)
+    }
+
+    fn bad_address(
+        &self,
+        memory: u32,
+        access: QueueUse,
+        width: Width,
+        base: u8,
+        addr: u32,
+    ) -> Option<Fault>
+        ensures { result ≡ bad_address memory self.now.processor access width base addr }
+    {
+        if is_shared(access) {
+            if is_within(16, memory, width, addr) {
+                None
+            } else {
+                Some(Fault::Shared)
+            }
+        } else if base >= 28 || self.holds(width, addr) {
+            None
+        } else {
+            Some(Fault::Private)
+        }
+    }
+
+    #[tactic(auto, unfolding(dae_encode::specs::Processor::early_fault))]
+    fn early_fault(&self, memory: u32, access: QueueUse, form: &Form) -> Option<Fault>
+        ensures { result ≡ early_fault self.now.side memory self.now.processor access form.now }
+    {
+        match *form {
+            Form::Computes(_, _, _) => None,
+            Form::Loads(kind, _, base, offset) => {
+                self.bad_address(
+                    memory,
+                    access,
+                    kind.width(),
+                    base,
+                    self.address(0, base, offset),
+                )
+            }
+            Form::Stores(width, base, _, offset) => {
+                self.bad_address(memory, access, width, base, self.address(0, base, offset))
+            }
+            Form::Calls => bad_call(self.side, self.registers[17]),
+        }
+    }
+
+    #[tactic(auto, unfolding(dae_encode::specs::Processor::put_word))]
+    fn put_word(&self, access: QueueUse, inst: &Inst, form: &Form) -> u32
+        ensures { result ≡ put_word self.now.processor access inst.now form.now }
+    {
+        match *form {
+            Form::Computes(_, x, y) => value(inst, self.counter, self.read(0, x), self.read(0, y)),
+            Form::Loads(kind, _, base, offset) => {
+                let addr = self.address(0, base, offset);
+                if is_shared(access) {
+                    addr
+                } else if self.holds(kind.width(), addr) {
+                    load(&self.private, kind, addr)
+                } else {
+                    0
+                }
+            }
+            Form::Stores(_, base, _, offset) => self.address(0, base, offset),
+            Form::Calls => 0,
+        }
+    }
+
+    #[tactic(auto, unfolding(dae_encode::specs::Processor::request))]
+    fn request(&self, code: &[u32], memory: u32) -> Request
+        ensures { result ≡ request self.now.copies self.now.side code.now memory self.now.processor }
+    {
+        if self.halted.is_some() {
+            return Request::Halted;
+        }
+        if self.counter % 4 != 0 {
+            return Request::Faulty(Fault::BadPc);
+        }
+        match code.get((self.counter / 4) as usize) {
+            None => Request::Faulty(Fault::BadPc),
+            Some(word) => self.decoded(memory, decode(*word)),
+        }
+    }
+
+    fn decoded(&self, memory: u32, inst: Option<Inst>) -> Request
+        ensures { result ≡ decoded self.now.copies self.now.side memory self.now.processor inst }
+    {
+        let inst = match inst {
+            None => return Request::Faulty(Fault::Illegal),
+            Some(inst) => inst,
+        };
+        let form = form_of(&inst);
+        match queue_use(self.side, &inst, self.copies) {
+            None => Request::Faulty(Fault::Illegal),
+            Some(access) => match self.early_fault(memory, access, &form) {
+                Some(fault) => Request::Faulty(fault),
+                None => Request::Asks(access, self.put_word(access, &inst, &form), inst),
+            },
+        }
+    }
+
+    fn find(&self, kind: LoadKind, addr: u32) -> u32
+        ensures { result ≡ loaded kind addr self.now.processor.private }
+    {
+        load(&self.private, kind, addr)
+    }
+
+    fn put(&mut self, width: Width, addr: u32, word: u32)
+        ensures { self.new ≡ record self.old { processor = record self.old.processor { counter = plus self.old.processor.counter 4; private = stored width addr word self.old.processor.private } } }
+    {
+        store(&mut self.private, width, addr, word);
+        self.counter = self.counter.wrapping_add(4);
+    }
+
+    fn go_on(&mut self, rd: u8, word: u32, next: u32)
+        ensures { self.new ≡ record self.old { processor = record self.old.processor { registers = with_result rd word self.old.processor.registers; counter = next } } }
+    {
+        if 0 < rd && rd < 28 {
+            self.registers[rd as usize] = word;
+        }
+        self.counter = next;
+    }
+
+    fn halt(&mut self, halt: Halt) -> Option<Piece>
+        ensures held { (self.new.side ≡ self.old.side) × (self.new.copies ≡ self.old.copies) }
+        ensures came { came_to self.new.processor result ≡ halts self.old.processor halt }
+    {
+        self.counter = self.counter.wrapping_add(4);
+        self.halted = Some(halt);
+        Some(Piece::empty())
+    }
+
+    fn print(&mut self, piece: Piece) -> Option<Piece>
+        ensures held { (self.new.side ≡ self.old.side) × (self.new.copies ≡ self.old.copies) }
+        ensures came { came_to self.new.processor result ≡ prints self.old.processor piece }
+    {
+        self.counter = self.counter.wrapping_add(4);
+        Some(piece)
+    }
+
+    /// The environment call, whose selector was found good.
+    fn call(&mut self) -> Option<Piece>
+        ensures held { (self.new.side ≡ self.old.side) × (self.new.copies ≡ self.old.copies) }
+        ensures came { came_to self.new.processor result ≡ called self.old.side self.old.processor (slice_index self.old.processor.registers 17) (slice_index self.old.processor.registers 10) }
+    {
+        let word = self.registers[10];
+        if let Side::A = self.side {
+            return self.halt(Halt::Plain);
+        }
+        match self.registers[17] {
+            0 => self.halt(Halt::Status(word)),
+            1 => self.print(byte_piece(word)),
+            2 => self.print(decimal_piece(word, true)),
+            3 => self.print(decimal_piece(word, false)),
+            4 => self.print(hex_piece(word)),
+            _ => self.halt(Halt::Trap(word)),
+        }
+    }
+
+    /// Does an instruction, where its access gives this word, or nothing where a private address is bad.
+    #[tactic(auto, unfolding(dae_encode::specs::Processor::finish))]
+    fn finish(&mut self, access: QueueUse, inst: &Inst, form: &Form, given: u32) -> Option<Piece>
+        ensures held { (self.new.side ≡ self.old.side) × (self.new.copies ≡ self.old.copies) }
+        ensures came { finish self.old.side self.old.processor access inst.now form.now given ≡ came_to self.new.processor result }
+        ensures none { result ≡ None → self.new ≡ self.old }
+    {
+        let past = self.counter.wrapping_add(4);
+        match *form {
+            Form::Computes(rd, x, y) => {
+                let (first, second) = (self.read(given, x), self.read(given, y));
+                let counter = self.counter;
+                let result = value(inst, counter, first, second);
+                let after = next(inst, counter, first, second);
+                self.go_on(rd, result, after);
+                Some(Piece::empty())
+            }
+            Form::Loads(kind, rd, base, offset) => {
+                if is_shared(access) {
+                    self.go_on(0, 0, past);
+                    return Some(Piece::empty());
+                }
+                let addr = self.address(given, base, offset);
+                if !self.holds(kind.width(), addr) {
+                    return None;
+                }
+                let found = self.find(kind, addr);
+                self.go_on(rd, found, past);
+                Some(Piece::empty())
+            }
+            Form::Stores(width, base, source, offset) => {
+                if is_shared(access) {
+                    self.go_on(0, 0, past);
+                    return Some(Piece::empty());
+                }
+                let addr = self.address(given, base, offset);
+                if !self.holds(width, addr) {
+                    return None;
+                }
+                let datum = self.read(given, source);
+                self.put(width, addr, datum);
+                Some(Piece::empty())
+            }
+            Form::Calls => self.call(),
+        }
+    }
+
+    /// Whether an instruction whose access gives this word has a good private address, or none.
+    #[tactic(auto, unfolding(dae_encode::specs::Processor::finish))]
+    fn can_finish(&self, access: QueueUse, inst: &Inst, form: &Form, given: u32) -> bool
+        ensures { result ≡ is_some (finish self.now.side self.now.processor access inst.now form.now given) }
+    {
+        match *form {
+            Form::Loads(kind, _, base, offset) => {
+                is_shared(access) || self.holds(kind.width(), self.address(given, base, offset))
+            }
+            Form::Stores(width, base, _, offset) => {
+                is_shared(access) || self.holds(width, self.address(given, base, offset))
+            }
+            Form::Computes(_, _, _) | Form::Calls => true,
+        }
+    }
+
+    /// Does the next instruction, where the queues allow it. `memory` is the number of bytes of the common memory.
+    /// A fault is found before the queues are looked at, but for a bad private address whose base comes from a queue.
+    pub fn step<P: Ports>(&mut self, code: &[u32], memory: u32, ports: &mut P) -> CoreAnswer
+        requires { P.can_count ports.old }
+        ensures held { (self.new.side ≡ self.old.side) × (self.new.copies ≡ self.old.copies) }
+        ensures answer { result ≡ answered_by P.is_ready P.front self.old.side self.old.processor ports.old (request self.old.copies self.old.side code.now memory self.old.processor) }
+        ensures told { Tells result (granted_by P.is_ready P.front P.after self.old.side self.old.processor ports.old (request self.old.copies self.old.side code.now memory self.old.processor)) self.old.processor ports.old self.new.processor ports.new }
+    {
+        match self.request(code, memory) {
+            Request::Halted => CoreAnswer::Halted,
+            Request::Faulty(fault) => CoreAnswer::Faulted(fault),
+            Request::Asks(access, word, inst) => {
+                if !ports.ready(access) {
+                    return waits(access);
+                }
+                let given = given(ports, access);
+                let form = form_of(&inst);
+                match self.finish(access, &inst, &form, given) {
+                    None => CoreAnswer::Faulted(Fault::Private),
+                    Some(piece) => {
+                        ports.commit(access, word);
+                        CoreAnswer::Did(piece)
+                    }
+                }
+            }
+        }
+    }
+
+    /// What a step would answer now, with an empty piece in place of what it would print.
+    pub fn look<P: Ports>(&self, code: &[u32], memory: u32, ports: &P) -> CoreAnswer
+        ensures { result ≡ unprinted (answered_by P.is_ready P.front self.now.side self.now.processor ports.now (request self.now.copies self.now.side code.now memory self.now.processor)) }
+    {
+        match self.request(code, memory) {
+            Request::Halted => CoreAnswer::Halted,
+            Request::Faulty(fault) => CoreAnswer::Faulted(fault),
+            Request::Asks(access, _, inst) => {
+                if !ports.ready(access) {
+                    return waits(access);
+                }
+                let given = given(ports, access);
+                if self.can_finish(access, &inst, &form_of(&inst), given) {
+                    CoreAnswer::Did(Piece::empty())
+                } else {
+                    CoreAnswer::Faulted(Fault::Private)
+                }
+            }
+        }
+    }
+}

@@ -1,0 +1,9 @@
+pub mod MemoryLaws
+pub mod FillLaws
+pub mod Bytes
+pub mod DrainLaws
+pub mod CountLaws
+pub mod Diamond
+pub mod Confluence
+pub mod Ends
+pub mod Deeper

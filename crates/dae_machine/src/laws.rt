@@ -1,0 +1,46 @@
+ghost use Rattle.std.specs.Prelude.{◌≡◌, ◌≢◌, ℕ, ◌+◌, List, length, Some};
+ghost use Rattle.dae_base.specs.declared.Depths.{Depths};
+ghost use Rattle.dae_image.specs.declared.Image.{Image};
+ghost use Rattle.dae_machine.specs.declared.Pick.{Pick};
+ghost use Rattle.dae_machine.specs.Deeper.{IsDeeper};
+ghost use Rattle.dae_machine.specs.Ends.{CanOnlyEnd, GoesOn, HasRuns};
+ghost use Rattle.dae_machine.specs.Machine.{Setup, State, IsCounted, IsFinal, IsQuiet, Runs, step};
+ghost use Rattle.dae_machine.specs.Opened.{opened};
+ghost use Rattle.dae_machine.specs.Runs.{Joined};
+
+/// Two different picks that are enabled can follow each other in both orders, and both orders give one state.
+pub fn steps_commute()
+    ensures { (setup : Setup) (s t u : State) (p q : Pick) → IsCounted s → p ≢ q → step setup s p ≡ Some t → step setup s q ≡ Some u → (v : State) × (step setup t q ≡ Some v) × (step setup u p ≡ Some v) }
+{}
+
+/// The machine begins with its numbers in order, and each step keeps them so.
+pub fn numbers_stay()
+    ensures opened { (image : Image) → IsCounted (opened image) }
+    ensures kept { (setup : Setup) (s t : State) (p : Pick) → IsCounted s → step setup s p ≡ Some t → IsCounted t }
+{}
+
+/// Any two runs from one state can be lengthened to meet, with each pick equally often in both.
+pub fn runs_meet()
+    ensures { (setup : Setup) (s t u : State) (ps qs : List Pick) → IsCounted s → Runs setup s ps t → Runs setup s qs u → Joined (step setup) ps t qs u }
+{}
+
+/// Where one run ends in a state without enabled picks, every run is at most as long and can be lengthened to that state.
+pub fn quiet_is_last()
+    ensures { (setup : Setup) (s t u : State) (ps qs : List Pick) → IsCounted s → Runs setup s ps t → IsQuiet setup t → Runs setup s qs u → (rest : List Pick) × Runs setup u rest t × (length qs + length rest ≡ length ps) }
+{}
+
+/// One run to a final state fixes the end, the output, the memory and the length of every run, and none gets stuck.
+pub fn one_run_tells_all()
+    ensures { (setup : Setup) (s t : State) (ps : List Pick) → IsCounted s → Runs setup s ps t → IsFinal setup t → CanOnlyEnd setup s t (length ps) }
+{}
+
+/// Where for each bound some run prints what is due by then, after so many steps of E, every run goes on and prints what
+/// is due.
+pub fn some_runs_tell_all()
+    ensures { (setup : Setup) (s : State) (outputs : ℕ → List ℕ) → IsCounted s → ((n : ℕ) → HasRuns setup s outputs n) → GoesOn setup s outputs }
+{}
+
+/// What runs with some depths runs so, through the same states, with deeper queues.
+pub fn deeper_runs_too()
+    ensures { (setup : Setup) (d' : Depths) (s t : State) (ps : List Pick) → IsDeeper setup.depths d' → Runs setup s ps t → Runs (record setup { depths = d' }) s ps t }
+{}
