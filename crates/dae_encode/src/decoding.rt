@@ -107,9 +107,7 @@ pub fn decode(w: u32) -> Option<Inst>
     let rs1 = (w / 0x8000 % 32) as u8;
     let rs2 = (w / 0x10_0000 % 32) as u8;
     let f7 = w / 0x200_0000 % 128;
-    if w == 0x73 {
-        Some(Inst::Ecall)
-    } else if op == 0b0110111 {
+    if op == 0b0110111 {
         Some(Inst::Lui(rd, immediate_u(w)))
     } else if op == 0b0010111 {
         Some(Inst::Auipc(rd, immediate_u(w)))
@@ -135,6 +133,8 @@ pub fn decode(w: u32) -> Option<Inst>
         }
     } else if op == 0b0110011 {
         register_row(f3, f7, rd, rs1, rs2)
+    } else if w == 0x73 {
+        Some(Inst::Ecall)
     } else {
         None
     }
