@@ -1,5 +1,5 @@
 -- The fields of the words of each format, and the words of their fields.
-use Rattle.std.proofs.Common.{◌≡◌, ℕ, ◌+◌, ◌-◌, ◌*◌, ◌/◌, ◌%◌, ◌^◌, ◌<◌, ◌≤◌, arith, ℤ, pos, negsuc, neg_ℤ, ◌≤ℤ◌, ◌<ℤ◌, refl}
+use Rattle.std.proofs.Common.{◌≡◌, ℕ, ◌+◌, ◌-◌, ◌*◌, ◌/◌, ◌%◌, ◌^◌, ◌<◌, ◌≤◌, arith, ℤ, pos, negsuc, neg_ℤ, ◌≤ℤ◌, ◌<ℤ◌, refl, ◌∙◌}
 use Rattle.std.proofs.lemmas.Int.{ints}
 use Rattle.dae_base.specs.Words.{word}
 use Rattle.dae_encode.specs.Instructions.{field, signed_in, imm_i, imm_s, imm_b, imm_u, imm_j, decode, decode_by}
@@ -94,3 +94,80 @@ unfolding imm_j
 imm_j-is op rd z w a b s even e =
     let f = fields_j op rd z w a b e in
     rw (f.5, f.2, f.3, f.4, joined_j z even) (back_21 z s)
+
+-- ---- the other way: a word is its fields in their places
+
+-- a layout whose fields are in range, and whose word this is
+abbrev pub Lays : Layout → ℕ → Type 0
+Lays l w = Fits l × (in_places l ≡ w)
+
+there_12 : (n : ℕ) → n < 2 ^ 12 → IsSigned 12 (signed_in 12 n) × (bits 0 12 (signed_in 12 n) ≡ n)
+there_12 n h = grind (arith, ints)
+
+there_13 : (n : ℕ) → n < 2 ^ 13 → IsSigned 13 (signed_in 13 n) × (bits 0 13 (signed_in 13 n) ≡ n)
+there_13 n h = grind (arith, ints)
+
+there_21 : (n : ℕ) → n < 2 ^ 21 → IsSigned 21 (signed_in 21 n) × (bits 0 21 (signed_in 21 n) ≡ n)
+there_21 n h = grind (arith, ints)
+
+there_32 : (n : ℕ) → n < 2 ^ 32 → IsSigned 32 (signed_in 32 n) × (word (signed_in 32 n) ≡ n)
+there_32 n h = grind (arith, ints)
+
+pub lays_r : (w op f7 : ℕ) → w < 2 ^ 32 → field 0 7 w ≡ op → field 25 7 w ≡ f7 → Lays (R op (field 7 5 w) (field 12 3 w) (field 15 5 w) (field 20 5 w) f7) w
+lays_r w op f7 h e f = ((omega arith, omega arith, omega arith), omega arith)
+
+pub lays_i : (w op : ℕ) → w < 2 ^ 32 → field 0 7 w ≡ op → Lays (I op (field 7 5 w) (field 12 3 w) (field 15 5 w) (imm_i w)) w
+unfolding imm_i
+lays_i w op h e =
+    let t = there_12 (field 20 12 w) (omega arith) in
+    ((omega arith, omega arith, t.0), rw (t.1) (omega arith))
+
+pub lays_shift : (w op f7 : ℕ) → w < 2 ^ 32 → field 0 7 w ≡ op → field 25 7 w ≡ f7 → Lays (Shift op (field 7 5 w) (field 12 3 w) (field 15 5 w) (pos (field 20 5 w)) f7) w
+lays_shift w op f7 h e f =
+    let n = field 20 5 w in
+    let small : n < 32 = omega arith in
+    let positive : pos 0 ≤ℤ pos n = grind (arith, ints) in
+    let below : pos n <ℤ pos 32 = grind (arith, ints) in
+    let same : bits 0 5 (pos n) ≡ n = omega arith in
+    ((omega arith, omega arith, (positive, below)), rw same (omega arith))
+
+-- the parts of an immediate whose low bits are put together
+parts_s : (z : ℤ) (n : ℕ) → bits 0 12 z ≡ n → (bits 0 5 z ≡ n % 32) × (bits 5 7 z ≡ n / 32)
+parts_s z n e = (omega arith, omega arith)
+
+parts_b : (z : ℤ) (n : ℕ) → bits 0 13 z ≡ n → (bits 11 1 z ≡ n / 2 ^ 11 % 2) × (bits 1 4 z ≡ n / 2 % 16) × (bits 5 6 z ≡ n / 32 % 64) × (bits 12 1 z ≡ n / 2 ^ 12) × (word z % 2 ≡ n % 2)
+parts_b z n e = (omega arith, omega arith, omega arith, omega arith, omega arith)
+
+parts_j : (z : ℤ) (n : ℕ) → bits 0 21 z ≡ n → (bits 12 8 z ≡ n / 2 ^ 12 % 2 ^ 8) × (bits 11 1 z ≡ n / 2 ^ 11 % 2) × (bits 1 10 z ≡ n / 2 % 2 ^ 10) × (bits 20 1 z ≡ n / 2 ^ 20) × (word z % 2 ≡ n % 2)
+parts_j z n e = (omega arith, omega arith, omega arith, omega arith, omega arith)
+
+pub lays_s : (w op : ℕ) → w < 2 ^ 32 → field 0 7 w ≡ op → Lays (S op (field 12 3 w) (field 15 5 w) (field 20 5 w) (imm_s w)) w
+unfolding imm_s
+lays_s w op h e =
+    let n = field 25 7 w * 32 + field 7 5 w in
+    let t = there_12 n (omega arith) in
+    let p = parts_s (signed_in 12 n) n (t.1) in
+    ((omega arith, omega arith, t.0), rw (p.0, p.1) (omega arith))
+
+pub lays_b : (w op : ℕ) → w < 2 ^ 32 → field 0 7 w ≡ op → Lays (B op (field 12 3 w) (field 15 5 w) (field 20 5 w) (imm_b w)) w
+unfolding imm_b
+lays_b w op h e =
+    let n = field 31 1 w * 2 ^ 12 + field 7 1 w * 2 ^ 11 + field 25 6 w * 32 + field 8 4 w * 2 in
+    let t = there_13 n (omega arith) in
+    let p = parts_b (signed_in 13 n) n (t.1) in
+    ((omega arith, omega arith, (t.0, p.4 ∙ omega arith)), rw (p.0, p.1, p.2, p.3) (omega arith))
+
+pub lays_u : (w op : ℕ) → w < 2 ^ 32 → field 0 7 w ≡ op → Lays (U op (field 7 5 w) (imm_u w)) w
+unfolding imm_u
+lays_u w op h e =
+    let n = field 12 20 w * 2 ^ 12 in
+    let t = there_32 n (omega arith) in
+    ((omega arith, (t.0, rw (t.1) (omega arith))), rw (t.1) (omega arith))
+
+pub lays_j : (w op : ℕ) → w < 2 ^ 32 → field 0 7 w ≡ op → Lays (J op (field 7 5 w) (imm_j w)) w
+unfolding imm_j
+lays_j w op h e =
+    let n = field 31 1 w * 2 ^ 20 + field 12 8 w * 2 ^ 12 + field 20 1 w * 2 ^ 11 + field 21 10 w * 2 in
+    let t = there_21 n (omega arith) in
+    let p = parts_j (signed_in 21 n) n (t.1) in
+    ((omega arith, (t.0, p.4 ∙ omega arith)), rw (p.0, p.1, p.2, p.3) (omega arith))

@@ -1,31 +1,74 @@
-ghost use Rattle.std.specs.Prelude.{◌≡◌, ℕ, ◌<◌, ◌^◌};
-ghost use Rattle.dae_encode.specs.Instructions.{signed_in, imm_i, imm_s, imm_b, imm_u, imm_j, branches, loads, stores, immediates, shifts, operations, multiplications, registers_only, decode};
+ghost use Rattle.std.specs.Prelude.{◌≡◌, ◌≢◌, ℕ, ◌<◌, ◌^◌, IfSome, IfNone};
+ghost use Rattle.dae_encode.specs.Instructions.{field, signed_in, imm_i, imm_s, imm_b, imm_u, imm_j, branches, loads, stores, immediates, shifts, operations, multiplications, registers_only, decode};
+ghost use Rattle.dae_encode.specs.Spelling.{InRange, encoded};
 
 use crate::Inst;
+use crate::bits::field;
 
-fn sign12(n: u32) -> i32
+/// The instruction that a word spells, or None where the word is that of no instruction whose fields are in range.
+#[tactic(auto, using(crate::proofs::Words::encoded_decode))]
+pub fn decode(word: u32) -> Option<Inst>
+    ensures told { result ≡ decode word }
+    ensures some { IfSome result (λ inst. InRange inst × (encoded inst ≡ word)) }
+    ensures none { IfNone result ((inst : Inst) → InRange inst → encoded inst ≢ word) }
+{
+    by_opcode(word)
+}
+
+#[tactic(auto, unfolding(crate::specs::Instructions::decode))]
+fn by_opcode(word: u32) -> Option<Inst>
+    ensures { result ≡ decode word }
+{
+    let rd = register(word, 7);
+    let rs1 = register(word, 15);
+    let rs2 = register(word, 20);
+    let funct3 = field(word, 12, 3);
+    match field(word, 0, 7) {
+        0b0110111 => Some(Inst::Lui(rd, immediate_u(word))),
+        0b0010111 => Some(Inst::Auipc(rd, immediate_u(word))),
+        0b1101111 => Some(Inst::Jal(rd, immediate_j(word))),
+        0b1100111 if funct3 == 0 => Some(Inst::Jalr(rd, rs1, immediate_i(word))),
+        0b1100011 => branch(funct3, rs1, rs2, immediate_b(word)),
+        0b0000011 => load(funct3, rd, rs1, immediate_i(word)),
+        0b0100011 => store(funct3, rs1, rs2, immediate_s(word)),
+        0b0010011 if funct3 % 4 == 1 => shift(funct3, field(word, 25, 7), rd, rs1, rs2),
+        0b0010011 => with_immediate(funct3, rd, rs1, immediate_i(word)),
+        0b0110011 => on_registers(funct3, field(word, 25, 7), rd, rs1, rs2),
+        _ if word == 0x73 => Some(Inst::Ecall),
+        _ => None,
+    }
+}
+
+fn register(word: u32, low: u32) -> u8
+    requires { low < 32 }
+    ensures { result ≡ field low 5 word }
+{
+    field(word, low, 5) as u8
+}
+
+fn signed_12(n: u32) -> i32
     requires { n < 2 ^ 12 }
     ensures { result ≡ signed_in 12 n }
 {
-    if n < 2048 {
+    if n < 0x800 {
         n.cast_signed()
     } else {
-        n.cast_signed() - 4096
+        n.cast_signed() - 0x1000
     }
 }
 
-fn sign13(n: u32) -> i32
+fn signed_13(n: u32) -> i32
     requires { n < 2 ^ 13 }
     ensures { result ≡ signed_in 13 n }
 {
-    if n < 4096 {
+    if n < 0x1000 {
         n.cast_signed()
     } else {
-        n.cast_signed() - 8192
+        n.cast_signed() - 0x2000
     }
 }
 
-fn sign21(n: u32) -> i32
+fn signed_21(n: u32) -> i32
     requires { n < 2 ^ 21 }
     ensures { result ≡ signed_in 21 n }
 {
@@ -37,55 +80,55 @@ fn sign21(n: u32) -> i32
 }
 
 #[tactic(auto, unfolding(crate::specs::Instructions::imm_i))]
-fn immediate_i(w: u32) -> i32
-    ensures { result ≡ imm_i w }
+fn immediate_i(word: u32) -> i32
+    ensures { result ≡ imm_i word }
 {
-    sign12(w / 0x10_0000 % 0x1000)
+    signed_12(field(word, 20, 12))
 }
 
 #[tactic(auto, unfolding(crate::specs::Instructions::imm_s))]
-fn immediate_s(w: u32) -> i32
-    ensures { result ≡ imm_s w }
+fn immediate_s(word: u32) -> i32
+    ensures { result ≡ imm_s word }
 {
-    sign12(w / 0x200_0000 % 128 * 32 + w / 128 % 32)
+    signed_12(field(word, 25, 7) * 32 + field(word, 7, 5))
 }
 
 #[tactic(auto, unfolding(crate::specs::Instructions::imm_b))]
-fn immediate_b(w: u32) -> i32
-    ensures { result ≡ imm_b w }
+fn immediate_b(word: u32) -> i32
+    ensures { result ≡ imm_b word }
 {
-    sign13(
-        w / 0x8000_0000 % 2 * 4096
-            + w / 128 % 2 * 2048
-            + w / 0x200_0000 % 64 * 32
-            + w / 256 % 16 * 2,
+    signed_13(
+        field(word, 31, 1) * 0x1000
+            + field(word, 7, 1) * 0x800
+            + field(word, 25, 6) * 32
+            + field(word, 8, 4) * 2,
     )
 }
 
 #[tactic(auto, unfolding(crate::specs::Instructions::imm_u))]
-fn immediate_u(w: u32) -> i32
-    ensures { result ≡ imm_u w }
+fn immediate_u(word: u32) -> i32
+    ensures { result ≡ imm_u word }
 {
-    (w / 0x1000 % 0x10_0000 * 0x1000).cast_signed()
+    (field(word, 12, 20) * 0x1000).cast_signed()
 }
 
 #[tactic(auto, unfolding(crate::specs::Instructions::imm_j))]
-fn immediate_j(w: u32) -> i32
-    ensures { result ≡ imm_j w }
+fn immediate_j(word: u32) -> i32
+    ensures { result ≡ imm_j word }
 {
-    sign21(
-        w / 0x8000_0000 % 2 * 0x10_0000
-            + w / 0x1000 % 256 * 0x1000
-            + w / 0x10_0000 % 2 * 2048
-            + w / 0x20_0000 % 1024 * 2,
+    signed_21(
+        field(word, 31, 1) * 0x10_0000
+            + field(word, 12, 8) * 0x1000
+            + field(word, 20, 1) * 0x800
+            + field(word, 21, 10) * 2,
     )
 }
 
 #[tactic(auto, unfolding(crate::specs::Instructions::branches))]
-fn branch_row(f3: u32, x: u8, y: u8, imm: i32) -> Option<Inst>
-    ensures { result ≡ branches f3 x y imm }
+fn branch(funct3: u32, x: u8, y: u8, imm: i32) -> Option<Inst>
+    ensures { result ≡ branches funct3 x y imm }
 {
-    match f3 {
+    match funct3 {
         0 => Some(Inst::Beq(x, y, imm)),
         1 => Some(Inst::Bne(x, y, imm)),
         4 => Some(Inst::Blt(x, y, imm)),
@@ -96,81 +139,37 @@ fn branch_row(f3: u32, x: u8, y: u8, imm: i32) -> Option<Inst>
     }
 }
 
-/// The instruction that a word spells.
-#[tactic(auto, unfolding(crate::specs::Instructions::decode))]
-pub fn decode(w: u32) -> Option<Inst>
-    ensures { result ≡ decode w }
-{
-    let op = w % 128;
-    let rd = (w / 128 % 32) as u8;
-    let f3 = w / 0x1000 % 8;
-    let rs1 = (w / 0x8000 % 32) as u8;
-    let rs2 = (w / 0x10_0000 % 32) as u8;
-    let f7 = w / 0x200_0000 % 128;
-    if op == 0b0110111 {
-        Some(Inst::Lui(rd, immediate_u(w)))
-    } else if op == 0b0010111 {
-        Some(Inst::Auipc(rd, immediate_u(w)))
-    } else if op == 0b1101111 {
-        Some(Inst::Jal(rd, immediate_j(w)))
-    } else if op == 0b1100111 {
-        if f3 == 0 {
-            Some(Inst::Jalr(rd, rs1, immediate_i(w)))
-        } else {
-            None
-        }
-    } else if op == 0b1100011 {
-        branch_row(f3, rs1, rs2, immediate_b(w))
-    } else if op == 0b0000011 {
-        load_row(f3, rd, rs1, immediate_i(w))
-    } else if op == 0b0100011 {
-        store_row(f3, rs1, rs2, immediate_s(w))
-    } else if op == 0b0010011 {
-        if f3 % 4 == 1 {
-            shift_row(f3, f7, rd, rs1, rs2)
-        } else {
-            immediate_row(f3, rd, rs1, immediate_i(w))
-        }
-    } else if op == 0b0110011 {
-        register_row(f3, f7, rd, rs1, rs2)
-    } else if w == 0x73 {
-        Some(Inst::Ecall)
-    } else {
-        None
-    }
-}
-
 #[tactic(auto, unfolding(crate::specs::Instructions::loads))]
-fn load_row(f3: u32, rd: u8, x: u8, imm: i32) -> Option<Inst>
-    ensures { result ≡ loads f3 rd x imm }
+fn load(funct3: u32, rd: u8, base: u8, imm: i32) -> Option<Inst>
+    ensures { result ≡ loads funct3 rd base imm }
 {
-    match f3 {
-        0 => Some(Inst::Lb(rd, x, imm)),
-        1 => Some(Inst::Lh(rd, x, imm)),
-        2 => Some(Inst::Lw(rd, x, imm)),
-        4 => Some(Inst::Lbu(rd, x, imm)),
-        5 => Some(Inst::Lhu(rd, x, imm)),
+    match funct3 {
+        0 => Some(Inst::Lb(rd, base, imm)),
+        1 => Some(Inst::Lh(rd, base, imm)),
+        2 => Some(Inst::Lw(rd, base, imm)),
+        4 => Some(Inst::Lbu(rd, base, imm)),
+        5 => Some(Inst::Lhu(rd, base, imm)),
         _ => None,
     }
 }
 
 #[tactic(auto, unfolding(crate::specs::Instructions::stores))]
-fn store_row(f3: u32, x: u8, y: u8, imm: i32) -> Option<Inst>
-    ensures { result ≡ stores f3 x y imm }
+fn store(funct3: u32, base: u8, source: u8, imm: i32) -> Option<Inst>
+    ensures { result ≡ stores funct3 base source imm }
 {
-    match f3 {
-        0 => Some(Inst::Sb(x, y, imm)),
-        1 => Some(Inst::Sh(x, y, imm)),
-        2 => Some(Inst::Sw(x, y, imm)),
+    match funct3 {
+        0 => Some(Inst::Sb(base, source, imm)),
+        1 => Some(Inst::Sh(base, source, imm)),
+        2 => Some(Inst::Sw(base, source, imm)),
         _ => None,
     }
 }
 
 #[tactic(auto, unfolding(crate::specs::Instructions::immediates))]
-fn immediate_row(f3: u32, rd: u8, x: u8, imm: i32) -> Option<Inst>
-    ensures { result ≡ immediates f3 rd x imm }
+fn with_immediate(funct3: u32, rd: u8, x: u8, imm: i32) -> Option<Inst>
+    ensures { result ≡ immediates funct3 rd x imm }
 {
-    match f3 {
+    match funct3 {
         0 => Some(Inst::Addi(rd, x, imm)),
         2 => Some(Inst::Slti(rd, x, imm)),
         3 => Some(Inst::Sltiu(rd, x, imm)),
@@ -182,29 +181,23 @@ fn immediate_row(f3: u32, rd: u8, x: u8, imm: i32) -> Option<Inst>
 }
 
 #[tactic(auto, unfolding(crate::specs::Instructions::shifts))]
-fn shift_row(f3: u32, f7: u32, rd: u8, x: u8, amount: u8) -> Option<Inst>
-    ensures { result ≡ shifts f3 f7 rd x amount }
+fn shift(funct3: u32, funct7: u32, rd: u8, x: u8, amount: u8) -> Option<Inst>
+    ensures { result ≡ shifts funct3 funct7 rd x amount }
 {
     let amount = i32::from(amount);
-    if f3 == 1 {
-        if f7 == 0 {
-            Some(Inst::Slli(rd, x, amount))
-        } else {
-            None
-        }
-    } else if f7 == 0 {
-        Some(Inst::Srli(rd, x, amount))
-    } else if f7 == 32 {
-        Some(Inst::Srai(rd, x, amount))
-    } else {
-        None
+    match (funct3, funct7) {
+        (1, 0) => Some(Inst::Slli(rd, x, amount)),
+        (1, _) => None,
+        (_, 0) => Some(Inst::Srli(rd, x, amount)),
+        (_, 32) => Some(Inst::Srai(rd, x, amount)),
+        _ => None,
     }
 }
 
-fn operation(f3: u32, rd: u8, x: u8, y: u8) -> Option<Inst>
-    ensures { result ≡ operations f3 rd x y }
+fn operation(funct3: u32, rd: u8, x: u8, y: u8) -> Option<Inst>
+    ensures { result ≡ operations funct3 rd x y }
 {
-    match f3 {
+    match funct3 {
         0 => Some(Inst::Add(rd, x, y)),
         1 => Some(Inst::Sll(rd, x, y)),
         2 => Some(Inst::Slt(rd, x, y)),
@@ -217,10 +210,10 @@ fn operation(f3: u32, rd: u8, x: u8, y: u8) -> Option<Inst>
     }
 }
 
-fn multiplication(f3: u32, rd: u8, x: u8, y: u8) -> Option<Inst>
-    ensures { result ≡ multiplications f3 rd x y }
+fn multiplication(funct3: u32, rd: u8, x: u8, y: u8) -> Option<Inst>
+    ensures { result ≡ multiplications funct3 rd x y }
 {
-    match f3 {
+    match funct3 {
         0 => Some(Inst::Mul(rd, x, y)),
         1 => Some(Inst::Mulh(rd, x, y)),
         2 => Some(Inst::Mulhsu(rd, x, y)),
@@ -234,22 +227,14 @@ fn multiplication(f3: u32, rd: u8, x: u8, y: u8) -> Option<Inst>
 }
 
 #[tactic(auto, unfolding(crate::specs::Instructions::registers_only))]
-fn register_row(f3: u32, f7: u32, rd: u8, x: u8, y: u8) -> Option<Inst>
-    ensures { result ≡ registers_only f3 f7 rd x y }
+fn on_registers(funct3: u32, funct7: u32, rd: u8, x: u8, y: u8) -> Option<Inst>
+    ensures { result ≡ registers_only funct3 funct7 rd x y }
 {
-    if f7 == 0 {
-        operation(f3, rd, x, y)
-    } else if f7 == 1 {
-        multiplication(f3, rd, x, y)
-    } else if f7 == 32 {
-        if f3 == 0 {
-            Some(Inst::Sub(rd, x, y))
-        } else if f3 == 5 {
-            Some(Inst::Sra(rd, x, y))
-        } else {
-            None
-        }
-    } else {
-        None
+    match (funct7, funct3) {
+        (0, _) => operation(funct3, rd, x, y),
+        (1, _) => multiplication(funct3, rd, x, y),
+        (32, 0) => Some(Inst::Sub(rd, x, y)),
+        (32, 5) => Some(Inst::Sra(rd, x, y)),
+        _ => None,
     }
 }
