@@ -109,3 +109,6 @@ pub enum Request {
     Faulty(Fault),
     Asks(QueueUse, u32, Inst),
 }
+
+#[cfg(test)]
+mod tests;
