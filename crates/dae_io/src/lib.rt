@@ -1,0 +1,13 @@
+// Named texts that are fetched and kept, and sinks for bytes: two traits, each with what it tells of its content and a
+// count of its faults, and their forms in memory, without faults, and over real files and streams.
+// A call fails only where the count of that object rose, and an answer carries bytes only where they are told so.
+#![tactic(auto)]
+
+pub use faults::{FaultName, Faults, ShelfFault};
+pub use shelf::{FetchError, KeepFailed, Shelf};
+pub use sink::{Sink, SinkFailed};
+
+mod faults;
+mod prefix;
+mod shelf;
+mod sink;
