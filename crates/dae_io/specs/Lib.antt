@@ -1,3 +1,4 @@
 pub mod Faults
 pub mod Told
 pub mod Taken
+pub mod Failing

@@ -3,11 +3,15 @@
 // A call fails only where the count of that object rose, and an answer carries bytes only where they are told so.
 #![tactic(auto)]
 
+pub use failing::FailingCall;
 pub use faults::{FaultName, Faults, ShelfFault};
+pub use memory_sink::MemSink;
 pub use shelf::{FetchError, KeepFailed, Shelf};
 pub use sink::{Sink, SinkFailed};
 
+mod failing;
 mod faults;
+mod memory_sink;
 mod prefix;
 mod shelf;
 mod sink;
