@@ -2,3 +2,4 @@ pub mod Faults
 pub mod Told
 pub mod Taken
 pub mod Failing
+pub mod Held

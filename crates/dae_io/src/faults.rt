@@ -77,6 +77,7 @@ impl Faults {
     /// Counts a failed fetch of a name.
     pub fn fetch_failed(&mut self, name: &str)
         ensures count { self.new.count ≡ min (self.old.count + 1) (2 ^ 64 - 1) }
+        ensures counted { self.old.count ≤ self.new.count }
         ensures last { self.new.last ≡ fetch_of name.now }
     {
         self.count = self.count.saturating_add(1);
@@ -86,6 +87,7 @@ impl Faults {
     /// Counts a failed keep under a name.
     pub fn keep_failed(&mut self, name: &str)
         ensures count { self.new.count ≡ min (self.old.count + 1) (2 ^ 64 - 1) }
+        ensures counted { self.old.count ≤ self.new.count }
         ensures last { self.new.last ≡ keep_of name.now }
     {
         self.count = self.count.saturating_add(1);

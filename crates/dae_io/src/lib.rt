@@ -5,12 +5,14 @@
 
 pub use failing::FailingCall;
 pub use faults::{FaultName, Faults, ShelfFault};
+pub use memory_shelf::{HeldText, MemShelf};
 pub use memory_sink::MemSink;
 pub use shelf::{FetchError, KeepFailed, Shelf};
 pub use sink::{Sink, SinkFailed};
 
 mod failing;
 mod faults;
+mod memory_shelf;
 mod memory_sink;
 mod prefix;
 mod shelf;

@@ -1,0 +1,170 @@
+ghost use Rattle.std.specs.Prelude.{◌≡◌, ℕ, ◌+◌, ◌-◌, ◌^◌, ◌≤◌, ◌⊎◌, ◌↔◌, min, [], ◌∷◌, ◌++◌, List, length, take, Option, Some, IsSome, IfOk, OnOk, OnErr, IfSome, option_map, string_bytes, IsTrue, None};
+ghost use Rattle.dae_io.specs.Failing.{failing_at};
+ghost use Rattle.dae_io.specs.Faults.{Rose, fetch_of, keep_of};
+ghost use Rattle.dae_io.specs.Held.{last_text};
+ghost use Rattle.dae_io.specs.Told.{TellsSameOfOthers};
+
+use crate::failing::{FailingCall, failing_at};
+use crate::faults::Faults;
+use crate::prefix::first_bytes;
+use crate::shelf::{FetchError, KeepFailed, Shelf};
+use std::alloc::{AllocError, Global};
+
+/// A text under a name.
+#[derive(Drop)]
+pub struct HeldText {
+    pub name: String,
+    pub text: Vec<u8>,
+}
+
+/// A shelf in memory. The last text under a name counts. A keep goes into room that was made before: it fails where
+/// there is none, or where the name or the text doesn't fit. Each listed call fails.
+#[derive(Drop)]
+pub struct MemShelf {
+    /// What is held.
+    pub texts: Vec<HeldText>,
+    /// Room for keeps, of which each uses up the last.
+    pub rooms: Vec<HeldText>,
+    /// How many calls there were, up to 2^64 - 1.
+    pub calls: u64,
+    /// The faults.
+    pub faults: Faults,
+    /// The calls that are to fail.
+    pub failing: Vec<FailingCall>,
+}
+
+impl HeldText {
+    // The same room with this name and text, where they fit.
+    fn filled(mut self, name: &str, text: &[u8]) -> Option<HeldText>
+        ensures { IfSome result (λ held. (string_bytes held.name ≡ name.now) × (held.text.items ≡ text.now)) }
+    {
+        let fits = name.len() <= self.name.capacity() && text.len() <= self.text.capacity();
+        self.name.clear();
+        self.text.clear();
+        if fits && self.name.push_str(name).is_ok() && self.text.extend_from_slice(text).is_ok() {
+            Some(self)
+        } else {
+            None
+        }
+    }
+}
+
+// Appends a text. Where memory is wanting, all stays.
+fn add(texts: &mut Vec<HeldText>, held: HeldText) -> Result<(), AllocError>
+    ensures held { OnOk result (last_text texts.new.items (string_bytes held.name) ≡ Some held.text.items) }
+    ensures others { TellsSameOfOthers (string_bytes held.name) (last_text texts.old.items) (last_text texts.new.items) }
+    ensures err { OnErr result (texts.new.items ≡ texts.old.items) }
+{
+    texts.push(held)?;
+    Ok(())
+}
+
+impl MemShelf {
+    /// A shelf without texts and without room for keeps.
+    pub fn new(alloc: Global, failing: &[FailingCall]) -> Result<MemShelf, AllocError>
+        ensures texts { IfOk result (λ shelf. shelf.texts.items ≡ []) }
+        ensures calls { IfOk result (λ shelf. shelf.calls ≡ 0) }
+        ensures count { IfOk result (λ shelf. shelf.faults.count ≡ 0) }
+        ensures last { IfOk result (λ shelf. shelf.faults.last ≡ None) }
+        ensures failing { IfOk result (λ shelf. shelf.failing.items ≡ failing.now) }
+    {
+        Ok(MemShelf {
+            texts: Vec::new(alloc),
+            rooms: Vec::new(alloc),
+            calls: 0,
+            faults: Faults::none(),
+            failing: Vec::from_slice(alloc, failing)?,
+        })
+    }
+
+    /// Puts a text under a name. Where memory is wanting, the shelf holds what it held.
+    pub fn hold(&mut self, alloc: Global, name: &str, text: &[u8]) -> Result<(), AllocError>
+        ensures held { OnOk result (last_text self.new.texts.items name.now ≡ Some text.now) }
+        ensures others { OnOk result (TellsSameOfOthers name.now (last_text self.old.texts.items) (last_text self.new.texts.items)) }
+        ensures err { OnErr result (self.new.texts.items ≡ self.old.texts.items) }
+        ensures faults { self.new.faults ≡ self.old.faults }
+    {
+        let name = String::from_str(alloc, name)?;
+        let text = Vec::from_slice(alloc, text)?;
+        add(&mut self.texts, HeldText { name, text })
+    }
+
+    /// Makes room for one keep: a name and a text of so many bytes.
+    pub fn make_room(&mut self, alloc: Global, name: usize, text: usize) -> Result<(), AllocError>
+        ensures texts { self.new.texts.items ≡ self.old.texts.items }
+        ensures faults { self.new.faults ≡ self.old.faults }
+    {
+        let room = HeldText {
+            name: String::with_capacity(alloc, name)?,
+            text: Vec::with_capacity(alloc, text)?,
+        };
+        self.texts.reserve(self.rooms.len() + 1)?;
+        self.rooms.push(room)?;
+        Ok(())
+    }
+
+    /// The last text under a name.
+    pub fn text_of(&self, name: &str) -> Option<&[u8]>
+        ensures { option_map (λ text. text.now) result ≡ last_text self.now.texts.items name.now }
+    {
+        self.texts
+            .iter()
+            .rev()
+            .find(|held| held.name.as_str() == name)
+            .map(|held| held.text.as_slice())
+    }
+
+    // Whether there was room to keep the text.
+    fn store(&mut self, name: &str, text: &[u8]) -> bool
+        ensures held { IsTrue result → last_text self.new.texts.items name.now ≡ Some text.now }
+        ensures others { TellsSameOfOthers name.now (last_text self.old.texts.items) (last_text self.new.texts.items) }
+        ensures faults { self.new.faults ≡ self.old.faults }
+    {
+        match self.rooms.pop().and_then(|room| room.filled(name, text)) {
+            Some(held) => add(&mut self.texts, held).is_ok(),
+            None => false,
+        }
+    }
+
+    fn next_call(&mut self) -> Option<usize>
+        ensures texts { self.new.texts.items ≡ self.old.texts.items }
+        ensures faults { self.new.faults ≡ self.old.faults }
+        ensures calls { self.new.calls ≡ min (self.old.calls + 1) (2 ^ 64 - 1) }
+        ensures listed { result ≡ failing_at self.old.failing.items self.new.calls }
+    {
+        self.calls = self.calls.saturating_add(1);
+        failing_at(self.failing.as_slice(), self.calls)
+    }
+}
+
+impl Shelf for MemShelf {
+    ghost told = { λ shelf. last_text shelf.texts.items };
+
+    ghost count = { λ shelf. shelf.faults.count };
+
+    ghost last = { λ shelf. shelf.faults.last };
+
+    fn fetch(&mut self, alloc: Global, name: &str, most: u32) -> Result<Vec<u8>, FetchError> {
+        let listed = self.next_call();
+        match self.text_of(name) {
+            Some(text) if listed.is_none() => Ok(Vec::from_slice(
+                alloc,
+                first_bytes(text, most as usize),
+            )?),
+            _ => {
+                self.faults.fetch_failed(name);
+                Err(FetchError::Failed)
+            }
+        }
+    }
+
+    fn keep(&mut self, name: &str, bytes: &[u8]) -> Result<(), KeepFailed> {
+        let listed = self.next_call();
+        let kept = first_bytes(bytes, listed.unwrap_or(bytes.len()));
+        if self.store(name, kept) && listed.is_none() {
+            return Ok(());
+        }
+        self.faults.keep_failed(name);
+        Err(KeepFailed)
+    }
+}
