@@ -3,3 +3,4 @@ pub mod Told
 pub mod Taken
 pub mod Failing
 pub mod Held
+pub mod Listed

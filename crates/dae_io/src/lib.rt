@@ -3,6 +3,7 @@
 // A call fails only where the count of that object rose, and an answer carries bytes only where they are told so.
 #![tactic(auto)]
 
+pub use calm::{CalmShelf, CalmSink, NamedText};
 pub use failing::FailingCall;
 pub use faults::{FaultName, Faults, ShelfFault};
 pub use memory_shelf::{HeldText, MemShelf};
@@ -10,6 +11,7 @@ pub use memory_sink::MemSink;
 pub use shelf::{FetchError, KeepFailed, Shelf};
 pub use sink::{Sink, SinkFailed};
 
+mod calm;
 mod failing;
 mod faults;
 mod memory_shelf;
