@@ -4,14 +4,17 @@
 #![tactic(auto)]
 
 pub use calm::{CalmShelf, CalmSink, NamedText};
+pub use directory::DirShelf;
 pub use failing::FailingCall;
 pub use faults::{FaultName, Faults, ShelfFault};
 pub use memory_shelf::{HeldText, MemShelf};
 pub use memory_sink::MemSink;
 pub use shelf::{FetchError, KeepFailed, Shelf};
 pub use sink::{Sink, SinkFailed};
+pub use standard::StdSink;
 
 mod calm;
+mod directory;
 mod failing;
 mod faults;
 mod memory_shelf;
@@ -19,3 +22,5 @@ mod memory_sink;
 mod prefix;
 mod shelf;
 mod sink;
+mod standard;
+mod transfer;
