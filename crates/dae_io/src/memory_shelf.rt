@@ -1,8 +1,9 @@
-ghost use Rattle.std.specs.Prelude.{◌≡◌, ℕ, ◌+◌, ◌-◌, ◌^◌, ◌≤◌, ◌⊎◌, ◌↔◌, min, [], ◌∷◌, ◌++◌, List, length, take, Option, Some, IsSome, IfOk, OnOk, OnErr, IfSome, option_map, string_bytes, IsTrue, None};
+ghost use Rattle.std.specs.Prelude.{◌≡◌, ℕ, ◌+◌, ◌-◌, ◌^◌, ◌<◌, ◌≤◌, ◌⊎◌, ◌↔◌, min, [], length, take, vec_len, Some, None, IsSome, IsNone, IfOk, IsOk, OnOk, OnErr, IsErr, IsErrOf, IfSome, option_map, string_bytes, IsTrue};
+ghost use Rattle.std.specs.Vec.{vec_capacity};
 ghost use Rattle.dae_io.specs.Failing.{failing_at};
 ghost use Rattle.dae_io.specs.Faults.{Rose, fetch_of, keep_of};
-ghost use Rattle.dae_io.specs.Held.{last_text};
-ghost use Rattle.dae_io.specs.Told.{TellsSameOfOthers};
+ghost use Rattle.dae_io.specs.Held.{last_text, Fits, HasRoom};
+ghost use Rattle.dae_io.specs.Told.{TellsSame, TellsSameOfOthers};
 
 use crate::failing::{FailingCall, failing_at};
 use crate::faults::Faults;
@@ -17,14 +18,14 @@ pub struct HeldText {
     pub text: Vec<u8>,
 }
 
-/// A shelf in memory. The last text under a name counts. A keep goes into room that was made before: it fails where
-/// there is none, or where the name or the text doesn't fit. Each listed call fails.
+/// A shelf in memory. The last text under a name counts. A keep goes into room that was made before and uses it up: it
+/// fails where there is none, or where the name or the text doesn't fit. Each listed call fails.
 #[derive(Drop)]
 pub struct MemShelf {
     /// What is held.
     pub texts: Vec<HeldText>,
-    /// Room for keeps, of which each uses up the last.
-    pub rooms: Vec<HeldText>,
+    /// Room for one keep, if it was made.
+    pub room: Option<HeldText>,
     /// How many calls there were, up to 2^64 - 1.
     pub calls: u64,
     /// The faults.
@@ -36,12 +37,17 @@ pub struct MemShelf {
 impl HeldText {
     // The same room with this name and text, where they fit.
     fn filled(mut self, name: &str, text: &[u8]) -> Option<HeldText>
-        ensures { IfSome result (λ held. (string_bytes held.name ≡ name.now) × (held.text.items ≡ text.now)) }
+        ensures name { IfSome result (λ held. string_bytes held.name ≡ name.now) }
+        ensures text { IfSome result (λ held. held.text.items ≡ text.now) }
+        ensures fits { Fits self (length name.now) (length text.now) → IsSome result }
     {
         let fits = name.len() <= self.name.capacity() && text.len() <= self.text.capacity();
         self.name.clear();
         self.text.clear();
-        if fits && self.name.push_str(name).is_ok() && self.text.extend_from_slice(text).is_ok() {
+        if fits
+            && self.name.push_str(name).is_ok()
+            && self.text.extend_from_slice(text).is_ok()
+        {
             Some(self)
         } else {
             None
@@ -54,13 +60,14 @@ fn add(texts: &mut Vec<HeldText>, held: HeldText) -> Result<(), AllocError>
     ensures held { OnOk result (last_text texts.new.items (string_bytes held.name) ≡ Some held.text.items) }
     ensures others { TellsSameOfOthers (string_bytes held.name) (last_text texts.old.items) (last_text texts.new.items) }
     ensures err { OnErr result (texts.new.items ≡ texts.old.items) }
+    ensures succeeds { vec_len texts.old < vec_capacity texts.old → IsOk result }
 {
     texts.push(held)?;
     Ok(())
 }
 
 impl MemShelf {
-    /// A shelf without texts and without room for keeps.
+    /// A shelf without texts and without room for a keep.
     pub fn new(alloc: Global, failing: &[FailingCall]) -> Result<MemShelf, AllocError>
         ensures texts { IfOk result (λ shelf. shelf.texts.items ≡ []) }
         ensures calls { IfOk result (λ shelf. shelf.calls ≡ 0) }
@@ -70,7 +77,7 @@ impl MemShelf {
     {
         Ok(MemShelf {
             texts: Vec::new(alloc),
-            rooms: Vec::new(alloc),
+            room: None,
             calls: 0,
             faults: Faults::none(),
             failing: Vec::from_slice(alloc, failing)?,
@@ -80,7 +87,7 @@ impl MemShelf {
     /// Puts a text under a name. Where memory is wanting, the shelf holds what it held.
     pub fn hold(&mut self, alloc: Global, name: &str, text: &[u8]) -> Result<(), AllocError>
         ensures held { OnOk result (last_text self.new.texts.items name.now ≡ Some text.now) }
-        ensures others { OnOk result (TellsSameOfOthers name.now (last_text self.old.texts.items) (last_text self.new.texts.items)) }
+        ensures others { TellsSameOfOthers name.now (last_text self.old.texts.items) (last_text self.new.texts.items) }
         ensures err { OnErr result (self.new.texts.items ≡ self.old.texts.items) }
         ensures faults { self.new.faults ≡ self.old.faults }
     {
@@ -89,17 +96,16 @@ impl MemShelf {
         add(&mut self.texts, HeldText { name, text })
     }
 
-    /// Makes room for one keep: a name and a text of so many bytes.
+    /// Makes room for one keep: a name and a text of up to so many bytes.
     pub fn make_room(&mut self, alloc: Global, name: usize, text: usize) -> Result<(), AllocError>
+        ensures room { OnOk result (HasRoom self.new name text) }
         ensures texts { self.new.texts.items ≡ self.old.texts.items }
         ensures faults { self.new.faults ≡ self.old.faults }
     {
-        let room = HeldText {
-            name: String::with_capacity(alloc, name)?,
-            text: Vec::with_capacity(alloc, text)?,
-        };
-        self.texts.reserve(self.rooms.len() + 1)?;
-        self.rooms.push(room)?;
+        let name = String::with_capacity(alloc, name)?;
+        let text = Vec::with_capacity(alloc, text)?;
+        self.texts.reserve(1)?;
+        self.room = Some(HeldText { name, text });
         Ok(())
     }
 
@@ -119,15 +125,17 @@ impl MemShelf {
         ensures held { IsTrue result → last_text self.new.texts.items name.now ≡ Some text.now }
         ensures others { TellsSameOfOthers name.now (last_text self.old.texts.items) (last_text self.new.texts.items) }
         ensures faults { self.new.faults ≡ self.old.faults }
+        ensures succeeds { HasRoom self.old (length name.now) (length text.now) → IsTrue result }
     {
-        match self.rooms.pop().and_then(|room| room.filled(name, text)) {
+        match self.room.take().and_then(|room| room.filled(name, text)) {
             Some(held) => add(&mut self.texts, held).is_ok(),
             None => false,
         }
     }
 
     fn next_call(&mut self) -> Option<usize>
-        ensures texts { self.new.texts.items ≡ self.old.texts.items }
+        ensures texts { self.new.texts ≡ self.old.texts }
+        ensures room { self.new.room ≡ self.old.room }
         ensures faults { self.new.faults ≡ self.old.faults }
         ensures calls { self.new.calls ≡ min (self.old.calls + 1) (2 ^ 64 - 1) }
         ensures listed { result ≡ failing_at self.old.failing.items self.new.calls }
@@ -147,10 +155,9 @@ impl Shelf for MemShelf {
     fn fetch(&mut self, alloc: Global, name: &str, most: u32) -> Result<Vec<u8>, FetchError> {
         let listed = self.next_call();
         match self.text_of(name) {
-            Some(text) if listed.is_none() => Ok(Vec::from_slice(
-                alloc,
-                first_bytes(text, most as usize),
-            )?),
+            Some(text) if listed.is_none() => {
+                Ok(Vec::from_slice(alloc, first_bytes(text, most as usize))?)
+            }
             _ => {
                 self.faults.fetch_failed(name);
                 Err(FetchError::Failed)
