@@ -1,4 +1,4 @@
-ghost use Rattle.std.specs.Prelude.{◌≡◌, ℕ, ◌+◌, ◌-◌, ◌^◌, ◌<◌, ◌≤◌, ◌⊎◌, ◌↔◌, min, [], length, take, vec_len, Some, None, IsSome, IsNone, IfOk, IsOk, OnOk, OnErr, IsErr, IsErrOf, IfSome, option_map, string_bytes, IsTrue};
+ghost use Rattle.std.specs.Prelude.{◌≡◌, ◌≢◌, ℕ, ◌+◌, ◌-◌, ◌^◌, ◌<◌, ◌≤◌, ◌⊎◌, ◌↔◌, min, [], length, take, vec_len, Some, None, IsSome, IsNone, IfOk, IsOk, OnOk, OnErr, IsErr, IsErrOf, IfSome, option_map, string_bytes, IsTrue};
 ghost use Rattle.std.specs.Vec.{vec_capacity};
 ghost use Rattle.dae_io.specs.Failing.{failing_at};
 ghost use Rattle.dae_io.specs.Faults.{Rose, fetch_of, keep_of};
@@ -90,6 +90,8 @@ impl MemShelf {
         ensures others { TellsSameOfOthers name.now (last_text self.old.texts.items) (last_text self.new.texts.items) }
         ensures err { OnErr result (self.new.texts.items ≡ self.old.texts.items) }
         ensures faults { self.new.faults ≡ self.old.faults }
+        ensures calls { self.new.calls ≡ self.old.calls }
+        ensures failing { self.new.failing.items ≡ self.old.failing.items }
     {
         let name = String::from_str(alloc, name)?;
         let text = Vec::from_slice(alloc, text)?;
@@ -101,6 +103,8 @@ impl MemShelf {
         ensures room { OnOk result (HasRoom self.new name text) }
         ensures texts { self.new.texts.items ≡ self.old.texts.items }
         ensures faults { self.new.faults ≡ self.old.faults }
+        ensures calls { self.new.calls ≡ self.old.calls }
+        ensures failing { self.new.failing.items ≡ self.old.failing.items }
     {
         let name = String::with_capacity(alloc, name)?;
         let text = Vec::with_capacity(alloc, text)?;
@@ -125,6 +129,8 @@ impl MemShelf {
         ensures held { IsTrue result → last_text self.new.texts.items name.now ≡ Some text.now }
         ensures others { TellsSameOfOthers name.now (last_text self.old.texts.items) (last_text self.new.texts.items) }
         ensures faults { self.new.faults ≡ self.old.faults }
+        ensures calls { self.new.calls ≡ self.old.calls }
+        ensures failing { self.new.failing.items ≡ self.old.failing.items }
         ensures succeeds { HasRoom self.old (length name.now) (length text.now) → IsTrue result }
     {
         match self.room.take().and_then(|room| room.filled(name, text)) {
@@ -138,10 +144,31 @@ impl MemShelf {
         ensures room { self.new.room ≡ self.old.room }
         ensures faults { self.new.faults ≡ self.old.faults }
         ensures calls { self.new.calls ≡ min (self.old.calls + 1) (2 ^ 64 - 1) }
+        ensures failing { self.new.failing.items ≡ self.old.failing.items }
         ensures listed { result ≡ failing_at self.old.failing.items self.new.calls }
     {
         self.calls = self.calls.saturating_add(1);
         failing_at(self.failing.as_slice(), self.calls)
+    }
+
+    // Whether the text is kept. A listed call stores some first bytes of it.
+    fn next_keep(&mut self, name: &str, bytes: &[u8]) -> bool
+        ensures kept { IsTrue result → last_text self.new.texts.items name.now ≡ Some bytes.now }
+        ensures others { TellsSameOfOthers name.now (last_text self.old.texts.items) (last_text self.new.texts.items) }
+        ensures faults { self.new.faults ≡ self.old.faults }
+        ensures calls { self.new.calls ≡ min (self.old.calls + 1) (2 ^ 64 - 1) }
+        ensures failing { self.new.failing.items ≡ self.old.failing.items }
+        ensures listed { IsTrue result → IsNone (failing_at self.old.failing.items self.new.calls) }
+        ensures room { IsNone (failing_at self.old.failing.items self.new.calls)
+            → HasRoom self.old (length name.now) (length bytes.now) → IsTrue result }
+    {
+        match self.next_call() {
+            None => self.store(name, bytes),
+            Some(most) => {
+                self.store(name, first_bytes(bytes, most));
+                false
+            }
+        }
     }
 }
 
@@ -152,7 +179,21 @@ impl Shelf for MemShelf {
 
     ghost last = { λ shelf. shelf.faults.last };
 
-    fn fetch(&mut self, alloc: Global, name: &str, most: u32) -> Result<Vec<u8>, FetchError> {
+    /// Fails exactly where this call is listed or nothing is held under the name.
+    fn fetch(&mut self, alloc: Global, name: &str, most: u32) -> Result<Vec<u8>, FetchError>
+        ensures bytes { IfOk result (λ text. IfSome (last_text self.old.texts.items name.now) (λ held. text.items ≡ take most held)) }
+        ensures short { IfOk result (λ text. length text.items ≤ most) }
+        ensures held { TellsSame (last_text self.old.texts.items) (last_text self.new.texts.items) }
+        ensures counted { self.old.faults.count ≤ self.new.faults.count }
+        ensures no_fault { result ≢ Err FetchError.Failed → self.new.faults ≡ self.old.faults }
+        ensures rose { IsErrOf result FetchError.Failed → Rose self.old.faults.count self.new.faults.count }
+        ensures fault { IsErrOf result FetchError.Failed → self.new.faults.last ≡ fetch_of name.now }
+
+        ensures calls { self.new.calls ≡ min (self.old.calls + 1) (2 ^ 64 - 1) }
+        ensures failing { self.new.failing.items ≡ self.old.failing.items }
+        ensures fails { IsErrOf result FetchError.Failed ↔ (IsSome (failing_at self.old.failing.items self.new.calls)
+            ⊎ IsNone (last_text self.old.texts.items name.now)) }
+    {
         let listed = self.next_call();
         match self.text_of(name) {
             Some(text) if listed.is_none() => {
@@ -165,10 +206,22 @@ impl Shelf for MemShelf {
         }
     }
 
-    fn keep(&mut self, name: &str, bytes: &[u8]) -> Result<(), KeepFailed> {
-        let listed = self.next_call();
-        let kept = first_bytes(bytes, listed.unwrap_or(bytes.len()));
-        if self.store(name, kept) && listed.is_none() {
+    /// Fails where this call is listed, and else only where there is no room.
+    fn keep(&mut self, name: &str, bytes: &[u8]) -> Result<(), KeepFailed>
+        ensures kept { OnOk result (last_text self.new.texts.items name.now ≡ Some bytes.now) }
+        ensures held { TellsSameOfOthers name.now (last_text self.old.texts.items) (last_text self.new.texts.items) }
+        ensures counted { self.old.faults.count ≤ self.new.faults.count }
+        ensures no_fault { OnOk result (self.new.faults ≡ self.old.faults) }
+        ensures rose { OnErr result (Rose self.old.faults.count self.new.faults.count) }
+        ensures fault { OnErr result (self.new.faults.last ≡ keep_of name.now) }
+
+        ensures calls { self.new.calls ≡ min (self.old.calls + 1) (2 ^ 64 - 1) }
+        ensures failing { self.new.failing.items ≡ self.old.failing.items }
+        ensures listed { IsSome (failing_at self.old.failing.items self.new.calls) → IsErr result }
+        ensures room { IsNone (failing_at self.old.failing.items self.new.calls)
+            → HasRoom self.old (length name.now) (length bytes.now) → IsOk result }
+    {
+        if self.next_keep(name, bytes) {
             return Ok(());
         }
         self.faults.keep_failed(name);
