@@ -1,6 +1,7 @@
 -- What a writer holds after two writes.
 use Rattle.std.proofs.Common.{◌≡◌, ℕ, ◌+◌, ◌-◌, ◌≤◌, List, ◌++◌, length, take, drop, Option, None, Some, ◌∙◌, ap, append_assoc, arith, take_all, length-drop}
 use Rattle.std.specs.Io.KnownBytes.{Appends, Keeps}
+use Rattle.dae_io.specs.Taken.{Appends-then}
 use Rattle.std.proofs.Math.Seq.{take-add}
 
 pub Appends-keeps : (a b c : Option (List ℕ)) (xs : List ℕ) → Appends a b xs → Keeps b c → Appends a c xs
@@ -9,12 +10,6 @@ Appends-keeps (Some x) None c xs p q = absurd p
 Appends-keeps (Some x) (Some y) None xs p q = absurd q
 Appends-keeps (Some x) (Some y) (Some z) xs p q = q ∙ p
 
-Appends-appends : (a b c : Option (List ℕ)) (xs ys : List ℕ) → Appends a b xs → Appends b c ys → Appends a c (xs ++ ys)
-Appends-appends None b c xs ys p q = tt
-Appends-appends (Some x) None c xs ys p q = absurd p
-Appends-appends (Some x) (Some y) None xs ys p q = absurd q
-Appends-appends (Some x) (Some y) (Some z) xs ys p q = q ∙ ap (λ w. w ++ ys) p ∙ append_assoc x xs ys
-
 -- some first bytes are written, and then some more
 pub Appends-more : (a b c : Option (List ℕ)) (done count : ℕ) (bytes : List ℕ) → count ≤ length (take (length bytes - done) (drop done bytes)) → Appends a b (take done bytes) → Appends b c (take count (take (length bytes - done) (drop done bytes))) → done ≤ length bytes → (done + count ≤ length bytes) × Appends a c (take (done + count) bytes)
 Appends-more a b c done count bytes few p q inside =
@@ -22,5 +17,5 @@ Appends-more a b c done count bytes few p q inside =
     let few : count ≤ length (drop done bytes) = rw whole at few in
     let q : Appends b c (take count (drop done bytes)) = rw whole at q in (
       omega (arith, length-drop done bytes),
-      rw (take-add done count bytes) (Appends-appends a b c (take done bytes) (take count (drop done bytes)) p q),
+      rw (take-add done count bytes) (Appends-then a b c (take done bytes) (take count (drop done bytes)) p q),
     )
