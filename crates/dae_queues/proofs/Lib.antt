@@ -5,3 +5,4 @@ pub mod CountLaws
 pub mod FillLaws
 pub mod DrainLaws
 pub mod Places
+pub mod Fills
