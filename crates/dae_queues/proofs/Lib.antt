@@ -6,3 +6,4 @@ pub mod FillLaws
 pub mod DrainLaws
 pub mod Places
 pub mod Fills
+pub mod ListLaws

@@ -13,6 +13,7 @@ pub use slots::SlotQueue;
 pub use stores::StoreQueue;
 
 mod fifos;
+pub mod laws;
 mod slots;
 mod stores;
 
