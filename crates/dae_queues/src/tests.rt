@@ -269,34 +269,36 @@ fn ranges_share_bytes(rt: HostRuntime) {
     }
 }
 
-// One store to the bytes 16 to 19 waits. The loads are one of its bytes from before it, one of its bytes from after it,
-// and one of another byte from after it.
+// A store to the bytes 16 to 19 waits. It is older than the first load, which reads one of them, and than the second,
+// which reads another byte.
 #[test]
-fn memory_keeps_the_order_of_shared_bytes(rt: HostRuntime) -> Result<(), Fail> {
+fn older_stores_bar_fills(rt: HostRuntime) -> Result<(), Fail> {
     let mut stores = StoreQueue::with_depths(rt.alloc(), 1, 1)?;
-    let mut loads = SlotQueue::with_depth(rt.alloc(), 3)?;
-    let before = loads.reserve(18, LoadKind::U8, stores.issued());
+    let mut loads = SlotQueue::with_depth(rt.alloc(), 2)?;
     assert!(rt; stores.push_address(16, Width::B4));
-    assert!(rt; stores.issued() == 1 && !stores.has_room() && stores.has_datum_room());
-    let after = loads.reserve(18, LoadKind::U8, 1);
-    let elsewhere = loads.reserve(20, LoadKind::U8, 1);
-    assert_eq!(rt; (before, after, elsewhere), (Some(0), Some(1), Some(2)));
+    let _ = loads.reserve(18, LoadKind::U8, stores.issued());
+    let _ = loads.reserve(20, LoadKind::U8, stores.issued());
+    let first = loads.at(0).ok_or("no slot")?;
+    assert_eq!(rt; (stores.blocks(&first), loads.fillable(&stores)), (true, 1));
+    let other = loads.nth_fillable(&stores, 0).ok_or("no slot")?;
+    assert_eq!(rt; (other.number, other.addr), (1, 20));
     assert_eq!(rt;
-        (loads.len(), loads.depth(), loads.has_room()),
-        (3, 3, false)
+        (loads.depth(), loads.has_room(), stores.has_room()),
+        (2, false, false)
     );
+    Ok(())
+}
+
+// A load of byte 18 waits and is older than a store to the bytes 16 to 19.
+#[test]
+fn older_loads_hold_drains(rt: HostRuntime) -> Result<(), Fail> {
+    let mut stores = StoreQueue::with_depths(rt.alloc(), 1, 1)?;
+    let mut loads = SlotQueue::with_depth(rt.alloc(), 2)?;
+    let _ = loads.reserve(18, LoadKind::U8, stores.issued());
+    assert!(rt; stores.push_address(16, Width::B4) && stores.push_datum(9));
     let store = stores.address_at(0).ok_or("no store")?;
-    assert!(rt; loads.holds(&store));
-    assert!(rt; stores.blocks(&loads.waiting(1).ok_or("no slot")?));
-    assert_eq!(rt; loads.fillable(&stores), 2);
-    assert_eq!(rt;
-        loads.nth_fillable(&stores, 1).map(|slot| slot.number),
-        Some(2)
-    );
-    assert!(rt; loads.fill(0, 7));
-    assert!(rt; !loads.holds(&store));
-    assert!(rt; stores.push_datum(9));
+    assert!(rt; loads.holds(&store) && !stores.has_datum_room());
+    assert!(rt; loads.fill(0, 7) && !loads.holds(&store));
     assert_eq!(rt; (stores.drain(), stores.drained()), (Some((store, 9)), 1));
-    assert_eq!(rt; loads.fillable(&stores), 2);
     Ok(())
 }
