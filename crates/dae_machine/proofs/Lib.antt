@@ -1,6 +1,4 @@
-pub mod MemoryLaws
 pub mod FillLaws
-pub mod Bytes
 pub mod DrainLaws
 pub mod CountLaws
 pub mod Diamond
