@@ -5,3 +5,4 @@ pub mod Diamond
 pub mod Confluence
 pub mod Ends
 pub mod Deeper
+pub mod Opening
