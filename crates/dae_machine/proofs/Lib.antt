@@ -6,3 +6,6 @@ pub mod Confluence
 pub mod Ends
 pub mod Deeper
 pub mod Opening
+pub mod Moves
+pub mod Kept
+pub mod Steps

@@ -1,10 +1,9 @@
 -- What contracts see of a machine, and what is true of every machine.
-use Rattle.std.specs.Prelude.{◌≡◌, ℕ, ◌+◌, ◌≤◌, ◌<◌, Bool, length, Option, Some, None}
+use Rattle.std.specs.Prelude.{◌≡◌, ℕ, ◌+◌, ◌≤◌, ◌<◌, ◌^◌, List, [], length}
 use Rattle.dae_base.specs.declared.Side.{Side}
 use Rattle.dae_base.specs.declared.Side.TheVariants.{A, E}
 use Rattle.dae_image.specs.declared.Image.{Image}
-use Rattle.dae_core.specs.declared.CoreAnswer.{CoreAnswer}
-use Rattle.dae_core.specs.declared.CoreAnswer.TheVariants.{Did, Waits, Halted, Faulted}
+use Rattle.dae_core.specs.Held.{HeldCore, HeldQueues}
 use Rattle.dae_core.specs.Queues.{Queues}
 use Rattle.dae_machine.specs.Memory.{QueuesCount}
 use Rattle.dae_machine.specs.Machine.{Setup, State}
@@ -22,20 +21,22 @@ pub record Counted (q : Queues) (steps : ℕ) : Type 0 where
   pub al : q.al.reserved ≤ steps
   pub stores : q.stores.issued ≤ steps
 
--- the two processors stand on their sides, both with copies allowed or neither
-pub record Sided (a e : Side) (copies copies' : Bool) : Type 0 where
-  pub on_a : a ≡ A
-  pub on_e : e ≡ E
-  pub same : copies' ≡ copies
+-- what a machine is seen as, from its parts
+abbrev pub seen : HeldCore → HeldCore → List ℕ → List ℕ → HeldQueues → List ℕ → ℕ → HeldMachine
+seen a e code_a code_e q memory taken = record {
+  setup = record { code_a = code_a; code_e = code_e; memory = length memory; copies = a.copies; depths = q.depths };
+  state = record { a = a.processor; e = e.processor; queues = q.queues; memory = memory; printed = []; steps = taken };
+}
+
+-- the processors stand on their sides, both with copies allowed or neither, the numbers are in order, and the memory has
+-- 32-bit addresses
+pub record IsSound (a e : HeldCore) (q : HeldQueues) (memory : List ℕ) (taken : ℕ) : Type 0 where
+  pub on_a : a.side ≡ A
+  pub on_e : e.side ≡ E
+  pub same : e.copies ≡ a.copies
+  pub counted : Counted q.queues taken
+  pub small : length memory < 2 ^ 32
 
 -- the data fit the common memory, whose first 16 bytes are no data
 abbrev pub DataFit : Image → Type 0
 DataFit image = 16 + length image.content ≤ image.memory
-
--- the state is the one after the step where the answer is Did, with that piece printed. Else no step was enabled, and
--- nothing changed
-abbrev pub CameTo : CoreAnswer → Option State → State → State → Type 0
-CameTo (Did piece) came s s' = came ≡ Some (record s' { printed = piece })
-CameTo (Waits k) came s s' = (came ≡ None) × (s' ≡ s)
-CameTo Halted came s s' = (came ≡ None) × (s' ≡ s)
-CameTo (Faulted fault) came s s' = (came ≡ None) × (s' ≡ s)

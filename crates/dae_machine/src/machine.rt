@@ -2,7 +2,7 @@ ghost use Rattle.std.specs.Prelude.{◌≡◌, ◌<◌, ◌≢◌, Some, IsSome,
 ghost use Rattle.dae_base.specs.Budgets.{first_below};
 ghost use Rattle.dae_core.specs.Held.{CanHold};
 ghost use Rattle.dae_machine.specs.Answers.{Refuses, answer};
-ghost use Rattle.dae_machine.specs.Held.{CameTo, DataFit, HeldMachine};
+ghost use Rattle.dae_machine.specs.Held.{DataFit};
 ghost use Rattle.dae_machine.specs.Machine.{step};
 ghost use Rattle.dae_machine.specs.Memory.{draining, filling};
 ghost use Rattle.dae_machine.specs.Opened.{opened, setup_of};
@@ -29,14 +29,13 @@ pub struct Machine {
 }
 
 impl Model for Machine {
-    ghost use Rattle.std.specs.Prelude.{◌<◌, ◌^◌, length, []};
-    ghost use Rattle.dae_machine.specs.Held.{Counted, HeldMachine, Sided};
+    ghost use Rattle.dae_machine.specs.Held.{HeldMachine, IsSound, seen};
 
     ghost Value = { HeldMachine };
 
-    ghost view = { λ m. record { setup = record { code_a = m.code_a.items; code_e = m.code_e.items; memory = length m.memory.items; copies = m.a.copies; depths = m.queues.depths }; state = record { a = m.a.processor; e = m.e.processor; queues = m.queues.queues; memory = m.memory.items; printed = []; steps = m.taken } } };
+    ghost view = { λ m. seen m.a m.e m.code_a.items m.code_e.items m.queues m.memory.items m.taken };
 
-    ghost invariant = { λ m. Sided m.a.side m.e.side m.a.copies m.e.copies × Counted m.queues.queues m.taken × (length m.memory.items < 2 ^ 32) };
+    ghost invariant = { λ m. IsSound m.a m.e m.queues m.memory.items m.taken };
 }
 
 impl Machine {
@@ -83,5 +82,33 @@ impl Machine {
         ensures { result.now ≡ self.now.state.memory }
     {
         self.memory.as_slice()
+    }
+
+    /// One instruction of A.
+    fn move_a(&mut self)
+        requires enabled { IsSome (step self.old.setup self.old.state Pick.A) }
+        requires few { self.old.state.steps < 1000000000000 }
+        ensures setup { self.new.setup ≡ self.old.setup }
+        ensures state { step self.old.setup self.old.state Pick.A ≡ Some self.new.state }
+    {
+        let memory = self.memory.len() as u32;
+        let _ = self.a.step(&self.code_a, memory, &mut self.queues);
+        self.taken += 1;
+    }
+
+    /// One instruction of E, and what it prints.
+    fn move_e(&mut self) -> Piece
+        requires enabled { IsSome (step self.old.setup self.old.state Pick.E) }
+        requires few { self.old.state.steps < 1000000000000 }
+        ensures setup { self.new.setup ≡ self.old.setup }
+        ensures state { step self.old.setup self.old.state Pick.E ≡ Some (record self.new.state { printed = result }) }
+    {
+        let memory = self.memory.len() as u32;
+        let answer = self.e.step(&self.code_e, memory, &mut self.queues);
+        self.taken += 1;
+        match answer {
+            CoreAnswer::Did(piece) => piece,
+            _ => unreachable!(),
+        }
     }
 }
