@@ -90,7 +90,7 @@ slots_rest issued s f c = slots_rest_by issued s.taken s.reserved s.slots f c
 pub slots_given : (issued n w : ℕ) (s : Slots) → SlotsCount issued s → SlotsCount issued (record s { slots = with_value n w s.slots })
 slots_given issued n w s c = record { numbers = rw (numbers_given n w s.slots) c.numbers; stamps = stamps_given n w issued s.slots c.stamps }
 
-sa_rest : (drained issued : ℕ) (as' : List StoreAt) (ws : List ℕ) (s : StoreAt × ℕ) → next_store as' ws ≡ Some s → Counts drained (map (λ (a : StoreAt). a.number) as') issued → Counts (drained + 1) (map (λ (a : StoreAt). a.number) (rest as')) issued
+pub sa_rest : (drained issued : ℕ) (as' : List StoreAt) (ws : List ℕ) (s : StoreAt × ℕ) → next_store as' ws ≡ Some s → Counts drained (map (λ (a : StoreAt). a.number) as') issued → Counts (drained + 1) (map (λ (a : StoreAt). a.number) (rest as')) issued
 sa_rest drained issued [] ws s n c = absurd (cc)
 sa_rest drained issued (a ∷ as') ws s n c = c.1
 

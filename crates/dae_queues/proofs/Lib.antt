@@ -5,3 +5,5 @@ pub mod CountLaws
 pub mod FillLaws
 pub mod DrainLaws
 pub mod Places
+pub mod Fills
+pub mod ListLaws

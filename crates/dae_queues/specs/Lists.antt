@@ -88,6 +88,10 @@ with_value number w ss = map (give number w) ss
 abbrev pub bars : Slot → StoreAt → Bool
 bars s a = nat_lt a.number s.stamp && overlap a.addr a.width s.addr (width_of s.kind)
 
+-- a slot that may be filled: it waits, and no older waiting store has a byte of it
+abbrev pub can_be_filled : List StoreAt → Slot → Bool
+can_be_filled sa s = is_none s.value && not (list_any (bars s) sa)
+
 -- an older load that waits keeps a store to its bytes from being drained
 abbrev pub holds : StoreAt → Slot → Bool
 holds a s = is_none s.value && (nat_le s.stamp a.number && overlap a.addr a.width s.addr (width_of s.kind))

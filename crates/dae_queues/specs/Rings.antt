@@ -1,7 +1,9 @@
 -- What contracts see of the bounded queues: what they hold, and how much they can hold.
 use Rattle.std.specs.Prelude.{ℕ, ◌-◌, nat_lt, if◌then◌else◌, List, Option, Some, None, is_none, slice_get, option_and_then}
+use Rattle.std.specs.Bool.{then_some}
 use Rattle.dae_queues.specs.declared.Slot.{Slot}
-use Rattle.dae_queues.specs.Lists.{Slots, Stores}
+use Rattle.dae_queues.specs.declared.StoreAt.{StoreAt}
+use Rattle.dae_queues.specs.Lists.{Slots, Stores, can_be_filled}
 
 pub record SlotRing : Type 0 where
   pub held : Slots
@@ -18,3 +20,7 @@ unfilled s = if is_none s.value then Some s else None
 -- the waiting slot of this number, by its place behind the first slot, whose number is low
 abbrev pub at_place : List Slot → ℕ → ℕ → Option Slot
 at_place ss low number = if nat_lt number low then None else option_and_then unfilled (slice_get ss (number - low))
+
+-- the slot at a place, where it may be filled
+abbrev pub fillable_at : List StoreAt → List Slot → ℕ → Option Slot
+fillable_at sa ss at = option_and_then (λ s. then_some (can_be_filled sa s) s) (slice_get ss at)

@@ -1,10 +1,10 @@
-ghost use Rattle.std.specs.Prelude.{◌≡◌, ◌<◌, ◌^◌, length, nat_lt, is_some, if◌then◌else◌, IfOk, slice_get, slice_set, Some};
+ghost use Rattle.std.specs.Prelude.{◌≡◌, ◌<◌, ◌^◌, filter, length, nat_lt, is_some, if◌then◌else◌, IfOk, slice_get, slice_set, Some};
 ghost use Rattle.std.specs.List.{list_any};
 ghost use Rattle.circular_buffer.specs.Buffer.{buffer};
-ghost use Rattle.dae_queues.specs.Lists.{first_value, with_slot, without_front, waiting, with_value, no_slots, holds};
-ghost use Rattle.dae_queues.specs.Rings.{at_place};
+ghost use Rattle.dae_queues.specs.Lists.{first_value, with_slot, without_front, waiting, with_value, no_slots, can_be_filled, holds};
+ghost use Rattle.dae_queues.specs.Rings.{at_place, fillable_at};
 
-use crate::{Slot, StoreAt, overlap};
+use crate::{Slot, StoreAt, StoreQueue, overlap};
 use circular_buffer::HeapCircularBuffer;
 use dae_base::LoadKind;
 use std::alloc::{AllocError, Global};
@@ -150,6 +150,49 @@ impl SlotQueue {
                 put_at(&mut self.ring, at, slot, value);
                 true
             }
+        }
+    }
+
+    /// How many slots may be filled while these stores wait.
+    #[tactic(auto, using(crate::proofs::Fills::count_from))]
+    pub fn fillable(&self, stores: &StoreQueue) -> u16
+        ensures { result ≡ length (filter (can_be_filled stores.now.held.sa) self.now.held.slots) }
+    {
+        let mut count = 0;
+        for at in 0..self.len() {
+            if self.fillable_at(stores, at).is_some() {
+                count += 1;
+            }
+        }
+        count
+    }
+
+    /// Of the slots that may be filled while these stores wait, by their numbers, the one at a place counted from 0,
+    /// or None past the last.
+    #[tactic(auto, using(crate::proofs::Fills::nth_here))]
+    pub fn nth_fillable(&self, stores: &StoreQueue, n: u16) -> Option<Slot>
+        ensures { result ≡ slice_get (filter (can_be_filled stores.now.held.sa) self.now.held.slots) n }
+    {
+        let mut left = n;
+        for at in 0..self.len() {
+            if let Some(slot) = self.fillable_at(stores, at) {
+                if left == 0 {
+                    return Some(slot);
+                }
+                left -= 1;
+            }
+        }
+        None
+    }
+
+    fn fillable_at(&self, stores: &StoreQueue, at: u16) -> Option<Slot>
+        ensures { result ≡ fillable_at stores.now.held.sa self.now.held.slots at }
+    {
+        let slot = self.at(at)?;
+        if slot.value.is_none() && !stores.blocks(&slot) {
+            Some(slot)
+        } else {
+            None
         }
     }
 

@@ -1,0 +1,11 @@
+-- Past a slot that may be filled one fewer is left, and past any other as many.
+use Rattle.std.proofs.Common.{sym, ◌∙◌, arith}
+use Rattle.dae_queues.proofs.Fills.{nth_none, nth_some}
+use Rattle.dae_queues.proofs.slots.SlotQueue.nth_fillable.Goals as goal
+use Rattle.dae_queues.proofs.slots.SlotQueue.nth_fillable.Goals.{in-Some+else-left-eq0, in_default}
+
+pub loop-at-preserved : goal.loop-at-preserved
+loop-at-preserved c = elim c.match-fillable_at.branch [
+  | in-Some+else-left-eq0 w ↦ sym (nth_some c.args.stores.now.held.sa c.args.self.now.held.slots c.loop-at.at c.loop-at.left c.match-fillable_at.left w.in-Some.slot (sym c.fillable_at.ensures ∙ w.in-Some.is) (omega (arith, w.left-is, w.if-left-eq0.false))) ∙ c.loop-at.invariant
+  | in_default w ↦ sym (nth_none c.args.stores.now.held.sa c.args.self.now.held.slots c.loop-at.at c.match-fillable_at.left (sym c.fillable_at.ensures ∙ w.in_default.is)) ∙ rw w.left-is c.loop-at.invariant
+]
