@@ -1,13 +1,14 @@
-ghost use Rattle.std.specs.Prelude.{◌≡◌, IsSome, true, nat_lt, IfOk};
+ghost use Rattle.std.specs.Prelude.{◌≡◌, IsSome, true, nat_lt, IfOk, filter, length, slice_get};
 ghost use Rattle.dae_base.specs.Budgets.{depth};
 ghost use Rattle.dae_core.specs.Held.{CanCount, CanHold, HeldQueues, is_open};
-ghost use Rattle.dae_core.specs.Queues.{Queues, commit, count, empty_queues, front, pushed_to, reserved_in, taken_from};
-ghost use Rattle.dae_queues.specs.Lists.{with_address};
+ghost use Rattle.dae_core.specs.Queues.{Queues, commit, count, empty_queues, front, loads_of, pushed_to, reserved_in, taken_from, with_loads_of, words_of};
+ghost use Rattle.dae_queues.specs.Lists.{can_be_filled, draining_of, filling_of, next_store, with_address, with_value, without_store};
 
+use crate::memory::load;
 use crate::Ports;
-use dae_base::{Depths, LoadKind, Queue, Width};
+use dae_base::{Depths, LoadKind, Queue, Side, Width};
 use dae_encode::QueueUse;
-use dae_queues::{Fifo, RingFifo, SlotQueue, StoreQueue};
+use dae_queues::{Fifo, RingFifo, Slot, SlotQueue, StoreAt, StoreQueue};
 use std::alloc::{AllocError, Global};
 use std::marker::Model;
 
@@ -161,6 +162,121 @@ impl Ports for Queues {
             QueueUse::Push(queue) => self.push(queue, word),
             QueueUse::Load(queue, kind) => self.reserve(queue, kind, word),
             QueueUse::StoreAddress(width) => self.push_address(width, word),
+        }
+    }
+}
+
+/// What memory does to the queues.
+impl Queues {
+    fn loads(&self, side: Side) -> &SlotQueue
+        ensures { result.now.held ≡ loads_of side self.now.queues }
+    {
+        match side {
+            Side::A => &self.al,
+            Side::E => &self.ld,
+        }
+    }
+
+    /// The word that a fill of the slot of this number for a side would put from this memory, or None where it may not be
+    /// filled: the slot waits, and no older waiting store has a byte of it.
+    pub fn filling(&self, side: Side, number: u64, memory: &[u8]) -> Option<u32>
+        ensures { result ≡ filling_of self.now.queues.stores.sa number (loads_of side self.now.queues).slots memory.now }
+    {
+        let slot = self.loads(side).waiting(number)?;
+        if self.stores.blocks(&slot) {
+            None
+        } else {
+            Some(load(memory, slot.kind, slot.addr))
+        }
+    }
+
+    /// Gives the waiting slot of this number for a side its value.
+    pub fn fill(&mut self, side: Side, number: u64, word: u32)
+        ensures { self.new ≡ record self.old { queues = with_loads_of side (with_value number word (loads_of side self.old.queues).slots) self.old.queues } }
+    {
+        let _ = match side {
+            Side::A => self.al.fill(number, word),
+            Side::E => self.ld.fill(number, word),
+        };
+    }
+
+    /// How many slots may be filled for a side.
+    pub fn fillable(&self, side: Side) -> u16
+        ensures { result ≡ length (filter (can_be_filled self.now.queues.stores.sa) (loads_of side self.now.queues).slots) }
+    {
+        self.loads(side).fillable(&self.stores)
+    }
+
+    /// The slot at this place, counted from 0, of those that may be filled for a side, or None past the last.
+    pub fn nth_fillable(&self, side: Side, n: u16) -> Option<Slot>
+        ensures { result ≡ slice_get (filter (can_be_filled self.now.queues.stores.sa) (loads_of side self.now.queues).slots) n }
+    {
+        self.loads(side).nth_fillable(&self.stores, n)
+    }
+
+    /// The store that may be drained, with its datum: the oldest one, where its datum is there and no older waiting load
+    /// has a byte of it.
+    pub fn draining(&self) -> Option<(StoreAt, u32)>
+        ensures { result ≡ draining_of self.now.queues.stores self.now.queues.ld.slots self.now.queues.al.slots }
+    {
+        let (at, word) = self.stores.front()?;
+        if self.ld.holds(&at) || self.al.holds(&at) {
+            None
+        } else {
+            Some((at, word))
+        }
+    }
+
+    /// Takes the oldest store out with its datum.
+    pub fn drain(&mut self)
+        requires some { IsSome (next_store self.old.queues.stores.sa self.old.queues.stores.sd) }
+        ensures { self.new ≡ record self.old { queues = record self.old.queues { stores = without_store self.old.queues.stores } } }
+    {
+        let _ = self.stores.drain();
+    }
+}
+
+/// What the queues hold.
+impl Queues {
+    /// How many items a queue holds.
+    pub fn len(&self, queue: Queue) -> u16
+        ensures { result ≡ count queue self.now.queues }
+    {
+        match queue {
+            Queue::Ld => self.ld.len(),
+            Queue::Al => self.al.len(),
+            Queue::Sa => self.stores.addresses(),
+            Queue::Sd => self.stores.data(),
+            Queue::Ab => self.ab.len(),
+            Queue::Eb => self.eb.len(),
+            Queue::Cq => self.cq.len(),
+        }
+    }
+
+    /// The slot at a place from the front of a side's load queue, or None past the last.
+    pub fn slot_at(&self, side: Side, at: u16) -> Option<Slot>
+        ensures { result ≡ slice_get (loads_of side self.now.queues).slots at }
+    {
+        self.loads(side).at(at)
+    }
+
+    /// The store address at a place from the front, or None past the last.
+    pub fn address_at(&self, at: u16) -> Option<StoreAt>
+        ensures { result ≡ slice_get self.now.queues.stores.sa at }
+    {
+        self.stores.address_at(at)
+    }
+
+    /// The word at a place from the front of a queue of words, or None past the last and in the other three queues.
+    pub fn word_at(&self, queue: Queue, at: u16) -> Option<u32>
+        ensures { result ≡ slice_get (words_of queue self.now.queues) at }
+    {
+        match queue {
+            Queue::Sd => self.stores.datum_at(at),
+            Queue::Ab => self.ab.at(at),
+            Queue::Eb => self.eb.at(at),
+            Queue::Cq => self.cq.at(at),
+            Queue::Ld | Queue::Al | Queue::Sa => None,
         }
     }
 }
