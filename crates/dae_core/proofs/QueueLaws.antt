@@ -12,6 +12,7 @@ use Rattle.dae_encode.specs.declared.QueueUse.TheVariants.{Nothing, Take, Push, 
 use Rattle.dae_queues.specs.declared.Slot.{Slot}
 use Rattle.dae_core.specs.Queues.{Queues, belongs, possible, peek, commit}
 use Rattle.dae_queues.specs.Lists.{first, first_value, rest}
+use Rattle.dae_queues.proofs.QueueLaws.{first_more, first_value_more, rest_more, rest_slots_more, room_more, some_first_more, some_value_more}
 
 -- the accesses of A
 pub data UseOfA : QueueUse → Type 0 where
@@ -70,32 +71,6 @@ by_e P n t s m c p e_push_sd = s
 by_e P n t s m c p e_take_ab = m
 by_e P n t s m c p e_take_cq = c
 by_e P n t s m c p e_push_eb = p
-
-pub first_more : (xs ys : List ℕ) → is_some (first xs) ≡ true → first (xs ++ ys) ≡ first xs
-first_more [] ys h = cc
-first_more (x ∷ xs) ys h = refl
-
-pub first_value_more : (xs ys : List Slot) → is_some (first_value xs) ≡ true → first_value (xs ++ ys) ≡ first_value xs
-first_value_more [] ys h = cc
-first_value_more (x ∷ xs) ys h = refl
-
-pub rest_more : (xs ys : List ℕ) → is_some (first xs) ≡ true → rest (xs ++ ys) ≡ rest xs ++ ys
-rest_more [] ys h = cc
-rest_more (x ∷ xs) ys h = refl
-
-pub rest_slots_more : (xs ys : List Slot) → is_some (first_value xs) ≡ true → rest (xs ++ ys) ≡ rest xs ++ ys
-rest_slots_more [] ys h = cc
-rest_slots_more (x ∷ xs) ys h = refl
-
-pub room_more : {X : Type 0} (xs : List X) (d : ℕ) → nat_lt (length xs) d ≡ true → nat_lt (length (rest xs)) d ≡ true
-room_more [] d h = h
-room_more (x ∷ xs) d h = grind (arith, nat_tests)
-
-pub some_first_more : (xs ys : List ℕ) → is_some (first xs) ≡ true → is_some (first (xs ++ ys)) ≡ true
-some_first_more xs ys h = ap is_some (first_more xs ys h) ∙ h
-
-pub some_value_more : (xs ys : List Slot) → is_some (first_value xs) ≡ true → is_some (first_value (xs ++ ys)) ≡ true
-some_value_more xs ys h = ap is_some (first_value_more xs ys h) ∙ h
 
 -- ---- A's accesses and E's
 

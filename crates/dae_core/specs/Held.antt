@@ -1,7 +1,11 @@
--- What contracts see of a processor and of what it prints.
-use Rattle.std.specs.Prelude.{◌≡◌, ℕ, Bool, List, Option, option_map, replicate, None}
+-- What contracts see of a processor and of the queues.
+use Rattle.std.specs.Prelude.{ℕ, ◌<◌, ◌^◌, Bool, ◌&&◌, ◌||◌, List, Option, option_map, replicate, None}
 use Rattle.dae_base.specs.declared.Side.{Side}
+use Rattle.dae_base.specs.declared.Side.TheVariants.{A, E}
+use Rattle.dae_base.specs.declared.Depths.{Depths}
+use Rattle.dae_encode.specs.declared.QueueUse.{QueueUse}
 use Rattle.dae_encode.specs.Processor.{Processor, After}
+use Rattle.dae_core.specs.Queues.{Queues, belongs, possible}
 
 -- a processor with its side, and whether the image allows copies
 pub record HeldCore : Type 0 where
@@ -16,3 +20,28 @@ fresh entry private = record { registers = replicate 32 0; counter = entry; priv
 -- what an instruction comes to, from what was printed and the processor after it
 abbrev pub came_to : Processor → Option (List ℕ) → Option After
 came_to p r = option_map (λ piece. (p, piece)) r
+
+-- the queues with their depths
+pub record HeldQueues : Type 0 where
+  pub depths : Depths
+  pub queues : Queues
+
+-- each queue has room for an item
+pub record CanHold (d : Depths) : Type 0 where
+  pub ld : 0 < d.ld
+  pub al : 0 < d.al
+  pub sa : 0 < d.sa
+  pub sd : 0 < d.sd
+  pub ab : 0 < d.ab
+  pub eb : 0 < d.eb
+  pub cq : 0 < d.cq
+
+-- the next slot numbers and the next store number are below 2 ^ 40
+pub record CanCount (q : Queues) : Type 0 where
+  pub ld : q.ld.reserved < 2 ^ 40
+  pub al : q.al.reserved < 2 ^ 40
+  pub stores : q.stores.issued < 2 ^ 40
+
+-- the access belongs to one of the two sides, and its queue allows it now
+abbrev pub is_open : Depths → QueueUse → Queues → Bool
+is_open d access q = (belongs A access || belongs E access) && possible d access q

@@ -9,6 +9,7 @@ use Rattle.dae_base.specs.declared.Depths.{Depths}
 use Rattle.dae_base.specs.Budgets.{depth}
 use Rattle.dae_encode.specs.declared.QueueUse.{QueueUse}
 use Rattle.dae_encode.specs.declared.QueueUse.TheVariants.{Nothing, Take, Push, Load, StoreAddress}
+use Rattle.dae_queues.specs.declared.Slot.{Slot}
 use Rattle.dae_queues.specs.Lists.{Slots, Stores, no_slots, no_stores, first, first_value, rest, without_front, with_datum, with_address, with_slot}
 
 pub record Queues : Type 0 where
@@ -69,6 +70,25 @@ reserved_in Sd kind addr q = q
 reserved_in Ab kind addr q = q
 reserved_in Eb kind addr q = q
 reserved_in Cq kind addr q = q
+
+-- the words of a queue of words
+abbrev pub words_of : Queue → Queues → List ℕ
+words_of Sd q = q.stores.sd
+words_of Ab q = q.ab
+words_of Eb q = q.eb
+words_of Cq q = q.cq
+words_of Ld q = []
+words_of Al q = []
+words_of Sa q = []
+
+-- the load queue that a side takes from
+abbrev pub loads_of : Side → Queues → Slots
+loads_of A q = q.al
+loads_of E q = q.ld
+
+abbrev pub with_loads_of : Side → List Slot → Queues → Queues
+with_loads_of A ss q = record q { al = record q.al { slots = ss } }
+with_loads_of E ss q = record q { ld = record q.ld { slots = ss } }
 
 -- ---- what an instruction does to the queues
 

@@ -8,10 +8,12 @@ pub use dae_encode::{Fault, Halt};
 pub use memory::{load, store};
 pub use ports::Ports;
 pub use processor::Core;
+pub use queues::Queues;
 
 mod memory;
 mod ports;
 mod processor;
+mod queues;
 
 /// What came of a step: it was done and printed this piece, which may be empty, or the processor waits for a queue, was
 /// halted before, or has a fault. In the last three cases nothing changed.

@@ -19,10 +19,10 @@ use Rattle.dae_encode.specs.Processor.{Processor, After, request, finish}
 use Rattle.dae_machine.specs.Runs.{run_by}
 use Rattle.dae_machine.specs.Machine.{Setup, State, granted, move, moved_a, moved_e, step, Runs}
 use Rattle.dae_machine.specs.Deeper.{IsDeeper}
-use Rattle.dae_machine.proofs.MemoryLaws.{and_then_some}
-use Rattle.dae_machine.proofs.DrainLaws.{and_true}
+use Rattle.dae_queues.proofs.MemoryLaws.{and_then_some}
+use Rattle.dae_queues.proofs.DrainLaws.{and_true}
 use Rattle.dae_machine.proofs.Diamond.{if_some_is}
-use Rattle.dae_machine.proofs.MemoryLaws.{map_some_is}
+use Rattle.dae_queues.proofs.MemoryLaws.{map_some_is}
 
 room_deeper : (n d d' : ℕ) → d ≤ d' → nat_lt n d ≡ true → nat_lt n d' ≡ true
 room_deeper n d d' l h = grind (arith, nat_tests)

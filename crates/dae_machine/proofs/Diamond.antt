@@ -20,11 +20,13 @@ use Rattle.dae_encode.specs.declared.Request.TheVariants.{Halted, Faulty, Asks}
 use Rattle.dae_encode.specs.Instructions.{form}
 use Rattle.dae_encode.specs.Processor.{Processor, After, request, finish}
 use Rattle.dae_machine.specs.Machine.{Setup, State, code, granted, move, moved_a, moved_e, filled, drained, step, IsCounted}
-use Rattle.dae_machine.proofs.MemoryLaws.{map_some_is}
+use Rattle.dae_queues.proofs.MemoryLaws.{map_some_is}
 use Rattle.dae_core.proofs.QueueLaws.{of_a, of_e, commits_ae, e_kept_by_a, a_kept_by_e, e_peek_by_a, a_peek_by_e}
 use Rattle.dae_machine.proofs.FillLaws.{Filled, after_fill, fill_was, fill_after_a, a_after_fill, a_peek_after_fill, fill_after_e, e_after_fill, e_peek_after_fill, fill_after_fill, fills_commute}
-use Rattle.dae_machine.proofs.DrainLaws.{Drained, and_true, after_drain, drained_memory, drain_was, drain_after_a, a_after_drain, a_peek_after_drain, drain_after_e, e_after_drain, e_peek_after_drain, fill_after_drain, drain_after_fill}
-use Rattle.dae_machine.proofs.CountLaws.{counts_find, all_find, counts_next, counted_a, counted_e, counted_fill, counted_drain}
+use Rattle.dae_machine.proofs.DrainLaws.{Drained, after_drain, drain_was, drain_after_a, a_after_drain, a_peek_after_drain, drain_after_e, e_after_drain, e_peek_after_drain, fill_after_drain, drain_after_fill}
+use Rattle.dae_queues.proofs.DrainLaws.{and_true, drained_memory}
+use Rattle.dae_machine.proofs.CountLaws.{counted_a, counted_e, counted_fill, counted_drain}
+use Rattle.dae_queues.proofs.CountLaws.{counts_find, all_find, counts_next}
 
 -- what an enabled move does
 pub record Moved (d : Depths) (side : Side) (p : Processor) (q : Queues) (asked : Request) : Type 0 where

@@ -15,10 +15,12 @@ use Rattle.dae_base.specs.Words.{width_of, overlap, loaded, stored}
 use Rattle.dae_core.specs.Queues.{Queues, possible, peek, commit}
 use Rattle.dae_queues.specs.Lists.{rest, new_slot, is_waiting, with_value, bars, holds, next_store, without_store}
 use Rattle.dae_machine.specs.Memory.{loads_of, with_loads_of, fill, draining, drain}
-use Rattle.dae_core.proofs.QueueLaws.{UseOfA, UseOfE, a_nothing, a_load_ld, a_load_al, a_take_al, a_address, e_take_ld, e_push_sd, room_more}
-use Rattle.dae_machine.proofs.MemoryLaws.{map_some_is, and_then_some, then_some_is, not_true, or_false, find_passes, find_fails, any_rest, any_more, any_holds_given}
+use Rattle.dae_core.proofs.QueueLaws.{UseOfA, UseOfE, a_nothing, a_load_ld, a_load_al, a_take_al, a_address, e_take_ld, e_push_sd}
+use Rattle.dae_queues.proofs.QueueLaws.{room_more}
+use Rattle.dae_queues.proofs.MemoryLaws.{map_some_is, and_then_some, then_some_is, not_true, or_false, find_passes, find_fails, any_rest, any_more, any_holds_given}
 use Rattle.dae_machine.proofs.FillLaws.{Filled, after_fill, fill_is}
-use Rattle.dae_machine.proofs.Bytes.{loaded_other}
+use Rattle.dae_queues.proofs.Bytes.{loaded_other}
+use Rattle.dae_queues.proofs.DrainLaws.{drained_memory, and_true, next_more_sa, rest_more_sa, next_more_sd, rest_more_sd, any_next, newer_held_not, no_byte_shared}
 
 -- what an enabled drain finds
 pub record Drained (q : Queues) : Type 0 where
@@ -30,15 +32,8 @@ pub record Drained (q : Queues) : Type 0 where
 abbrev pub after_drain : Queues → Queues
 after_drain q = record q { stores = without_store q.stores }
 
-abbrev pub drained_memory : StoreAt × ℕ → List ℕ → List ℕ
-drained_memory s m = stored s.0.width s.0.addr s.1 m
-
 pub drain_is : (q : Queues) (m : List ℕ) (s : StoreAt × ℕ) → next_store q.stores.sa q.stores.sd ≡ Some s → list_any (holds s.0) q.ld.slots ≡ false → list_any (holds s.0) q.al.slots ≡ false → drain q m ≡ Some (after_drain q, drained_memory s m)
 drain_is q m s n l a = rw (n, l, a)
-
-pub and_true : (x y : Bool) → (x && y) ≡ true → (x ≡ true) × (y ≡ true)
-and_true true y h = (refl, h)
-and_true false y h = cc
 
 pub drain_was : (q : Queues) (m : List ℕ) (r : Queues × List ℕ) → drain q m ≡ Some r → (f : Drained q) × ((after_drain q, drained_memory f.store m) ≡ r)
 drain_was q m r h =
@@ -47,33 +42,6 @@ drain_was q m r h =
     let ok = then_some_is _ _ got.0 found.2 in
     let both = and_true _ _ ok.0 in
     (record { store = found.0; is_next = found.1; free_ld = not_true _ both.0; free_al = not_true _ both.1 }, ap (λ (n : StoreAt × ℕ). (after_drain q, drained_memory n m)) ok.1 ∙ got.2)
-
-pub next_more_sa : (as' : List StoreAt) (ws : List ℕ) (a : StoreAt) (s : StoreAt × ℕ) → next_store as' ws ≡ Some s → next_store (as' ++ a ∷ []) ws ≡ Some s
-next_more_sa [] ws a s h = cc
-next_more_sa (x ∷ as') [] a s h = cc
-next_more_sa (x ∷ as') (w ∷ ws) a s h = h
-
-pub rest_more_sa : (as' : List StoreAt) (ws : List ℕ) (a : StoreAt) (s : StoreAt × ℕ) → next_store as' ws ≡ Some s → rest (as' ++ a ∷ []) ≡ rest as' ++ a ∷ []
-rest_more_sa [] ws a s h = cc
-rest_more_sa (x ∷ as') ws a s h = refl
-
-pub next_more_sd : (as' : List StoreAt) (ws : List ℕ) (w : ℕ) (s : StoreAt × ℕ) → next_store as' ws ≡ Some s → next_store as' (ws ++ w ∷ []) ≡ Some s
-next_more_sd [] ws w s h = cc
-next_more_sd (x ∷ as') [] w s h = cc
-next_more_sd (x ∷ as') (v ∷ ws) w s h = h
-
-pub rest_more_sd : (as' : List StoreAt) (ws : List ℕ) (w : ℕ) (s : StoreAt × ℕ) → next_store as' ws ≡ Some s → rest (ws ++ w ∷ []) ≡ rest ws ++ w ∷ []
-rest_more_sd [] ws w s h = cc
-rest_more_sd (x ∷ as') [] w s h = cc
-rest_more_sd (x ∷ as') (v ∷ ws) w s h = refl
-
-pub any_next : (p : StoreAt → Bool) (as' : List StoreAt) (ws : List ℕ) (s : StoreAt × ℕ) → next_store as' ws ≡ Some s → list_any p as' ≡ false → p s.0 ≡ false
-any_next p [] ws s h k = cc
-any_next p (x ∷ as') [] s h k = cc
-any_next p (x ∷ as') (w ∷ ws) s h k = let both = or_false (p x) (list_any p as') k in let same : (x, w) ≡ s = cc in rw (← ap (λ z. z.0) same) both.0
-
-pub newer_held_not : (a : StoreAt) (number issued addr : ℕ) (kind : LoadKind) → a.number < issued → holds a (new_slot number kind addr issued) ≡ false
-newer_held_not a number issued addr kind h = let no : nat_le issued a.number ≡ false = grind (arith, nat_tests) in rw no
 
 -- ---- a drain and an access of A
 
@@ -114,10 +82,6 @@ e_peek_after_drain q e_take_ld = refl
 e_peek_after_drain q _ = refl
 
 -- ---- a drain and a fill
-
--- an enabled fill and an enabled drain share no byte
-pub no_byte_shared : (n : ℕ) (slot : Slot) (a : StoreAt) → is_waiting n slot ≡ true → bars slot a ≡ false → holds a slot ≡ false → overlap a.addr a.width slot.addr (width_of slot.kind) ≡ false
-no_byte_shared n slot a w b h = grind (arith, nat_tests)
 
 pub same_value : (side : Side) (n : ℕ) (q : Queues) (m : List ℕ) (f : Filled side n q) (g : Drained q) → loaded f.slot.kind f.slot.addr (drained_memory g.store m) ≡ loaded f.slot.kind f.slot.addr m
 same_value side n q m f g =

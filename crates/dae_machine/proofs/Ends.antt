@@ -9,7 +9,7 @@ use Rattle.dae_machine.specs.Memory.{fill, drain}
 use Rattle.dae_machine.specs.Runs.{run_by, often, IsOfOne, Joined}
 use Rattle.dae_machine.specs.Machine.{Setup, State, step, move, moved_a, moved_e, filled, drained, Runs, IsQuiet, IsFinal, IsCounted}
 use Rattle.dae_machine.specs.Ends.{IsPrefixOf, is_e, CanOnlyEnd, HasRuns, GoesOn}
-use Rattle.dae_machine.proofs.MemoryLaws.{and_then_some, map_some_is}
+use Rattle.dae_queues.proofs.MemoryLaws.{and_then_some, map_some_is}
 use Rattle.dae_machine.proofs.Diamond.{diamond, counted_step, same_pick}
 use Rattle.dae_machine.proofs.Confluence.{join, to_quiet, quiet_stays}
 

@@ -16,7 +16,8 @@ use Rattle.dae_core.specs.Queues.{Queues, possible, peek, commit}
 use Rattle.dae_machine.specs.Memory.{loads_of, with_loads_of, filling, fill}
 use Rattle.dae_queues.specs.Lists.{new_slot, is_waiting, waiting, give, with_value, bars}
 use Rattle.dae_core.proofs.QueueLaws.{UseOfA, UseOfE, a_load_ld, a_load_al, a_take_al, a_address, e_take_ld}
-use Rattle.dae_machine.proofs.MemoryLaws.{map_some_is, and_then_some, then_some_is, not_true, find_more, find_rest, map_rest, any_more, first_value_given, waiting_other, with_value_twice}
+use Rattle.dae_queues.proofs.MemoryLaws.{map_some_is, and_then_some, then_some_is, not_true, find_more, find_rest, map_rest, any_more, first_value_given, waiting_other, with_value_twice}
+use Rattle.dae_queues.proofs.FillLaws.{given_more, newer_bars_not}
 
 -- what an enabled fill finds
 pub record Filled (side : Side) (n : ℕ) (q : Queues) : Type 0 where
@@ -36,15 +37,6 @@ fill_was side n q q' m h =
     let found = and_then_some (λ (s : Slot). then_some (not (list_any (bars s) q.stores.sa)) (loaded s.kind s.addr m)) (waiting n (loads_of side q).slots) got.0 got.1 in
     let ok = then_some_is _ _ got.0 found.2 in
     (record { slot = found.0; found = found.1; free = not_true _ ok.0 }, ap (λ (w : ℕ). with_loads_of side (with_value n w (loads_of side q).slots) q) ok.1 ∙ got.2)
-
--- a new slot is not the one that is filled
-pub given_more : (n w : ℕ) (ss : List Slot) (new : Slot) → n < new.number → with_value n w (ss ++ new ∷ []) ≡ with_value n w ss ++ new ∷ []
-given_more n w ss new lt =
-    let no : is_waiting n new ≡ false = grind (arith, nat_tests) in
-    map-append (give n w) ss (new ∷ []) ∙ ap (λ s. with_value n w ss ++ s ∷ []) (rw no)
-
-pub newer_bars_not : (s : Slot) (a : StoreAt) → s.stamp ≤ a.number → bars s a ≡ false
-newer_bars_not s a h = let no : nat_lt a.number s.stamp ≡ false = grind (arith, nat_tests) in rw no
 
 -- ---- a fill and an access of A
 

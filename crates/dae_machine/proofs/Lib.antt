@@ -1,9 +1,11 @@
-pub mod MemoryLaws
 pub mod FillLaws
-pub mod Bytes
 pub mod DrainLaws
 pub mod CountLaws
 pub mod Diamond
 pub mod Confluence
 pub mod Ends
 pub mod Deeper
+pub mod Opening
+pub mod Moves
+pub mod Kept
+pub mod Steps

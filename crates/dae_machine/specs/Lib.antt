@@ -5,3 +5,5 @@ pub mod Runs
 pub mod Turns
 pub mod Ends
 pub mod Deeper
+pub mod Held
+pub mod Answers

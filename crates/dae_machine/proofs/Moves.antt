@@ -1,0 +1,153 @@
+-- One step of a processor over the machine's queues is one step of the machine.
+use Rattle.std.proofs.Common.{◌≡◌, ℕ, ◌+◌, ◌≤◌, Bool, true, false, ◌||◌, List, ◌++◌, refl, ap, sym, ◌∙◌, subst, arith}
+use Rattle.std.specs.Prelude.{Option, Some, None, is_some, option_map, if◌then◌else◌}
+use Rattle.dae_base.specs.declared.Side.{Side}
+use Rattle.dae_base.specs.declared.Side.TheVariants.{A, E}
+use Rattle.dae_base.specs.declared.Queue.{Queue}
+use Rattle.dae_base.specs.declared.Depths.{Depths}
+use Rattle.dae_encode.specs.declared.QueueUse.{QueueUse}
+use Rattle.dae_encode.specs.declared.QueueUse.TheVariants.{Nothing, Take, Push, Load, StoreAddress}
+use Rattle.dae_encode.specs.declared.Request.{Request}
+use Rattle.dae_encode.specs.declared.Request.TheVariants.{Halted, Faulty, Asks}
+use Rattle.dae_encode.specs.Instructions.{form}
+use Rattle.dae_encode.specs.Processor.{Processor, After, request, finish}
+use Rattle.dae_core.specs.declared.CoreAnswer.{CoreAnswer}
+use Rattle.dae_core.specs.declared.CoreAnswer.TheVariants.{Did, Waits, Halted as IsHalted, Faulted}
+use Rattle.dae_core.specs.Held.{HeldQueues, is_open}
+use Rattle.dae_core.specs.Moves.{answered_by, finished, given_by, granted_by, unprinted, waits, Tells}
+use Rattle.dae_core.specs.Queues.{Queues, belongs, commit, front, peek, possible, ready}
+use Rattle.dae_core.proofs.Uses.{AsksOwn, own_request}
+use Rattle.dae_queues.proofs.MemoryLaws.{map_some_is}
+use Rattle.dae_machine.specs.declared.Pick.TheVariants.{A as MoveA, E as MoveE}
+use Rattle.dae_machine.specs.Machine.{Setup, State, code, granted, move, moved_a, moved_e, step}
+
+-- the queues as a processor sees them
+abbrev pub opens : HeldQueues → QueueUse → Bool
+opens h access = is_open h.depths access h.queues
+
+abbrev pub fronts : HeldQueues → Queue → Option ℕ
+fronts h queue = front queue h.queues
+
+abbrev pub afters : HeldQueues → QueueUse → ℕ → HeldQueues
+afters h access word = record h { queues = commit access word h.queues }
+
+abbrev pub held : Depths → Queues → HeldQueues
+held d q = record { depths = d; queues = q }
+
+or_true : (b : Bool) → (b || true) ≡ true
+or_true true = refl
+or_true false = refl
+
+open_ready : (d : Depths) (side : Side) (u : QueueUse) (q : Queues) → belongs side u ≡ true → is_open d u q ≡ ready d side u q
+open_ready d A u q h = rw h
+open_ready d E u q h = rw (h, or_true (belongs A u))
+
+given_is : (h : HeldQueues) (u : QueueUse) → given_by fronts h u ≡ peek u h.queues
+given_is h Nothing = refl
+given_is h (Take k) = refl
+given_is h (Push k) = refl
+given_is h (Load k kind) = refl
+given_is h (StoreAddress width) = refl
+
+map_if : {X Y Z : Type 0} (b : Bool) (f : X → Y) (g : Y → Z) (o : Option X) → (if b then option_map (λ (x : X). g (f x)) o else None) ≡ option_map g (if b then option_map f o else None)
+map_if true f g None = refl
+map_if true f g (Some x) = refl
+map_if false f g o = refl
+
+-- the same queues with these depths
+abbrev pub put_back : Depths → After × Queues → After × HeldQueues
+put_back d r = (r.0, held d r.1)
+
+pub granted_is : (d : Depths) (side : Side) (p : Processor) (q : Queues) (asked : Request) → AsksOwn side asked → granted_by opens fronts afters side p (held d q) asked ≡ option_map (put_back d) (granted d side p q asked)
+granted_is d side p q Halted own = refl
+granted_is d side p q (Faulty fault) own = refl
+granted_is d side p q (Asks u w i) own =
+    rw (open_ready d side u q own, given_is (held d q) u) (map_if (ready d side u q) (λ (r : After). (r, commit u w q)) (put_back d) (finish side p u i (form i) (peek u q)))
+
+-- the answer of a move that was granted
+told_some : {Q : Type 0} (answer : CoreAnswer) (came : Option (After × Q)) (r : After × Q) (p p' : Processor) (q q' : Q) → came ≡ Some r → Tells answer came p q p' q' → (answer ≡ Did r.0.1) × (p' ≡ r.0.0) × (q' ≡ r.1)
+told_some (Did piece) came r p p' q q' e t = let same : r ≡ ((p', piece), q') = cc in (ap (λ (z : After × _). Did z.0.1) (sym same), ap (λ (z : After × _). z.0.0) (sym same), ap (λ (z : After × _). z.1) (sym same))
+told_some (Waits k) came r p p' q q' e t = absurd (cc (e, t.0))
+told_some IsHalted came r p p' q q' e t = absurd (cc (e, t.0))
+told_some (Faulted fault) came r p p' q q' e t = absurd (cc (e, t.0))
+
+module _ (setup : Setup) (s : State) where
+  abbrev pub asked_by : Side → Processor → Request
+  asked_by side p = request setup.copies side (code setup side) setup.memory p
+
+  abbrev pub ToldBy : Side → Processor → CoreAnswer → Processor → HeldQueues → Type 0
+  ToldBy side p answer p' h' =
+      Tells answer (granted_by opens fronts afters side p (held setup.depths s.queues) (asked_by side p)) p (held setup.depths s.queues) p' h'
+
+  told_move : (side : Side) (p p' : Processor) (h' : HeldQueues) (answer : CoreAnswer) (r : After × Queues) → move setup side p s.queues ≡ Some r → ToldBy side p answer p' h' → (answer ≡ Did r.0.1) × (p' ≡ r.0.0) × (h' ≡ held setup.depths r.1)
+  told_move side p p' h' answer r e t =
+      let own = own_request setup.copies side (code setup side) setup.memory p in
+      let came = granted_is setup.depths side p s.queues (asked_by side p) own ∙ ap (option_map (put_back setup.depths)) e in
+      told_some answer _ (put_back setup.depths r) p p' (held setup.depths s.queues) h' came t
+
+  -- where A has a step, its answer tells the state after it
+  pub a_moved : (t : State) (p' : Processor) (h' : HeldQueues) (answer : CoreAnswer) → step setup s MoveA ≡ Some t → ToldBy A s.a answer p' h' → (t ≡ record s { a = p'; queues = h'.queues; steps = s.steps + 1 }) × (h'.depths ≡ setup.depths)
+  a_moved t p' h' answer e told =
+      let x = map_some_is (moved_a s) (move setup A s.a s.queues) t e in
+      let m = told_move A s.a p' h' answer x.0 x.1 told in
+      (rw (m.1, m.2) (sym x.2), ap (λ (h : HeldQueues). h.depths) m.2)
+
+  -- where E has a step, its answer tells the state after it, and what it printed
+  pub e_moved : (t : State) (p' : Processor) (h' : HeldQueues) (answer : CoreAnswer) → step setup s MoveE ≡ Some t → ToldBy E s.e answer p' h' → (piece : List ℕ) × (answer ≡ Did piece) × (t ≡ record s { e = p'; queues = h'.queues; printed = s.printed ++ piece; steps = s.steps + 1 }) × (h'.depths ≡ setup.depths)
+  e_moved t p' h' answer e told =
+      let x = map_some_is (moved_e s) (move setup E s.e s.queues) t e in
+      let m = told_move E s.e p' h' answer x.0 x.1 told in
+      (x.0.0.1, m.0, rw (m.1, m.2) (sym x.2), ap (λ (h : HeldQueues). h.depths) m.2)
+
+-- ---- what a processor would answer
+
+abbrev pub is_done : CoreAnswer → Bool
+is_done (Did piece) = true
+is_done (Waits k) = false
+is_done IsHalted = false
+is_done (Faulted fault) = false
+
+unprinted_done : (answer : CoreAnswer) → is_done (unprinted answer) ≡ is_done answer
+unprinted_done (Did piece) = refl
+unprinted_done (Waits k) = refl
+unprinted_done IsHalted = refl
+unprinted_done (Faulted fault) = refl
+
+finished_done : (o : Option After) → is_done (finished o) ≡ is_some o
+finished_done None = refl
+finished_done (Some r) = refl
+
+waits_done : (d : Depths) (u : QueueUse) (q : Queues) → is_open d u q ≡ false → is_done (waits u) ≡ false
+waits_done d Nothing q h = cc
+waits_done d (Take k) q h = refl
+waits_done d (Push k) q h = refl
+waits_done d (Load k kind) q h = refl
+waits_done d (StoreAddress width) q h = refl
+
+answer_done_by : (d : Depths) (u : QueueUse) (q : Queues) (b : Bool) (o : Option After) (f : After → After × Queues) → is_open d u q ≡ b → is_done (if b then finished o else waits u) ≡ is_some (if b then option_map f o else None)
+answer_done_by d u q true None f h = refl
+answer_done_by d u q true (Some r) f h = refl
+answer_done_by d u q false o f h = waits_done d u q h
+
+answer_done : (d : Depths) (side : Side) (p : Processor) (q : Queues) (asked : Request) → AsksOwn side asked → is_done (answered_by opens fronts side p (held d q) asked) ≡ is_some (granted d side p q asked)
+answer_done d side p q Halted own = refl
+answer_done d side p q (Faulty fault) own = refl
+answer_done d side p q (Asks u w i) own =
+    rw (← open_ready d side u q own, given_is (held d q) u) (answer_done_by d u q (is_open d u q) (finish side p u i (form i) (peek u q)) (λ (r : After). (r, commit u w q)) refl)
+
+some_map : {X Y : Type 0} (f : X → Y) (o : Option X) → is_some (option_map f o) ≡ is_some o
+some_map f None = refl
+some_map f (Some x) = refl
+
+-- a processor has a step exactly where it answers that it would do one
+pub a_looked : (setup : Setup) (s : State) → is_done (unprinted (answered_by opens fronts A s.a (held setup.depths s.queues) (asked_by setup s A s.a))) ≡ is_some (step setup s MoveA)
+a_looked setup s =
+    unprinted_done _
+    ∙ answer_done setup.depths A s.a s.queues (asked_by setup s A s.a) (own_request setup.copies A setup.code_a setup.memory s.a)
+    ∙ sym (some_map (moved_a s) (move setup A s.a s.queues))
+
+pub e_looked : (setup : Setup) (s : State) → is_done (unprinted (answered_by opens fronts E s.e (held setup.depths s.queues) (asked_by setup s E s.e))) ≡ is_some (step setup s MoveE)
+e_looked setup s =
+    unprinted_done _
+    ∙ answer_done setup.depths E s.e s.queues (asked_by setup s E s.e) (own_request setup.copies E setup.code_e setup.memory s.e)
+    ∙ sym (some_map (moved_e s) (move setup E s.e s.queues))

@@ -1,0 +1,21 @@
+-- A machine before its first step.
+use Rattle.std.proofs.Common.{◌≡◌, ℕ, ◌+◌, ◌-◌, ◌≤◌, List, ◌++◌, length, refl, arith, length-append, ◌∙◌, ap}
+use Rattle.std.specs.Prelude.{replicate}
+use Rattle.std.proofs.lemmas.List.{length-replicate}
+use Rattle.dae_core.specs.Queues.{empty_queues}
+use Rattle.dae_machine.specs.Held.{Counted}
+
+pub memory_length : (content : List ℕ) (size : ℕ) → 16 + length content ≤ size → length (replicate 16 0 ++ (content ++ replicate (size - (16 + length content)) 0)) ≡ size
+memory_length content size fit =
+    let inner = length-append content (replicate (size - (16 + length content)) 0) in
+    let outer = length-append (replicate 16 0) (content ++ replicate (size - (16 + length content)) 0) in
+    let zeros = length-replicate {A = ℕ} (size - (16 + length content)) 0 in
+    omega (arith, inner, outer, zeros)
+
+pub none_counted : Counted empty_queues 0
+none_counted = record {
+  counts = record { ld = record { numbers = refl; stamps = tt }; al = record { numbers = refl; stamps = tt }; sa = refl };
+  ld = omega arith;
+  al = omega arith;
+  stores = omega arith;
+}

@@ -1,0 +1,42 @@
+-- What contracts see of a machine, and what is true of every machine.
+use Rattle.std.specs.Prelude.{◌≡◌, ℕ, ◌+◌, ◌≤◌, ◌<◌, ◌^◌, List, [], length}
+use Rattle.dae_base.specs.declared.Side.{Side}
+use Rattle.dae_base.specs.declared.Side.TheVariants.{A, E}
+use Rattle.dae_image.specs.declared.Image.{Image}
+use Rattle.dae_core.specs.Held.{HeldCore, HeldQueues}
+use Rattle.dae_core.specs.Queues.{Queues}
+use Rattle.dae_machine.specs.Memory.{QueuesCount}
+use Rattle.dae_machine.specs.Machine.{Setup, State}
+
+-- a machine is seen as what no step changes and as its state. It doesn't keep what was printed: its state has printed
+-- nothing
+pub record HeldMachine : Type 0 where
+  pub setup : Setup
+  pub state : State
+
+-- the numbers of slots and stores are in order, and none is above the number of steps
+pub record Counted (q : Queues) (steps : ℕ) : Type 0 where
+  pub counts : QueuesCount q
+  pub ld : q.ld.reserved ≤ steps
+  pub al : q.al.reserved ≤ steps
+  pub stores : q.stores.issued ≤ steps
+
+-- what a machine is seen as, from its parts
+abbrev pub seen : HeldCore → HeldCore → List ℕ → List ℕ → HeldQueues → List ℕ → ℕ → HeldMachine
+seen a e code_a code_e q memory taken = record {
+  setup = record { code_a = code_a; code_e = code_e; memory = length memory; copies = a.copies; depths = q.depths };
+  state = record { a = a.processor; e = e.processor; queues = q.queues; memory = memory; printed = []; steps = taken };
+}
+
+-- the processors stand on their sides, both with copies allowed or neither, the numbers are in order, and the memory has
+-- 32-bit addresses
+pub record IsSound (a e : HeldCore) (q : HeldQueues) (memory : List ℕ) (taken : ℕ) : Type 0 where
+  pub on_a : a.side ≡ A
+  pub on_e : e.side ≡ E
+  pub same : e.copies ≡ a.copies
+  pub counted : Counted q.queues taken
+  pub small : length memory < 2 ^ 32
+
+-- the data fit the common memory, whose first 16 bytes are no data
+abbrev pub DataFit : Image → Type 0
+DataFit image = 16 + length image.content ≤ image.memory

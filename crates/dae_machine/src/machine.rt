@@ -1,0 +1,114 @@
+ghost use Rattle.std.specs.Prelude.{◌≡◌, ◌<◌, ◌≢◌, Some, IsSome, is_some, IfOk, IfErr, None};
+ghost use Rattle.dae_base.specs.Budgets.{first_below};
+ghost use Rattle.dae_core.specs.Held.{CanHold};
+ghost use Rattle.dae_machine.specs.Answers.{Refuses, answer};
+ghost use Rattle.dae_machine.specs.Held.{DataFit};
+ghost use Rattle.dae_machine.specs.Machine.{step};
+ghost use Rattle.dae_machine.specs.Memory.{draining, filling};
+ghost use Rattle.dae_machine.specs.Opened.{opened, setup_of};
+
+use crate::open::{common_memory, reaches};
+use crate::{OpenError, Pick};
+use dae_base::{Depths, Piece, Side};
+use dae_core::{load, store, Core, CoreAnswer, Queues};
+use dae_image::Image;
+use dae_queues::StoreAt;
+use std::alloc::{AllocError, Global};
+use std::marker::Model;
+
+/// A machine. Clauses see its state without the printed bytes, and what no step changes.
+#[derive(Drop)]
+pub struct Machine {
+    a: Core,
+    e: Core,
+    code_a: Vec<u32>,
+    code_e: Vec<u32>,
+    queues: Queues,
+    memory: Vec<u8>,
+    taken: u64,
+}
+
+impl Model for Machine {
+    ghost use Rattle.dae_machine.specs.Held.{HeldMachine, IsSound, seen};
+
+    ghost Value = { HeldMachine };
+
+    ghost view = { λ m. seen m.a m.e m.code_a.items m.code_e.items m.queues m.memory.items m.taken };
+
+    ghost invariant = { λ m. IsSound m.a m.e m.queues m.memory.items m.taken };
+}
+
+impl Machine {
+    /// A machine before its first step, with the image's code and data and with queues of these depths, each at least 1.
+    /// A depth below the image's budget is refused, the first such queue by name, before any memory is taken.
+    pub fn open(alloc: Global, image: &Image, depths: Depths) -> Result<Machine, OpenError>
+        requires depths { CanHold depths }
+        requires fit { DataFit image.now }
+        ensures ok { IfOk result (λ machine. machine ≡ record { setup = setup_of image.now depths; state = opened image.now }) }
+        ensures reaches { IfOk result (λ machine. first_below depths image.now.budget ≡ None) }
+        ensures err { IfErr result (λ e. Refuses e image.now.budget depths) }
+    {
+        reaches(&depths, &image.budget)?;
+        Machine::make(alloc, image, depths).map_err(|_| OpenError::Memory)
+    }
+
+    #[tactic(auto, using(crate::proofs::Opening::none_counted))]
+    fn make(alloc: Global, image: &Image, depths: Depths) -> Result<Machine, AllocError>
+        requires depths { CanHold depths }
+        requires fit { DataFit image.now }
+        ensures { IfOk result (λ machine. machine ≡ record { setup = setup_of image.now depths; state = opened image.now }) }
+    {
+        let copies = image.budget.cq != 0;
+        Ok(Machine {
+            a: Core::open(alloc, Side::A, image.entry_a, image.private_a, copies)?,
+            e: Core::open(alloc, Side::E, image.entry_e, image.private_e, copies)?,
+            code_a: Vec::from_slice(alloc, image.code_a.as_slice())?,
+            code_e: Vec::from_slice(alloc, image.code_e.as_slice())?,
+            queues: Queues::with_depths(alloc, depths)?,
+            memory: common_memory(alloc, image)?,
+            taken: 0,
+        })
+    }
+
+    /// The number of steps that were taken.
+    pub fn taken(&self) -> u64
+        ensures { result ≡ self.now.state.steps }
+    {
+        self.taken
+    }
+
+    /// The common memory.
+    pub fn memory(&self) -> &[u8]
+        ensures { result.now ≡ self.now.state.memory }
+    {
+        self.memory.as_slice()
+    }
+
+    /// One instruction of A.
+    fn move_a(&mut self)
+        requires enabled { IsSome (step self.old.setup self.old.state Pick.A) }
+        requires few { self.old.state.steps < 1000000000000 }
+        ensures setup { self.new.setup ≡ self.old.setup }
+        ensures state { step self.old.setup self.old.state Pick.A ≡ Some self.new.state }
+    {
+        let memory = self.memory.len() as u32;
+        let _ = self.a.step(&self.code_a, memory, &mut self.queues);
+        self.taken += 1;
+    }
+
+    /// One instruction of E, and what it prints.
+    fn move_e(&mut self) -> Piece
+        requires enabled { IsSome (step self.old.setup self.old.state Pick.E) }
+        requires few { self.old.state.steps < 1000000000000 }
+        ensures setup { self.new.setup ≡ self.old.setup }
+        ensures state { step self.old.setup self.old.state Pick.E ≡ Some (record self.new.state { printed = result }) }
+    {
+        let memory = self.memory.len() as u32;
+        let answer = self.e.step(&self.code_e, memory, &mut self.queues);
+        self.taken += 1;
+        match answer {
+            CoreAnswer::Did(piece) => piece,
+            _ => unreachable!(),
+        }
+    }
+}

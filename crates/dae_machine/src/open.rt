@@ -1,0 +1,54 @@
+ghost use Rattle.std.specs.Prelude.{◌≡◌, ◌≤◌, ◌+◌, ◌-◌, ◌++◌, length, replicate, IfOk, IfErr, None, ◌≢◌, ◌<◌, ◌^◌};
+ghost use Rattle.dae_base.specs.Budgets.{depth, first_below};
+ghost use Rattle.dae_core.specs.Held.{CanHold};
+ghost use Rattle.dae_machine.specs.Answers.{Refuses};
+ghost use Rattle.dae_machine.specs.Held.{DataFit};
+
+use crate::OpenError;
+use dae_base::{Depths, Queue};
+use dae_image::Image;
+use std::alloc::{AllocError, Global};
+
+/// How many items a queue can hold.
+fn depth_of(depths: &Depths, queue: Queue) -> u16
+    ensures { result ≡ depth queue depths.now }
+{
+    match queue {
+        Queue::Ld => depths.ld,
+        Queue::Al => depths.al,
+        Queue::Sa => depths.sa,
+        Queue::Sd => depths.sd,
+        Queue::Ab => depths.ab,
+        Queue::Eb => depths.eb,
+        Queue::Cq => depths.cq,
+    }
+}
+
+/// Refuses depths below the budget.
+pub fn reaches(depths: &Depths, budget: &Depths) -> Result<(), OpenError>
+    ensures ok { IfOk result (λ u. first_below depths.now budget.now ≡ None) }
+    ensures err { IfErr result (λ e. (e ≢ OpenError.Memory) × Refuses e budget.now depths.now) }
+{
+    match depths.first_below(budget) {
+        None => Ok(()),
+        Some(queue) => Err(OpenError::DepthBelow(
+            queue,
+            depth_of(budget, queue),
+            depth_of(depths, queue),
+        )),
+    }
+}
+
+#[tactic(auto, using(crate::proofs::Opening::memory_length))]
+/// The common memory: 16 bytes of zero, the image's data, and zeros up to the size.
+pub fn common_memory(alloc: Global, image: &Image) -> Result<Vec<u8>, AllocError>
+    requires { DataFit image.now }
+    ensures size { IfOk result (λ memory. length memory.items ≡ image.now.memory) }
+    ensures small { IfOk result (λ memory. length memory.items < 2 ^ 32) }
+    ensures bytes { IfOk result (λ memory. memory.items ≡ replicate 16 0 ++ (image.now.content ++ replicate (image.now.memory - (16 + length image.now.content)) 0)) }
+{
+    let mut memory = vec![in alloc; 0; 16]?;
+    memory.extend_from_slice(image.content.as_slice())?;
+    memory.resize(image.memory as usize, 0)?;
+    Ok(memory)
+}
