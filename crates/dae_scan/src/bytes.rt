@@ -1,4 +1,4 @@
-ghost use Rattle.std.specs.Prelude.{◌≡◌, slice_index};
+ghost use Rattle.std.specs.Prelude.{◌≡◌, drop, slice_index};
 ghost use Rattle.dae_token.specs.Literals.{is_nowhere, is_trigraph};
 ghost use Rattle.dae_token.specs.Forms.{is_letter, is_word, is_blank};
 
@@ -32,6 +32,13 @@ pub fn byte_at(bytes: &[u8], i: usize) -> u8
     ensures { result ≡ slice_index bytes.now i }
 {
     if i < bytes.len() { bytes[i] } else { 0 }
+}
+
+/// The bytes from a place on, and none past the end.
+pub fn bytes_from(bytes: &[u8], i: usize) -> &[u8]
+    ensures { result.now ≡ drop i bytes.now }
+{
+    if i < bytes.len() { &bytes[i..] } else { &[] }
 }
 
 /// Whether a trigraph stands at the front.
