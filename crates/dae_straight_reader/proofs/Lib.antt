@@ -1,2 +1,4 @@
 mod Numbers
+mod NameLaws
 mod Loops
+mod Sound

@@ -26,7 +26,7 @@ module _ (names : List (List ℕ)) (count i : ℕ) (front : List Link) (ws : Lis
   link_goes_on operator factor us later lt found read so_far =
       let n : count - i ≡ suc (count - (i + 1)) = omega arith in
       let one : with_front front (links_from (count - i) names ws) ≡ with_front (front ++ link_of operator factor ∷ []) (links_from (count - (i + 1)) names later) =
-      rw (n, found, links_from, read) (front_more front (link_of operator factor) (links_from (count - (i + 1)) names later)) in
+      rw (n, found, read) (front_more front (link_of operator factor) (links_from (count - (i + 1)) names later)) in
       sym one ∙ so_far
 
   pub link_fails : (error : ReadError) (operator : BinaryOperator) (us : List (List ℕ)) → i < count → operator_at ws ≡ Some (operator, us) → Fails error (factor_at names us)
@@ -35,14 +35,14 @@ module _ (names : List (List ℕ)) (count i : ℕ) (front : List Link) (ws : Lis
   link_fails Memory operator us lt found read so_far = tt
   link_fails NotBuilt operator us lt found read so_far =
       let n : count - i ≡ suc (count - (i + 1)) = omega arith in
-      let one : with_front front (links_from (count - i) names ws) ≡ None = rw (n, found, links_from, read) refl in
+      let one : with_front front (links_from (count - i) names ws) ≡ None = rw (n, found, read) refl in
       sym so_far ∙ one
 
   pub links_end : operator_at ws ≡ None → i < count → with_front front (links_from (count - i) names ws) ≡ total → total ≡ Some (front, ws)
   unfolding links_from
   links_end found lt so_far =
       let n : count - i ≡ suc (count - (i + 1)) = omega arith in
-      let one : with_front front (links_from (count - i) names ws) ≡ Some (front, ws) = rw (n, found, links_from) (ap (λ xs. Some (xs, ws)) (append-nil front)) in
+      let one : with_front front (links_from (count - i) names ws) ≡ Some (front, ws) = rw (n, found) (ap (λ xs. Some (xs, ws)) (append-nil front)) in
       sym so_far ∙ one
 
   pub links_out : count ≤ i → with_front front (links_from (count - i) names ws) ≡ total → total ≡ Some (front, ws)

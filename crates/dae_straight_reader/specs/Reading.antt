@@ -21,6 +21,11 @@ abbrev pub ◌>>=◌ : {A B : Type 0} → Option A → (A → Option B) → Opti
 None >>= f = None
 (Some x) >>= f = f x
 
+-- one of two ways to go on
+abbrev pub or_else : {A B : Type 0} → Option A → B → (A → B) → B
+or_else None stop go = stop
+or_else (Some x) stop go = go x
+
 -- what a function returned, seen by view, is what reading gives, unless memory ran out
 abbrev pub Fails : {Y : Type 0} → ReadError → Option Y → Type 0
 Fails Memory read = Unit {0}
@@ -112,10 +117,8 @@ link_of operator factor = record { operator = operator; factor = factor }
 -- the links that words begin with, as long as an operator stands there, at most n
 unfoldable pub links_from : ℕ → List (List ℕ) → List (List ℕ) → Read (List Link)
 links_from zero names ws = Some ([], ws)
-links_from (suc n) names ws = elim (operator_at ws) [
-  | None ↦ Some ([], ws)
-  | Some x ↦ factor_at names x.1 >>= λ y. links_from n names y.1 >>= λ z. Some (link_of x.0 y.0 ∷ z.0, z.1)
-]
+links_from (suc n) names ws = or_else (operator_at ws) (Some ([], ws)) (λ x.
+    factor_at names x.1 >>= λ y. links_from n names y.1 >>= λ z. Some (link_of x.0 y.0 ∷ z.0, z.1))
 
 abbrev pub sum_of : Factor → List Link → Sum
 sum_of first rest = record { first = first; rest = rest }
@@ -149,6 +152,10 @@ statements_from (suc n) names ws =
     if begins (codes "return") ws then Some ([], ws)
     else (statement_at names ws >>= λ x. statements_from n names x.1 >>= λ y. Some (x.0 ∷ y.0, y.1))
 
+-- the statements of main, behind its head
+unfoldable pub body_at : List (List ℕ) → List (List ℕ) → Read (List Statement)
+body_at names ws = after_all head_words ws >>= λ us. statements_from (length us) names us
+
 -- ---- declarations
 
 -- the name that words declare
@@ -156,13 +163,16 @@ abbrev pub declared_at : List (List ℕ) → Read (List ℕ)
 declared_at (a ∷ b ∷ c ∷ ws) = if same_bytes a (codes "int") && same_bytes c (codes ";") then Some (b, ws) else None
 declared_at _ = None
 
--- the names of the declarations that words begin with, after those declared before, at most n
-unfoldable pub names_from : ℕ → List (List ℕ) → List (List ℕ) → Read (List (List ℕ))
-names_from zero names ws = None
-names_from (suc n) names ws = elim (declared_at ws) [
-  | None ↦ Some (names, ws)
-  | Some x ↦ if is_free_name x.0 && not (is_among names x.0) then names_from n (names ++ x.0 ∷ []) x.1 else None
-]
+-- a name that can be declared after these
+abbrev pub is_new : List (List ℕ) → List ℕ → Bool
+is_new names name = is_free_name name && not (is_among names name)
+
+-- the names of the declarations that words begin with, after those declared before
+abbrev pub names_from : List (List ℕ) → List (List ℕ) → Read (List (List ℕ))
+names_from names (a ∷ b ∷ c ∷ ws) =
+    if same_bytes a (codes "int") && same_bytes c (codes ";") then (if is_new names b then names_from (names ++ b ∷ []) ws else None)
+    else Some (names, a ∷ b ∷ c ∷ ws)
+names_from names ws = Some (names, ws)
 
 -- ---- the program
 
@@ -175,8 +185,7 @@ at_end (w ∷ ws) p = None
 
 unfoldable pub program_at : Bool → List (List ℕ) → Option StraightProgram
 program_at has_stdio ws =
-    names_from (suc (length ws)) [] ws >>= λ x. after_all head_words x.1 >>= λ us. statements_from (length us) x.0 us >>= λ y.
-    after_all tail_words y.1 >>= λ later. at_end later (program has_stdio x.0 y.0)
+    names_from [] ws >>= λ x. body_at x.0 x.1 >>= λ y. after_all tail_words y.1 >>= λ later. at_end later (program has_stdio x.0 y.0)
 
 abbrev pub allowed : StraightProgram → Option StraightProgram
 allowed p = if p.has_stdio || not (prints p.statements) then Some p else None

@@ -9,6 +9,8 @@ pub use error::ReadError;
 
 
 mod error;
+mod names;
+mod parts;
 
 
 mod sums;
