@@ -78,14 +78,14 @@ pub fn program(alloc: Global, has_stdio: bool, words: &[&[u8]]) -> Result<Straig
     let (names, words) = declarations(alloc, words)?;
     let (statements, words) = body(alloc, names.as_slice(), words)?;
     let words = after_all(words, &TAIL)?;
-    if !words.is_empty() {
-        return Err(ReadError::NotBuilt);
+    match words {
+        [] => Ok(StraightProgram {
+            has_stdio,
+            names,
+            statements,
+        }),
+        _ => Err(ReadError::NotBuilt),
     }
-    Ok(StraightProgram {
-        has_stdio,
-        names,
-        statements,
-    })
 }
 
 /// Whether a statement prints.
