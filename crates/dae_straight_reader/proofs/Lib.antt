@@ -2,3 +2,5 @@ mod Numbers
 mod NameLaws
 mod Loops
 mod Sound
+mod Cutting
+mod Files

@@ -81,7 +81,7 @@ no_word : (ws : List (List ℕ)) → begins (codes "return") ws ≡ true → len
 no_word [] h e = cc
 no_word (w ∷ ws) h e = omega arith
 
-length-texts : (ws : List (Bor (List ℕ))) → length (texts ws) ≡ length ws
+pub length-texts : (ws : List (Bor (List ℕ))) → length (texts ws) ≡ length ws
 length-texts [] = refl
 length-texts (w ∷ ws) = ap suc (length-texts ws)
 

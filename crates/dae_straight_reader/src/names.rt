@@ -8,7 +8,7 @@ ghost use Rattle.dae_straight_reader.specs.declared.error.ReadError.TheVariants.
 ghost use Rattle.dae_straight_reader.specs.Reading.{Gives, texts, declared_at, is_new, names_from};
 
 use crate::error::ReadError;
-use crate::words::same;
+use crate::words::{is_letter, is_name_byte, same};
 use dae_base::{Items, Text};
 use std::alloc::Global;
 use std::str;
@@ -20,25 +20,6 @@ const RESERVED: [&[u8]; 36] = [
     b"sizeof", b"static", b"struct", b"switch", b"typedef", b"union", b"unsigned", b"void", b"volatile", b"while",
     b"main", b"printf", b"putchar", b"NULL",
 ];
-
-fn is_digit(byte: u8) -> bool
-    ensures { result ≡ is_digit byte }
-{
-    byte.is_ascii_digit()
-}
-
-fn is_letter(byte: u8) -> bool
-    ensures { result ≡ is_letter byte }
-{
-    byte == b'_' || byte.is_ascii_alphabetic()
-}
-
-/// Whether a byte can stand in a name: a letter, an underscore or a digit (C90 6.1.2).
-pub fn is_name_byte(byte: u8) -> bool
-    ensures { result ≡ is_name_byte byte }
-{
-    is_letter(byte) || is_digit(byte)
-}
 
 fn are_name_bytes(bytes: &[u8]) -> bool
     ensures { result ≡ list_all is_name_byte bytes.now }

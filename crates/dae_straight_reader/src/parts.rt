@@ -1,6 +1,6 @@
 //! Statements, and whole programs.
 
-ghost use Rattle.std.specs.Prelude.{◌≡◌, ◌≤◌, ◌<◌, length, IfOk};
+ghost use Rattle.std.specs.Prelude.{◌≡◌, ◌≤◌, ◌<◌, ◌||◌, not, length, IfOk};
 ghost use Rattle.dae_tree.specs.Form.{prints};
 ghost use Rattle.dae_straight_reader.specs.Reading.{Gives, texts, print_at, assignment_at, statement_at, statements_from, body_at, program_at};
 
@@ -89,7 +89,7 @@ pub fn program(alloc: Global, has_stdio: bool, words: &[&[u8]]) -> Result<Straig
 }
 
 /// Whether a statement prints.
-pub fn prints(statements: &[Statement]) -> bool
+fn prints(statements: &[Statement]) -> bool
     ensures { result ≡ prints statements.now }
 {
     for statement in statements {
@@ -98,4 +98,11 @@ pub fn prints(statements: &[Statement]) -> bool
         }
     }
     false
+}
+
+/// Whether statements may stand in a file: printing needs `<stdio.h>`.
+pub fn is_allowed(has_stdio: bool, statements: &[Statement]) -> bool
+    ensures { result ≡ (has_stdio || not (prints statements.now)) }
+{
+    has_stdio || !prints(statements)
 }
