@@ -4,3 +4,4 @@ mod Loops
 mod Sound
 mod Cutting
 mod Files
+mod SoundFiles

@@ -191,7 +191,7 @@ statement_shorter names ws x h =
     let s = statement_sound names ws x h in
     omega (arith, some_words names x.0, length-append (statement_words names x.0) x.1, ap length s.1)
 
-abbrev IsStatementsRead : List (List ℕ) → List (List ℕ) → List Statement × List (List ℕ) → Type 0
+abbrev pub IsStatementsRead : List (List ℕ) → List (List ℕ) → List Statement × List (List ℕ) → Type 0
 IsStatementsRead names ws x = AllByRecursion (IsStatementOf (length names)) x.0 × (ws ≡ statements_words names x.0 ++ x.1)
 
 pub statements_sound : (n : ℕ) (names ws : List (List ℕ)) (x : List Statement × List (List ℕ)) → statements_from n names ws ≡ Some x → IsStatementsRead names ws x
