@@ -8,7 +8,7 @@ use Rattle.dae_tree.specs.Form.{prints}
 use Rattle.dae_straight_reader.specs.Reading.{◌>>=◌, texts, includes, text_of, program_at, allowed, program_of}
 use Rattle.dae_straight_reader.proofs.Loops.{length-texts}
 
-both_pass : {A : Type 0} (a b : ℕ) (x y : A) → a ≤ 1048576 → b ≤ 8192 → cond (nat_le a 1048576 && nat_le b 8192) x y ≡ x
+pub both_pass : {A : Type 0} (a b : ℕ) (x y : A) → a ≤ 1048576 → b ≤ 8192 → cond (nat_le a 1048576 && nat_le b 8192) x y ≡ x
 both_pass a b x y h k = rw (le-leb a 1048576 h, le-leb b 8192 k) refl
 
 neither : (a : Bool) → (a && false) ≡ false

@@ -5,3 +5,4 @@ mod Sound
 mod Cutting
 mod Files
 mod SoundFiles
+mod Again

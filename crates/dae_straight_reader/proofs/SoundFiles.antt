@@ -14,14 +14,14 @@ use Rattle.dae_straight_reader.proofs.Sound.{bind_some, some_is, chosen, after_a
 
 -- ---- names
 
-same_symmetric : (xs ys : List ℕ) → same_bytes xs ys ≡ same_bytes ys xs
+pub same_symmetric : (xs ys : List ℕ) → same_bytes xs ys ≡ same_bytes ys xs
 same_symmetric xs ys = same_from_decides _ _ (same_decides xs ys) (λ h. sym ((same_decides ys xs).0 h), λ e. (same_decides ys xs).1 (sym e))
 
-neither_of : (a b : Bool) → (a || b) ≡ false → (a ≡ false) × (b ≡ false)
+pub neither_of : (a b : Bool) → (a || b) ≡ false → (a ≡ false) × (b ≡ false)
 neither_of true b h = absurd (cc)
 neither_of false b h = (refl, h)
 
-not_true : (a : Bool) → not a ≡ true → a ≡ false
+pub not_true : (a : Bool) → not a ≡ true → a ≡ false
 not_true true h = absurd (cc)
 not_true false h = refl
 
@@ -132,7 +132,7 @@ program_sound has_stdio ws p h =
 
 -- ---- files
 
-include_front : (bytes : List ℕ) → bytes ≡ with_include (includes bytes) (text_of bytes)
+pub include_front : (bytes : List ℕ) → bytes ≡ with_include (includes bytes) (text_of bytes)
 include_front bytes = by_test (includes bytes) refl where
   by_test : (t : Bool) → includes bytes ≡ t → bytes ≡ with_include t (cond t (drop (length include_line) bytes) bytes)
   by_test true h = sym (take-append-drop (length include_line) bytes) ∙ ap (λ front. front ++ drop (length include_line) bytes) ((same_decides _ _).0 h)
