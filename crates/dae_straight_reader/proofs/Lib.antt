@@ -6,3 +6,5 @@ mod Cutting
 mod Files
 mod SoundFiles
 mod Again
+mod AgainFiles
+mod Whole

@@ -51,3 +51,17 @@ fn program_of(alloc: Global, bytes: &[u8]) -> Result<StraightProgram, ReadError>
         Err(ReadError::NotBuilt)
     }
 }
+
+/// Reads a straight program from the bytes of a file: objects of type int, assignments of sums of products, and lines
+/// that print one (C90). Where the bytes spell no straight program, as where they are more than 1,048,576 or have more
+/// than 8,192 words, the error is NotBuilt. Where memory is wanting, it is Memory.
+pub fn read(alloc: Global, bytes: &[u8]) -> Result<StraightProgram, ReadError>
+    // What is read is spelled.
+    ensures found { IfOk result (λ p. Spells bytes.now p) }
+    // No other program is spelled.
+    ensures only { IfOk result (λ p. (q : StraightProgram) → Spells bytes.now q → q ≡ p) }
+    // Where nothing is read, nothing is spelled.
+    ensures not_built { result ≡ Err ReadError.NotBuilt → (q : StraightProgram) → ¬ (Spells bytes.now q) }
+{
+    program_of(alloc, bytes)
+}
