@@ -1,13 +1,11 @@
 -- What is spelled in a file is read.
-use Rattle.std.proofs.Common.{◌≡◌, ℕ, zero, suc, ◌+◌, ◌-◌, ◌<◌, ◌≤◌, Bool, true, false, cond, ◌&&◌, ◌||◌, not, List, [], ◌∷◌, ◌++◌, length, take, drop, codes, Option, Some, None, refl, sym, ap, subst, ◌∙◌, arith, length-append}
-use Rattle.std.proofs.lemmas.List.{take-append-drop}
+use Rattle.std.proofs.Common.{◌≡◌, ℕ, ◌<◌, ◌≤◌, Bool, true, false, cond, List, [], ◌∷◌, ◌++◌, length, drop, codes, Option, Some, None, refl, sym, ap, subst, ◌∙◌, arith, length-append}
 use Rattle.dae_tree.specs.declared.Statement.{Statement}
 use Rattle.dae_tree.specs.declared.Statement.TheVariants.{Assign, PrintLine}
 use Rattle.dae_tree.specs.declared.StraightProgram.{StraightProgram}
 use Rattle.dae_tree.specs.Text.{words}
-use Rattle.dae_tree.specs.Form.{same_bytes, declarations_words, head_words, tail_words, statement_words, statements_words, program_words, include_line, with_include, IsStraight, Spells}
-use Rattle.dae_straight_reader.specs.Reading.{◌>>=◌, Read, after_all, statements_from, body_at, names_from, program, at_end, program_at, allowed, includes, text_of, program_of}
-use Rattle.dae_straight_reader.proofs.Numbers.{same_decides}
+use Rattle.dae_tree.specs.Form.{declarations_words, head_words, tail_words, statement_words, statements_words, program_words, include_line, with_include, IsStraight, Spells}
+use Rattle.dae_straight_reader.specs.Reading.{◌>>=◌, after_all, statements_from, body_at, names_from, program, at_end, program_at, allowed, includes, text_of, program_of}
 use Rattle.dae_straight_reader.proofs.Files.{both_pass}
 use Rattle.dae_straight_reader.proofs.SoundFiles.{include_front}
 use Rattle.dae_straight_reader.proofs.Again.{after_all_again, statements_again, names_again}

@@ -1,9 +1,9 @@
 -- Texts and their words.
-use Rattle.std.proofs.Common.{◌≡◌, ℕ, zero, suc, ◌+◌, ◌-◌, ◌<◌, ◌≤◌, Bool, true, false, cond, ◌&&◌, ◌||◌, ◌==◌, not, List, [], ◌∷◌, ◌++◌, length, take, drop, get_or, add-zero, refl, sym, ap, subst, ◌∙◌, arith, rules, append_assoc, append-nil}
+use Rattle.std.proofs.Common.{◌≡◌, ℕ, zero, suc, ◌+◌, ◌<◌, Bool, true, false, cond, ◌==◌, List, [], ◌∷◌, ◌++◌, length, take, drop, get_or, add-zero, refl, sym, ap, subst, ◌∙◌, arith, append_assoc, append-nil}
 use Rattle.std.specs.Borrow.{Bor}
 use Rattle.std.proofs.lemmas.List.{length-drop, drop-drop, get_or-drop}
 use Rattle.std.proofs.lemmas.Bool.Decides.{nat_tests, Decides-eqb}
-use Rattle.dae_tree.specs.Text.{is_digit, is_letter, is_name_byte, is_blank, ended, Reading, InName, InLiteral, words_from, words}
+use Rattle.dae_tree.specs.Text.{is_name_byte, is_blank, ended, InName, InLiteral, words_from, words}
 use Rattle.dae_straight_reader.specs.Reading.{texts, name_length, literal_length, first_length, shown}
 
 -- ---- names

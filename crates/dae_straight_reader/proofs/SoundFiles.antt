@@ -1,16 +1,16 @@
 -- What is read of a file is spelled.
-use Rattle.std.proofs.Common.{◌≡◌, ℕ, zero, suc, ◌+◌, ◌-◌, ◌<◌, ◌≤◌, Bool, true, false, cond, ◌&&◌, ◌||◌, not, nat_le, List, [], ◌∷◌, ◌++◌, length, take, drop, codes, Option, Some, None, ◌⊎◌, inl, inr, refl, sym, ap, subst, ◌∙◌, arith, rules, append_assoc, append-nil, IsTrue, Decides}
-use Rattle.std.specs.List.{AllByRecursion, list_all, list_any}
+use Rattle.std.proofs.Common.{◌≡◌, ℕ, Bool, true, false, cond, ◌&&◌, ◌||◌, not, List, [], ◌∷◌, ◌++◌, length, drop, codes, Option, Some, None, refl, sym, ap, subst, ◌∙◌, arith, append_assoc, append-nil}
+use Rattle.std.specs.List.{AllByRecursion, list_all}
 use Rattle.std.proofs.lemmas.Bool.{leb-true}
 use Rattle.std.proofs.lemmas.Bool.Decides.{same_from_decides}
 use Rattle.std.proofs.lemmas.List.{take-append-drop}
 use Rattle.dae_tree.specs.declared.Statement.{Statement}
 use Rattle.dae_tree.specs.declared.StraightProgram.{StraightProgram}
 use Rattle.dae_tree.specs.Text.{words}
-use Rattle.dae_tree.specs.Form.{same_bytes, is_among, is_free_name, are_distinct, declarations_words, head_words, tail_words, statements_words, program_words, prints, include_line, with_include, IsStatementOf, IsStraight, Spells}
-use Rattle.dae_straight_reader.specs.Reading.{◌>>=◌, Read, after_all, statements_from, body_at, declared_at, is_new, names_from, program, at_end, program_at, allowed, includes, text_of, program_of}
+use Rattle.dae_tree.specs.Form.{same_bytes, is_among, is_free_name, are_distinct, declarations_words, head_words, tail_words, statements_words, program_words, include_line, with_include, IsStatementOf, Spells}
+use Rattle.dae_straight_reader.specs.Reading.{body_at, is_new, names_from, program, at_end, program_at, includes, text_of, program_of}
 use Rattle.dae_straight_reader.proofs.Numbers.{same_decides, both}
-use Rattle.dae_straight_reader.proofs.Sound.{bind_some, some_is, chosen, after_all_sound, IsStatementsRead, statements_sound}
+use Rattle.dae_straight_reader.proofs.Sound.{bind_some, some_is, chosen, after_all_sound, statements_sound}
 
 -- ---- names
 

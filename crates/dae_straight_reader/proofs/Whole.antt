@@ -1,5 +1,5 @@
 -- A program is read exactly where the bytes spell one, and that one.
-use Rattle.std.proofs.Common.{◌≡◌, ℕ, List, Option, Some, None, Result, Ok, Err, IfOk, refl, sym, ◌∙◌}
+use Rattle.std.proofs.Common.{◌≡◌, ℕ, List, Some, Result, Ok, Err, IfOk, sym, ◌∙◌}
 use Rattle.dae_tree.specs.declared.StraightProgram.{StraightProgram}
 use Rattle.dae_tree.specs.Form.{Spells}
 use Rattle.dae_straight_reader.specs.declared.error.ReadError.{ReadError}

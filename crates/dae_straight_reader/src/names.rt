@@ -15,10 +15,42 @@ use std::str;
 
 /// The keywords (C90 6.1.1), and the names that the library or main has.
 const RESERVED: [&[u8]; 36] = [
-    b"auto", b"break", b"case", b"char", b"const", b"continue", b"default", b"do", b"double", b"else", b"enum",
-    b"extern", b"float", b"for", b"goto", b"if", b"int", b"long", b"register", b"return", b"short", b"signed",
-    b"sizeof", b"static", b"struct", b"switch", b"typedef", b"union", b"unsigned", b"void", b"volatile", b"while",
-    b"main", b"printf", b"putchar", b"NULL",
+    b"auto",
+    b"break",
+    b"case",
+    b"char",
+    b"const",
+    b"continue",
+    b"default",
+    b"do",
+    b"double",
+    b"else",
+    b"enum",
+    b"extern",
+    b"float",
+    b"for",
+    b"goto",
+    b"if",
+    b"int",
+    b"long",
+    b"register",
+    b"return",
+    b"short",
+    b"signed",
+    b"sizeof",
+    b"static",
+    b"struct",
+    b"switch",
+    b"typedef",
+    b"union",
+    b"unsigned",
+    b"void",
+    b"volatile",
+    b"while",
+    b"main",
+    b"printf",
+    b"putchar",
+    b"NULL",
 ];
 
 fn are_name_bytes(bytes: &[u8]) -> bool
@@ -99,7 +131,10 @@ fn declared<'t>(words: &[&'t [u8]]) -> Option<&'t [u8]>
 }
 
 /// The names of the declarations that words begin with, and the words after them.
-pub fn declarations<'w, 't>(alloc: Global, words: &'w [&'t [u8]]) -> Result<(Items<Text>, &'w [&'t [u8]]), ReadError>
+pub fn declarations<'w, 't>(
+    alloc: Global,
+    words: &'w [&'t [u8]],
+) -> Result<(Items<Text>, &'w [&'t [u8]]), ReadError>
     ensures gives { Gives (λ x. (x.0, texts x.1.now)) result (names_from [] (texts words.now)) }
     ensures few { IfOk result (λ x. length x.0 ≤ length words.now) }
 {

@@ -128,7 +128,10 @@ pub fn after<'w, 't>(words: &'w [&'t [u8]], word: &[u8]) -> Result<&'w [&'t [u8]
 }
 
 /// The words after these, where they begin with them.
-pub fn after_all<'w, 't>(words: &'w [&'t [u8]], expected: &[&[u8]]) -> Result<&'w [&'t [u8]], ReadError>
+pub fn after_all<'w, 't>(
+    words: &'w [&'t [u8]],
+    expected: &[&[u8]],
+) -> Result<&'w [&'t [u8]], ReadError>
     ensures { Gives (λ x. texts x.now) result (after_all (texts expected.now) (texts words.now)) }
 {
     match expected {

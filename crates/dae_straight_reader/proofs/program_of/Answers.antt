@@ -1,7 +1,6 @@
-use Rattle.std.proofs.Common.{◌≡◌, ◌∙◌, sym, ap, arith, length}
+use Rattle.std.proofs.Common.{◌∙◌, sym, ap, arith}
 use Rattle.dae_tree.specs.Text.{words}
-use Rattle.dae_straight_reader.specs.Reading.{texts, text_of}
-use Rattle.dae_straight_reader.proofs.Files.{too_many, taken, prints_alone}
+use Rattle.dae_straight_reader.proofs.Files.{too_many, taken}
 use Rattle.dae_straight_reader.proofs.program_of.Goals as goal
 
 pub returns-then-len-gt-MAX_WORDS : goal.returns-then-len-gt-MAX_WORDS

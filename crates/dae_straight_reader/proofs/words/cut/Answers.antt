@@ -1,7 +1,6 @@
-use Rattle.std.proofs.Common.{◌≡◌, ◌≤◌, ◌+◌, ◌-◌, ◌++◌, ap, sym, ◌∙◌, take, drop, length, arith}
+use Rattle.std.proofs.Common.{◌≡◌, ◌≤◌, ◌+◌, ◌-◌, sym, length, arith}
 use Rattle.std.proofs.lemmas.List.{take_rest, length-drop}
-use Rattle.dae_tree.specs.Text.{words}
-use Rattle.dae_straight_reader.specs.Reading.{texts, first_length}
+use Rattle.dae_straight_reader.specs.Reading.{texts}
 use Rattle.dae_straight_reader.proofs.Cutting.{texts-push, one_more, blank_passed}
 use Rattle.dae_straight_reader.proofs.words.cut.Goals.{then-not-is_blank+in_ok-push, else-not-is_blank}
 use Rattle.dae_straight_reader.proofs.words.cut.Goals as goal
