@@ -4,11 +4,13 @@ use Rattle.std.specs.Prelude.{Some}
 use Rattle.dae_base.specs.declared.Side.{Side}
 use Rattle.dae_base.specs.declared.Side.TheVariants.{A, E}
 use Rattle.dae_encode.specs.declared.QueueUse.{QueueUse}
-use Rattle.dae_core.specs.Queues.{Queues, commit}
+use Rattle.dae_core.specs.Queues.{Queues, commit, loads_of, with_loads_of}
+use Rattle.dae_queues.specs.Lists.{with_value}
 use Rattle.dae_core.proofs.QueueLaws.{UseOfA, UseOfE, a_nothing, a_load_ld, a_load_al, a_take_al, a_address, a_push_ab, a_push_cq, a_take_eb, e_nothing, e_take_ld, e_push_sd, e_take_ab, e_take_cq, e_push_eb, of_a, of_e}
 use Rattle.dae_machine.specs.declared.Pick.{Pick}
 use Rattle.dae_machine.specs.Machine.{Setup, State, step}
 use Rattle.dae_machine.specs.Held.{Counted}
+use Rattle.dae_machine.proofs.CountLaws.{counted_fill}
 use Rattle.dae_machine.proofs.Diamond.{Did, by_a, by_e, by_fill, by_drain, did, counted_did}
 
 -- the numbers are at most so many
@@ -50,3 +52,7 @@ counted_after setup s t p c h =
     let d = did setup s t p h in
     let m = after_did (at_most s c) d in
     record { counts = counted_did c.counts d; ld = m.ld; al = m.al; stores = m.stores }
+
+pub counted_filled : (side : Side) (n w : ℕ) (q : Queues) (steps : ℕ) → Counted q steps → Counted (with_loads_of side (with_value n w (loads_of side q).slots) q) (steps + 1)
+counted_filled A n w q steps c = record { counts = counted_fill A n w q c.counts; ld = omega (arith, c.ld); al = omega (arith, c.al); stores = omega (arith, c.stores) }
+counted_filled E n w q steps c = record { counts = counted_fill E n w q c.counts; ld = omega (arith, c.ld); al = omega (arith, c.al); stores = omega (arith, c.stores) }

@@ -19,6 +19,7 @@ use Rattle.dae_core.specs.Queues.{Queues, belongs, commit, front, peek, possible
 use Rattle.dae_core.proofs.Uses.{AsksOwn, own_request}
 use Rattle.dae_queues.proofs.MemoryLaws.{map_some_is}
 use Rattle.dae_machine.specs.declared.Pick.TheVariants.{A as MoveA, E as MoveE}
+use Rattle.dae_machine.specs.Answers.{is_done}
 use Rattle.dae_machine.specs.Machine.{Setup, State, code, granted, move, moved_a, moved_e, step}
 
 -- the queues as a processor sees them
@@ -100,12 +101,6 @@ module _ (setup : Setup) (s : State) where
       (x.0.0.1, m.0, rw (m.1, m.2) (sym x.2), ap (λ (h : HeldQueues). h.depths) m.2)
 
 -- ---- what a processor would answer
-
-abbrev pub is_done : CoreAnswer → Bool
-is_done (Did piece) = true
-is_done (Waits k) = false
-is_done IsHalted = false
-is_done (Faulted fault) = false
 
 unprinted_done : (answer : CoreAnswer) → is_done (unprinted answer) ≡ is_done answer
 unprinted_done (Did piece) = refl
