@@ -9,3 +9,4 @@ pub mod Opening
 pub mod Moves
 pub mod Kept
 pub mod Steps
+pub mod Generator
