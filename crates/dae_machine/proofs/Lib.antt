@@ -10,3 +10,4 @@ pub mod Moves
 pub mod Kept
 pub mod Steps
 pub mod Generator
+pub mod Turns

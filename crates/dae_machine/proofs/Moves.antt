@@ -130,7 +130,7 @@ answer_done d side p q (Faulty fault) own = refl
 answer_done d side p q (Asks u w i) own =
     rw (← open_ready d side u q own, given_is (held d q) u) (answer_done_by d u q (is_open d u q) (finish side p u i (form i) (peek u q)) (λ (r : After). (r, commit u w q)) refl)
 
-some_map : {X Y : Type 0} (f : X → Y) (o : Option X) → is_some (option_map f o) ≡ is_some o
+pub some_map : {X Y : Type 0} (f : X → Y) (o : Option X) → is_some (option_map f o) ≡ is_some o
 some_map f None = refl
 some_map f (Some x) = refl
 

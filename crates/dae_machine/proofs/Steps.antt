@@ -1,5 +1,5 @@
 -- What a step makes of the parts of a machine.
-use Rattle.std.proofs.Common.{◌≡◌, ℕ, ◌+◌, ◌<◌, ◌^◌, List, [], ◌++◌, length, refl, ap, sym, ◌∙◌, subst, arith}
+use Rattle.std.proofs.Common.{◌≡◌, ℕ, ◌+◌, ◌<◌, ◌^◌, List, [], ◌++◌, length, false, refl, ap, sym, ◌∙◌, subst, arith}
 use Rattle.std.specs.Prelude.{Option, Some, None, IsSome, is_some}
 use Rattle.dae_base.specs.declared.Side.{Side}
 use Rattle.dae_base.specs.declared.Side.TheVariants.{A, E}
@@ -14,9 +14,9 @@ use Rattle.dae_core.specs.Queues.{loads_of, with_loads_of}
 use Rattle.dae_queues.specs.Lists.{with_value}
 use Rattle.dae_machine.specs.Answers.{is_done}
 use Rattle.dae_machine.specs.Machine.{State, step}
-use Rattle.dae_machine.specs.Held.{Counted, HeldMachine, IsSound, seen}
+use Rattle.dae_machine.specs.Held.{Counted, HeldMachine, IsSound, is_plain, seen}
 use Rattle.dae_machine.proofs.Moves.{opens, fronts, afters, a_looked, a_moved, e_looked, e_moved}
-use Rattle.dae_machine.proofs.Kept.{counted_after, counted_filled}
+use Rattle.dae_machine.proofs.Kept.{counted_after, counted_filled, unplain_after}
 
 some_is : {X : Type 0} (o : Option X) → IsSome o → (x : X) × (o ≡ Some x)
 some_is None h = cc
@@ -46,6 +46,7 @@ module _ (a e : HeldCore) (code_a code_e : List ℕ) (q : HeldQueues) (memory : 
           same = sound.same ∙ sym kept.1;
           counted = subst (λ (t : State). Counted t.queues t.steps) moved.0 counted;
           small = sound.small;
+          ends = sound.ends;
         };
         setup = rw (kept.1, moved.1);
         state = found.1 ∙ ap Some moved.0;
@@ -66,6 +67,7 @@ module _ (a e : HeldCore) (code_a code_e : List ℕ) (q : HeldQueues) (memory : 
             same = kept.1 ∙ sound.same;
             counted = subst (λ (t : State). Counted t.queues t.steps) moved.2 counted;
             small = sound.small;
+            ends = subst (λ (t : State). is_plain t.e.halt ≡ false) moved.2 (unplain_after whole.setup whole.state found.0 MoveE sound.ends found.1);
           };
           setup = rw moved.3;
           state = found.1 ∙ ap Some moved.2;
@@ -92,4 +94,4 @@ module _ (a e : HeldCore) (code_a code_e : List ℕ) (q : HeldQueues) (memory : 
 
 -- a fill keeps what is true of every machine
 pub fill_sound : (a e : HeldCore) (q : HeldQueues) (memory : List ℕ) (taken : ℕ) (side : Side) (n w : ℕ) → IsSound a e q memory taken → IsSound a e (record q { queues = with_loads_of side (with_value n w (loads_of side q.queues).slots) q.queues }) memory (taken + 1)
-fill_sound a e q memory taken side n w s = record { on_a = s.on_a; on_e = s.on_e; same = s.same; counted = counted_filled side n w q.queues taken s.counted; small = s.small }
+fill_sound a e q memory taken side n w s = record { on_a = s.on_a; on_e = s.on_e; same = s.same; counted = counted_filled side n w q.queues taken s.counted; small = s.small; ends = s.ends }

@@ -15,6 +15,9 @@ use dae_image::Image;
 use std::alloc::{AllocError, Global};
 use std::marker::Model;
 
+mod shown;
+mod turns;
+
 /// A machine. Clauses see its state without the printed bytes, and what no step changes.
 #[derive(Drop)]
 pub struct Machine {
