@@ -12,10 +12,10 @@ use Rattle.dae_machine.specs.declared.Pick.{Pick}
 use Rattle.dae_machine.specs.declared.Pick.TheVariants.{A as MoveA, E as MoveE}
 use Rattle.dae_core.specs.Queues.{loads_of, with_loads_of}
 use Rattle.dae_queues.specs.Lists.{with_value}
-use Rattle.dae_machine.specs.Answers.{is_done}
+use Rattle.dae_machine.specs.Answers.{answer}
 use Rattle.dae_machine.specs.Machine.{State, step}
 use Rattle.dae_machine.specs.Held.{Counted, HeldMachine, IsSound, is_plain, seen}
-use Rattle.dae_machine.proofs.Moves.{opens, fronts, afters, a_looked, a_moved, e_looked, e_moved}
+use Rattle.dae_machine.proofs.Moves.{opens, fronts, afters, answer_is, a_moved, e_moved}
 use Rattle.dae_machine.proofs.Kept.{counted_after, counted_filled, unplain_after}
 
 some_is : {X : Type 0} (o : Option X) → IsSome o → (x : X) × (o ≡ Some x)
@@ -86,11 +86,11 @@ module _ (a e : HeldCore) (code_a code_e : List ℕ) (q : HeldQueues) (memory : 
       (moved.0, moved.1, subst (λ (m : HeldMachine). Moved m MoveE moved.0 a e' code_a code_e q' memory (taken + 1)) is moved.2)
 
   -- what the processors would answer
-  pub a_look : (size : ℕ) (words : List ℕ) → size ≡ length memory → words ≡ code_a → is_done (unprinted (answered_by opens fronts a.side a.processor q (request a.copies a.side words size a.processor))) ≡ is_some (step m.setup m.state MoveA)
-  a_look size words same_size same_code = subst (λ (m : HeldMachine). is_done (unprinted (answered_by opens fronts a.side a.processor q (request a.copies a.side words size a.processor))) ≡ is_some (step m.setup m.state MoveA)) is (rw (same_size, same_code, sound.on_a) (a_looked (seen a e code_a code_e q memory taken).setup (seen a e code_a code_e q memory taken).state))
+  pub a_look : (size : ℕ) (words : List ℕ) → size ≡ length memory → words ≡ code_a → unprinted (answered_by opens fronts a.side a.processor q (request a.copies a.side words size a.processor)) ≡ answer m.setup m.state A
+  a_look size words same_size same_code = subst (λ (m : HeldMachine). unprinted (answered_by opens fronts a.side a.processor q (request a.copies a.side words size a.processor)) ≡ answer m.setup m.state A) is (rw (same_size, same_code, sound.on_a) (answer_is (seen a e code_a code_e q memory taken).setup (seen a e code_a code_e q memory taken).state A))
 
-  pub e_look : (size : ℕ) (words : List ℕ) → size ≡ length memory → words ≡ code_e → is_done (unprinted (answered_by opens fronts e.side e.processor q (request e.copies e.side words size e.processor))) ≡ is_some (step m.setup m.state MoveE)
-  e_look size words same_size same_code = subst (λ (m : HeldMachine). is_done (unprinted (answered_by opens fronts e.side e.processor q (request e.copies e.side words size e.processor))) ≡ is_some (step m.setup m.state MoveE)) is (rw (same_size, same_code, sound.on_e, sound.same) (e_looked (seen a e code_a code_e q memory taken).setup (seen a e code_a code_e q memory taken).state))
+  pub e_look : (size : ℕ) (words : List ℕ) → size ≡ length memory → words ≡ code_e → unprinted (answered_by opens fronts e.side e.processor q (request e.copies e.side words size e.processor)) ≡ answer m.setup m.state E
+  e_look size words same_size same_code = subst (λ (m : HeldMachine). unprinted (answered_by opens fronts e.side e.processor q (request e.copies e.side words size e.processor)) ≡ answer m.setup m.state E) is (rw (same_size, same_code, sound.on_e, sound.same) (answer_is (seen a e code_a code_e q memory taken).setup (seen a e code_a code_e q memory taken).state E))
 
 -- a fill keeps what is true of every machine
 pub fill_sound : (a e : HeldCore) (q : HeldQueues) (memory : List ℕ) (taken : ℕ) (side : Side) (n w : ℕ) → IsSound a e q memory taken → IsSound a e (record q { queues = with_loads_of side (with_value n w (loads_of side q.queues).slots) q.queues }) memory (taken + 1)

@@ -87,12 +87,13 @@ impl Machine {
     }
 
     /// Whether this pick has a step now.
+    #[tactic(auto, using(crate::proofs::Moves::a_goes, crate::proofs::Moves::e_goes))]
     pub fn enabled(&self, pick: Pick) -> bool
         ensures { result ≡ is_some (step self.now.setup self.now.state pick) }
     {
         match pick {
-            Pick::A => self.a_goes(),
-            Pick::E => self.e_goes(),
+            Pick::A => is_done(&self.answer(Side::A)),
+            Pick::E => is_done(&self.answer(Side::E)),
             Pick::Fill(side, number) => self.filling(side, number).is_some(),
             Pick::Drain => self.queues.draining().is_some(),
         }
@@ -127,20 +128,6 @@ impl Machine {
         ensures { result ≡ filling side number self.now.state.queues self.now.state.memory }
     {
         self.queues.filling(side, number, self.memory.as_slice())
-    }
-
-    fn a_goes(&self) -> bool
-        ensures { result ≡ is_some (step self.now.setup self.now.state Pick.A) }
-    {
-        let memory = self.memory.len() as u32;
-        is_done(&self.a.look(&self.code_a, memory, &self.queues))
-    }
-
-    fn e_goes(&self) -> bool
-        ensures { result ≡ is_some (step self.now.setup self.now.state Pick.E) }
-    {
-        let memory = self.memory.len() as u32;
-        is_done(&self.e.look(&self.code_e, memory, &self.queues))
     }
 
     /// One instruction of A.
