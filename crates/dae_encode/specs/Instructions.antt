@@ -185,22 +185,22 @@ registers_only f3 f7 rd x y =
     else (if f7 == 1 then multiplications f3 rd x y
     else (if f7 == 32 then (if f3 == 0 then Some (Sub rd x y) else (if f3 == 5 then Some (Sra rd x y) else None)) else None))
 
-abbrev pub decode_by : ℕ → ℕ → ℕ → ℕ → ℕ → ℕ → ℕ → Option Inst
-decode_by w op rd f3 rs1 rs2 f7 =
-    if w == 0x73 then Some Ecall
-    else (if op == 0b0110111 then Some (Lui rd (imm_u w))
-    else (if op == 0b0010111 then Some (Auipc rd (imm_u w))
-    else (if op == 0b1101111 then Some (Jal rd (imm_j w))
-    else (if op == 0b1100111 then (if f3 == 0 then Some (Jalr rd rs1 (imm_i w)) else None)
-    else (if op == 0b1100011 then branches f3 rs1 rs2 (imm_b w)
-    else (if op == 0b0000011 then loads f3 rd rs1 (imm_i w)
-    else (if op == 0b0100011 then stores f3 rs1 rs2 (imm_s w)
+abbrev pub decode_by : ℕ → ℕ → ℕ → ℕ → ℕ → ℕ → ℕ → ℤ → ℤ → ℤ → ℤ → ℤ → Option Inst
+decode_by w op rd f3 rs1 rs2 f7 i s b u j =
+    if op == 0b0110111 then Some (Lui rd u)
+    else (if op == 0b0010111 then Some (Auipc rd u)
+    else (if op == 0b1101111 then Some (Jal rd j)
+    else (if op == 0b1100111 then (if f3 == 0 then Some (Jalr rd rs1 i) else None)
+    else (if op == 0b1100011 then branches f3 rs1 rs2 b
+    else (if op == 0b0000011 then loads f3 rd rs1 i
+    else (if op == 0b0100011 then stores f3 rs1 rs2 s
     else (if op == 0b0010011 then (
     if f3 % 4 == 1 then shifts f3 f7 rd rs1 rs2
-    else immediates f3 rd rs1 (imm_i w))
+    else immediates f3 rd rs1 i)
     else (if op == 0b0110011 then registers_only f3 f7 rd rs1 rs2
-    else None)))))))))
+    else (if w == 0x73 then Some Ecall else None)))))))))
 
--- the instruction that a word spells
+-- the instruction that a word spells, by its opcode, rd, funct3, rs1, rs2 and funct7, and by its five immediates
 unfoldable pub decode : ℕ → Option Inst
-decode w = decode_by w (field 0 7 w) (field 7 5 w) (field 12 3 w) (field 15 5 w) (field 20 5 w) (field 25 7 w)
+decode w =
+    decode_by w (field 0 7 w) (field 7 5 w) (field 12 3 w) (field 15 5 w) (field 20 5 w) (field 25 7 w) (imm_i w) (imm_s w) (imm_b w) (imm_u w) (imm_j w)

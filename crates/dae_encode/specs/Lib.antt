@@ -1,3 +1,5 @@
 pub mod Instructions
+pub mod Spelling
 pub mod Uses
+pub mod Legality
 pub mod Processor

@@ -2,6 +2,7 @@ ghost use Rattle.std.specs.Prelude.{◌≡◌, ℕ, Bool, Option};
 ghost use Rattle.dae_base.specs.Words.{size};
 ghost use Rattle.dae_encode.specs.Instructions.{form};
 ghost use Rattle.dae_encode.specs.Uses.{as_source, as_target, as_loaded, as_stored, joined, queue_use};
+ghost use Rattle.dae_encode.specs.Legality.{accesses, sole};
 ghost use Rattle.dae_encode.specs.Processor.{is_shared, is_within, bad_call};
 
 use crate::{Fault, Form, Inst, QueueUse, form_of};
@@ -69,11 +70,19 @@ fn join(x: Option<QueueUse>, y: Option<QueueUse>) -> Option<QueueUse>
 
 /// The one queue access of an instruction on this side, or None where it is illegal there: where two of its fields make
 /// an access, or a field has a register that may not stand there. Where copies are not allowed, x28 may stand nowhere.
-#[tactic(auto, unfolding(crate::specs::Uses::queue_use))]
+#[tactic(auto, using(crate::proofs::Legal::queue_use_sole))]
 pub fn queue_use(side: Side, inst: &Inst, copies: bool) -> Option<QueueUse>
-    ensures { result ≡ queue_use copies side (form inst.now) }
+    ensures told { result ≡ queue_use copies side (form inst.now) }
+    ensures sole { result ≡ sole (accesses copies side (form inst.now)) }
 {
-    match form_of(inst) {
+    use_of(side, form_of(inst), copies)
+}
+
+#[tactic(auto, unfolding(crate::specs::Uses::queue_use))]
+fn use_of(side: Side, form: Form, copies: bool) -> Option<QueueUse>
+    ensures { result ≡ queue_use copies side form }
+{
+    match form {
         Form::Computes(rd, first, second) => join(
             target_use(copies, side, rd),
             join(

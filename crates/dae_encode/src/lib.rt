@@ -2,12 +2,15 @@
 #![tactic(auto)]
 
 pub use access::{bad_call, is_shared, is_within, queue_use};
+pub use decoding::decode;
 pub use effects::{form_of, next, value};
-pub use words::decode;
+pub use encoding::encode;
 
 mod access;
+mod bits;
+mod decoding;
 mod effects;
-mod words;
+mod encoding;
 
 use dae_base::{LoadKind, Queue, Width};
 
@@ -106,3 +109,6 @@ pub enum Request {
     Faulty(Fault),
     Asks(QueueUse, u32, Inst),
 }
+
+#[cfg(test)]
+mod tests;

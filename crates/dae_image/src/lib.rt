@@ -1,6 +1,19 @@
 // Images: the two codes, the data and the budget of a program, and their bytes.
 #![tactic(auto)]
 
+ghost use Rattle.dae_image.specs.Contents.{Fits};
+
+pub use fault::{Field, ImageError};
+pub use reading::read;
+pub use writing::write;
+
+mod body;
+mod fault;
+mod fields;
+mod header;
+mod reading;
+mod writing;
+
 use dae_base::{Depths, Items, Side, Text};
 
 /// Where code comes from: the word of a side's code and the file and line that it stands for. Files count from 0 in
@@ -28,4 +41,5 @@ pub struct Image {
     pub content: Items<u8>,
     pub lines: Items<LineMark>,
     pub names: Items<Text>,
+    pub ghost fits: { Fits (record { budget = budget; memory = memory; calls = calls; private_a = private_a; private_e = private_e; entry_a = entry_a; entry_e = entry_e; code_a = code_a; code_e = code_e; content = content; lines = lines; names = names }) },
 }

@@ -1,5 +1,5 @@
 -- The rounds of a straight program, with at most four loads in each.
-use Rattle.std.specs.Prelude.{ℕ, ◌+◌, Bool, true, false, ◌&&◌, ◌==◌, nat_lt, if◌then◌else◌, List, [], ◌∷◌, ◌++◌}
+use Rattle.std.specs.Prelude.{ℕ, ◌+◌, nat_lt, if◌then◌else◌, List, [], ◌∷◌, ◌++◌}
 use Rattle.dae_tree.specs.declared.BinaryOperator.{BinaryOperator}
 use Rattle.dae_tree.specs.declared.BinaryOperator.TheVariants.{Add, Subtract, Multiply}
 use Rattle.dae_tree.specs.declared.Factor.{Factor}

@@ -1,0 +1,9 @@
+use Rattle.std.proofs.Common.{◌≡◌, arith}
+use Rattle.dae_image.proofs.ReadLaws.{is_found, is_only}
+use Rattle.dae_image.proofs.reading.read.Goals as goal
+
+pub returns-clause-found : goal.returns-clause-found
+returns-clause-found c = is_found c.args.bytes.now c.all.result (λ i. omega (arith, c.type_inv.bytes i)) c.all.ensures
+
+pub returns-clause-only : goal.returns-clause-only
+returns-clause-only c = λ image spelled. is_only c.args.bytes.now c.all.result image c.all.ensures spelled

@@ -1,0 +1,27 @@
+-- Images as what they hold.
+use Rattle.std.specs.Prelude.{◌≡◌, List, ℕ, Result, Ok, Err}
+use Rattle.dae_image.specs.declared.Image.{Image}
+use Rattle.dae_image.specs.declared.fault.ImageError.{ImageError}
+use Rattle.dae_image.specs.declared.fault.ImageError.TheVariants.{Memory}
+use Rattle.dae_image.specs.Contents.{Contents}
+
+abbrev pub contents : Image → Contents
+contents i = record {
+  budget = i.budget;
+  memory = i.memory;
+  calls = i.calls;
+  private_a = i.private_a;
+  private_e = i.private_e;
+  entry_a = i.entry_a;
+  entry_e = i.entry_e;
+  code_a = i.code_a;
+  code_e = i.code_e;
+  content = i.content;
+  lines = i.lines;
+  names = i.names;
+}
+
+-- the answer is this image, unless memory ran out
+abbrev pub IsOrMemory : Image → Result Image ImageError → Type 0
+IsOrMemory image (Ok read) = read ≡ image
+IsOrMemory image (Err e) = e ≡ Memory

@@ -1,0 +1,5 @@
+pub mod Ranges
+pub mod Contents
+pub mod Spelling
+pub mod Reading
+pub mod Images

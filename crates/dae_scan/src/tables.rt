@@ -1,0 +1,70 @@
+ghost use Rattle.std.specs.Prelude.{◌≡◌, ◌≤◌, ◌<◌, length, IfSome};
+ghost use Rattle.dae_token.specs.Tables.{first_row, row_of, rows_of, sign_of, keyword_of, refused_word, header_of, suffix_of};
+
+use dae_token::{Construct, HEADERS, Header, KEYWORDS, Keyword, PieceKind, REFUSED_WORDS, SIGNS, SUFFIXES};
+
+/// The first row whose spelling begins the bytes: the spelling's length, and what it spells.
+fn find_row<T: Copy>(rows: &[(&[u8], T)], bytes: &[u8]) -> Option<(usize, T)>
+    ensures value { result ≡ first_row (rows_of rows.now) bytes.now }
+    ensures within { IfSome result (λ found. found.0 ≤ length bytes.now) }
+{
+    for (spelling, what) in rows {
+        if bytes.starts_with(spelling) {
+            return Some((spelling.len(), *what));
+        }
+    }
+    None
+}
+
+/// What the row with this spelling says.
+fn exact_row<T: Copy>(rows: &[(&[u8], T)], name: &[u8]) -> Option<T>
+    ensures { result ≡ row_of (rows_of rows.now) name.now }
+{
+    for (spelling, what) in rows {
+        if name == *spelling {
+            return Some(*what);
+        }
+    }
+    None
+}
+
+/// The longest sign at the front, and its length.
+#[tactic(auto, unfolding(dae_token::specs::Tables::sign_of))]
+pub fn sign_at(bytes: &[u8]) -> Option<(usize, PieceKind)>
+    ensures value { result ≡ sign_of bytes.now }
+    ensures within { IfSome result (λ found. (0 < found.0) × (found.0 ≤ length bytes.now)) }
+{
+    find_row(&SIGNS, bytes)
+}
+
+/// The keyword that is spelled so.
+#[tactic(auto, unfolding(dae_token::specs::Tables::keyword_of))]
+pub fn find_keyword(word: &[u8]) -> Option<Keyword>
+    ensures { result ≡ keyword_of word.now }
+{
+    exact_row(&KEYWORDS, word)
+}
+
+/// By what name a word is refused.
+#[tactic(auto, unfolding(dae_token::specs::Tables::refused_word))]
+pub fn find_refused_word(word: &[u8]) -> Option<Construct>
+    ensures { result ≡ refused_word word.now }
+{
+    exact_row(&REFUSED_WORDS, word)
+}
+
+/// The header with this name.
+#[tactic(auto, unfolding(dae_token::specs::Tables::header_of))]
+pub fn find_header(name: &[u8]) -> Option<Header>
+    ensures { result ≡ header_of name.now }
+{
+    exact_row(&HEADERS, name)
+}
+
+/// Whether a suffix makes a constant unsigned, and None for what is no suffix.
+#[tactic(auto, unfolding(dae_token::specs::Tables::suffix_of))]
+pub fn find_suffix(suffix: &[u8]) -> Option<bool>
+    ensures { result ≡ suffix_of suffix.now }
+{
+    exact_row(&SUFFIXES, suffix)
+}

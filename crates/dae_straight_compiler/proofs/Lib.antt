@@ -1,0 +1,12 @@
+pub mod Walks
+pub mod Halves
+pub mod Instructions
+pub mod Does
+pub mod Fills
+pub mod Access
+pub mod Execute
+pub mod Rounds
+pub mod Bytes
+pub mod Sums
+pub mod Program
+pub mod Statements

@@ -1,0 +1,4 @@
+mod Numbers
+mod NameLaws
+mod Loops
+mod Sound

@@ -1,0 +1,10 @@
+pub mod Lines
+pub mod Tables
+pub mod Constants
+pub mod Literals
+pub mod Forms
+pub mod Pieces
+pub mod Replacing
+pub mod Directives
+pub mod Reading
+pub mod Tokens
