@@ -3,3 +3,4 @@ pub mod Contents
 pub mod Spelling
 pub mod Reading
 pub mod Images
+pub mod FieldNames

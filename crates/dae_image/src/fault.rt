@@ -1,7 +1,8 @@
 //! Why bytes are no image.
 
 ghost use Rattle.std.specs.Prelude.{◌≡◌};
-ghost use Rattle.dae_image.specs.declared.fault.ImageError.TheVariants.{Memory};
+ghost use Rattle.dae_image.specs.declared.fault.ImageError.TheVariants as errors;
+ghost use Rattle.dae_image.specs.FieldNames.{field_name};
 
 use std::alloc::{AllocError, AllocFailed};
 use thiserror::Error;
@@ -36,6 +37,41 @@ pub enum Field {
     Name,
 }
 
+impl Field {
+    /// The name of the field, as notes print it.
+    pub fn name(self) -> &'static str
+        ensures { result.now ≡ field_name self }
+    {
+        match self {
+            Field::Magic => "magic",
+            Field::Version => "version",
+            Field::Ld => "ld",
+            Field::Al => "al",
+            Field::Sa => "sa",
+            Field::Sd => "sd",
+            Field::Ab => "ab",
+            Field::Eb => "eb",
+            Field::Cq => "cq",
+            Field::Memory => "memory",
+            Field::Calls => "calls",
+            Field::PrivateA => "private-a",
+            Field::PrivateE => "private-e",
+            Field::EntryA => "entry-a",
+            Field::EntryE => "entry-e",
+            Field::WordsA => "words-a",
+            Field::WordsE => "words-e",
+            Field::DataLength => "data-length",
+            Field::LineCount => "line-count",
+            Field::NameCount => "name-count",
+            Field::CodeA => "code-a",
+            Field::CodeE => "code-e",
+            Field::Data => "data",
+            Field::Line => "line",
+            Field::Name => "name",
+        }
+    }
+}
+
 /// What is wrong with the bytes: the first fault from the left. Or memory is wanting.
 #[derive(Clone, Copy, Debug, PartialEq, Eq, Error)]
 pub enum ImageError {
@@ -53,7 +89,7 @@ pub enum ImageError {
 }
 
 impl From<AllocError> for ImageError {
-    ghost from_gives = { λ _ e. e ≡ Memory };
+    ghost from_gives = { λ _ e. e ≡ errors.Memory };
 
     fn from(_e: AllocError) -> ImageError {
         ImageError::Memory
@@ -61,7 +97,7 @@ impl From<AllocError> for ImageError {
 }
 
 impl<T: Drop> From<AllocFailed<T>> for ImageError {
-    ghost from_gives = { λ _ e. e ≡ Memory };
+    ghost from_gives = { λ _ e. e ≡ errors.Memory };
 
     fn from(_e: AllocFailed<T>) -> ImageError {
         ImageError::Memory

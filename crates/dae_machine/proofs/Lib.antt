@@ -9,3 +9,5 @@ pub mod Opening
 pub mod Moves
 pub mod Kept
 pub mod Steps
+pub mod Generator
+pub mod Turns

@@ -19,6 +19,7 @@ use Rattle.dae_core.specs.Queues.{Queues, belongs, commit, front, peek, possible
 use Rattle.dae_core.proofs.Uses.{AsksOwn, own_request}
 use Rattle.dae_queues.proofs.MemoryLaws.{map_some_is}
 use Rattle.dae_machine.specs.declared.Pick.TheVariants.{A as MoveA, E as MoveE}
+use Rattle.dae_machine.specs.Answers.{answer, is_done, processor}
 use Rattle.dae_machine.specs.Machine.{Setup, State, code, granted, move, moved_a, moved_e, step}
 
 -- the queues as a processor sees them
@@ -101,12 +102,6 @@ module _ (setup : Setup) (s : State) where
 
 -- ---- what a processor would answer
 
-abbrev pub is_done : CoreAnswer → Bool
-is_done (Did piece) = true
-is_done (Waits k) = false
-is_done IsHalted = false
-is_done (Faulted fault) = false
-
 unprinted_done : (answer : CoreAnswer) → is_done (unprinted answer) ≡ is_done answer
 unprinted_done (Did piece) = refl
 unprinted_done (Waits k) = refl
@@ -135,19 +130,38 @@ answer_done d side p q (Faulty fault) own = refl
 answer_done d side p q (Asks u w i) own =
     rw (← open_ready d side u q own, given_is (held d q) u) (answer_done_by d u q (is_open d u q) (finish side p u i (form i) (peek u q)) (λ (r : After). (r, commit u w q)) refl)
 
-some_map : {X Y : Type 0} (f : X → Y) (o : Option X) → is_some (option_map f o) ≡ is_some o
+pub some_map : {X Y : Type 0} (f : X → Y) (o : Option X) → is_some (option_map f o) ≡ is_some o
 some_map f None = refl
 some_map f (Some x) = refl
 
+given_same : (d : Depths) (q : Queues) (u : QueueUse) → given_by fronts (held d q) u ≡ given_by (λ (q : Queues) (queue : Queue). front queue q) q u
+given_same d q Nothing = refl
+given_same d q (Take k) = refl
+given_same d q (Push k) = refl
+given_same d q (Load k kind) = refl
+given_same d q (StoreAddress width) = refl
+
+answered_is : (d : Depths) (side : Side) (p : Processor) (q : Queues) (asked : Request) → AsksOwn side asked → answered_by opens fronts side p (held d q) asked ≡ answered_by (λ (q : Queues) (access : QueueUse). ready d side access q) (λ (q : Queues) (queue : Queue). front queue q) side p q asked
+answered_is d side p q Halted own = refl
+answered_is d side p q (Faulty fault) own = refl
+answered_is d side p q (Asks u w i) own = rw (open_ready d side u q own, given_same d q u)
+
+-- what a processor answers over the queues with their depths
+pub answer_is : (setup : Setup) (s : State) (side : Side) → unprinted (answered_by opens fronts side (processor side s) (held setup.depths s.queues) (asked_by setup s side (processor side s))) ≡ answer setup s side
+answer_is setup s side =
+    ap unprinted (answered_is setup.depths side (processor side s) s.queues (asked_by setup s side (processor side s)) (own_request setup.copies side (code setup side) setup.memory (processor side s)))
+
 -- a processor has a step exactly where it answers that it would do one
-pub a_looked : (setup : Setup) (s : State) → is_done (unprinted (answered_by opens fronts A s.a (held setup.depths s.queues) (asked_by setup s A s.a))) ≡ is_some (step setup s MoveA)
-a_looked setup s =
-    unprinted_done _
+pub a_goes : (setup : Setup) (s : State) → is_done (answer setup s A) ≡ is_some (step setup s MoveA)
+a_goes setup s =
+    ap is_done (sym (answer_is setup s A))
+    ∙ unprinted_done _
     ∙ answer_done setup.depths A s.a s.queues (asked_by setup s A s.a) (own_request setup.copies A setup.code_a setup.memory s.a)
     ∙ sym (some_map (moved_a s) (move setup A s.a s.queues))
 
-pub e_looked : (setup : Setup) (s : State) → is_done (unprinted (answered_by opens fronts E s.e (held setup.depths s.queues) (asked_by setup s E s.e))) ≡ is_some (step setup s MoveE)
-e_looked setup s =
-    unprinted_done _
+pub e_goes : (setup : Setup) (s : State) → is_done (answer setup s E) ≡ is_some (step setup s MoveE)
+e_goes setup s =
+    ap is_done (sym (answer_is setup s E))
+    ∙ unprinted_done _
     ∙ answer_done setup.depths E s.e s.queues (asked_by setup s E s.e) (own_request setup.copies E setup.code_e setup.memory s.e)
     ∙ sym (some_map (moved_e s) (move setup E s.e s.queues))

@@ -1,18 +1,22 @@
 -- What a step makes of the parts of a machine.
-use Rattle.std.proofs.Common.{◌≡◌, ℕ, ◌+◌, ◌<◌, ◌^◌, List, [], ◌++◌, length, refl, ap, sym, ◌∙◌, subst, arith}
+use Rattle.std.proofs.Common.{◌≡◌, ℕ, ◌+◌, ◌<◌, ◌^◌, List, [], ◌++◌, length, false, refl, ap, sym, ◌∙◌, subst, arith}
 use Rattle.std.specs.Prelude.{Option, Some, None, IsSome, is_some}
+use Rattle.dae_base.specs.declared.Side.{Side}
 use Rattle.dae_base.specs.declared.Side.TheVariants.{A, E}
 use Rattle.dae_encode.specs.Processor.{request}
 use Rattle.dae_core.specs.declared.CoreAnswer.{CoreAnswer}
 use Rattle.dae_core.specs.declared.CoreAnswer.TheVariants.{Did}
 use Rattle.dae_core.specs.Held.{HeldCore, HeldQueues}
-use Rattle.dae_core.specs.Moves.{granted_by, Tells}
+use Rattle.dae_core.specs.Moves.{answered_by, granted_by, unprinted, Tells}
 use Rattle.dae_machine.specs.declared.Pick.{Pick}
 use Rattle.dae_machine.specs.declared.Pick.TheVariants.{A as MoveA, E as MoveE}
+use Rattle.dae_core.specs.Queues.{loads_of, with_loads_of}
+use Rattle.dae_queues.specs.Lists.{with_value}
+use Rattle.dae_machine.specs.Answers.{answer}
 use Rattle.dae_machine.specs.Machine.{State, step}
-use Rattle.dae_machine.specs.Held.{Counted, HeldMachine, IsSound, seen}
-use Rattle.dae_machine.proofs.Moves.{opens, fronts, afters, a_moved, e_moved}
-use Rattle.dae_machine.proofs.Kept.{counted_after}
+use Rattle.dae_machine.specs.Held.{Counted, HeldMachine, IsSound, is_plain, seen}
+use Rattle.dae_machine.proofs.Moves.{opens, fronts, afters, answer_is, a_moved, e_moved}
+use Rattle.dae_machine.proofs.Kept.{counted_after, counted_filled, unplain_after}
 
 some_is : {X : Type 0} (o : Option X) → IsSome o → (x : X) × (o ≡ Some x)
 some_is None h = cc
@@ -42,6 +46,7 @@ module _ (a e : HeldCore) (code_a code_e : List ℕ) (q : HeldQueues) (memory : 
           same = sound.same ∙ sym kept.1;
           counted = subst (λ (t : State). Counted t.queues t.steps) moved.0 counted;
           small = sound.small;
+          ends = sound.ends;
         };
         setup = rw (kept.1, moved.1);
         state = found.1 ∙ ap Some moved.0;
@@ -62,6 +67,7 @@ module _ (a e : HeldCore) (code_a code_e : List ℕ) (q : HeldQueues) (memory : 
             same = kept.1 ∙ sound.same;
             counted = subst (λ (t : State). Counted t.queues t.steps) moved.2 counted;
             small = sound.small;
+            ends = subst (λ (t : State). is_plain t.e.halt ≡ false) moved.2 (unplain_after whole.setup whole.state found.0 MoveE sound.ends found.1);
           };
           setup = rw moved.3;
           state = found.1 ∙ ap Some moved.2;
@@ -78,3 +84,14 @@ module _ (a e : HeldCore) (code_a code_e : List ℕ) (q : HeldQueues) (memory : 
   e_step size words answer e' q' same_size same_code enabled kept told =
       let moved = by_e a e code_a code_e q memory taken sound answer e' q' (subst (λ (m : HeldMachine). IsSome (step m.setup m.state MoveE)) (sym is) enabled) kept (rw (← same_size, ← same_code) told) in
       (moved.0, moved.1, subst (λ (m : HeldMachine). Moved m MoveE moved.0 a e' code_a code_e q' memory (taken + 1)) is moved.2)
+
+  -- what the processors would answer
+  pub a_look : (size : ℕ) (words : List ℕ) → size ≡ length memory → words ≡ code_a → unprinted (answered_by opens fronts a.side a.processor q (request a.copies a.side words size a.processor)) ≡ answer m.setup m.state A
+  a_look size words same_size same_code = subst (λ (m : HeldMachine). unprinted (answered_by opens fronts a.side a.processor q (request a.copies a.side words size a.processor)) ≡ answer m.setup m.state A) is (rw (same_size, same_code, sound.on_a) (answer_is (seen a e code_a code_e q memory taken).setup (seen a e code_a code_e q memory taken).state A))
+
+  pub e_look : (size : ℕ) (words : List ℕ) → size ≡ length memory → words ≡ code_e → unprinted (answered_by opens fronts e.side e.processor q (request e.copies e.side words size e.processor)) ≡ answer m.setup m.state E
+  e_look size words same_size same_code = subst (λ (m : HeldMachine). unprinted (answered_by opens fronts e.side e.processor q (request e.copies e.side words size e.processor)) ≡ answer m.setup m.state E) is (rw (same_size, same_code, sound.on_e, sound.same) (answer_is (seen a e code_a code_e q memory taken).setup (seen a e code_a code_e q memory taken).state E))
+
+-- a fill keeps what is true of every machine
+pub fill_sound : (a e : HeldCore) (q : HeldQueues) (memory : List ℕ) (taken : ℕ) (side : Side) (n w : ℕ) → IsSound a e q memory taken → IsSound a e (record q { queues = with_loads_of side (with_value n w (loads_of side q.queues).slots) q.queues }) memory (taken + 1)
+fill_sound a e q memory taken side n w s = record { on_a = s.on_a; on_e = s.on_e; same = s.same; counted = counted_filled side n w q.queues taken s.counted; small = s.small; ends = s.ends }

@@ -28,3 +28,10 @@ abbrev pub Refuses : OpenError → Depths → Depths → Type 0
 Refuses (DepthBelow queue need has) budget depths =
     (first_below depths budget ≡ Some queue) × (need ≡ depth queue budget) × (has ≡ depth queue depths)
 Refuses Memory budget depths = first_below depths budget ≡ None
+
+-- the processor has a step
+abbrev pub is_done : CoreAnswer → Bool
+is_done (Did piece) = true
+is_done (Waits k) = false
+is_done Halted = false
+is_done (Faulted fault) = false

@@ -1,7 +1,9 @@
 -- What contracts see of a machine, and what is true of every machine.
-use Rattle.std.specs.Prelude.{◌≡◌, ℕ, ◌+◌, ◌≤◌, ◌<◌, ◌^◌, List, [], length}
+use Rattle.std.specs.Prelude.{◌≡◌, ℕ, ◌+◌, ◌≤◌, ◌<◌, ◌^◌, Bool, true, false, Option, Some, None, List, [], length}
 use Rattle.dae_base.specs.declared.Side.{Side}
 use Rattle.dae_base.specs.declared.Side.TheVariants.{A, E}
+use Rattle.dae_encode.specs.declared.Halt.{Halt}
+use Rattle.dae_encode.specs.declared.Halt.TheVariants.{Plain, Status, Trap}
 use Rattle.dae_image.specs.declared.Image.{Image}
 use Rattle.dae_core.specs.Held.{HeldCore, HeldQueues}
 use Rattle.dae_core.specs.Queues.{Queues}
@@ -28,14 +30,22 @@ seen a e code_a code_e q memory taken = record {
   state = record { a = a.processor; e = e.processor; queues = q.queues; memory = memory; printed = []; steps = taken };
 }
 
--- the processors stand on their sides, both with copies allowed or neither, the numbers are in order, and the memory has
--- 32-bit addresses
+-- only the access processor halts without a status or a trap
+abbrev pub is_plain : Option Halt → Bool
+is_plain None = false
+is_plain (Some Plain) = true
+is_plain (Some (Status n)) = false
+is_plain (Some (Trap n)) = false
+
+-- the processors stand on their sides, both with copies allowed or neither, the numbers are in order, the memory has
+-- 32-bit addresses, and a halt of the execute processor gives an end
 pub record IsSound (a e : HeldCore) (q : HeldQueues) (memory : List ℕ) (taken : ℕ) : Type 0 where
   pub on_a : a.side ≡ A
   pub on_e : e.side ≡ E
   pub same : e.copies ≡ a.copies
   pub counted : Counted q.queues taken
   pub small : length memory < 2 ^ 32
+  pub ends : is_plain e.processor.halt ≡ false
 
 -- the data fit the common memory, whose first 16 bytes are no data
 abbrev pub DataFit : Image → Type 0

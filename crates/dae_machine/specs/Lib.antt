@@ -7,3 +7,6 @@ pub mod Ends
 pub mod Deeper
 pub mod Held
 pub mod Answers
+pub mod Schedules
+pub mod Rests
+pub mod Entries

@@ -1,22 +1,12 @@
 -- What memory does to the queues.
 use Rattle.std.specs.Prelude.{ℕ, List, Option, option_map}
 use Rattle.dae_base.specs.declared.Side.{Side}
-use Rattle.dae_base.specs.declared.Side.TheVariants.{A, E}
 use Rattle.dae_base.specs.Words.{stored}
-use Rattle.dae_queues.specs.declared.Slot.{Slot}
 use Rattle.dae_queues.specs.declared.StoreAt.{StoreAt}
-use Rattle.dae_queues.specs.Lists.{Slots, with_value, filling_of, draining_of, without_store}
+use Rattle.dae_queues.specs.Lists.{with_value, filling_of, draining_of, without_store}
 use Rattle.dae_queues.specs.Numbers.{SlotsCount, StoresCount}
 use Rattle.dae_core.specs.Queues.{Queues}
-
--- the load queue that this side takes from
-abbrev pub loads_of : Side → Queues → Slots
-loads_of A q = q.al
-loads_of E q = q.ld
-
-abbrev pub with_loads_of : Side → List Slot → Queues → Queues
-with_loads_of A ss q = record q { al = record q.al { slots = ss } }
-with_loads_of E ss q = record q { ld = record q.ld { slots = ss } }
+pub use Rattle.dae_core.specs.Queues.{loads_of, with_loads_of}
 
 -- the word that a fill of this slot would put, where the slot may be filled
 abbrev pub filling : Side → ℕ → Queues → List ℕ → Option ℕ

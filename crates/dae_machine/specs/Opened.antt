@@ -1,16 +1,13 @@
 -- The state in which a machine begins.
-use Rattle.std.specs.Prelude.{ℕ, ◌-◌, ◌+◌, not, ◌==◌, List, [], ◌++◌, length, replicate, None}
+use Rattle.std.specs.Prelude.{ℕ, ◌-◌, ◌+◌, not, ◌==◌, List, [], ◌++◌, length, replicate}
 use Rattle.dae_base.specs.declared.Depths.{Depths}
 use Rattle.dae_image.specs.declared.Image.{Image}
 use Rattle.dae_core.specs.Queues.{empty_queues}
-use Rattle.dae_encode.specs.Processor.{Processor}
+pub use Rattle.dae_core.specs.Held.{fresh}
 use Rattle.dae_machine.specs.Machine.{Setup, State}
 
 abbrev pub setup_of : Image → Depths → Setup
 setup_of image depths = record { code_a = image.code_a; code_e = image.code_e; memory = image.memory; copies = not (image.budget.cq == 0); depths = depths }
-
-abbrev pub fresh : ℕ → ℕ → Processor
-fresh entry private = record { registers = replicate 32 0; counter = entry; private = replicate private 0; halt = None }
 
 abbrev pub opened : Image → State
 opened image = record {

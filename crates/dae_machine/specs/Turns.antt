@@ -7,15 +7,12 @@ use Rattle.dae_queues.specs.declared.Slot.{Slot}
 use Rattle.dae_queues.specs.declared.StoreAt.{StoreAt}
 use Rattle.dae_machine.specs.declared.Pick.{Pick}
 use Rattle.dae_machine.specs.declared.Pick.TheVariants.{A as MoveA, E as MoveE, Fill, Drain}
-use Rattle.dae_queues.specs.Lists.{bars}
+pub use Rattle.dae_queues.specs.Lists.{can_be_filled}
 use Rattle.dae_machine.specs.Memory.{loads_of}
 use Rattle.dae_machine.specs.Machine.{Setup, State, step}
 
 abbrev pub is_enabled : Setup → State → Pick → Bool
 is_enabled setup s p = is_some (step setup s p)
-
-abbrev pub can_be_filled : List StoreAt → Slot → Bool
-can_be_filled sa slot = is_none slot.value && not (list_any (bars slot) sa)
 
 -- the enabled fills of a side, by slot number
 abbrev pub fills_of : Side → State → List Pick

@@ -1,20 +1,22 @@
-ghost use Rattle.std.specs.Prelude.{◌≡◌, ◌<◌, ◌≢◌, Some, IsSome, is_some, IfOk, IfErr, None};
+ghost use Rattle.std.specs.Prelude.{◌≡◌, ◌<◌, [], Some, IsSome, is_some, IfOk, IfErr, None};
 ghost use Rattle.dae_base.specs.Budgets.{first_below};
 ghost use Rattle.dae_core.specs.Held.{CanHold};
-ghost use Rattle.dae_machine.specs.Answers.{Refuses, answer};
+ghost use Rattle.dae_machine.specs.Answers.{Refuses, is_done};
 ghost use Rattle.dae_machine.specs.Held.{DataFit};
 ghost use Rattle.dae_machine.specs.Machine.{step};
-ghost use Rattle.dae_machine.specs.Memory.{draining, filling};
+ghost use Rattle.dae_machine.specs.Memory.{filling};
 ghost use Rattle.dae_machine.specs.Opened.{opened, setup_of};
 
 use crate::open::{common_memory, reaches};
 use crate::{OpenError, Pick};
 use dae_base::{Depths, Piece, Side};
-use dae_core::{load, store, Core, CoreAnswer, Queues};
+use dae_core::{store, Core, CoreAnswer, Queues};
 use dae_image::Image;
-use dae_queues::StoreAt;
 use std::alloc::{AllocError, Global};
 use std::marker::Model;
+
+mod shown;
+mod turns;
 
 /// A machine. Clauses see its state without the printed bytes, and what no step changes.
 #[derive(Drop)]
@@ -84,12 +86,56 @@ impl Machine {
         self.memory.as_slice()
     }
 
+    /// Whether this pick has a step now.
+    #[tactic(auto, using(crate::proofs::Moves::a_goes, crate::proofs::Moves::e_goes))]
+    pub fn enabled(&self, pick: Pick) -> bool
+        ensures { result ≡ is_some (step self.now.setup self.now.state pick) }
+    {
+        match pick {
+            Pick::A => is_done(&self.answer(Side::A)),
+            Pick::E => is_done(&self.answer(Side::E)),
+            Pick::Fill(side, number) => self.filling(side, number).is_some(),
+            Pick::Drain => self.queues.draining().is_some(),
+        }
+    }
+
+    /// The step of an enabled pick, and what it prints.
+    pub fn step(&mut self, pick: Pick) -> Piece
+        requires enabled { IsSome (step self.old.setup self.old.state pick) }
+        requires few { self.old.state.steps < 1000000000000 }
+        ensures setup { self.new.setup ≡ self.old.setup }
+        ensures state { step self.old.setup self.old.state pick ≡ Some (record self.new.state { printed = result }) }
+    {
+        match pick {
+            Pick::A => {
+                self.move_a();
+                Piece::empty()
+            }
+            Pick::E => self.move_e(),
+            Pick::Fill(side, number) => {
+                self.fill(side, number);
+                Piece::empty()
+            }
+            Pick::Drain => {
+                self.drain();
+                Piece::empty()
+            }
+        }
+    }
+
+    /// The word that a fill of the slot of this number for a side would put, or None where that fill isn't enabled.
+    pub fn filling(&self, side: Side, number: u64) -> Option<u32>
+        ensures { result ≡ filling side number self.now.state.queues self.now.state.memory }
+    {
+        self.queues.filling(side, number, self.memory.as_slice())
+    }
+
     /// One instruction of A.
     fn move_a(&mut self)
         requires enabled { IsSome (step self.old.setup self.old.state Pick.A) }
         requires few { self.old.state.steps < 1000000000000 }
         ensures setup { self.new.setup ≡ self.old.setup }
-        ensures state { step self.old.setup self.old.state Pick.A ≡ Some self.new.state }
+        ensures state { step self.old.setup self.old.state Pick.A ≡ Some (record self.new.state { printed = [] }) }
     {
         let memory = self.memory.len() as u32;
         let _ = self.a.step(&self.code_a, memory, &mut self.queues);
@@ -111,4 +157,35 @@ impl Machine {
             _ => unreachable!(),
         }
     }
+
+    fn fill(&mut self, side: Side, number: u64)
+        requires enabled { IsSome (step self.old.setup self.old.state (Pick.Fill side number)) }
+        requires few { self.old.state.steps < 1000000000000 }
+        ensures setup { self.new.setup ≡ self.old.setup }
+        ensures state { step self.old.setup self.old.state (Pick.Fill side number) ≡ Some (record self.new.state { printed = [] }) }
+    {
+        if let Some(word) = self.filling(side, number) {
+            self.queues.fill(side, number, word);
+            self.taken += 1;
+        }
+    }
+
+    fn drain(&mut self)
+        requires enabled { IsSome (step self.old.setup self.old.state Pick.Drain) }
+        requires few { self.old.state.steps < 1000000000000 }
+        ensures setup { self.new.setup ≡ self.old.setup }
+        ensures state { step self.old.setup self.old.state Pick.Drain ≡ Some (record self.new.state { printed = [] }) }
+    {
+        if let Some((at, word)) = self.queues.draining() {
+            self.queues.drain();
+            store(&mut self.memory, at.width, at.addr, word);
+            self.taken += 1;
+        }
+    }
+}
+
+fn is_done(answer: &CoreAnswer) -> bool
+    ensures { result ≡ is_done answer.now }
+{
+    matches!(answer, CoreAnswer::Did(_))
 }

@@ -11,4 +11,5 @@ invariant_of-result c = record {
   same = search rules;
   counted = subst (λ (q : HeldQueues). Counted q.queues 0) (sym (c.in_ok-with_depths.ensures)) none_counted;
   small = c.in_ok-common_memory.ensures.small;
+  ends = search rules;
 }

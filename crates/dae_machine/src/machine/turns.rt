@@ -1,0 +1,146 @@
+ghost use Rattle.std.specs.Prelude.{◌≡◌, ◌<◌, ◌++◌, Some, None, is_some, if◌then◌else◌, length, slice_get, Option, IfSome, IsSome, IsTrue, ◌↔◌, []};
+ghost use Rattle.dae_base.specs.declared.Side.TheVariants.{A, E};
+ghost use Rattle.dae_machine.specs.Machine.{step, IsQuiet};
+ghost use Rattle.dae_machine.specs.Rests.{Rests, TurnedTo};
+ghost use Rattle.dae_machine.specs.Turns.{chosen, fills_of, kind_at, pick_of};
+
+use super::Machine;
+use crate::{End, Pick, Rest, Turn};
+use dae_base::{Queue, Side};
+use dae_core::Halt;
+
+impl Machine {
+    /// The pick that a word selects: of the first kind with an enabled pick in the order A, E, fill, drain from place
+    /// `word % 4` on. Of the enabled fills, listed by slot number, A's before E's, it is number `word / 4` modulo their
+    /// count. None where no pick is enabled.
+    pub fn pick(&self, word: u32) -> Option<Pick>
+        ensures pick { result ≡ pick_of self.now.setup self.now.state word }
+        ensures enabled { IfSome result (λ pick. IsSome (step self.now.setup self.now.state pick)) }
+    {
+        let _ = &self.queues;
+        self.select(word)
+    }
+
+    #[tactic(auto, using(crate::proofs::Turns::pick_by))]
+    fn select(&self, word: u32) -> Option<Pick>
+        ensures { result ≡ pick_of self.now.setup self.now.state word }
+    {
+        let (choice, place) = (word / 4, word % 4);
+        if let Some(pick) = self.pick_of_kind(choice, place) {
+            return Some(pick);
+        }
+        if let Some(pick) = self.pick_of_kind(choice, place + 1) {
+            return Some(pick);
+        }
+        if let Some(pick) = self.pick_of_kind(choice, place + 2) {
+            return Some(pick);
+        }
+        self.pick_of_kind(choice, place + 3)
+    }
+
+    #[tactic(auto, using(crate::proofs::Turns::chosen_alone))]
+    fn pick_of_kind(&self, choice: u32, place: u32) -> Option<Pick>
+        ensures { result ≡ chosen choice (kind_at self.now.setup self.now.state place) }
+    {
+        match place % 4 {
+            0 => self.alone(Pick::A),
+            1 => self.alone(Pick::E),
+            2 => self.pick_of_fills(choice),
+            _ => self.alone(Pick::Drain),
+        }
+    }
+
+    fn alone(&self, pick: Pick) -> Option<Pick>
+        ensures { result ≡ (if is_some (step self.now.setup self.now.state pick) then Some pick else None) }
+    {
+        if self.enabled(pick) {
+            Some(pick)
+        } else {
+            None
+        }
+    }
+
+    #[tactic(
+        auto,
+        using(
+            crate::proofs::Turns::chosen_neither,
+            crate::proofs::Turns::chosen_left,
+            crate::proofs::Turns::chosen_right
+        )
+    )]
+    fn pick_of_fills(&self, choice: u32) -> Option<Pick>
+        ensures { result ≡ chosen choice (fills_of A self.now.state ++ fills_of E self.now.state) }
+    {
+        let of_a = u32::from(self.fills(Side::A));
+        let all = of_a + u32::from(self.fills(Side::E));
+        if all == 0 {
+            return None;
+        }
+        let at = choice % all;
+        if at < of_a {
+            self.nth_fill(Side::A, at as u16)
+        } else {
+            self.nth_fill(Side::E, (at - of_a) as u16)
+        }
+    }
+
+    /// How many fills of a side are enabled.
+    fn fills(&self, side: Side) -> u16
+        ensures { result ≡ length (fills_of side self.now.state) }
+    {
+        self.queues.fillable(side)
+    }
+
+    /// The fill of a side at this place, counted from 0, of those that are enabled.
+    fn nth_fill(&self, side: Side, n: u16) -> Option<Pick>
+        ensures { result ≡ slice_get (fills_of side self.now.state) n }
+    {
+        let slot = self.queues.nth_fillable(side, n)?;
+        Some(Pick::Fill(side, slot.number))
+    }
+
+    /// How the machine rests where no pick is enabled, or None where some pick is.
+    pub fn rest(&self) -> Option<Rest>
+        ensures { Rests result self.now.setup self.now.state }
+    {
+        match self.pick(0) {
+            Some(_) => None,
+            None => Some(self.ending()),
+        }
+    }
+
+    fn ending(&self) -> Rest
+        requires { IsQuiet self.now.setup self.now.state }
+        ensures { Rests (Some result) self.now.setup self.now.state }
+    {
+        let drained = self.is_drained();
+        match (self.a.halted(), self.e.halted()) {
+            (Some(_), Some(Halt::Status(status))) if drained => Rest::Final(End::Ended(status)),
+            (Some(_), Some(Halt::Trap(code))) if drained => Rest::Final(End::Trapped(code)),
+            _ => Rest::Stuck,
+        }
+    }
+
+    fn is_drained(&self) -> bool
+        ensures { IsTrue result ↔ ((self.now.state.queues.stores.sa ≡ []) × (self.now.state.queues.stores.sd ≡ [])) }
+    {
+        self.queues.len(Queue::Sa) == 0 && self.queues.len(Queue::Sd) == 0
+    }
+
+    /// One turn: the step of the pick that this word selects, or no step where no pick is enabled.
+    #[tactic(auto, using(crate::proofs::Turns::quiet_where_none))]
+    pub fn turn(&mut self, word: u32) -> Turn
+        requires few { self.old.state.steps < 1000000000000 }
+        ensures setup { self.new.setup ≡ self.old.setup }
+        ensures turn { TurnedTo result word self.old.setup self.old.state self.new.state }
+    {
+        if let Some(pick) = self.pick(word) {
+            let piece = self.step(pick);
+            return Turn::Stepped(pick, piece);
+        }
+        match self.ending() {
+            Rest::Final(end) => Turn::Final(end),
+            Rest::Stuck => Turn::Stuck,
+        }
+    }
+}
