@@ -5,12 +5,14 @@ pub use access::{bad_call, is_shared, is_within, queue_use};
 pub use decoding::decode;
 pub use effects::{form_of, next, value};
 pub use encoding::encode;
+pub use range::is_in_range;
 
 mod access;
 mod bits;
 mod decoding;
 mod effects;
 mod encoding;
+mod range;
 
 use dae_base::{LoadKind, Queue, Width};
 
