@@ -1,9 +1,8 @@
 -- Decoding the word of an instruction gives the instruction back.
-use Rattle.std.proofs.Common.{◌≡◌, ℕ, ◌+◌, ◌*◌, ◌/◌, ◌%◌, ◌^◌, ◌<◌, ℤ, pos, Bool, true, ◌&&◌, nat_lt, Option, Some, refl, ap, ◌∙◌, lit<, arith, ◌≤ℤ◌, ◌<ℤ◌}
+use Rattle.std.proofs.Common.{◌≡◌, ℕ, ◌^◌, ◌<◌, ℤ, pos, Bool, true, ◌&&◌, nat_lt, Some, refl, ap, ◌∙◌, lit<, arith, ◌≤ℤ◌, ◌<ℤ◌}
 use Rattle.std.proofs.lemmas.Int.{ints}
-use Rattle.dae_base.specs.Words.{word}
 use Rattle.dae_encode.specs.Instructions.{field, imm_i, imm_s, imm_b, imm_u, imm_j, branches, loads, stores, immediates, shifts, registers_only, decode, decode_by}
-use Rattle.dae_encode.specs.Spelling.{Layout, R, I, Shift, S, B, U, J, bits, in_places, IsSigned, Fits, layout, encoded, InRange}
+use Rattle.dae_encode.specs.Spelling.{Layout, R, I, Shift, S, B, U, J, bits, in_places, Fits, layout, encoded, InRange}
 use Rattle.dae_encode.specs.declared.Inst.{Inst}
 use Rattle.dae_encode.specs.declared.Inst.TheVariants.{Lui, Auipc, Jal, Jalr, Beq, Bne, Blt, Bge, Bltu, Bgeu, Lb, Lh, Lw, Lbu, Lhu, Sb, Sh, Sw, Addi, Slti, Sltiu, Xori, Ori, Andi, Slli, Srli, Srai, Add, Sub, Sll, Slt, Sltu, Xor, Srl, Sra, Or, And, Mul, Mulh, Mulhsu, Mulhu, Div, Divu, Rem, Remu, Ecall}
 use Rattle.dae_encode.proofs.Fields.{fields_r, fields_i, fields_shift, fields_s, fields_b, fields_u, fields_j, imm_i-is, imm_s-is, imm_b-is, imm_u-is, imm_j-is}
