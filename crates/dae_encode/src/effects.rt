@@ -107,13 +107,9 @@ pub fn value(inst: &Inst, counter: u32, first: u32, second: u32) -> u32
         Inst::Mul(_, _, _) => first.wrapping_mul(second),
         Inst::Mulhu(_, _, _) => ((first as u64 * second as u64) / 0x1_0000_0000) as u32,
         Inst::Div(_, _, _) => quotient(first, second),
-        Inst::Divu(_, _, _) => if second == 0 {
-            u32::MAX
-        } else {
-            first / second
-        },
+        Inst::Divu(_, _, _) => first.checked_div(second).unwrap_or(u32::MAX),
         Inst::Rem(_, _, _) => remainder(first, second),
-        Inst::Remu(_, _, _) => if second == 0 { first } else { first % second },
+        Inst::Remu(_, _, _) => first.checked_rem(second).unwrap_or(first),
         Inst::Mulh(_, _, _) => mulh(first, second),
         Inst::Mulhsu(_, _, _) => mulhsu(first, second),
         _ => 0,
