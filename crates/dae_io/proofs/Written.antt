@@ -1,5 +1,5 @@
 -- What a writer holds after two writes.
-use Rattle.std.proofs.Common.{◌≡◌, ℕ, ◌+◌, ◌-◌, ◌≤◌, List, ◌++◌, length, take, drop, Option, None, Some, ◌∙◌, ap, append_assoc, arith, take_all, length-drop}
+use Rattle.std.proofs.Common.{◌≡◌, ℕ, ◌+◌, ◌-◌, ◌≤◌, List, length, take, drop, Option, None, Some, ◌∙◌, arith, take_all, length-drop}
 use Rattle.std.specs.Io.KnownBytes.{Appends, Keeps}
 use Rattle.dae_io.specs.Taken.{Appends-then}
 use Rattle.std.proofs.Math.Seq.{take-add}

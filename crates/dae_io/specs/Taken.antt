@@ -1,5 +1,5 @@
 -- What a sink has taken, where it tells that, over one put and over several.
-use Rattle.std.specs.Prelude.{◌≡◌, ℕ, ◌+◌, ◌≤◌, List, [], ◌++◌, Option, None, Some, length, take, min}
+use Rattle.std.specs.Prelude.{ℕ, ◌+◌, ◌≤◌, List, [], ◌++◌, Option, None, Some, length, take, min}
 use Rattle.std.specs.Io.KnownBytes.{Appends}
 use Rattle.std.proofs.Common.{◌∙◌, ap, sym, append_assoc, take_all, arith, append-nil}
 use Rattle.std.proofs.lemmas.List.{take-append-le, take_min}
