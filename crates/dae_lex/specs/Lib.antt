@@ -1,0 +1,4 @@
+pub mod Cuts
+pub mod Settling
+pub mod Pending
+pub mod Reading
