@@ -4,3 +4,4 @@ pub mod Entries
 pub mod Limits
 pub mod Turns
 pub mod LineSteps
+pub mod Rows

@@ -1,6 +1,7 @@
 -- Settling item by item gives what the functions of the definition give.
-use Rattle.std.proofs.Common.{◌≡◌, ℕ, zero, suc, ◌+◌, ◌-◌, Bool, true, false, if◌then◌else◌, nat_le, List, [], ◌∷◌, ◌++◌, length, refl, ◌∙◌, arith, append_assoc, append-nil, Result, Ok, Err}
+use Rattle.std.proofs.Common.{◌≡◌, ℕ, zero, suc, ◌+◌, ◌-◌, Bool, true, false, if◌then◌else◌, nat_le, List, [], ◌∷◌, ◌++◌, length, refl, ap, ◌∙◌, arith, append_assoc, append-nil, Result, Ok, Err}
 use Rattle.std.specs.List.{sum_by}
+use Rattle.std.proofs.lemmas.List.Sums.{sum_by-append}
 use Rattle.dae_token.specs.declared.faults.LexError.{LexError}
 use Rattle.dae_token.specs.declared.faults.LexError.TheVariants.{Refused}
 use Rattle.dae_token.specs.declared.faults.Construct.TheVariants.{LiteralsTooLong}
@@ -25,12 +26,17 @@ answer before t r l (Ok reads) used =
     Ok (state (before ++ reads) (t - length reads) (r - used) (l - sum_by (λ t. literal_length t.meaning) reads))
 answer before t r l (Err e) used = Err e
 
+abbrev ok_state : List Read → ℕ → ℕ → ℕ → Result State LexError
+ok_state reads t r l = Ok (state reads t r l)
+
 take_more : (before : List Read) (u : Read) (t r l used : ℕ) (x : Result (List Read) LexError)
     → answer (before ++ u ∷ []) t r (l - size u) x used ≡ answer before (suc t) r l (before_all u x) used
 take_more before u t r l used (Ok reads) =
     let a : t - length reads ≡ suc t - suc (length reads) = omega arith in
-    let b : (l - size u) - sum_by size reads ≡ l - (size u + sum_by size reads) = omega arith in
-    rw (append_assoc before (u ∷ []) reads, a, b) refl
+    let b : (l - size u) - sum_by size reads ≡ l - sum_by size (u ∷ reads) = omega (arith, sum_by-append size (u ∷ []) reads) in
+    ap (λ ts. ok_state ts (t - length reads) (r - used) ((l - size u) - sum_by size reads)) (append_assoc before (u ∷ []) reads)
+    ∙ ap (λ n. ok_state (before ++ u ∷ reads) n (r - used) ((l - size u) - sum_by size reads)) a
+    ∙ ap (λ n. ok_state (before ++ u ∷ reads) (suc t - suc (length reads)) (r - used) n) b
 take_more before u t r l used (Err e) = refl
 
 one_more : (before : List Read) (t r l used : ℕ) (x : Result (List Read) LexError) → answer before t r l x used ≡ answer before t (suc r) l x (suc used)

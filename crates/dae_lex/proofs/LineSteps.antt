@@ -1,11 +1,12 @@
 -- Lines one by one, and their pieces.
-use Rattle.std.proofs.Common.{◌≡◌, ℕ, suc, ◌+◌, ◌<◌, Bool, true, false, List, [], ◌∷◌, ◌++◌, map, take, drop, get_or, length, refl, ap, sym, ◌∙◌, arith, add-one, one-add}
+use Rattle.std.proofs.Common.{◌≡◌, ℕ, suc, ◌+◌, ◌<◌, Bool, true, false, ◌||◌, Option, List, [], ◌∷◌, ◌++◌, map, take, drop, get_or, length, refl, ap, sym, ◌∙◌, arith, add-one, one-add}
 use Rattle.std.specs.List.{prefix_len}
 use Rattle.std.proofs.lemmas.List.{take-map, drop-map, drop-drop, drop_more, length-map, length-drop}
 use Rattle.dae_token.specs.declared.pieces.PieceKind.TheVariants as kinds
 use Rattle.dae_token.specs.Pieces.{Cut}
 use Rattle.dae_token.specs.Replacing.{Definition, expand}
-use Rattle.dae_token.specs.Directives.{is_end_kind, goes_on, lines_of, with_first, replaced_text}
+use Rattle.dae_token.specs.Directives.{is_end_kind, goes_on, lines_of, line_of, with_first, replaced_text, inclusion_of, is_of, includes}
+use Rattle.dae_token.specs.declared.headers.Header.{Header}
 use Rattle.dae_lex.specs.declared.pieces.Piece.{Piece}
 use Rattle.dae_lex.specs.Cuts.{cut_of}
 
@@ -44,3 +45,13 @@ pub text_more : (n : ℕ) (macros : List Definition) (ps : List Piece) (i : ℕ)
     → replaced_text n macros (map cut_of (drop i ps))
     ≡ expand n macros [] (cut_of (get_or ps i d)) (cut_of (get_or ps i d)) ++ replaced_text n macros (map cut_of (drop (i + 1) ps))
 text_more n macros ps i d h = ap (λ qs. replaced_text n macros (map cut_of qs)) (drop_more ps i d h)
+
+-- the headers that are included, line by line
+or_regroup : (a b x : Bool) → ((a || b) || x) ≡ (a || (b || x))
+or_regroup true b x = refl
+or_regroup false b x = refl
+
+pub seen_more : (seen : Bool) (header : Header) (found : Option Header) (line : List Cut) (rest : List (List Cut)) → found ≡ inclusion_of (line_of line)
+    → ((seen || is_of header found) || includes header rest) ≡ (seen || includes header (line ∷ rest))
+seen_more seen header found line rest e =
+    ap (λ f. (seen || is_of header f) || includes header rest) e ∙ or_regroup seen (is_of header (inclusion_of (line_of line))) (includes header rest)

@@ -1,5 +1,5 @@
 -- One turn of replacing, on lists.
-use Rattle.std.proofs.Common.{◌≡◌, ℕ, zero, suc, pred, ◌+◌, ◌-◌, ◌^◌, ◌<◌, List, [], ◌∷◌, ◌++◌, map, length, refl, ap, sym, ◌∙◌, arith, append_assoc, append-nil, Some, None, Result, Ok, Err, OnOk}
+use Rattle.std.proofs.Common.{◌≡◌, ℕ, zero, suc, pred, ◌+◌, ◌-◌, ◌^◌, ◌<◌, ◌≤◌, List, [], ◌∷◌, ◌++◌, map, length, refl, ap, sym, ◌∙◌, arith, append_assoc, append-nil, Some, None, Result, Ok, Err, OnOk}
 use Rattle.std.specs.List.{flat_map, sum_by}
 use Rattle.std.proofs.lemmas.List.{map-append, length-append}
 use Rattle.std.proofs.lemmas.List.Sums.{sum_by-append}
@@ -7,7 +7,7 @@ use Rattle.dae_token.specs.declared.faults.Construct.TheVariants.{TooManyReplace
 use Rattle.dae_token.specs.declared.faults.LexError.{LexError}
 use Rattle.dae_token.specs.declared.faults.LexError.TheVariants.{BadByte, TooManyTokens, Refused, Memory}
 use Rattle.dae_token.specs.Pieces.{Cut}
-use Rattle.dae_token.specs.Replacing.{Definition, Item, replaced, replacement, expand, items_of}
+use Rattle.dae_token.specs.Replacing.{Definition, Item, replaced, refused, replacement, expand, items_of}
 use Rattle.dae_lex.specs.Settling.{State, Settles, Fails, step, settle}
 use Rattle.dae_lex.specs.Pending.{Frame, Follows, names_of, pending, work_of}
 use Rattle.dae_lex.proofs.Limits.{settle_append, then_settle}
@@ -109,7 +109,7 @@ module _ (macros : List Definition) (origin : Cut) where
   expand_some k names p body h = rw (h, expand) refl
 
   pub refused_at : (k : ℕ) (s : State) (names : List (List ℕ)) (p : Cut) (body : List Cut) (items : List Item) → replacement macros names p ≡ Some body
-      → s.replacements_left ≡ 0 → settle s (expand k macros names origin p ++ items) ≡ Err (Refused TooManyReplacements origin.place)
+      → s.room.replacements ≡ 0 → settle s (expand k macros names origin p ++ items) ≡ Err (Refused TooManyReplacements origin.place)
   refused_at zero s names p body items h empty = rw (h, expand) refl
   refused_at (suc k) s names p body items h empty =
       ap (λ xs. settle s (xs ++ items)) (expand_some k names p body h)
@@ -167,7 +167,7 @@ module _ (macros : List Definition) (origin : Cut) where
 
       -- where no room is left, the name of a macro is refused
       pub next_refused : (s : State) (body : List Cut) → replacement macros (names_of (fs ++ record { name = f.name; rest = rest } ∷ [])) p ≡ Some body
-          → s.replacements_left ≡ 0 → settle s (pending n macros [] origin (fs ++ f ∷ [])) ≡ Err (Refused TooManyReplacements origin.place)
+          → s.room.replacements ≡ 0 → settle s (pending n macros [] origin (fs ++ f ∷ [])) ≡ Err (Refused TooManyReplacements origin.place)
       next_refused s body h empty =
           ap (settle s) (next (n - length fs - 1) p rest e refl)
           ∙ refused_at (n - length fs - 1) s (names_of (fs ++ f ∷ [])) p body (pending n macros [] origin (fs ++ record { name = f.name; rest = rest } ∷ []))
@@ -185,3 +185,13 @@ opened macros p body s t (suc m) h e w =
 pub all_over : (macros : List Definition) (p : Cut) (t : State) (n : ℕ) → settle t (pending n macros [] p []) ≡ Ok t
 unfolding pending
 all_over macros p t n = refl
+
+-- no room for the first replacement of a piece
+pub begin_fails : (e : LexError) (macros : List Definition) (p : Cut) (body : List Cut) (s : State) (n : ℕ) → replacement macros [] p ≡ Some body
+    → s.room.replacements ≤ n → Fails e (settle s (replaced p ∷ [])) → Fails e (settle s (expand n macros [] p p))
+begin_fails e macros p body s zero h w failed =
+    let refusal : expand 0 macros [] p p ≡ refused (Refused TooManyReplacements p.place) ∷ [] = rw (h, expand) refl in
+    fails_along e _ _ (no_room s p (omega arith) ∙ sym (ap (settle s) refusal)) failed
+begin_fails e macros p body s (suc m) h w failed =
+    fails_along e _ _ (sym (ap (settle s) (expand_some macros p m [] p body h)))
+    (fails_on e s (replaced p ∷ []) (flat_map (expand m macros (p.spelling ∷ []) p) body) failed)

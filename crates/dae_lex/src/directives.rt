@@ -282,7 +282,10 @@ fn define_numbers<'j>(
 {
     for (name, digits) in rows {
         let body = number_body(alloc, hash, digits)?;
-        define(macros, hash, name, body)?;
+        match define(macros, hash, name, body) {
+            Ok(()) => {}
+            Err(e) => return Err(e),
+        }
     }
     Ok(())
 }

@@ -159,7 +159,10 @@ pub fn replace_piece<'m, 'j>(
     let Some(body) = replacement_of(macros, &stack, piece) else {
         return out.take(piece, piece);
     };
-    begin(&mut stack, piece.spelling, body, piece, out)?;
+    match begin(&mut stack, piece.spelling, body, piece, out) {
+        Ok(()) => {}
+        Err(e) => return Err(e),
+    }
     while !stack.is_empty() {
         turn(macros, &mut stack, piece, out)?;
     }
