@@ -1,11 +1,13 @@
 -- Entries of a map by name, as frames of replacements and as macros.
-use Rattle.std.proofs.Common.{◌≡◌, ℕ, Bool, true, false, ◌||◌, cond, List, [], ◌∷◌, ◌++◌, map, refl, ap, sym, ◌∙◌, Option, Some, None, is_some, option_map, if◌then◌else◌}
+use Rattle.std.proofs.Common.{◌≡◌, ℕ, ◌+◌, Bool, true, false, not, ◌||◌, cond, List, [], ◌∷◌, ◌++◌, map, refl, ap, sym, ◌∙◌, Option, Some, None, is_some, option_map, if◌then◌else◌}
 use Rattle.std.specs.Prelude.{option_copied}
 use Rattle.std.specs.Borrow.{Bor}
-use Rattle.std.specs.List.{list_any}
+use Rattle.std.specs.List.{list_any, position_or_len}
 use Rattle.std.specs.Map.{lookup}
 use Rattle.std.specs.Str.{bytes_eq}
 use Rattle.indexmap.specs.IndexMap.{insert_entry}
+use Rattle.indexmap.specs.IndexSet.{insert_key}
+use Rattle.std.proofs.lemmas.List.{map-append}
 use Rattle.dae_token.specs.Pieces.{Cut}
 use Rattle.dae_token.specs.Replacing.{Definition, body_of}
 use Rattle.dae_lex.specs.Pending.{Frame, names_of}
@@ -62,3 +64,26 @@ module _ {V : Type 0} (pieces : V → List Cut) where
       → is_some (lookup (same_key k) es) ≡ false → map f (insert_entry same_key es k v) ≡ map f es ++ f (k, v) ∷ []
   insert_last f k v [] h = refl
   insert_last f k v (e ∷ es) h = last f k v e es (same_key k e.0) h (insert_last f k v es)
+
+-- names by their bytes
+abbrev pub now_of : List (Bor (List ℕ)) → List (List ℕ)
+now_of ks = map (λ k. k.now) ks
+
+pub place_mapped : (name : List ℕ) (ks : List (Bor (List ℕ))) → position_or_len (λ k. bytes_eq name k.now) ks ≡ position_or_len (bytes_eq name) (now_of ks)
+place_mapped name [] = refl
+place_mapped name (k ∷ ks) = ap (λ n. cond (not (bytes_eq name k.now)) (1 + n) 0) (place_mapped name ks)
+
+any_mapped : (name : List ℕ) (ks : List (Bor (List ℕ))) → list_any (λ k. bytes_eq name k.now) ks ≡ list_any (bytes_eq name) (now_of ks)
+any_mapped name [] = refl
+any_mapped name (k ∷ ks) = ap (λ b. bytes_eq name k.now || b) (any_mapped name ks)
+
+choose_mapped : (k : Bor (List ℕ)) (ks : List (Bor (List ℕ))) (b : Bool)
+    → now_of (if b then ks else ks ++ k ∷ []) ≡ (if b then now_of ks else now_of ks ++ k.now ∷ [])
+choose_mapped k ks true = refl
+choose_mapped k ks false = map-append (λ (k : Bor (List ℕ)). k.now) ks (k ∷ [])
+
+pub insert_mapped : (k : Bor (List ℕ)) (ks : List (Bor (List ℕ)))
+    → now_of (insert_key same_key ks k) ≡ (if list_any (bytes_eq k.now) (now_of ks) then now_of ks else now_of ks ++ k.now ∷ [])
+insert_mapped k ks =
+    choose_mapped k ks (list_any (same_key k) ks)
+    ∙ ap (λ b. if b then now_of ks else now_of ks ++ k.now ∷ []) (any_mapped k.now ks)

@@ -2,3 +2,4 @@ pub mod Cuts
 pub mod Settling
 pub mod Pending
 pub mod Reading
+pub mod Finishing

@@ -7,7 +7,7 @@ pub use dae_token::{LexError, Room};
 //pub use tokens::tokens;
 
 mod directives;
-//mod finish;
+mod finish;
 mod lines;
 mod macros;
 mod output;
