@@ -5,3 +5,5 @@ pub mod Limits
 pub mod Turns
 pub mod LineSteps
 pub mod Rows
+pub mod Whole
+pub mod Spans

@@ -3,3 +3,4 @@ pub mod Settling
 pub mod Pending
 pub mod Reading
 pub mod Finishing
+pub mod Whole

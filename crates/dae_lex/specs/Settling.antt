@@ -67,10 +67,10 @@ abbrev pub settle : State → List Item → Result State LexError
 settle s [] = Ok s
 settle s (item ∷ items) = elim (step s item) [ Ok t ↦ settle t items | Err error ↦ Err error ]
 
--- what an error says of what settling gives: nothing, where memory ran out, and else that it is refused so
-abbrev pub Fails : LexError → Result State LexError → Type 0
-Fails errors.Memory settled = Unit {0}
-Fails error settled = settled ≡ Err error
+-- what an error says of an answer: nothing, where memory ran out, and else that it is refused so
+abbrev pub Fails : {A : Type 0} → LexError → Result A LexError → Type 0
+Fails errors.Memory answer = Unit {0}
+Fails error answer = answer ≡ Err error
 
 -- a call that left this state gave what settling gives
 abbrev pub Settles : {A : Type 0} → State → Result A LexError → Result State LexError → Type 0

@@ -13,4 +13,4 @@ mod macros;
 mod output;
 mod pieces;
 mod replace;
-//mod tokens;
+mod tokens;
