@@ -1,6 +1,10 @@
 // The compiler of straight programs.
 #![tactic(auto)]
 
+mod code;
+mod order;
+mod plan;
+
 use dae_base::Items;
 use dae_tree::Factor;
 
