@@ -18,9 +18,7 @@ use Rattle.dae_queues.specs.declared.Slot.{Slot}
 use Rattle.dae_queues.specs.Lists.{Slots, Stores, with_address, new_slot}
 use Rattle.dae_straight_compiler.specs.declared.Step.{Step}
 use Rattle.dae_straight_compiler.specs.declared.Step.TheVariants.{Clear, Begin, Times, AddTerm, SubtractTerm}
-use Rattle.dae_straight_compiler.specs.declared.Ending.{Ending}
-use Rattle.dae_straight_compiler.specs.declared.Ending.TheVariants.{Open, Store, PrintLine, Halt}
-use Rattle.dae_straight_compiler.specs.Plan.{IsStepOf, IsEndingOf}
+use Rattle.dae_straight_compiler.specs.Plan.{IsStepOf}
 use Rattle.dae_straight_compiler.specs.Code.{upper, lower, load_code, store_code, factor_access, step_access, steps_access}
 use Rattle.dae_straight_compiler.proofs.Halves.{halves}
 use Rattle.dae_straight_compiler.proofs.Instructions.{CodeAt, accessor, plain, loading, storing, base_upper, load_issued, store_issued}

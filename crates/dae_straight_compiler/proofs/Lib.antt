@@ -14,3 +14,4 @@ pub mod Ranges
 pub mod Sizes
 pub mod Whole
 pub mod Counting
+pub mod Required

@@ -1,12 +1,10 @@
 -- Every instruction of a round has fields that its word can hold.
-use Rattle.std.proofs.Common.{◌≡◌, ℕ, ◌+◌, ◌-◌, ◌*◌, ◌/◌, ◌%◌, ◌^◌, ◌<◌, ◌≤◌, Bool, true, false, List, [], ◌∷◌, ◌++◌, refl, ap, sym, ◌∙◌, subst, arith, ℤ, pos, negsuc, neg_ℤ, ◌≤ℤ◌, ◌<ℤ◌}
+use Rattle.std.proofs.Common.{◌≡◌, ℕ, ◌+◌, ◌-◌, ◌*◌, ◌/◌, ◌%◌, ◌^◌, ◌<◌, Bool, true, false, List, [], ◌∷◌, refl, arith, pos, negsuc}
 use Rattle.std.specs.Prelude.{nat_lt, if◌then◌else◌}
 use Rattle.std.specs.List.{AllByRecursion}
-use Rattle.std.specs.Int.{w32, cast_signed, cast_unsigned}
 use Rattle.std.proofs.lemmas.Int.{ints}
 use Rattle.std.proofs.lemmas.Bool.Decides.{nat_tests}
 use Rattle.dae_base.specs.Words.{word, signed}
-use Rattle.dae_encode.specs.declared.Inst.{Inst}
 use Rattle.dae_encode.specs.declared.Inst.TheVariants.{Lui, Lw, Sw, Addi, Add, Sub, Mul, Ecall}
 use Rattle.dae_encode.specs.Spelling.{InRange, layout, IsSigned}
 use Rattle.dae_tree.specs.declared.Factor.{Factor}
@@ -17,7 +15,7 @@ use Rattle.dae_straight_compiler.specs.declared.Step.TheVariants.{Clear, Begin, 
 use Rattle.dae_straight_compiler.specs.declared.Ending.{Ending}
 use Rattle.dae_straight_compiler.specs.declared.Ending.TheVariants.{Open, Store, PrintLine, Halt}
 use Rattle.dae_straight_compiler.specs.declared.Round.{Round}
-use Rattle.dae_straight_compiler.specs.Code.{upper, lower, load_code, store_code, factor_access, step_access, ending_access, constant_code, begin_code, times_code, step_execute, ending_execute, steps_access, steps_execute, access_code, execute_code}
+use Rattle.dae_straight_compiler.specs.Code.{upper, lower, factor_access, step_access, ending_access, constant_code, begin_code, times_code, step_execute, ending_execute, steps_access, steps_execute, access_code, execute_code}
 use Rattle.dae_straight_compiler.proofs.Halves.{word_upper}
 use Rattle.dae_straight_compiler.proofs.Statements.{all-append}
 

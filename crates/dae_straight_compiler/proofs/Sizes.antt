@@ -1,5 +1,5 @@
 -- The code of a straight program is bounded by its words.
-use Rattle.std.proofs.Common.{◌≡◌, ℕ, zero, suc, ◌+◌, ◌*◌, ◌^◌, ◌<◌, ◌≤◌, Bool, true, false, List, [], ◌∷◌, ◌++◌, length, refl, ap, ap₂, sym, ◌∙◌, subst, append_assoc, append-nil, length-append, add-zero, zero-add, arith}
+use Rattle.std.proofs.Common.{◌≡◌, ℕ, ◌+◌, ◌*◌, ◌≤◌, Bool, true, false, List, [], ◌∷◌, ◌++◌, length, refl, ap, sym, ◌∙◌, append_assoc, append-nil, length-append, add-zero, zero-add, arith}
 use Rattle.std.specs.Prelude.{nat_lt, if◌then◌else◌}
 use Rattle.dae_encode.specs.declared.Inst.{Inst}
 use Rattle.dae_tree.specs.declared.BinaryOperator.{BinaryOperator}
@@ -18,7 +18,7 @@ use Rattle.dae_straight_compiler.specs.declared.Ending.{Ending}
 use Rattle.dae_straight_compiler.specs.declared.Ending.TheVariants.{Open, Store, PrintLine, Halt}
 use Rattle.dae_straight_compiler.specs.declared.Round.{Round}
 use Rattle.dae_straight_compiler.specs.Plan.{step_of_link, pending_after, link_steps, sum_steps, loads_of, rounds_from, statement_rounds, statements_rounds, program_rounds}
-use Rattle.dae_straight_compiler.specs.Code.{step_access, step_execute, ending_access, ending_execute, steps_access, steps_execute, access_code, execute_code, factor_access, begin_code, times_code}
+use Rattle.dae_straight_compiler.specs.Code.{step_access, step_execute, ending_access, ending_execute, steps_access, steps_execute, access_code, execute_code}
 use Rattle.dae_straight_compiler.specs.Order.{work_loads, rounds_loads}
 use Rattle.dae_straight_compiler.proofs.Rounds.{round_of}
 

@@ -1,20 +1,16 @@
 -- A compiled straight program ends as it means, in every order of steps.
-use Rattle.std.proofs.Common.{◌≡◌, ◌≢◌, ℕ, zero, suc, ◌+◌, ◌-◌, ◌*◌, ◌%◌, ◌^◌, ◌<◌, ◌≤◌, true, false, List, [], ◌∷◌, ◌++◌, map, length, refl, ap, ap₂, sym, ◌∙◌, subst, append_assoc, append-nil, length-append, add-zero, zero-add, add_assoc, arith}
-use Rattle.std.specs.Prelude.{Some, None, replicate, slice_get, max, min}
+use Rattle.std.proofs.Common.{◌≡◌, ℕ, ◌+◌, ◌-◌, ◌*◌, ◌≤◌, List, [], ◌∷◌, ◌++◌, map, length, refl, ap, ◌∙◌, subst, append_assoc, append-nil, length-append, arith}
+use Rattle.std.specs.Prelude.{Some, replicate, slice_get, min}
 use Rattle.std.specs.List.{AllByRecursion}
 use Rattle.dae_base.specs.declared.Queue.TheVariants.{Ld, Sa, Sd}
 use Rattle.dae_base.specs.declared.Depths.{Depths}
-use Rattle.dae_base.specs.Budgets.{depth}
 use Rattle.dae_encode.specs.declared.Inst.{Inst}
-use Rattle.dae_encode.specs.declared.Halt.TheVariants.{Status}
-use Rattle.dae_encode.specs.Instructions.{decode}
 use Rattle.dae_encode.specs.Spelling.{encoded, InRange}
 use Rattle.dae_encode.proofs.Spelled.{decode_encoded}
 use Rattle.dae_image.specs.declared.Image.{Image}
 use Rattle.dae_machine.specs.declared.Pick.{Pick}
-use Rattle.dae_machine.specs.Machine.{Setup, State, Runs, IsFinal, IsCounted}
+use Rattle.dae_machine.specs.Machine.{Runs, IsCounted}
 use Rattle.dae_machine.specs.Opened.{setup_of, opened}
-use Rattle.dae_machine.specs.Ends.{CanOnlyEnd}
 use Rattle.dae_machine.proofs.Ends.{can_only_end}
 use Rattle.dae_tree.specs.declared.Factor.{Factor}
 use Rattle.dae_tree.specs.declared.Factor.TheVariants.{Constant, Object}
@@ -25,23 +21,22 @@ use Rattle.dae_tree.specs.declared.Sum.{Sum}
 use Rattle.dae_tree.specs.declared.Statement.{Statement}
 use Rattle.dae_tree.specs.declared.Statement.TheVariants.{Assign, PrintLine as Line}
 use Rattle.dae_tree.specs.declared.StraightProgram.{StraightProgram}
-use Rattle.dae_tree.specs.Form.{IsStatementOf, IsSumOf, IsStraight, program_words}
+use Rattle.dae_tree.specs.Form.{IsStatementOf, IsStraight}
 use Rattle.dae_tree.specs.Meaning as c
-use Rattle.dae_tree.specs.Straight.{execute_all, literals, data_of, memory_of, meaning}
+use Rattle.dae_tree.specs.Straight.{literals, data_of, memory_of, meaning}
 use Rattle.dae_straight_compiler.specs.declared.Step.{Step}
-use Rattle.dae_straight_compiler.specs.declared.Step.TheVariants.{Clear, Begin, Times, AddTerm, SubtractTerm}
-use Rattle.dae_straight_compiler.specs.declared.Ending.TheVariants.{Open, Store, PrintLine, Halt}
-use Rattle.dae_straight_compiler.specs.declared.Round.{Round}
+use Rattle.dae_straight_compiler.specs.declared.Step.TheVariants.{Begin, AddTerm}
+use Rattle.dae_straight_compiler.specs.declared.Ending.TheVariants.{Store, PrintLine}
 use Rattle.dae_straight_compiler.specs.Plan.{step_of_link, pending_after, link_steps, sum_steps, statement_rounds, statements_rounds, program_rounds}
 use Rattle.dae_straight_compiler.specs.Code.{access_code, execute_code}
 use Rattle.dae_straight_compiler.specs.Order.{picks_from}
 use Rattle.dae_straight_compiler.specs.Budget.{names_in_factor, names_in_links, names_in, sum_of, most_names, assigns, budget_of}
-use Rattle.dae_straight_compiler.specs.Compiled.{Reaches, EndsSo, IsCompiled}
+use Rattle.dae_straight_compiler.specs.Compiled.{Reaches, IsCompiled}
 use Rattle.dae_straight_compiler.proofs.Instructions.{CodeAt, Values}
 use Rattle.dae_straight_compiler.proofs.Access.{work_addresses, step_addresses, Lies}
 use Rattle.dae_straight_compiler.proofs.Rounds.{boundary, Deep}
 use Rattle.dae_straight_compiler.proofs.Bytes.{AllBytes, append_bytes, zero_bytes}
-use Rattle.dae_straight_compiler.proofs.Program.{Point, after_rounds, IsRoundOf, Finished, halting, rounds_run}
+use Rattle.dae_straight_compiler.proofs.Program.{Point, after_rounds, IsRoundOf, Finished, rounds_run}
 use Rattle.dae_straight_compiler.proofs.Statements.{all-append, rounds_good, sum_steps_are, state_at, statements_done}
 use Rattle.dae_straight_compiler.proofs.Statements as statements
 use Rattle.dae_straight_compiler.proofs.Ranges.{access_fits, execute_fits}
@@ -55,17 +50,20 @@ get_seam (b ∷ before) w later = get_seam before w later
 
 code_behind : (before : List ℕ) (is : List Inst) → AllByRecursion InRange is → CodeAt (before ++ map encoded is) (length before) is
 code_behind before [] h = tt
-code_behind before (i ∷ is) h =
-    (encoded i, get_seam before (encoded i) (map encoded is), decode_encoded i h.0,
-    subst (λ (code : List ℕ). CodeAt code (length before + 1) is) (append_assoc before (encoded i ∷ []) (map encoded is))
-    (subst (λ (n : ℕ). CodeAt ((before ++ encoded i ∷ []) ++ map encoded is) n is) (length-append before (encoded i ∷ [])) (code_behind (before ++ encoded i ∷ []) is h.1)))
+code_behind before (i ∷ is) h = (
+  encoded i,
+  get_seam before (encoded i) (map encoded is),
+  decode_encoded i h.0,
+  subst (λ (code : List ℕ). CodeAt code (length before + 1) is) (append_assoc before (encoded i ∷ []) (map encoded is))
+      (subst (λ (n : ℕ). CodeAt ((before ++ encoded i ∷ []) ++ map encoded is) n is) (length-append before (encoded i ∷ [])) (code_behind (before ++ encoded i ∷ []) is h.1)),
+)
 
 code_at : (is : List Inst) → AllByRecursion InRange is → CodeAt (map encoded is) 0 is
 code_at is h = code_behind [] is h
 
 -- ---- the memory before main
 
-literals_bytes : (ss : List Statement) → AllBytes (literals ss)
+pub literals_bytes : (ss : List Statement) → AllBytes (literals ss)
 literals_bytes [] = tt
 literals_bytes (Assign k sum ∷ ss) = literals_bytes ss
 literals_bytes (Line sum ∷ ss) = (omega arith, (omega arith, (omega arith, (omega arith, literals_bytes ss))))
@@ -102,7 +100,7 @@ links_names (link ∷ links) pending h =
     let more = links_names links (pending_after link.operator pending) one.1 in
     let first = one.0 in
     let joined : length (work_addresses (step_of_link link.operator link.factor pending ++ link_steps (pending_after link.operator pending) links)) ≡ length (work_addresses (step_of_link link.operator link.factor pending)) + length (work_addresses (link_steps (pending_after link.operator pending) links)) =
-        ap length (statements.work_addresses-append (step_of_link link.operator link.factor pending) (link_steps (pending_after link.operator pending) links)) ∙ length-append (work_addresses (step_of_link link.operator link.factor pending)) (work_addresses (link_steps (pending_after link.operator pending) links)) in
+    ap length (statements.work_addresses-append (step_of_link link.operator link.factor pending) (link_steps (pending_after link.operator pending) links)) ∙ length-append (work_addresses (step_of_link link.operator link.factor pending)) (work_addresses (link_steps (pending_after link.operator pending) links)) in
     omega arith
 
 sum_names : (sum : Sum) → length (work_addresses (sum_steps sum)) ≡ names_in sum
@@ -128,7 +126,7 @@ assigns_one (Assign k sum) ss = (omega arith, assigns_small ss) where
   assigns_small (Line sum ∷ ss) = assigns_small ss
 assigns_one (Line sum) ss = (omega arith, omega arith)
 
-statements_good : (objects most stores : ℕ) (ss : List Statement) → AllByRecursion (IsStatementOf objects) ss → most_names ss ≤ most → assigns ss ≤ stores → AllByRecursion (IsRoundOf objects (min most 4) stores) (statements_rounds ss)
+pub statements_good : (objects most stores : ℕ) (ss : List Statement) → AllByRecursion (IsStatementOf objects) ss → most_names ss ≤ most → assigns ss ≤ stores → AllByRecursion (IsRoundOf objects (min most 4) stores) (statements_rounds ss)
 statements_good objects most stores [] all few one = tt
 statements_good objects most stores (s ∷ ss) all few one =
     let a = assigns_one s ss in let x = a.0 in let y = a.1 in
@@ -161,4 +159,51 @@ deep_is p image depths is reaches = record {
   ld = subst (λ (b : Depths). b.ld ≤ depths.ld) is.budget (reaches Ld);
   sa = subst (λ (b : Depths). b.sa ≤ depths.sa) is.budget (reaches Sa);
   sd = subst (λ (b : Depths). b.sd ≤ depths.sd) is.budget (reaches Sd);
+}
+
+abbrev start : StraightProgram → Point
+start p = record { values = zeros; memory = memory_of 1048576 (data_of p); printed = [] }
+
+-- how the program ends
+abbrev finish : StraightProgram → Point
+finish p = after_rounds (statements_rounds p.statements) (start p)
+
+finished : (p : StraightProgram) (image : Image) (depths : Depths) → IsStraight p → 3 * length p.names ≤ 8192 → IsImageOf p image → Reaches depths image.budget →
+    Finished (setup_of image depths) (opened image) (picks_from 0 (program_rounds p)) (finish p).memory (finish p).printed
+finished p image depths straight few is reaches =
+    let bounded = program_bounded p in
+    let short = straight.few_tokens in
+    let a = bounded.access in
+    let e = bounded.execute in
+    let lies : Lies (length p.names) (setup_of image depths).memory = record { high = rw is.memory (omega arith); small = rw is.memory (omega arith) } in
+    let at_a : CodeAt (setup_of image depths).code_a 0 (access_code (program_rounds p)) = rw is.code_a (code_at (access_code (program_rounds p)) (access_fits (program_rounds p))) in
+    let at_e : CodeAt (setup_of image depths).code_e 0 (execute_code (program_rounds p)) = rw is.code_e (code_at (execute_code (program_rounds p)) (execute_fits (program_rounds p))) in
+    rw (opened_is p image is) (rounds_run (setup_of image depths) (length p.names) (min (most_names p.statements) 4) (assigns p.statements) lies (deep_is p image depths is reaches) (statements_rounds p.statements)
+    (statements_good (length p.names) (most_names p.statements) (assigns p.statements) p.statements straight.statements (omega arith) (omega arith))
+    0 0 0 0 0 (start p) 0 (memory_bytes p 1048576) (omega arith) (omega arith) at_a (omega arith) at_e)
+
+opened_counted : (image : Image) → IsCounted (opened image)
+opened_counted image = record { ld = record { numbers = refl; stamps = tt }; al = record { numbers = refl; stamps = tt }; sa = refl }
+
+means_so : (p : StraightProgram) (image : Image) (bound : ℕ) → IsStraight p → image.memory ≡ 1048576 → meaning p image.memory bound ≡ (c.Halt 0, state_at (finish p))
+means_so p image bound straight memory = rw (memory, statements_done (length p.names) p.statements (start p) straight.statements (memory_bytes p 1048576)) refl
+
+pub whole : (p : StraightProgram) (image : Image) (picks : List Pick) → IsStraight p → 3 * length p.names ≤ 8192 → IsImageOf p image → picks ≡ picks_from 0 (program_rounds p) → IsCompiled p image picks
+whole p image picks straight few is order = record {
+  budget = is.budget;
+  ends = λ depths reaches.
+      let f = finished p image depths straight few is reaches in
+      let runs : Runs (setup_of image depths) (opened image) picks f.state = rw order f.runs in
+      record {
+        status = 0;
+        after = state_at (finish p);
+        means = λ bound. means_so p image bound straight is.memory;
+        state = f.state;
+        runs = runs;
+        final = f.final;
+        halts = f.status;
+        printed = f.printed_is;
+        memory = f.memory_is;
+        only = can_only_end (setup_of image depths) (opened image) (opened_counted image) f.state picks runs f.final;
+      };
 }

@@ -1,5 +1,5 @@
 ghost use Rattle.std.specs.Prelude.{◌≡◌, ℕ, ◌≤◌, ◌<◌, ◌^◌, ℤ, List, [], ◌∷◌, ◌++◌, IfOk, OnOk, map};
-ghost use Rattle.std.specs.List.{AllByRecursion};
+ghost use Rattle.std.specs.List.{All, AllByRecursion};
 ghost use Rattle.dae_encode.specs.Spelling.{InRange, encoded};
 ghost use Rattle.dae_tree.specs.Straight.{address_of};
 ghost use Rattle.dae_straight_compiler.specs.Plan.{IsStepOf, IsEndingOf, IsRoundOver};
@@ -194,7 +194,8 @@ fn lower(word: u32) -> i32
 /// The words of instructions.
 pub fn encode_all(alloc: Global, code: &[Inst]) -> Result<Vec<u32>, AllocError>
     requires { AllByRecursion InRange code.now }
-    ensures { IfOk result (λ words. words.items ≡ map encoded code.now) }
+    ensures words { IfOk result (λ words. words.items ≡ map encoded code.now) }
+    ensures fits { IfOk result (λ words. All (λ w. w < 2 ^ 32) words.items) }
 {
     let mut words = Vec::new(alloc);
     for inst in code {

@@ -1,7 +1,11 @@
 // The compiler of straight programs.
 #![tactic(auto)]
 
+pub use compiling::{Compiled, compile};
+
+mod budget;
 mod code;
+mod compiling;
 mod order;
 mod plan;
 

@@ -27,7 +27,13 @@ pub fn picks(alloc: Global, rounds: &[Round]) -> Result<Vec<Pick>, AllocError>
     Ok(picks)
 }
 
-fn add_round(alloc: Global, picks: &mut Vec<Pick>, round: &Round, number: u64, loads: u64) -> Result<(), AllocError>
+fn add_round(
+    alloc: Global,
+    picks: &mut Vec<Pick>,
+    round: &Round,
+    number: u64,
+    loads: u64,
+) -> Result<(), AllocError>
     requires over { IsRoundOver (2 ^ 20) round.now }
     requires loads { loads ≡ work_loads round.now.work }
     requires fits { number + loads < 2 ^ 64 }

@@ -25,7 +25,11 @@ pub fn program(alloc: Global, program: &StraightProgram) -> Result<Items<Round>,
     Ok(Items::from_vec(rounds))
 }
 
-fn add_statement(alloc: Global, rounds: &mut Vec<Round>, statement: &Statement) -> Result<(), AllocError>
+fn add_statement(
+    alloc: Global,
+    rounds: &mut Vec<Round>,
+    statement: &Statement,
+) -> Result<(), AllocError>
     ensures { OnOk result (rounds.new.items ≡ rounds.old.items ++ statement_rounds statement.now) }
 {
     match statement {
@@ -35,14 +39,24 @@ fn add_statement(alloc: Global, rounds: &mut Vec<Round>, statement: &Statement) 
 }
 
 // A sum's steps, cut into rounds.
-fn add_rounds(alloc: Global, rounds: &mut Vec<Round>, sum: &Sum, ending: Ending) -> Result<(), AllocError>
+fn add_rounds(
+    alloc: Global,
+    rounds: &mut Vec<Round>,
+    sum: &Sum,
+    ending: Ending,
+) -> Result<(), AllocError>
     ensures { OnOk result (rounds.new.items ≡ rounds.old.items ++ rounds_from [] 0 (sum_steps sum.now) ending) }
 {
     let steps = steps_of(alloc, sum)?;
     cut(alloc, rounds, steps.as_slice(), ending)
 }
 
-fn cut(alloc: Global, rounds: &mut Vec<Round>, steps: &[Step], ending: Ending) -> Result<(), AllocError>
+fn cut(
+    alloc: Global,
+    rounds: &mut Vec<Round>,
+    steps: &[Step],
+    ending: Ending,
+) -> Result<(), AllocError>
     ensures { OnOk result (rounds.new.items ≡ rounds.old.items ++ rounds_from [] 0 steps.now ending) }
 {
     let mut work = Items::new(alloc);

@@ -1,5 +1,4 @@
-use Rattle.std.proofs.Common.{◌≡◌, ◌++◌, arith, append_assoc}
-use Rattle.std.proofs.lemmas.Grind.{common_steps}
+use Rattle.std.proofs.Common.{append_assoc}
 use Rattle.dae_straight_compiler.proofs.Counting.{fills_last}
 use Rattle.dae_straight_compiler.proofs.order.add_fills.Goals as goal
 
