@@ -1,5 +1,5 @@
 -- Which faults reading can give: the number of a `Short` is that of all bytes, and a `Trailing` comes behind a whole image.
-use Rattle.std.proofs.Common.{◌≡◌, ℕ, zero, suc, ◌+◌, ◌-◌, ◌*◌, ◌<◌, ◌≤◌, Bool, true, false, cond, ltb, eqb, List, [], ◌∷◌, ◌++◌, length, take, drop, Option, Some, None, Result, Ok, Err, refl, sym, ap, subst, ◌∙◌, append_assoc, arith, inl, inr}
+use Rattle.std.proofs.Common.{◌≡◌, ℕ, zero, suc, ◌+◌, ◌-◌, ◌*◌, ◌<◌, ◌≤◌, Bool, true, false, cond, ltb, eqb, List, [], ◌∷◌, ◌++◌, length, take, drop, Option, Some, None, Result, Ok, Err, refl, sym, ap, subst, ◌∙◌, append_assoc, arith, ◌⊎◌, inl, inr, lit≤}
 use Rattle.std.specs.Int.{w32, from_le_bytes}
 use Rattle.std.specs.Option.{ok_or}
 use Rattle.std.specs.Str.{is_utf8}
@@ -12,10 +12,13 @@ use Rattle.dae_image.specs.declared.fault.Field.{Field}
 use Rattle.dae_image.specs.declared.fault.Field.TheVariants as fields
 use Rattle.dae_image.specs.declared.fault.ImageError.{ImageError}
 use Rattle.dae_image.specs.declared.fault.ImageError.TheVariants as errors
-use Rattle.dae_image.specs.Ranges.{is_in, magic_range, version_range, depth_range, memory_range, calls_range, private_range, entry_range, words_range, content_range, line_count_range, name_count_range, name_range}
-use Rattle.dae_image.specs.Contents.{Contents}
+use Rattle.dae_image.specs.Ranges.{IsIn, is_in, magic_range, version_range, depth_range, memory_range, calls_range, private_range, entry_range, words_range, content_range, line_count_range, name_count_range, name_range}
+use Rattle.dae_image.specs.Contents.{Contents, header, Fits}
+use Rattle.dae_image.specs.Spelling.{numbers, body, Spells}
 use Rattle.dae_image.specs.Reading.{◌>>=◌, number_at, field_at, version_at, copies_at, budget_at, header_at, bytes_at, words_at, words_of, mark_of, line_at, lines_at, name_at, names_at, body_at, image_at}
-use Rattle.dae_image.proofs.FieldLaws.{done}
+use Rattle.dae_image.proofs.FieldLaws.{IsBytes, done, Takes, Takes-then}
+use Rattle.dae_image.proofs.HeaderLaws.{bind_again, head, header_takes, header_again}
+use Rattle.dae_image.proofs.ImageLaws.{body_takes, body_again, spelling, spells}
 
 -- a fault that a field of so many bytes may have
 abbrev pub IsFault : ℕ → ImageError → Type 0
@@ -139,3 +142,82 @@ fault-body whole h bytes =
     next whole _ _ (fault-bytes whole h.content e.1) (λ content.
     next whole _ _ (fault-lines whole h None h.lines content.1) (λ lines.
     next whole _ _ (fault-names whole h.names lines.1) (λ names. fault-done whole _)))))
+
+-- ---- the image
+
+failed : {A B : Type 0} (r : Result A ImageError) (f : A → Result B ImageError) (e : ImageError) → (r >>= f) ≡ Err e → (r ≡ Err e) ⊎ ((x : A) × (r ≡ Ok x) × (f x ≡ Err e))
+failed (Ok x) f e h = inr (x, refl, h)
+failed (Err d) f e h = inl (let same : d ≡ e = cc in ap (λ (k : ImageError). Err k) same)
+
+-- what a fault says of all bytes
+abbrev pub IsFaultOf : List ℕ → ImageError → Type 0
+IsFaultOf bytes (errors.Short n) = n ≡ length bytes
+IsFaultOf bytes (errors.BadField field offset) = Unit {0}
+IsFaultOf bytes (errors.Trailing n) = (n < length bytes) × ((c : Contents) × Fits c × Spells (take n bytes) c)
+IsFaultOf bytes errors.Memory = ⊥
+
+fault-of : (bytes : List ℕ) (e : ImageError) → IsFault (length bytes) e → IsFaultOf bytes e
+fault-of bytes (errors.Short n) h = h
+fault-of bytes (errors.BadField field offset) h = tt
+fault-of bytes (errors.Trailing n) h = absurd h
+fault-of bytes errors.Memory h = absurd h
+
+trails : {A : Type 0} (b : Bool) (x : A) (d e : ImageError) → cond b (done x) (Err d) ≡ Err e → (b ≡ false) × (d ≡ e)
+trails true x d e h = absurd cc
+trails false x d e h = (refl, cc)
+
+-- an image before other bytes
+before : (bytes : List ℕ) (v : ℕ) (c : Contents) (rest : List ℕ) → IsIn version_range v → (v ≡ 1 → c.budget.cq ≡ 0) → Fits c → bytes ≡ spelling v c ++ rest → (length rest ≡ 0 → ⊥) → IsFaultOf bytes (errors.Trailing (length bytes - length rest))
+before bytes v c rest is_version old fits text some =
+    let len : length bytes ≡ length (spelling v c) + length rest = ap length text ∙ length-append (spelling v c) rest in
+    let n : length (spelling v c) ≡ length bytes - length rest = omega (arith, len) in
+    let front : take (length bytes - length rest) bytes ≡ spelling v c = ap (λ (t : List ℕ). take (length bytes - length rest) t) text ∙ take_at (spelling v c) rest (length bytes - length rest) n in
+    (omega (arith, len, some), (c, fits, spells (take (length bytes - length rest) bytes) v c is_version old front))
+
+body_fails : (bytes : List ℕ) (e : ImageError) (h : Header × List ℕ) → IsBytes bytes → header_at (length bytes) bytes ≡ Ok h
+    → (body_at (length bytes) h.0 h.1 >>= λ image. cond (eqb (length image.1) 0) (done image.0) (Err (errors.Trailing (length bytes - length image.1)))) ≡ Err e → IsFaultOf bytes e
+body_fails bytes e h fits h-is failure =
+    elim (failed (body_at (length bytes) h.0 h.1) _ e failure) [
+      | inl first ↦ fault-of bytes e ((fault-body (length bytes) h.0 h.1).only e first)
+      | inr other ↦
+          let head-read = header_takes (length bytes) bytes h fits h-is in
+          let c = other.0 in
+          let body-read = body_takes (length bytes) h.0 h.1 c head-read.fits head-read.takes.fits other.1 in
+          let t = trails (eqb (length c.1) 0) c.0 (errors.Trailing (length bytes - length c.1)) e other.2 in
+          let both = (Takes-then bytes (numbers (head head-read.version h.0)) h.1 (body c.0) c.1 head-read.takes body-read.takes).parts in
+          let text : bytes ≡ spelling head-read.version c.0 ++ c.1 = both ∙ ap (λ (k : Header). (numbers (head head-read.version k) ++ body c.0) ++ c.1) (sym body-read.same) in
+          let old : head-read.version ≡ 1 → c.0.budget.cq ≡ 0 = λ one. ap (λ (k : Header). k.budget.cq) body-read.same ∙ head-read.old one in
+          subst (λ (d : ImageError). IsFaultOf bytes d) t.1 (before bytes head-read.version c.0 c.1 head-read.is_version old body-read.fits text (eqb-false (length c.1) 0 t.0))
+    ]
+
+pub image_fails : (bytes : List ℕ) (e : ImageError) → IsBytes bytes → image_at bytes ≡ Err e → IsFaultOf bytes e
+unfolding image_at
+image_fails bytes e fits h =
+    elim (failed (header_at (length bytes) bytes) _ e h) [
+      | inl first ↦ fault-of bytes e ((fault-header (length bytes) bytes).only e first)
+      | inr other ↦ body_fails bytes e other.0 fits other.1 other.2
+    ]
+
+-- an image before other bytes is told from them
+trailing_in : (v : ℕ) (c : Contents) (rest : List ℕ) → IsIn version_range v → (v ≡ 1 → c.budget.cq ≡ 0) → Fits c → (length rest ≡ 0 → ⊥) → image_at (spelling v c ++ rest) ≡ Err (errors.Trailing (length (spelling v c)))
+unfolding image_at
+trailing_in v c rest is_version old fits some =
+    let whole = length (spelling v c ++ rest) in
+    let text : spelling v c ++ rest ≡ numbers (head v (header c)) ++ (body c ++ rest) = append_assoc (numbers (head v (header c))) (body c) rest in
+    let offset : whole - length rest ≡ length (spelling v c) = omega (arith, length-append (spelling v c) rest) in
+    bind_again _ _ (header c, body c ++ rest) _ (ap (header_at whole) text ∙ header_again whole v (header c) (body c ++ rest) is_version old fits.head)
+    (bind_again _ _ (c, rest) _ (body_again whole c rest fits) (rw (ne_eqb (length rest) 0 some, offset) refl))
+
+trails_in : (bytes : List ℕ) (n v : ℕ) (c : Contents) → Fits c → IsIn version_range v → (v ≡ 1 → c.budget.cq ≡ 0) → (length (drop n bytes) ≡ 0 → ⊥) → length (take n bytes) ≡ n → take n bytes ≡ spelling v c → image_at bytes ≡ Err (errors.Trailing n)
+trails_in bytes n v c fits is_version old some len text =
+    let parts : bytes ≡ spelling v c ++ drop n bytes = sym (take-append-drop n bytes) ∙ ap (λ (t : List ℕ). t ++ drop n bytes) text in
+    ap image_at parts ∙ trailing_in v c (drop n bytes) is_version old fits some ∙ ap (λ (k : ℕ). Err (errors.Trailing k)) (sym (ap length text) ∙ len)
+
+pub image_trails : (bytes : List ℕ) (n : ℕ) (c : Contents) → Fits c → n < length bytes → Spells (take n bytes) c → image_at bytes ≡ Err (errors.Trailing n)
+image_trails bytes n c fits less spelled =
+    let some : length (drop n bytes) ≡ 0 → ⊥ = λ none. omega (arith, none, length-drop n bytes) in
+    let len : length (take n bytes) ≡ n = omega (arith, length-take n bytes) in
+    elim spelled [
+      | inl text ↦ trails_in bytes n 2 c fits (lit≤ tt, lit≤ tt, refl) (λ one. absurd cc) some len text
+      | inr old ↦ trails_in bytes n 1 c fits (lit≤ tt, lit≤ tt, refl) (λ one. old.0) some len old.1
+    ]
