@@ -97,8 +97,14 @@ fn keeps_have_room(rt: HostRuntime) -> Result<(), Fail> {
         shelf.make_room(rt.alloc(), 1, 2)?;
         assert_eq!(rt; shelf.keep(name, text).is_ok(), kept);
     }
-    assert_eq!(rt; shelf.text_of("a"), Some(b"ab".as_slice()));
-    assert_eq!(rt; shelf.text_of("b"), Some(b"c".as_slice()));
+    assert_eq!(rt;
+        shelf.fetch(rt.alloc(), "a", 9)?.as_slice(),
+        b"ab".as_slice()
+    );
+    assert_eq!(rt;
+        shelf.fetch(rt.alloc(), "b", 9)?.as_slice(),
+        b"c".as_slice()
+    );
     assert_eq!(rt; shelf.faults.count, 2);
     Ok(())
 }
