@@ -4,8 +4,8 @@ ghost use Rattle.dae_core.specs.Held.{CanCount, CanHold, HeldQueues, is_open};
 ghost use Rattle.dae_core.specs.Queues.{Queues, commit, count, empty_queues, front, loads_of, pushed_to, reserved_in, taken_from, with_loads_of, words_of};
 ghost use Rattle.dae_queues.specs.Lists.{can_be_filled, draining_of, filling_of, next_store, with_address, with_value, without_store};
 
-use crate::memory::load;
 use crate::Ports;
+use crate::memory::load;
 use dae_base::{Depths, LoadKind, Queue, Side, Width};
 use dae_encode::QueueUse;
 use dae_queues::{Fifo, RingFifo, Slot, SlotQueue, StoreAt, StoreQueue};

@@ -2,8 +2,9 @@
 use Rattle.std.proofs.Common.{◌≡◌, ℕ, ◌+◌, ◌-◌, ◌≤◌, List, ◌++◌, length, refl, arith, length-append, ◌∙◌, ap}
 use Rattle.std.specs.Prelude.{replicate}
 use Rattle.std.proofs.lemmas.List.{length-replicate}
+use Rattle.dae_image.specs.declared.Image.{Image}
 use Rattle.dae_core.specs.Queues.{empty_queues}
-use Rattle.dae_machine.specs.Held.{Counted}
+use Rattle.dae_machine.specs.Held.{Counted, DataFit}
 
 pub memory_length : (content : List ℕ) (size : ℕ) → 16 + length content ≤ size → length (replicate 16 0 ++ (content ++ replicate (size - (16 + length content)) 0)) ≡ size
 memory_length content size fit =
@@ -19,3 +20,7 @@ none_counted = record {
   al = omega arith;
   stores = omega arith;
 }
+
+-- an image's data fit its memory
+pub data_fit : (image : Image) → DataFit image
+data_fit image = let c = image.fits.head.content.1 in let m = image.fits.head.memory.0 in omega (arith, c, m)

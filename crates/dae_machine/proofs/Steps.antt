@@ -78,7 +78,7 @@ module _ (a e : HeldCore) (code_a code_e : List ℕ) (q : HeldQueues) (memory : 
   pub a_step : (size : ℕ) (words : List ℕ) (answer : CoreAnswer) (a' : HeldCore) (q' : HeldQueues) → size ≡ length memory → words ≡ code_a → IsSome (step m.setup m.state MoveA) → (a'.side ≡ a.side) × (a'.copies ≡ a.copies) → Tells answer (granted_by opens fronts afters a.side a.processor q (request a.copies a.side words size a.processor)) a.processor q a'.processor q' → Moved m MoveA [] a' e code_a code_e q' memory (taken + 1)
   a_step size words answer a' q' same_size same_code enabled kept told =
       subst (λ (m : HeldMachine). Moved m MoveA [] a' e code_a code_e q' memory (taken + 1)) is
-          (by_a a e code_a code_e q memory taken sound answer a' q' (subst (λ (m : HeldMachine). IsSome (step m.setup m.state MoveA)) (sym is) enabled) kept (rw (← same_size, ← same_code) told))
+      (by_a a e code_a code_e q memory taken sound answer a' q' (subst (λ (m : HeldMachine). IsSome (step m.setup m.state MoveA)) (sym is) enabled) kept (rw (← same_size, ← same_code) told))
 
   pub e_step : (size : ℕ) (words : List ℕ) (answer : CoreAnswer) (e' : HeldCore) (q' : HeldQueues) → size ≡ length memory → words ≡ code_e → IsSome (step m.setup m.state MoveE) → (e'.side ≡ e.side) × (e'.copies ≡ e.copies) → Tells answer (granted_by opens fronts afters e.side e.processor q (request e.copies e.side words size e.processor)) e.processor q e'.processor q' → (piece : List ℕ) × (answer ≡ Did piece) × Moved m MoveE piece a e' code_a code_e q' memory (taken + 1)
   e_step size words answer e' q' same_size same_code enabled kept told =

@@ -149,17 +149,17 @@ module _ (setup : Setup) (s : State) where
   all_kind : IsCounted s → (place : ℕ) → AllByRecursion goes (kind_at setup s place)
   all_kind c place =
       all_if (place % 4 == 0) _ _ (all_alone MoveA)
-          (all_if (place % 4 == 1) _ _ (all_alone MoveE)
-              (all_if (place % 4 == 2) _ _ (all_append goes (fills_of A s) (fills_of E s) (all_fills c A) (all_fills c E)) (all_alone Drain)))
+      (all_if (place % 4 == 1) _ _ (all_alone MoveE)
+      (all_if (place % 4 == 2) _ _ (all_append goes (fills_of A s) (fills_of E s) (all_fills c A) (all_fills c E)) (all_alone Drain)))
 
   -- the pick that a word selects is enabled
   pub picked_goes : IsCounted s → (word : ℕ) (p : Pick) → pick_of setup s word ≡ Some p → is_enabled setup s p ≡ true
   picked_goes c word p h =
       all_chosen goes (word / 4) (kind_of setup s word) p
-          (all_or goes (kind_at setup s word) _ (all_kind c word)
-              (all_or goes (kind_at setup s (word + 1)) _ (all_kind c (word + 1))
-                  (all_or goes (kind_at setup s (word + 2)) (kind_at setup s (word + 3)) (all_kind c (word + 2)) (all_kind c (word + 3)))))
-          h
+      (all_or goes (kind_at setup s word) _ (all_kind c word)
+      (all_or goes (kind_at setup s (word + 1)) _ (all_kind c (word + 1))
+      (all_or goes (kind_at setup s (word + 2)) (kind_at setup s (word + 3)) (all_kind c (word + 2)) (all_kind c (word + 3)))))
+      h
 
   -- ---- where no pick is selected
 
@@ -246,9 +246,9 @@ module _ (setup : Setup) (s : State) where
   pub pick_by : (word : ℕ) → pick_of setup s word ≡ or_first (chosen (word / 4) (kind_at setup s (word % 4))) (or_first (chosen (word / 4) (kind_at setup s (word % 4 + 1))) (or_first (chosen (word / 4) (kind_at setup s (word % 4 + 2))) (chosen (word / 4) (kind_at setup s (word % 4 + 3)))))
   pick_by word =
       rw (kind_start word, kind_place word 1, kind_place word 2, kind_place word 3)
-          (chosen_or (word / 4) (kind_at setup s word) _
-          ∙ ap (or_first (chosen (word / 4) (kind_at setup s word))) (chosen_or (word / 4) (kind_at setup s (word + 1)) _
-          ∙ ap (or_first (chosen (word / 4) (kind_at setup s (word + 1)))) (chosen_or (word / 4) (kind_at setup s (word + 2)) (kind_at setup s (word + 3)))))
+      (chosen_or (word / 4) (kind_at setup s word) _
+      ∙ ap (or_first (chosen (word / 4) (kind_at setup s word))) (chosen_or (word / 4) (kind_at setup s (word + 1)) _
+      ∙ ap (or_first (chosen (word / 4) (kind_at setup s (word + 1)))) (chosen_or (word / 4) (kind_at setup s (word + 2)) (kind_at setup s (word + 3)))))
 
 -- ---- a pick of two lists, by its number
 

@@ -4,14 +4,18 @@
 #![tactic(auto)]
 
 use dae_base::{Piece, Queue, Side, Width};
-
-pub use laws::{deeper_runs_too, numbers_stay, one_run_tells_all, quiet_is_last, runs_meet, some_runs_tell_all, steps_commute};
+pub use laws::{
+    deeper_runs_too, numbers_stay, one_run_tells_all, quiet_is_last, runs_meet, some_runs_tell_all,
+    steps_commute,
+};
 pub use machine::Machine;
 pub use turn_words::Words;
 
 mod laws;
 mod machine;
 mod open;
+#[cfg(test)]
+mod tests;
 mod turn_words;
 
 /// Who moves next: a processor, the memory that fills the slot of this number for a side, or the memory that drains the

@@ -10,7 +10,7 @@ ghost use Rattle.dae_machine.specs.Opened.{opened, setup_of};
 use crate::open::{common_memory, reaches};
 use crate::{OpenError, Pick};
 use dae_base::{Depths, Piece, Side};
-use dae_core::{store, Core, CoreAnswer, Queues};
+use dae_core::{Core, CoreAnswer, Queues, store};
 use dae_image::Image;
 use std::alloc::{AllocError, Global};
 use std::marker::Model;
@@ -43,9 +43,9 @@ impl Model for Machine {
 impl Machine {
     /// A machine before its first step, with the image's code and data and with queues of these depths, each at least 1.
     /// A depth below the image's budget is refused, the first such queue by name, before any memory is taken.
+    #[tactic(auto, using(crate::proofs::Opening::data_fit))]
     pub fn open(alloc: Global, image: &Image, depths: Depths) -> Result<Machine, OpenError>
-        requires depths { CanHold depths }
-        requires fit { DataFit image.now }
+        requires { CanHold depths }
         ensures ok { IfOk result (λ machine. machine ≡ record { setup = setup_of image.now depths; state = opened image.now }) }
         ensures reaches { IfOk result (λ machine. first_below depths image.now.budget ≡ None) }
         ensures err { IfErr result (λ e. Refuses e image.now.budget depths) }

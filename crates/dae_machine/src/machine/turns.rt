@@ -53,21 +53,10 @@ impl Machine {
     fn alone(&self, pick: Pick) -> Option<Pick>
         ensures { result ≡ (if is_some (step self.now.setup self.now.state pick) then Some pick else None) }
     {
-        if self.enabled(pick) {
-            Some(pick)
-        } else {
-            None
-        }
+        if self.enabled(pick) { Some(pick) } else { None }
     }
 
-    #[tactic(
-        auto,
-        using(
-            crate::proofs::Turns::chosen_neither,
-            crate::proofs::Turns::chosen_left,
-            crate::proofs::Turns::chosen_right
-        )
-    )]
+    #[tactic(auto, using(crate::proofs::Turns::chosen_neither, crate::proofs::Turns::chosen_left, crate::proofs::Turns::chosen_right))]
     fn pick_of_fills(&self, choice: u32) -> Option<Pick>
         ensures { result ≡ chosen choice (fills_of A self.now.state ++ fills_of E self.now.state) }
     {

@@ -7,4 +7,4 @@ use Rattle.dae_machine.proofs.machine.Machine.fill.Goals as goal
 pub invariant_of-self : goal.invariant_of-self
 invariant_of-self c =
     subst (λ (q : HeldQueues). IsSound c.self.inside.a c.self.inside.e q c.self.inside.memory.items (c.self.inside.taken + 1)) (sym c.fill.ensures)
-        (fill_sound c.self.inside.a c.self.inside.e c.self.inside.queues c.self.inside.memory.items c.self.inside.taken c.args.side c.args.number c.in-Some.word c.self.invariant)
+    (fill_sound c.self.inside.a c.self.inside.e c.self.inside.queues c.self.inside.memory.items c.self.inside.taken c.args.side c.args.number c.in-Some.word c.self.invariant)
