@@ -25,6 +25,11 @@ origins (taken meaning origin ∷ items) = (origin.start, origin.end) ∷ origin
 origins (replaced origin ∷ items) = origins items
 origins (refused error ∷ items) = origins items
 
+-- from a start and an end on neither falls, each span has at least one byte, and none ends behind b
+abbrev pub SpansFrom : ℕ → ℕ → List (ℕ × ℕ) → ℕ → Type 0
+SpansFrom start end [] b = Unit {0}
+SpansFrom start end (x ∷ xs) b = (start ≤ x.0) × (end ≤ x.1) × (x.0 < x.1) × (x.1 ≤ b) × SpansFrom x.0 x.1 xs b
+
 -- the tokens of the pieces before literals join, the headers that they include, and the room that is left
 pub record HasRead (room : Room) (pieces : List Cut) (seen : Includes) (out : Output) : Type 0 where
   pub reads : reads_of room (items_of_pieces room pieces) ≡ Ok (map read_of out.tokens.items)

@@ -4,7 +4,7 @@
 #![tactic(auto)]
 
 pub use dae_token::{LexError, Room};
-//pub use tokens::tokens;
+pub use reading::tokens;
 
 mod directives;
 mod finish;
@@ -13,4 +13,4 @@ mod macros;
 mod output;
 mod pieces;
 mod replace;
-mod tokens;
+mod reading;
