@@ -9,3 +9,4 @@ pub mod Whole
 pub mod Spans
 pub mod Rising
 pub mod Numbering
+pub mod Answered
