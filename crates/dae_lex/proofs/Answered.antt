@@ -35,7 +35,9 @@ reading_with text rs stdio stdlib end = record {
   tokens = numbered [] [] (joined rs);
   names = names_after [] (joined rs);
   literals = literals_after [] (joined rs);
-  stdio = stdio; stdlib = stdlib; end = end;
+  stdio = stdio;
+  stdlib = stdlib;
+  end = end;
 }
 
 abbrev answer_of : Reading → Room → Result (Reading × Room) LexError

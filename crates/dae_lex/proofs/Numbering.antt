@@ -1,7 +1,6 @@
 -- The numbers of names and literals lie within their lists, and the spans of the tokens are those that were read.
 use Rattle.std.proofs.Common.{◌≡◌, ℕ, ◌+◌, ◌<◌, ◌≤◌, Bool, true, false, not, cond, ◌||◌, if◌then◌else◌, List, [], ◌∷◌, ◌++◌, map, length, refl, arith}
 use Rattle.std.specs.List.{list_any, position_or_len, AllByRecursion}
-use Rattle.std.specs.Prelude.{All}
 use Rattle.std.specs.Str.{bytes_eq}
 use Rattle.std.proofs.lemmas.List.{length-append}
 use Rattle.std.proofs.lemmas.List.Elements.{All-from_recursion}
@@ -10,7 +9,6 @@ use Rattle.dae_token.specs.declared.tokens.Token.{Token}
 use Rattle.dae_token.specs.Replacing.{Meaning, keyword, sign, name, constant, literal, Read}
 use Rattle.dae_token.specs.Reading.{IsSpan, IsNumbered, AreInOrder, IsReading}
 use Rattle.dae_token.specs.Tokens.{joined, names_with, names_after, literals_with, literals_after, kind_of, numbered}
-use Rattle.dae_lex.specs.Finishing.{Built, finished}
 use Rattle.dae_lex.specs.Whole.{span, SpansFrom}
 use Rattle.dae_lex.proofs.Spans.{joined_steps}
 
@@ -73,9 +71,10 @@ numbered_within : (ts : List Read) (ns ls : List (List ℕ)) (N L : ℕ) → len
 numbered_within [] ns ls N L h l = tt
 numbered_within (t ∷ ts) ns ls N L h l =
     let ns1 = names_with ns t.meaning in
-    let ls1 = literals_with ls t.meaning in
-    (kind_within t.meaning ns ls N L (omega (arith, names_last ts ns1)) (omega (arith, literals_last ts ls1)),
-      numbered_within ts ns1 ls1 N L h l)
+    let ls1 = literals_with ls t.meaning in (
+      kind_within t.meaning ns ls N L (omega (arith, names_last ts ns1)) (omega (arith, literals_last ts ls1)),
+      numbered_within ts ns1 ls1 N L h l,
+    )
 
 numbered_spans : (text : List ℕ) (ts : List Read) (ns ls : List (List ℕ)) (s e : ℕ) → SpansFrom s e (map span ts) (length text)
     → AllByRecursion (IsSpan text) (numbered ns ls ts)
@@ -92,7 +91,9 @@ pub is_reading : (text : List ℕ) (reads : List Read) (stdio stdlib : Bool) (en
       tokens = numbered [] [] (joined reads);
       names = names_after [] (joined reads);
       literals = literals_after [] (joined reads);
-      stdio = stdio; stdlib = stdlib; end = end;
+      stdio = stdio;
+      stdlib = stdlib;
+      end = end;
     })
 is_reading text reads stdio stdlib end h =
     let ts = joined reads in

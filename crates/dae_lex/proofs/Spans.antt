@@ -1,5 +1,5 @@
 -- The spans of pieces and tokens are in order.
-use Rattle.std.proofs.Common.{◌≡◌, ℕ, zero, suc, ◌+◌, ◌<◌, ◌≤◌, Bool, true, false, if◌then◌else◌, List, [], ◌∷◌, ◌++◌, map, length, refl, ap, sym, ◌∙◌, subst, arith, append_assoc, Option, Some, None, inl, inr, ◌⊎◌}
+use Rattle.std.proofs.Common.{◌≡◌, ℕ, zero, suc, ◌<◌, ◌≤◌, Bool, true, false, if◌then◌else◌, List, [], ◌∷◌, ◌++◌, map, refl, ap, sym, ◌∙◌, subst, arith, append_assoc, Option, Some, None, inl, inr, ◌⊎◌}
 use Rattle.std.specs.List.{flat_map}
 use Rattle.std.specs.Prelude.{codes}
 use Rattle.std.specs.Str.{bytes_eq}
@@ -9,7 +9,7 @@ use Rattle.dae_token.specs.declared.pieces.PieceKind.TheVariants as kinds
 use Rattle.dae_token.specs.declared.headers.Header.{Header}
 use Rattle.dae_token.specs.declared.faults.LexError.{LexError}
 use Rattle.dae_token.specs.Pieces.{Cut}
-use Rattle.dae_token.specs.Replacing.{Definition, Item, taken, replaced, refused, Read, items_by, items_of, replacement, expand, is_word_kind}
+use Rattle.dae_token.specs.Replacing.{Definition, Item, taken, replaced, refused, Read, items_by, items_of, replacement, expand}
 use Rattle.dae_token.specs.Directives.{Line, text, is_hash_kind, is_end_kind, lines_of, with_first, from_mark, stray, stray_by, first_fault, begins_call, defined_unless, definition_in, header_in, alone, inclusion_in, directive_in, line_in, line_of, known_as, conflict_items, definition_items, with_definition, replaced_text, line_items, macros_after, replaced_lines}
 use Rattle.dae_token.specs.Tokens.{literal_of, before, before_by, joined}
 use Rattle.dae_lex.specs.Cuts.{FollowEachOther}

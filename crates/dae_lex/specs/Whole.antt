@@ -1,9 +1,8 @@
 -- What is read of the pieces of a text, and of the text.
-use Rattle.std.specs.Prelude.{◌≡◌, ℕ, ◌<◌, ◌≤◌, ◌^◌, List, [], ◌∷◌, map, length, Result, Ok, Err}
+use Rattle.std.specs.Prelude.{◌≡◌, ℕ, ◌<◌, ◌≤◌, List, [], ◌∷◌, map, length, Result, Ok, Err}
 use Rattle.dae_token.specs.Pieces.{Cut}
 use Rattle.dae_token.specs.Replacing.{Item, taken, replaced, refused, Read}
 use Rattle.dae_token.specs.Directives.{lines_of, replaced_lines, includes}
-use Rattle.dae_token.specs.Reading.{Reading}
 use Rattle.dae_token.specs.Tokens.{reads_of, room_after}
 use Rattle.dae_token.specs.declared.headers.Header.TheVariants.{Stdio, Stdlib}
 use Rattle.dae_token.specs.declared.tokens.Includes.{Includes}

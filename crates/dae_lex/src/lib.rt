@@ -12,5 +12,5 @@ mod lines;
 mod macros;
 mod output;
 mod pieces;
-mod replace;
 mod reading;
+mod replace;

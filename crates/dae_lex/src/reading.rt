@@ -41,17 +41,21 @@ fn finish_text<'t>(
     requires few { length reads.now < 2 ^ 32 }
     requires spans { SpansFrom 0 0 (map span (map read_of reads.now)) (length text.now) }
     ensures ok { IfOk result (λ tokens. tokens ≡ record {
-        text = text.entry.now;
-        tokens = numbered [] [] (joined (map read_of reads.now));
-        names = names_after [] (joined (map read_of reads.now));
-        literals = literals_after [] (joined (map read_of reads.now));
-        stdio = seen.stdio;
-        stdlib = seen.stdlib;
-        end = end;
+      text = text.entry.now;
+      tokens = numbered [] [] (joined (map read_of reads.now));
+      names = names_after [] (joined (map read_of reads.now));
+      literals = literals_after [] (joined (map read_of reads.now));
+      stdio = seen.stdio;
+      stdlib = seen.stdlib;
+      end = end;
     }) }
     ensures err { IfErr result (λ e. e ≡ Memory) }
 {
-    let Builder { tokens, names, literals } = build(alloc, reads)?;
+    let Builder {
+        tokens,
+        names,
+        literals,
+    } = build(alloc, reads)?;
     let owned = own_names(alloc, names.as_slice())?;
     Ok(Tokens::new(
         text,

@@ -1,4 +1,4 @@
-use Rattle.std.proofs.Common.{◌≡◌, ◌+◌, ◌≤◌, map, length, ap, sym, ◌∙◌, arith}
+use Rattle.std.proofs.Common.{map, ap, sym, ◌∙◌, arith}
 use Rattle.std.proofs.lemmas.List.{length-map}
 use Rattle.dae_lex.specs.Cuts.{cut_of}
 use Rattle.dae_lex.specs.Settling.{State, read_of, state_of, settle}

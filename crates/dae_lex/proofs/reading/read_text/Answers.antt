@@ -1,4 +1,4 @@
-use Rattle.std.proofs.Common.{◌≡◌, map, length, ap, sym, ◌∙◌, subst}
+use Rattle.std.proofs.Common.{map, length, ap, sym, ◌∙◌, subst}
 use Rattle.dae_token.specs.Lines.{bytes_of, joined_lines}
 use Rattle.dae_token.specs.Pieces.{cut}
 use Rattle.dae_lex.specs.Cuts.{cut_of, chars, Rise, FollowEachOther}
