@@ -86,3 +86,10 @@ module _ (bytes : List ℕ) (spots : List Spot) (same : length bytes ≡ length 
 
   pub cut_all : length bytes ≤ at → cut 0 (drop at (chars bytes spots)) ≡ []
   cut_all h = ap (cut 0) (drop_all at (chars bytes spots) (omega (arith, length_chars)))
+
+  -- where it starts and ends
+  pub piece_span : (f : Form) → ((piece f (drop at (chars bytes spots))).start ≡ (get_or spots at (start_of 0)).offset)
+      × ((piece f (drop at (chars bytes spots))).end ≡ (get_or spots (at + (f.length - 1)) (start_of 0)).offset + 1)
+  piece_span f =
+      let from = λ (i : ℕ). ap (λ ss. (get_or ss i (start_of 0)).offset) spots_from ∙ ap (λ (s : Spot). s.offset) (get_or-drop at spots i (start_of 0)) in
+      (from 0 ∙ ap (λ i. (get_or spots i (start_of 0)).offset) (add-zero at), ap (λ n. n + 1) (from (f.length - 1)))

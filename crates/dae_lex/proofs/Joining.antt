@@ -13,10 +13,10 @@ bytes_placed s [] = refl
 bytes_placed s (b ∷ bs) = ap (λ xs. b ∷ xs) (bytes_placed (spot_after b s) bs)
 
 -- what stands at the front: a character of its own, or a byte of a join
-abbrev next : ℕ → Char → List Char → List Char
+abbrev pub next : ℕ → Char → List Char → List Char
 next k c cs = elim k [ zero ↦ c ∷ without_joins 0 cs | suc m ↦ without_joins m cs ]
 
-front : (n k : ℕ) (s : Spot) (b : ℕ) (bs : List ℕ) → join_left n (b ∷ bs) ≡ k
+pub front : (n k : ℕ) (s : Spot) (b : ℕ) (bs : List ℕ) → join_left n (b ∷ bs) ≡ k
     → without_joins n (placed s (b ∷ bs)) ≡ next k (record { byte = b; spot = s }) (placed (spot_after b s) bs)
 front n k s b bs h =
     ap (λ j. next j (record { byte = b; spot = s }) (placed (spot_after b s) bs))

@@ -7,3 +7,6 @@ pub mod LineSteps
 pub mod Rows
 pub mod Whole
 pub mod Spans
+pub mod Rising
+pub mod Numbering
+pub mod Answered

@@ -1,5 +1,5 @@
 -- The spans of pieces and tokens are in order.
-use Rattle.std.proofs.Common.{◌≡◌, ℕ, zero, suc, ◌+◌, ◌<◌, ◌≤◌, Bool, true, false, if◌then◌else◌, List, [], ◌∷◌, ◌++◌, map, length, refl, ap, sym, ◌∙◌, subst, arith, append_assoc, Option, Some, None, inl, inr, ◌⊎◌}
+use Rattle.std.proofs.Common.{◌≡◌, ℕ, zero, suc, ◌<◌, ◌≤◌, Bool, true, false, if◌then◌else◌, List, [], ◌∷◌, ◌++◌, map, refl, ap, sym, ◌∙◌, subst, arith, append_assoc, Option, Some, None, inl, inr, ◌⊎◌}
 use Rattle.std.specs.List.{flat_map}
 use Rattle.std.specs.Prelude.{codes}
 use Rattle.std.specs.Str.{bytes_eq}
@@ -9,18 +9,13 @@ use Rattle.dae_token.specs.declared.pieces.PieceKind.TheVariants as kinds
 use Rattle.dae_token.specs.declared.headers.Header.{Header}
 use Rattle.dae_token.specs.declared.faults.LexError.{LexError}
 use Rattle.dae_token.specs.Pieces.{Cut}
-use Rattle.dae_token.specs.Replacing.{Definition, Item, taken, replaced, refused, Read, items_by, items_of, replacement, expand, is_word_kind}
+use Rattle.dae_token.specs.Replacing.{Definition, Item, taken, replaced, refused, Read, items_by, items_of, replacement, expand}
 use Rattle.dae_token.specs.Directives.{Line, text, is_hash_kind, is_end_kind, lines_of, with_first, from_mark, stray, stray_by, first_fault, begins_call, defined_unless, definition_in, header_in, alone, inclusion_in, directive_in, line_in, line_of, known_as, conflict_items, definition_items, with_definition, replaced_text, line_items, macros_after, replaced_lines}
 use Rattle.dae_token.specs.Tokens.{literal_of, before, before_by, joined}
 use Rattle.dae_lex.specs.Cuts.{FollowEachOther}
-use Rattle.dae_lex.specs.Whole.{span, origins}
+use Rattle.dae_lex.specs.Whole.{span, origins, SpansFrom}
 
--- from a start and an end on neither falls, each span has at least one byte, and none ends behind b
-abbrev pub Steps : ℕ → ℕ → List (ℕ × ℕ) → ℕ → Type 0
-Steps s e [] b = Unit {0}
-Steps s e (x ∷ xs) b = (s ≤ x.0) × (e ≤ x.1) × (x.0 < x.1) × (x.1 ≤ b) × Steps x.0 x.1 xs b
-
-earlier : (s e t f : ℕ) (xs : List (ℕ × ℕ)) (b : ℕ) → t ≤ s → f ≤ e → Steps s e xs b → Steps t f xs b
+earlier : (s e t f : ℕ) (xs : List (ℕ × ℕ)) (b : ℕ) → t ≤ s → f ≤ e → SpansFrom s e xs b → SpansFrom t f xs b
 earlier s e t f [] b h k w = tt
 earlier s e t f (x ∷ xs) b h k w = let u = w.0 in let v = w.1 in (omega arith, omega arith, w.2, w.3, w.4)
 
@@ -71,10 +66,10 @@ expand_same zero macros names o p = expand_none_same (replacement macros names p
 expand_same (suc n) macros names o p =
     expand_some_same (replacement macros names p) (expand n macros (names ++ p.spelling ∷ []) o) p o (λ q. expand_same n macros (names ++ p.spelling ∷ []) o q)
 
-steps_same : (x : ℕ × ℕ) (xs ys : List (ℕ × ℕ)) (s e b : ℕ) → AllSame x xs → s ≤ x.0 → e ≤ x.1 → x.0 < x.1 → x.1 ≤ b → Steps x.0 x.1 ys b → Steps s e (xs ++ ys) b
+steps_same : (x : ℕ × ℕ) (xs ys : List (ℕ × ℕ)) (s e b : ℕ) → AllSame x xs → s ≤ x.0 → e ≤ x.1 → x.0 < x.1 → x.1 ≤ b → SpansFrom x.0 x.1 ys b → SpansFrom s e (xs ++ ys) b
 steps_same x [] ys s e b a h k l m rest = earlier x.0 x.1 s e ys b h k rest
 steps_same x (y ∷ xs) ys s e b a h k l m rest =
-    subst (λ (z : ℕ × ℕ). Steps s e (z ∷ (xs ++ ys)) b) (sym a.0)
+    subst (λ (z : ℕ × ℕ). SpansFrom s e (z ∷ (xs ++ ys)) b) (sym a.0)
     (h, k, l, m, steps_same x xs ys x.0 x.1 b a.1 (omega arith) (omega arith) l m rest)
 
 -- pieces
@@ -119,8 +114,8 @@ follow_lines (p ∷ ps) e b h = follow_line p (lines_of ps) (is_end_kind p.kind)
 
 -- a line of text, before what the other lines give
 text_steps : (n : ℕ) (macros : List Definition) (ps rest : List Cut) (ys : List (ℕ × ℕ)) (s e b : ℕ) → FollowEachOther e (ps ++ rest) b → s ≤ e
-    → ((t f : ℕ) → FollowEachOther f rest b → t ≤ f → Steps t f ys b)
-    → Steps s e (origins (replaced_text n macros ps) ++ ys) b
+    → ((t f : ℕ) → FollowEachOther f rest b → t ≤ f → SpansFrom t f ys b)
+    → SpansFrom s e (origins (replaced_text n macros ps) ++ ys) b
 text_steps n macros [] rest ys s e b h k more = more s e h k
 text_steps n macros (p ∷ ps) rest ys s e b h k more =
     let u = h.0 in
@@ -129,7 +124,7 @@ text_steps n macros (p ∷ ps) rest ys s e b h k more =
     let later = text_steps n macros ps rest ys p.start p.end b h.2 (omega arith) more in
     let here = steps_same (p.start, p.end) (origins (expand n macros [] p p)) (origins (replaced_text n macros ps) ++ ys) s e b
     (expand_same n macros [] p p) (omega arith) (omega arith) v end later in
-    subst (λ xs. Steps s e xs b)
+    subst (λ xs. SpansFrom s e xs b)
     (sym (append_assoc (origins (expand n macros [] p p)) (origins (replaced_text n macros ps)) ys)
     ∙ ap (λ xs. xs ++ ys) (sym (origins_append (expand n macros [] p p) (replaced_text n macros ps)))) here
 
@@ -211,7 +206,7 @@ line_origins n macros all (p ∷ ps) =
     hash_or_text n macros all (is_hash_kind p.kind) (directive_in p.place (from_mark ps)) (silent_directive n macros p.place (from_mark ps))
 
 lines_steps : (n : ℕ) (macros : List Definition) (ls : List (List Cut)) (s e b : ℕ) → FollowEachOther e (concat ls) b → s ≤ e
-    → Steps s e (origins (replaced_lines n macros ls)) b
+    → SpansFrom s e (origins (replaced_lines n macros ls)) b
 lines_steps n macros [] s e b h k = tt
 lines_steps n macros (l ∷ ls) s e b h k =
     let rest = replaced_lines n (macros_after macros (line_of l)) ls in
@@ -219,17 +214,17 @@ lines_steps n macros (l ∷ ls) s e b h k =
     let split = sym (origins_append (line_items n macros (line_of l)) rest) in
     elim (line_origins n macros l (from_mark l)) [
       | inl none ↦
-          subst (λ xs. Steps s e xs b) (ap (λ xs. xs ++ origins rest) (sym none) ∙ split) (more s e (follow_skip e l (concat ls) b h) k)
+          subst (λ xs. SpansFrom s e xs b) (ap (λ xs. xs ++ origins rest) (sym none) ∙ split) (more s e (follow_skip e l (concat ls) b h) k)
       | inr some ↦
-          subst (λ xs. Steps s e xs b) (ap (λ xs. xs ++ origins rest) (sym some) ∙ split) (text_steps n macros l (concat ls) (origins rest) s e b h k more)
+          subst (λ xs. SpansFrom s e xs b) (ap (λ xs. xs ++ origins rest) (sym some) ∙ split) (text_steps n macros l (concat ls) (origins rest) s e b h k more)
     ]
 
-pub pieces_steps : (n : ℕ) (ps : List Cut) (b : ℕ) → FollowEachOther 0 ps b → Steps 0 0 (origins (replaced_lines n [] (lines_of ps))) b
+pub pieces_steps : (n : ℕ) (ps : List Cut) (b : ℕ) → FollowEachOther 0 ps b → SpansFrom 0 0 (origins (replaced_lines n [] (lines_of ps))) b
 pieces_steps n ps b h = lines_steps n [] (lines_of ps) 0 0 b (follow_lines ps 0 b h) (omega arith)
 
 -- joined literals
 before_steps : (t u : Read) (us : List Read) (x y : Option (List ℕ)) (s e b : ℕ) → s ≤ t.start → e ≤ t.end → t.start < t.end → t.end ≤ b
-    → Steps t.start t.end (map span (u ∷ us)) b → Steps s e (map span (before_by x y t u us)) b
+    → SpansFrom t.start t.end (map span (u ∷ us)) b → SpansFrom s e (map span (before_by x y t u us)) b
 before_steps t u us None y s e b h k l m w = (h, k, l, m, w)
 before_steps t u us (Some x) None s e b h k l m w = (h, k, l, m, w)
 before_steps t u us (Some x) (Some y) s e b h k l m w =
@@ -238,10 +233,10 @@ before_steps t u us (Some x) (Some y) s e b h k l m w =
     (h, omega arith, omega arith, w.3, earlier u.start u.end t.start u.end (map span us) b f (omega arith) w.4)
 
 before_all_steps : (t : Read) (us : List Read) (s e b : ℕ) → s ≤ t.start → e ≤ t.end → t.start < t.end → t.end ≤ b
-    → Steps t.start t.end (map span us) b → Steps s e (map span (before t us)) b
+    → SpansFrom t.start t.end (map span us) b → SpansFrom s e (map span (before t us)) b
 before_all_steps t [] s e b h k l m w = (h, k, l, m, tt)
 before_all_steps t (u ∷ us) s e b h k l m w = before_steps t u us (literal_of t.meaning) (literal_of u.meaning) s e b h k l m w
 
-pub joined_steps : (ts : List Read) (s e b : ℕ) → Steps s e (map span ts) b → Steps s e (map span (joined ts)) b
+pub joined_steps : (ts : List Read) (s e b : ℕ) → SpansFrom s e (map span ts) b → SpansFrom s e (map span (joined ts)) b
 joined_steps [] s e b h = tt
 joined_steps (t ∷ ts) s e b h = before_all_steps t (joined ts) s e b h.0 h.1 h.2 h.3 (joined_steps ts t.start t.end b h.4)

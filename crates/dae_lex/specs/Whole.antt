@@ -1,9 +1,8 @@
 -- What is read of the pieces of a text, and of the text.
-use Rattle.std.specs.Prelude.{◌≡◌, ℕ, ◌<◌, ◌≤◌, ◌^◌, List, [], ◌∷◌, map, length, Result, Ok, Err}
+use Rattle.std.specs.Prelude.{◌≡◌, ℕ, ◌<◌, ◌≤◌, List, [], ◌∷◌, map, length, Result, Ok, Err}
 use Rattle.dae_token.specs.Pieces.{Cut}
 use Rattle.dae_token.specs.Replacing.{Item, taken, replaced, refused, Read}
 use Rattle.dae_token.specs.Directives.{lines_of, replaced_lines, includes}
-use Rattle.dae_token.specs.Reading.{Reading}
 use Rattle.dae_token.specs.Tokens.{reads_of, room_after}
 use Rattle.dae_token.specs.declared.headers.Header.TheVariants.{Stdio, Stdlib}
 use Rattle.dae_token.specs.declared.tokens.Includes.{Includes}
@@ -24,6 +23,11 @@ origins [] = []
 origins (taken meaning origin ∷ items) = (origin.start, origin.end) ∷ origins items
 origins (replaced origin ∷ items) = origins items
 origins (refused error ∷ items) = origins items
+
+-- from a start and an end on neither falls, each span has at least one byte, and none ends behind b
+abbrev pub SpansFrom : ℕ → ℕ → List (ℕ × ℕ) → ℕ → Type 0
+SpansFrom start end [] b = Unit {0}
+SpansFrom start end (x ∷ xs) b = (start ≤ x.0) × (end ≤ x.1) × (x.0 < x.1) × (x.1 ≤ b) × SpansFrom x.0 x.1 xs b
 
 -- the tokens of the pieces before literals join, the headers that they include, and the room that is left
 pub record HasRead (room : Room) (pieces : List Cut) (seen : Includes) (out : Output) : Type 0 where

@@ -16,7 +16,9 @@ use crate::pieces::{Piece, next_of, push_piece};
 use crate::replace::replace_piece;
 use dae_base::Place;
 use dae_scan::{find_header, number_kind};
-use dae_token::{Construct, Header, Includes, LexError, PieceKind, STDIO_MACROS, STDLIB_MACROS, Sign};
+use dae_token::{
+    Construct, Header, Includes, LexError, PieceKind, STDIO_MACROS, STDLIB_MACROS, Sign,
+};
 use std::alloc::Global;
 
 /// What a line is. A directive has the place of its number sign.

@@ -131,7 +131,12 @@ impl<'j> Builder<'j> {
         match held {
             None => Ok(()),
             Some(literal) => {
-                let OpenLiteral { bytes, start, end, place } = literal;
+                let OpenLiteral {
+                    bytes,
+                    start,
+                    end,
+                    place,
+                } = literal;
                 let token = Token {
                     kind: Kind::Literal(self.literals.len() as u32),
                     start,
@@ -187,7 +192,12 @@ fn longer<'j>(
             })
         }
         Some(literal) => {
-            let OpenLiteral { mut bytes, start, end: _, place } = literal;
+            let OpenLiteral {
+                mut bytes,
+                start,
+                end: _,
+                place,
+            } = literal;
             append(&mut bytes, inside)?;
             Ok(OpenLiteral {
                 bytes,

@@ -4,7 +4,7 @@
 #![tactic(auto)]
 
 pub use dae_token::{LexError, Room};
-//pub use tokens::tokens;
+pub use reading::tokens;
 
 mod directives;
 mod finish;
@@ -12,5 +12,5 @@ mod lines;
 mod macros;
 mod output;
 mod pieces;
+mod reading;
 mod replace;
-mod tokens;

@@ -1,11 +1,8 @@
-use Rattle.std.proofs.Common.{◌≡◌, ◌+◌, [], ◌∷◌, map, ap, sym, ◌∙◌, drop, get_or, arith}
-use Rattle.dae_token.specs.Pieces.{Cut}
-use Rattle.dae_token.specs.Replacing.{Definition}
-use Rattle.dae_token.specs.Directives.{known_as, conflict_items, definition_items, with_definition, with_definitions, number_macro, number_piece}
-use Rattle.dae_lex.specs.Cuts.{cut_of}
+use Rattle.std.proofs.Common.{◌+◌, map, ap, sym, ◌∙◌, drop, arith}
+use Rattle.dae_token.specs.Directives.{known_as, conflict_items, definition_items, with_definition, with_definitions, number_macro}
 use Rattle.dae_lex.specs.Settling.{settle}
 use Rattle.dae_lex.specs.Reading.{rows_of}
-use Rattle.dae_lex.proofs.Rows.{no_row, row, items_more, macros_more}
+use Rattle.dae_lex.proofs.Rows.{row, items_more, macros_more}
 use Rattle.dae_lex.proofs.Turns.{settle_ok, fails_on, fails_along}
 use Rattle.dae_lex.proofs.directives.define_numbers.Goals as goal
 

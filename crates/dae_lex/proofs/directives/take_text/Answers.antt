@@ -1,4 +1,4 @@
-use Rattle.std.proofs.Common.{◌≡◌, ◌+◌, [], map, ap, sym, ◌∙◌, drop, get_or, arith}
+use Rattle.std.proofs.Common.{◌+◌, [], map, ap, sym, ◌∙◌, drop, get_or, arith}
 use Rattle.dae_token.specs.Replacing.{expand}
 use Rattle.dae_token.specs.Directives.{replaced_text}
 use Rattle.dae_lex.specs.Cuts.{cut_of}

@@ -1,4 +1,4 @@
-use Rattle.std.proofs.Common.{◌≡◌, ap, sym, ◌∙◌}
+use Rattle.std.proofs.Common.{ap, ◌∙◌}
 use Rattle.dae_lex.proofs.Entries.{now_of, place_mapped, insert_mapped}
 use Rattle.dae_lex.proofs.finish.name_number.Goals as goal
 

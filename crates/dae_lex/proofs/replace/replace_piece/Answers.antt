@@ -1,4 +1,4 @@
-use Rattle.std.proofs.Common.{◌≡◌, ◌++◌, [], ◌∷◌, length, map, ap, sym, ◌∙◌, arith}
+use Rattle.std.proofs.Common.{◌++◌, [], ◌∷◌, length, map, ap, sym, ◌∙◌, arith}
 use Rattle.std.proofs.lemmas.List.{nil_from_length}
 use Rattle.std.proofs.lemmas.Bool.{eqb-true}
 use Rattle.dae_token.specs.Replacing.{replacement}

@@ -1,4 +1,4 @@
-use Rattle.std.proofs.Common.{◌≡◌, List, [], ◌∷◌, ◌++◌, map, ap, sym, ◌∙◌, is_some}
+use Rattle.std.proofs.Common.{List, [], ◌∷◌, ◌++◌, map, ap, sym, ◌∙◌, is_some}
 use Rattle.std.specs.Global.{Vec}
 use Rattle.dae_token.specs.Pieces.{Cut}
 use Rattle.dae_token.specs.Replacing.{body_of}

@@ -1,4 +1,4 @@
-use Rattle.std.proofs.Common.{◌≡◌, List, map, ap, sym, ◌∙◌, is_some, Option, Some, None, IfSome}
+use Rattle.std.proofs.Common.{List, map, ap, ◌∙◌, is_some}
 use Rattle.std.specs.Borrow.{Bor}
 use Rattle.dae_token.specs.Pieces.{Cut}
 use Rattle.dae_lex.specs.declared.pieces.Piece.{Piece}
