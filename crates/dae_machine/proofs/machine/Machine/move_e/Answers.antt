@@ -1,4 +1,4 @@
-use Rattle.std.proofs.Common.{rules, ◌≡◌, sym}
+use Rattle.std.proofs.Common.{rules, ◌≡◌, sym, refl}
 use Rattle.dae_machine.specs.declared.Pick.TheVariants.{E}
 use Rattle.dae_machine.proofs.Steps.{e_step}
 use Rattle.dae_machine.proofs.machine.Machine.move_e.Goals as goal
@@ -23,4 +23,4 @@ returns c =
     c.step-answer.ensures.held
     c.step-answer.ensures.told in
     let same : moved.0 ≡ c.in-Did.piece = cc (moved.1, c.in-Did.is) in
-    record { setup = moved.2.setup; state = rw (← same) moved.2.state }
+    record { setup = moved.2.setup; state = rw (← same) moved.2.state; silent = refl }
