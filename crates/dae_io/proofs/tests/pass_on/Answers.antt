@@ -1,6 +1,7 @@
 use Rattle.std.proofs.Common.{◌≡◌, ◌∷◌, [], ◌++◌, List, ℕ, take, IfSome, Option, None, Some, rules}
 use Rattle.std.specs.Io.KnownBytes.{Appends}
-use Rattle.dae_io.specs.Taken.{AppendsPrefix, AppendsPrefix-then, AppendsPrefix-of_more}
+use Rattle.dae_io.specs.Taken.{AppendsPrefix}
+use Rattle.dae_io.proofs.Growth.{AppendsPrefix-then, AppendsPrefix-of_more}
 use Rattle.dae_io.proofs.tests.pass_on.Goals as goal
 
 first : (told : Option (List ℕ)) (a b : Option (List ℕ)) (text : List ℕ) → IfSome told (λ held. text ≡ take 100 held) → AppendsPrefix a b text → IfSome told (λ held. AppendsPrefix a b (take 100 held ++ 10 ∷ []))
