@@ -40,7 +40,7 @@ other w word h k = by_test (same_bytes w word) (same_decides w word) where
   by_test : (b : Bool) → Decides b (w ≡ word) → b ≡ false
   by_test true d =
       let taken : is_among reserved_names w ≡ true = ap (is_among reserved_names) (d.0 refl) ∙ k in
-      let free : is_among reserved_names w ≡ false = not_true _ (both _ _ h).1 in
+      let free : is_among reserved_names w ≡ false = not_true (is_among reserved_names w) (both (begins_name w) (not (is_among reserved_names w)) h).1 in
       absurd (cc)
   by_test false d = refl
 

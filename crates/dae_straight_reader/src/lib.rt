@@ -1,4 +1,5 @@
-// Reads a straight program from the bytes of a file: a program exactly where the bytes spell one, and that one.
+// Reads a straight program from the bytes of a file: a program exactly where the bytes spell one, and that one. It takes
+// memory for the words, the names and the statements, and where that is wanting it says so.
 #![tactic(auto)]
 
 ghost use Rattle.std.specs.Prelude.{◌≡◌, IfOk};
@@ -17,8 +18,10 @@ mod words;
 use dae_tree::StraightProgram;
 use std::alloc::Global;
 
+/// How many bytes a file has at most.
 const MAX_BYTES: usize = 1_048_576;
 
+/// How many words a text has at most.
 const MAX_WORDS: usize = 8_192;
 
 const INCLUDE: &[u8] = b"#include <stdio.h>\n";
@@ -34,6 +37,7 @@ fn after_include(bytes: &[u8]) -> (bool, &[u8])
     }
 }
 
+/// The program that the bytes of a file spell.
 #[tactic(auto, unfolding(crate::specs::Reading::program_of))]
 fn program_of(alloc: Global, bytes: &[u8]) -> Result<StraightProgram, ReadError>
     ensures { Gives (λ p. p) result (program_of bytes.now) }

@@ -12,14 +12,19 @@ use dae_base::{Items, Text};
 use dae_tree::{Statement, StraightProgram};
 use std::alloc::Global;
 
+/// The words before the statements of main.
 const HEAD: [&[u8]; 6] = [b"int", b"main", b"(", b"void", b")", b"{"];
 
+/// The words after the statements of main: it returns 0.
 const TAIL: [&[u8]; 4] = [b"return", b"0", b";", b"}"];
 
+/// The words before the value that a line prints.
 const PRINT_FRONT: [&[u8]; 4] = [b"printf", b"(", b"\"%d\\n\"", b","];
 
+/// The words after the value that a line prints.
 const PRINT_END: [&[u8]; 2] = [b")", b";"];
 
+/// The line that words begin with, which prints a value.
 #[tactic(auto, unfolding(crate::specs::Reading::print_at))]
 fn print<'w, 't>(
     alloc: Global,
@@ -35,6 +40,7 @@ fn print<'w, 't>(
     Ok((Statement::PrintLine(sum), words))
 }
 
+/// The assignment that words begin with.
 #[tactic(auto, unfolding(crate::specs::Reading::assignment_at))]
 fn assignment<'w, 't>(
     alloc: Global,
@@ -52,6 +58,7 @@ fn assignment<'w, 't>(
     Ok((Statement::Assign(place, sum), words))
 }
 
+/// The statement that words begin with.
 #[tactic(auto, unfolding(crate::specs::Reading::statement_at))]
 fn statement<'w, 't>(
     alloc: Global,
