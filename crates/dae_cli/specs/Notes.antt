@@ -17,8 +17,9 @@ read_line name = codes "read " ++ (name ++ codes "\n")
 
 abbrev pub budget_line : Depths → List ℕ
 budget_line d =
-    codes "budget ld " ++ (decimal d.ld ++ (codes " al " ++ (decimal d.al ++ (codes " sa " ++ (decimal d.sa ++ (codes " sd " ++ (decimal d.sd
-    ++ (codes " ab " ++ (decimal d.ab ++ (codes " eb " ++ (decimal d.eb ++ (codes " cq " ++ (decimal d.cq ++ codes "\n")))))))))))))
+    (codes "budget ld " ++ (decimal d.ld ++ (codes " al " ++ decimal d.al)))
+    ++ ((codes " sa " ++ (decimal d.sa ++ (codes " sd " ++ decimal d.sd)))
+    ++ (codes " ab " ++ (decimal d.ab ++ (codes " eb " ++ (decimal d.eb ++ (codes " cq " ++ (decimal d.cq ++ codes "\n")))))))
 
 -- a status, as a signed number
 abbrev pub ended_line : ℕ → List ℕ

@@ -1,6 +1,6 @@
 -- The code of a straight program is bounded by its words.
-use Rattle.std.proofs.Common.{◌≡◌, ℕ, ◌+◌, ◌*◌, ◌≤◌, Bool, true, false, List, [], ◌∷◌, ◌++◌, length, refl, ap, sym, ◌∙◌, append_assoc, append-nil, length-append, add-zero, zero-add, arith}
-use Rattle.std.specs.Prelude.{nat_lt, if◌then◌else◌}
+use Rattle.std.proofs.Common.{◌≡◌, ℕ, zero, suc, ◌+◌, ◌*◌, ◌≤◌, Bool, true, false, List, [], ◌∷◌, ◌++◌, length, refl, ap, sym, ◌∙◌, append_assoc, append-nil, length-append, add-zero, zero-add, arith}
+use Rattle.std.specs.Prelude.{replicate, nat_lt, if◌then◌else◌}
 use Rattle.dae_encode.specs.declared.Inst.{Inst}
 use Rattle.dae_tree.specs.declared.BinaryOperator.{BinaryOperator}
 use Rattle.dae_tree.specs.declared.BinaryOperator.TheVariants.{Add, Subtract, Multiply}
@@ -18,8 +18,9 @@ use Rattle.dae_straight_compiler.specs.declared.Ending.{Ending}
 use Rattle.dae_straight_compiler.specs.declared.Ending.TheVariants.{Open, Store, PrintLine, Halt}
 use Rattle.dae_straight_compiler.specs.declared.Round.{Round}
 use Rattle.dae_straight_compiler.specs.Plan.{step_of_link, pending_after, link_steps, sum_steps, loads_of, rounds_from, statement_rounds, statements_rounds, program_rounds}
-use Rattle.dae_straight_compiler.specs.Code.{step_access, step_execute, ending_access, ending_execute, steps_access, steps_execute, access_code, execute_code}
-use Rattle.dae_straight_compiler.specs.Order.{work_loads, rounds_loads}
+use Rattle.dae_straight_compiler.specs.Code.{round_access, round_execute, step_access, step_execute, ending_access, ending_execute, steps_access, steps_execute, access_code, execute_code}
+use Rattle.dae_machine.specs.declared.Pick.TheVariants.{A as MoveA, E as MoveE}
+use Rattle.dae_straight_compiler.specs.Order.{work_loads, rounds_loads, fills, drains, round_picks, picks_from}
 use Rattle.dae_straight_compiler.proofs.Rounds.{round_of}
 
 pub steps_access-append : (xs ys : List Step) → steps_access (xs ++ ys) ≡ steps_access xs ++ steps_access ys
@@ -170,3 +171,41 @@ program_bounded p =
 pub names_few : (names : List (List ℕ)) → 3 * length names ≡ length (declarations_words names)
 names_few [] = omega arith
 names_few (name ∷ names) = let h = names_few names in omega arith
+
+-- ---- the canonical order is no longer than the code that it runs
+
+replicated_long : {X : Type 0} (n : ℕ) (x : X) → length {A = X} (replicate n x) ≡ n
+replicated_long zero x = refl
+replicated_long (suc n) x = ap suc (replicated_long n x)
+
+fills_long : (number n : ℕ) → length (fills number n) ≡ n
+fills_long number zero = refl
+fills_long number (suc n) = ap suc (fills_long (number + 1) n)
+
+drains_few : (ending : Ending) → length (drains ending) ≤ length (ending_access ending)
+drains_few Open = omega arith
+drains_few (Store k) = omega arith
+drains_few PrintLine = omega arith
+drains_few Halt = omega arith
+
+round_short : (number : ℕ) (r : Round) → length (round_picks number r) ≤ 2 * length (round_access r) + (length (round_execute r) + work_loads r.work)
+round_short number r =
+    let a = replicated_long (length (round_access r)) MoveA in
+    let e = replicated_long (length (round_execute r)) MoveE in
+    let f = fills_long number (work_loads r.work) in
+    let d = drains_few r.ending in
+    let t = length-append (steps_access r.work) (ending_access r.ending) in
+    let l0 = length-append (replicate (length (round_access r)) MoveA) (fills number (work_loads r.work) ++ (replicate (length (round_execute r)) MoveE ++ drains r.ending)) in
+    let l1 = length-append (fills number (work_loads r.work)) (replicate (length (round_execute r)) MoveE ++ drains r.ending) in
+    let l2 = length-append (replicate (length (round_execute r)) MoveE) (drains r.ending) in
+    omega arith
+
+pub picks_short : (number : ℕ) (rs : List Round) → length (picks_from number rs) ≤ 2 * length (access_code rs) + (length (execute_code rs) + rounds_loads rs)
+picks_short number [] = omega arith
+picks_short number (r ∷ rs) =
+    let one = round_short number r in
+    let more = picks_short (number + work_loads r.work) rs in
+    let l = length-append (round_picks number r) (picks_from (number + work_loads r.work) rs) in
+    let a = length-append (round_access r) (access_code rs) in
+    let e = length-append (round_execute r) (execute_code rs) in
+    omega arith

@@ -40,7 +40,7 @@ use Rattle.dae_straight_compiler.proofs.Program.{Point, after_rounds, IsRoundOf,
 use Rattle.dae_straight_compiler.proofs.Statements.{all-append, rounds_good, sum_steps_are, state_at, statements_done}
 use Rattle.dae_straight_compiler.proofs.Statements as statements
 use Rattle.dae_straight_compiler.proofs.Ranges.{access_fits, execute_fits}
-use Rattle.dae_straight_compiler.proofs.Sizes.{program_bounded}
+use Rattle.dae_straight_compiler.proofs.Sizes.{program_bounded, picks_short}
 
 -- ---- the code stands where the counters look for it
 
@@ -191,6 +191,7 @@ means_so p image bound straight memory = rw (memory, statements_done (length p.n
 pub whole : (p : StraightProgram) (image : Image) (picks : List Pick) → IsStraight p → 3 * length p.names ≤ 8192 → IsImageOf p image → picks ≡ picks_from 0 (program_rounds p) → IsCompiled p image picks
 whole p image picks straight few is order = record {
   budget = is.budget;
+  short = (let b = program_bounded p in let a = b.access in let e = b.execute in let l = b.loads in let s = picks_short 0 (program_rounds p) in let f = straight.few_tokens in let same : length picks ≡ length (picks_from 0 (program_rounds p)) = ap length order in omega arith);
   ends = λ depths reaches.
       let f = finished p image depths straight few is reaches in
       let runs : Runs (setup_of image depths) (opened image) picks f.state = rw order f.runs in

@@ -35,4 +35,5 @@ pub record EndsSo (p : StraightProgram) (image : Image) (picks : List Pick) (dep
 -- the image and the canonical order of its steps
 pub record IsCompiled (p : StraightProgram) (image : Image) (picks : List Pick) : Type 0 where
   pub budget : image.budget ≡ budget_of p.statements
+  pub short : length picks ≤ 1000000
   pub ends : (depths : Depths) → Reaches depths image.budget → EndsSo p image picks depths

@@ -1,0 +1,23 @@
+use Rattle.std.proofs.Common.{rules, ◌≡◌, inl, inr, refl, ap}
+use Rattle.dae_io.specs.Faults.{Rose, fetch_of}
+use Rattle.dae_cli.specs.Notes.{read_line}
+use Rattle.dae_cli.specs.Answers.{due_memory_to_fetch, due_read}
+use Rattle.dae_cli.proofs.Given.{gives_for, fetched, due_at, gives_line}
+use Rattle.dae_cli.proofs.running.run_file.Goals as goal
+
+pub returns-in_default : goal.returns-in_default
+returns-in_default g c = (_, due_memory_to_fetch, gives_for (λ r. inr r) (c.noted.ensures.gives _))
+
+pub returns-in-Ok-fetch : goal.returns-in-Ok-fetch
+returns-in-Ok-fetch g c =
+    let r = c.run_text.ensures in
+    (r.0, fetched _ _ c.in-Ok-fetch.ensures.bytes (due_at _ _ (search rules) r.1), r.2)
+
+pub returns-in-Err-Failed : goal.returns-in-Err-Failed
+returns-in-Err-Failed g c =
+    let rose : Rose (g.F.Shelf.count c.args.shelf.now) (g.F.Shelf.count c.fetch.new.self) = search rules in
+    let fault : g.F.Shelf.last c.fetch.new.self ≡ fetch_of c.args.name.now = search rules in
+    (_, due_read (rose, fault), gives_line _ (read_line c.args.name.now) (search rules) (gives_for (λ r. inr r) (c.noted-in-Err-Failed.ensures.gives _)))
+
+pub returns : goal.returns
+returns g c = (_, due_memory_to_fetch, gives_for (λ r. inr r) (c.noted-in-Err-Memory.ensures.gives _))

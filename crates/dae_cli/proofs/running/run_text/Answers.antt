@@ -1,0 +1,16 @@
+use Rattle.std.proofs.Common.{◌≡◌, inl, inr, refl, ap, Err}
+use Rattle.dae_cli.specs.Answers.{due_program, due_not_built, due_memory_to_read}
+use Rattle.dae_cli.proofs.Given.{gives_for}
+use Rattle.dae_cli.proofs.running.run_text.Goals as goal
+
+pub returns-in-Ok : goal.returns-in-Ok
+returns-in-Ok g c =
+    let r = c.run_program.ensures in
+    (r.0, due_program c.in-Ok.program (record { spells = c.in-Ok.ensures.found; only = c.in-Ok.ensures.only }) r.1, r.2)
+
+pub returns-in-Err-NotBuilt : goal.returns-in-Err-NotBuilt
+returns-in-Err-NotBuilt g c =
+    (_, due_not_built (c.in-Err-NotBuilt.ensures.not_built (ap Err c.in-Err-NotBuilt.field-0-is)), gives_for (λ r. inr r) (c.noted.ensures.gives _))
+
+pub returns-in-Err-Memory : goal.returns-in-Err-Memory
+returns-in-Err-Memory g c = (_, due_memory_to_read, gives_for (λ r. inr r) (c.noted-in-Err-Memory.ensures.gives _))
