@@ -93,3 +93,7 @@ module _ (bytes : List ℕ) (spots : List Spot) (same : length bytes ≡ length 
   piece_span f =
       let from = λ (i : ℕ). ap (λ ss. (get_or ss i (start_of 0)).offset) spots_from ∙ ap (λ (s : Spot). s.offset) (get_or-drop at spots i (start_of 0)) in
       (from 0 ∙ ap (λ i. (get_or spots i (start_of 0)).offset) (add-zero at), ap (λ n. n + 1) (from (f.length - 1)))
+
+  pub piece_place : (f : Form) → (piece f (drop at (chars bytes spots))).place ≡ (get_or spots (at + f.at) (start_of 0)).place
+  piece_place f =
+      ap (λ ss. (get_or ss f.at (start_of 0)).place) spots_from ∙ ap (λ (s : Spot). s.place) (get_or-drop at spots f.at (start_of 0))

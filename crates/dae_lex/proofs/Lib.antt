@@ -10,3 +10,5 @@ pub mod Spans
 pub mod Rising
 pub mod Numbering
 pub mod Answered
+pub mod Places
+pub mod Refusals

@@ -3,6 +3,9 @@ use Rattle.std.proofs.Common.{◌≡◌, ℕ, ◌+◌, ◌<◌, ◌≤◌, Bool,
 use Rattle.std.specs.List.{list_any, position_or_len, AllByRecursion}
 use Rattle.std.specs.Str.{bytes_eq}
 use Rattle.std.proofs.lemmas.List.{length-append}
+use Rattle.std.specs.List.{IsDistinct}
+use Rattle.std.proofs.lemmas.Map.Keys.{IsDistinct-push}
+use Rattle.std.proofs.lemmas.Cmp.{nat_list_eq_equiv}
 use Rattle.std.proofs.lemmas.List.Elements.{All-from_recursion}
 use Rattle.dae_base.specs.declared.Place.{Place}
 use Rattle.dae_token.specs.declared.tokens.Token.{Token}
@@ -76,6 +79,25 @@ numbered_within (t ∷ ts) ns ls N L h l =
       numbered_within ts ns1 ls1 N L h l,
     )
 
+nil_distinct : IsDistinct bytes_eq []
+unfolding IsDistinct
+nil_distinct = tt
+
+distinct_with : (ns : List (List ℕ)) (n : List ℕ) (b : Bool) → list_any (bytes_eq n) ns ≡ b → IsDistinct bytes_eq ns → IsDistinct bytes_eq (if b then ns else ns ++ n ∷ [])
+distinct_with ns n true e h = h
+distinct_with ns n false e h = IsDistinct-push nat_list_eq_equiv ns n h e
+
+distinct_names : (ns : List (List ℕ)) (m : Meaning) → IsDistinct bytes_eq ns → IsDistinct bytes_eq (names_with ns m)
+distinct_names ns (keyword k) h = h
+distinct_names ns (sign s) h = h
+distinct_names ns (name n) h = distinct_with ns n (list_any (bytes_eq n) ns) refl h
+distinct_names ns (constant c) h = h
+distinct_names ns (literal bs) h = h
+
+distinct_after : (ts : List Read) (ns : List (List ℕ)) → IsDistinct bytes_eq ns → IsDistinct bytes_eq (names_after ns ts)
+distinct_after [] ns h = h
+distinct_after (t ∷ ts) ns h = distinct_after ts (names_with ns t.meaning) (distinct_names ns t.meaning h)
+
 numbered_spans : (text : List ℕ) (ts : List Read) (ns ls : List (List ℕ)) (s e : ℕ) → SpansFrom s e (map span ts) (length text)
     → AllByRecursion (IsSpan text) (numbered ns ls ts)
 numbered_spans text [] ns ls s e h = tt
@@ -101,6 +123,7 @@ is_reading text reads stdio stdlib end h =
     record {
       spans = All-from_recursion (IsSpan text) (numbered [] [] ts) (numbered_spans text ts [] [] 0 0 spans);
       order = numbered_order ts [] [] 0 0 (length text) spans;
+      distinct = distinct_after ts [] nil_distinct;
       numbers = All-from_recursion (λ (t : Token). IsNumbered (length (names_after [] ts)) (length (literals_after [] ts)) t.kind) (numbered [] [] ts)
           (numbered_within ts [] [] (length (names_after [] ts)) (length (literals_after [] ts)) (omega arith) (omega arith));
     }

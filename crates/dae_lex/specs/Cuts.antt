@@ -1,6 +1,8 @@
 -- What the code has of the characters and pieces of a text.
 use Rattle.std.specs.Prelude.{ℕ, ◌+◌, ◌<◌, ◌≤◌, List, [], ◌∷◌}
 use Rattle.dae_token.specs.Lines.{Char}
+use Rattle.dae_base.specs.declared.Place.{Place}
+use Rattle.dae_token.specs.Order.{IsNoLater}
 use Rattle.dae_token.specs.Pieces.{Cut}
 use Rattle.dae_token.specs.declared.pieces.Spot.{Spot}
 use Rattle.dae_lex.specs.declared.pieces.Piece.{Piece}
@@ -22,3 +24,12 @@ Rise e (s ∷ ss) b = (e ≤ s.offset) × Rise (s.offset + 1) ss b
 abbrev pub FollowEachOther : ℕ → List Cut → ℕ → Type 0
 FollowEachOther e [] b = e ≤ b
 FollowEachOther e (p ∷ ps) b = (e ≤ p.start) × (p.start < p.end) × FollowEachOther p.end ps b
+
+-- characters and pieces whose places don't fall, from a place on
+abbrev pub SpotsFrom : Place → List Spot → Type 0
+SpotsFrom p [] = Unit {0}
+SpotsFrom p (s ∷ ss) = IsNoLater p s.place × SpotsFrom s.place ss
+
+abbrev pub PlacesFrom : Place → List Place → Type 0
+PlacesFrom p [] = Unit {0}
+PlacesFrom p (q ∷ qs) = IsNoLater p q × PlacesFrom q qs

@@ -191,20 +191,10 @@ fn longer<'j>(
                 place: read.place,
             })
         }
-        Some(literal) => {
-            let OpenLiteral {
-                mut bytes,
-                start,
-                end: _,
-                place,
-            } = literal;
-            append(&mut bytes, inside)?;
-            Ok(OpenLiteral {
-                bytes,
-                start,
-                end: read.end,
-                place,
-            })
+        Some(mut literal) => {
+            append(&mut literal.bytes, inside)?;
+            literal.end = read.end;
+            Ok(literal)
         }
     }
 }

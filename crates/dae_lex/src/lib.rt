@@ -14,3 +14,5 @@ mod output;
 mod pieces;
 mod reading;
 mod replace;
+#[cfg(test)]
+mod tests;

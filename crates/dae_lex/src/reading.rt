@@ -1,6 +1,7 @@
 ghost use Rattle.std.specs.Prelude.{◌≡◌, ◌≤◌, ◌<◌, ◌^◌, [], length, map, IfOk, IfErr};
-ghost use Rattle.dae_token.specs.Tokens.{reads_of, tokens_of, joined, numbered, names_after, literals_after, Answers};
+ghost use Rattle.dae_token.specs.Tokens.{reads_of, tested_in, tokens_of, joined, numbered, names_after, literals_after, Answers};
 ghost use Rattle.dae_token.specs.declared.faults.LexError.TheVariants.{Memory};
+ghost use Rattle.dae_token.specs.Order.{HasLeastPlace};
 ghost use Rattle.dae_lex.specs.Cuts.{cut_of};
 ghost use Rattle.dae_lex.specs.Settling.{Fails, read_of};
 ghost use Rattle.dae_lex.specs.Whole.{items_of_pieces, HasRead, Meets, SpansFrom, span};
@@ -75,7 +76,8 @@ fn read_text<'t>(
     room: Room,
 ) -> Result<(Tokens<'t>, Room), LexError>
     requires { length text.now ≤ 1048576 }
-    ensures { Meets result (tokens_of file text.entry.now room) }
+    ensures answer { Meets result (tokens_of file text.entry.now room) }
+    ensures least { HasLeastPlace result (tested_in file text.entry.now room) }
 {
     let joined = join_lines(alloc, file, text)?;
     let pieces = cut_pieces(alloc, &joined)?;
@@ -102,7 +104,10 @@ pub fn tokens<'t>(
     room: &mut Room,
 ) -> Result<Tokens<'t>, LexError>
     requires { length text.now ≤ 1048576 }
-    ensures { Answers result room.old room.new (tokens_of file text.entry.now room.old) }
+    ensures answer { Answers result room.old room.new (tokens_of file text.entry.now room.old) }
+
+    // The first refusal of the list is the one of least place.
+    ensures least { HasLeastPlace result (tested_in file text.entry.now room.old) }
 {
     match read_text(alloc, file, text, *room) {
         Ok((tokens, left)) => {

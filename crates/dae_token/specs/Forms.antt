@@ -133,6 +133,6 @@ form bytes =
     else (if is_trigraph bytes then wrong (Named Trigraph) 0 bytes
     else sign_form bytes)))))))
 
--- a form has at least one byte, and a fault stands at a byte
+-- a form has at least one byte, and a fault stands at one of its bytes
 abbrev pub IsWithin : Form → List ℕ → Type 0
-IsWithin f bytes = (0 < f.length) × (f.length ≤ length bytes) × (f.at < length bytes)
+IsWithin f bytes = (0 < f.length) × (f.length ≤ length bytes) × (f.at < f.length)

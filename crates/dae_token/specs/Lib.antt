@@ -8,3 +8,4 @@ pub mod Replacing
 pub mod Directives
 pub mod Reading
 pub mod Tokens
+pub mod Order

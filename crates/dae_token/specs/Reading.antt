@@ -1,5 +1,7 @@
 -- What is read of a text: its tokens, the names and literals that they number, and the headers that it includes.
 use Rattle.std.specs.Prelude.{ℕ, ◌<◌, ◌≤◌, Bool, List, [], ◌∷◌, length, All}
+use Rattle.std.specs.List.{IsDistinct}
+use Rattle.std.specs.Str.{bytes_eq}
 use Rattle.dae_base.specs.declared.Place.{Place}
 use Rattle.dae_token.specs.declared.headers.Header.{Header}
 use Rattle.dae_token.specs.declared.headers.Header.TheVariants.{Stdio, Stdlib}
@@ -35,7 +37,10 @@ IsNumbered names literals (kinds.Name n) = n < names
 IsNumbered names literals (kinds.Literal n) = n < literals
 IsNumbered names literals _ = Unit {0}
 
+-- Spans lie within the text, and neither their starts nor their ends fall. No name stands twice in the list of names, and
+-- the numbers of names and literals lie within their lists.
 pub record IsReading (r : Reading) : Type 0 where
   pub spans : All (IsSpan r.text) r.tokens
   pub order : AreInOrder 0 0 r.tokens
+  pub distinct : IsDistinct bytes_eq r.names
   pub numbers : All (λ t. IsNumbered (length r.names) (length r.literals) t.kind) r.tokens

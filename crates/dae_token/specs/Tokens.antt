@@ -4,7 +4,7 @@ use Rattle.std.specs.List.{list_any, position_or_len, sum_by}
 use Rattle.std.specs.Str.{bytes_eq}
 use Rattle.dae_token.specs.Lines.{joined_lines, start_of, spot_behind}
 use Rattle.dae_token.specs.Pieces.{Cut, cut}
-use Rattle.dae_token.specs.Replacing.{Meaning, keyword, sign, name, constant, literal, Read, Item, taken, replaced, refused, literal_length, within_replacements, within_tokens, tested, within_literals, outcome}
+use Rattle.dae_token.specs.Replacing.{Meaning, keyword, sign, name, constant, literal, Read, Item, taken, replaced, refused, literal_length, Tested, within_replacements, within_tokens, tested, within_literals, outcome}
 use Rattle.dae_token.specs.Directives.{lines_of, replaced_lines, includes}
 use Rattle.dae_token.specs.Reading.{Reading}
 use Rattle.dae_token.specs.declared.headers.Header.TheVariants.{Stdio, Stdlib}
@@ -97,11 +97,18 @@ reading_of file text lines reads = record {
 abbrev pub lines_in : ℕ → List ℕ → List (List Cut)
 lines_in file text = lines_of (cut 0 (joined_lines file text))
 
--- the tokens within the room, or the first refusal
+-- the items within the room, tested: tokens and refusals in reading order
+abbrev pub tested_of : Room → List Item → List Tested
+tested_of room items =
+    within_literals room.literal_bytes
+    (tested (within_tokens room.tokens (within_replacements room.replacements items)))
+
+abbrev pub tested_in : ℕ → List ℕ → Room → List Tested
+tested_in file text room = tested_of room (replaced_lines room.replacements [] (lines_in file text))
+
+-- the tokens, or the first refusal
 abbrev pub reads_of : Room → List Item → Result (List Read) LexError
-reads_of room items =
-    outcome (within_literals room.literal_bytes
-    (tested (within_tokens room.tokens (within_replacements room.replacements items))))
+reads_of room items = outcome (tested_of room items)
 
 abbrev pub with_room : ℕ → List ℕ → Room → List (List Cut) → List Item → Result (List Read) LexError → Result (Reading × Room) LexError
 with_room file text room lines items (Ok reads) = Ok (reading_of file text lines reads, room_after room items reads)

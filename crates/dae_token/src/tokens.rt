@@ -37,7 +37,8 @@ pub struct Room {
 }
 
 /// The tokens of a text, with the bytes of the names and literals that they number, and the headers that the text
-/// includes. Clauses see a `Reading`. Each token's span lies within the text, and its number within its list.
+/// includes. Clauses see a `Reading`. Each token's span lies within the text, and its number within its list, in which no
+/// name stands twice.
 #[derive(Drop)]
 pub struct Tokens<'t> {
     text: &'t [u8],
@@ -110,7 +111,8 @@ impl<'t> Tokens<'t> {
 
     /// The tokens, in order.
     pub fn tokens(&self) -> &[Token]
-        ensures { result.now ≡ self.now.tokens }
+        ensures value { result.now ≡ self.now.tokens }
+        ensures reading { IsReading self.now }
     {
         self.tokens.as_slice()
     }

@@ -1,9 +1,11 @@
-use Rattle.std.proofs.Common.{◌≡◌, ◌+◌, ◌-◌, ◌<◌, length, ◌++◌, map, drop, arith, ap, sym, ◌∙◌, append-nil, append_assoc}
+use Rattle.std.proofs.Common.{◌≡◌, ◌+◌, ◌-◌, ◌<◌, length, get_or, ◌++◌, map, drop, arith, ap, sym, ◌∙◌, append-nil, append_assoc}
 use Rattle.std.proofs.lemmas.List.{take_rest, length-drop, map-append}
 use Rattle.dae_token.specs.Forms.{form}
 use Rattle.dae_lex.specs.Cuts.{cut_of}
 use Rattle.dae_token.specs.Pieces.{Cut}
-use Rattle.dae_lex.proofs.Cutting.{cut_more, cut_all, piece_span}
+use Rattle.dae_lex.proofs.Cutting.{cut_more, cut_all, piece_span, piece_place}
+use Rattle.dae_token.specs.Lines.{start_of}
+use Rattle.dae_lex.proofs.Places.{place_before, before_low, before_next, spots_within, places_push, places_wider, places_from}
 use Rattle.dae_lex.proofs.Rising.{bound, bound_below, bound_next, bound_end, rise_within}
 use Rattle.dae_lex.proofs.Spans.{follow_push, follow_wider}
 use Rattle.dae_lex.proofs.pieces.cut_pieces.Goals as goal
@@ -30,6 +32,20 @@ loop-at-preserved c =
           let b : p.end ≡ bound spots (l.at + f.length) = end ∙ bound_next spots l.at f.length near.0 in
           rw (c.in_ok-push_piece.ensures.ok, map-append, ← b)
           (follow_push 0 (map cut_of l.pieces.items) (bound spots l.at) p (l.invariant.order n h) (omega (arith, low, start)) (omega (arith, high, start, end)));
+      places = λ first w.
+          let spots = j.spots.items in
+          let p = cut_of c.piece_at.result in
+          let q = ap (λ (q : Cut). q.place) c.piece_at.ensures ∙ piece_place j.bytes.items spots c.requires.same l.at f in
+          let near = rw (take_rest c.deref.result.now l.at, c.deref.ensures.value) at c.form_at-form.ensures.within in
+          let inside : f.at < f.length = near.2 in
+          let some : 0 < f.length = near.0 in
+          let far : l.at + (f.length - 1) < length spots = omega (arith, near, length-drop l.at j.bytes.items, c.requires.same) in
+          let low = before_low spots first l.at (l.at + f.at) w (omega arith) (omega (arith, far)) in
+          let high = spots_within spots first (l.at + f.at) (l.at + (f.length - 1)) w (omega arith) far in
+          let done = places_push first (map (λ (q : Cut). q.place) (map cut_of l.pieces.items)) (place_before first spots l.at) (get_or spots (l.at + f.at) (start_of 0)).place
+          (l.invariant.places first w) low in
+          let wide = places_wider first _ _ (get_or spots (l.at + (f.length - 1)) (start_of 0)).place done high in
+          rw (c.in_ok-push_piece.ensures.ok, map-append, map-append, q, ← before_next spots first l.at f.length some) wide;
       within = omega (arith, c.form_at-form.ensures.within, length-drop l.at j.bytes.items, rw take_rest at c.form_at-form.ensures.within);
       so_far = rw (c.in_ok-push_piece.ensures.ok, map-append, c.piece_at.ensures, append_assoc)
           (ap (λ rest. map cut_of l.pieces.items ++ rest) (sym more) ∙ l.invariant.so_far);
@@ -48,3 +64,8 @@ returns-clause-order c = λ n h.
     let l = c.loop-at in
     follow_wider 0 (map cut_of l.pieces.items) (bound j.spots.items l.at) n (l.invariant.order n h)
     (bound_end j.spots.items n l.at h (omega (arith, c.requires.same, l.invariant.within)))
+
+pub returns-clause-places : goal.returns-clause-places
+returns-clause-places c = λ p w.
+    let l = c.loop-at in
+    places_from p (map (λ (q : Cut). q.place) (map cut_of l.pieces.items)) (place_before p c.args.joined.now.spots.items l.at) (l.invariant.places p w)

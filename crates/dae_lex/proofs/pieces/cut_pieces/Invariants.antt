@@ -1,6 +1,8 @@
 use Rattle.std.proofs.Common.{◌≡◌, ℕ, ◌++◌, ◌≤◌, ◌-◌, length, drop, map}
 use Rattle.dae_token.specs.Pieces.{cut}
-use Rattle.dae_lex.specs.Cuts.{cut_of, chars, Rise, FollowEachOther}
+use Rattle.dae_lex.specs.Cuts.{cut_of, chars, Rise, FollowEachOther, SpotsFrom}
+use Rattle.dae_base.specs.declared.Place.{Place}
+use Rattle.dae_lex.proofs.Places.{PlacesTo, place_before}
 use Rattle.dae_lex.proofs.Rising.{bound}
 use Rattle.dae_lex.proofs.pieces.cut_pieces.Given as goal
 
@@ -10,6 +12,7 @@ invariant-loop-at l = record {
   so_far : map cut_of l.pieces.items ++ cut 0 (drop l.at (chars l.joined.bytes.items l.joined.spots.items))
       ≡ cut 0 (chars l.joined.bytes.items l.joined.spots.items);
   order : (n : ℕ) → Rise 0 l.joined.spots.items n → FollowEachOther 0 (map cut_of l.pieces.items) (bound l.joined.spots.items l.at);
+  places : (p : Place) → SpotsFrom p l.joined.spots.items → PlacesTo p (map (λ q. q.place) (map cut_of l.pieces.items)) (place_before p l.joined.spots.items l.at);
 }
 
 abbrev pub decreases-loop-at : goal.decreases-loop-at

@@ -1,12 +1,18 @@
-use Rattle.std.proofs.Common.{map, length, ap, sym, ◌∙◌, subst}
-use Rattle.dae_token.specs.Lines.{bytes_of, joined_lines}
-use Rattle.dae_token.specs.Pieces.{cut}
-use Rattle.dae_lex.specs.Cuts.{cut_of, chars, Rise, FollowEachOther}
+use Rattle.std.proofs.Common.{map, length, ap, sym, ◌∙◌, subst, Err}
+use Rattle.dae_token.specs.Lines.{bytes_of, joined_lines, start_of}
+use Rattle.dae_token.specs.Pieces.{Cut, cut}
+use Rattle.dae_token.specs.Tokens.{tested_of}
+use Rattle.dae_token.specs.Order.{HasLeastPlace}
+use Rattle.dae_token.specs.Reading.{Reading}
+use Rattle.dae_token.specs.declared.tokens.Room.{Room}
+use Rattle.dae_lex.specs.Cuts.{cut_of, chars, Rise, FollowEachOther, SpotsFrom, PlacesFrom}
 use Rattle.dae_lex.specs.Settling.{read_of}
-use Rattle.dae_lex.specs.Whole.{SpansFrom, span}
+use Rattle.dae_lex.specs.Whole.{SpansFrom, span, items_of_pieces}
 use Rattle.dae_lex.proofs.Joining.{all_small}
 use Rattle.dae_lex.proofs.Rising.{all_rise}
 use Rattle.dae_lex.proofs.Cutting.{chars_of}
+use Rattle.dae_lex.proofs.Places.{all_spots}
+use Rattle.dae_lex.proofs.Refusals.{tested_chain, least}
 use Rattle.dae_lex.proofs.Spans.{pieces_steps}
 use Rattle.dae_lex.proofs.Answered.{answered, failed, reading_with}
 use Rattle.dae_lex.proofs.reading.read_text.Goals as goal
@@ -14,8 +20,8 @@ use Rattle.dae_lex.proofs.reading.read_text.Goals as goal
 pub cut_pieces-requires-clause-small : goal.cut_pieces-requires-clause-small
 cut_pieces-requires-clause-small c = rw (c.in_ok-joined.ensures.spots) (all_small c.args.file c.args.text.now c.requires)
 
-pub returns-in-Err : goal.returns-in-Err
-returns-in-Err c =
+pub returns-in-Err-clause-answer : goal.returns-in-Err-clause-answer
+returns-in-Err-clause-answer c =
     let j = c.in_ok-joined.joined in
     let all = joined_lines c.args.file c.args.text.now in
     let both = ap (λ bs. chars bs j.spots.items) c.in_ok-joined.ensures.bytes ∙ ap (chars (bytes_of all)) c.in_ok-joined.ensures.spots ∙ chars_of all in
@@ -32,8 +38,8 @@ finish_text-requires-clause-spans c =
     let spans = ap (λ rs. map span (map read_of rs)) c.deref-2.ensures.value ∙ h.spans in
     subst (λ xs. SpansFrom 0 0 xs (length text)) (sym spans) (pieces_steps c.args.room.replacements (map cut_of c.deref.result.now) (length text) follow)
 
-pub returns : goal.returns
-returns c =
+pub returns-clause-answer : goal.returns-clause-answer
+returns-clause-answer c =
     let j = c.in_ok-joined.joined in
     let text = c.args.text.now in
     let all = joined_lines c.args.file text in
@@ -44,3 +50,18 @@ returns c =
     ∙ ap (λ rs. reading_with text (map read_of rs) seen.stdio seen.stdlib j.end) c.deref-2.ensures.value in
     answered c.args.file text c.args.room (map cut_of c.deref.result.now) pieces seen c.in-Ok.read.1 j.end c.in_ok-tokens.tokens c.in-Ok.ensures.ok
     c.in_ok-joined.ensures.end tokens
+
+pub returns-in-Err-clause-least : goal.returns-in-Err-clause-least
+returns-in-Err-clause-least c =
+    let j = c.in_ok-joined.joined in
+    let file = c.args.file in
+    let room = c.args.room in
+    let all = joined_lines file c.args.text.now in
+    let both = ap (λ bs. chars bs j.spots.items) c.in_ok-joined.ensures.bytes ∙ ap (chars (bytes_of all)) c.in_ok-joined.ensures.spots ∙ chars_of all in
+    let pieces = ap (map cut_of) c.deref.ensures.value ∙ c.in_ok-pieces.ensures.ok ∙ ap (cut 0) both in
+    let first = (start_of file).place in
+    let spots = subst (SpotsFrom first) (sym c.in_ok-joined.ensures.spots) (all_spots file c.args.text.now) in
+    let places = subst (λ ps. PlacesFrom first (map (λ (q : Cut). q.place) (map cut_of ps))) (sym c.deref.ensures.value) (c.in_ok-pieces.ensures.places first spots) in
+    let chain = tested_chain room room.replacements (map cut_of c.deref.result.now) first places in
+    subst (λ ps. HasLeastPlace {A = Reading × Room} (Err c.in-Err.e) (tested_of room (items_of_pieces room ps))) pieces
+    (least (Reading × Room) (tested_of room (items_of_pieces room (map cut_of c.deref.result.now))) c.in-Err.e first c.in-Err.ensures.err chain)
