@@ -1,13 +1,11 @@
 -- What stands behind the header is read as it was written, and what was written is read again.
-use Rattle.std.proofs.Common.{◌≡◌, ℕ, zero, suc, ◌+◌, ◌-◌, ◌*◌, ◌^◌, ◌<◌, ◌≤◌, Bool, true, false, cond, ltb, eqb, ◌&&◌, List, [], ◌∷◌, ◌++◌, length, get_or, take, drop, map, Option, Some, None, Result, Ok, Err, refl, sym, ap, subst, ◌∙◌, append_assoc, arith, All, lit<, lit≤}
+use Rattle.std.proofs.Common.{◌≡◌, ℕ, zero, suc, ◌-◌, ◌*◌, ◌^◌, ◌<◌, ◌≤◌, Bool, true, false, cond, ltb, ◌&&◌, List, [], ◌∷◌, ◌++◌, length, take, drop, Option, Some, None, Ok, refl, sym, ap, subst, ◌∙◌, append_assoc, arith, lit<}
 use Rattle.std.specs.Int.{w32, from_le_bytes}
 use Rattle.std.specs.List.{flat_map, list_all, AllByRecursion}
 use Rattle.std.specs.Option.{ok_or}
 use Rattle.std.specs.Str.{is_utf8}
-use Rattle.std.proofs.lemmas.Bool.{ltb-true, ltb-false, le-ltb, and_parts, and_from, eqb-true}
+use Rattle.std.proofs.lemmas.Bool.{ltb-true, ltb-false, le-ltb, and_parts, and_from}
 use Rattle.std.proofs.lemmas.List.{take_at, drop_at, take-append-drop, length-append, length-take}
-use Rattle.std.proofs.lemmas.List.Concat.{flat_map-cons}
-use Rattle.std.proofs.lemmas.List.Elements.{All-from_recursion, recursion_from_All}
 use Rattle.std.proofs.lemmas.Nat.{le_bytes_4, from_le_bytes-to_le_bytes_4}
 use Rattle.dae_base.specs.declared.Side.{Side}
 use Rattle.dae_base.specs.declared.Side.TheVariants.{A, E}
@@ -16,11 +14,11 @@ use Rattle.dae_image.specs.declared.header.Header.{Header}
 use Rattle.dae_image.specs.declared.fault.ImageError.{ImageError}
 use Rattle.dae_image.specs.declared.fault.ImageError.TheVariants as errors
 use Rattle.dae_image.specs.declared.fault.Field.TheVariants as fields
-use Rattle.dae_image.specs.Ranges.{IsIn, is_in, name_range}
-use Rattle.dae_image.specs.Contents.{Contents, header, HeaderFits, Fits, code_length, follows, is_line, are_lines, is_name}
-use Rattle.dae_image.specs.Spelling.{number, numbers, side_number, line, name, body}
-use Rattle.dae_image.specs.Reading.{◌>>=◌, number_at, field_at, words_of, bytes_at, words_at, side_of, mark_on, mark_of, line_at, lines_at, name_at, names_at, body_at}
-use Rattle.dae_image.proofs.FieldLaws.{IsBytes, IsBytes-take, IsBytes-drop, step, guard_ok, holds_ok, ok_is, done, Takes, Takes-then, FieldRead, number_takes, number_again, field_takes, field_again, IsIn-from_test, test-from_IsIn}
+use Rattle.dae_image.specs.Ranges.{is_in, name_range}
+use Rattle.dae_image.specs.Contents.{HeaderFits, code_length, follows, is_line, are_lines, is_name}
+use Rattle.dae_image.specs.Spelling.{number, numbers, side_number, line, name}
+use Rattle.dae_image.specs.Reading.{number_at, field_at, words_of, bytes_at, words_at, side_of, mark_on, mark_of, line_at, lines_at, name_at, names_at}
+use Rattle.dae_image.proofs.FieldLaws.{IsBytes, IsBytes-take, IsBytes-drop, step, guard_ok, holds_ok, ok_is, done, Takes, Takes-then, number_takes, number_again, field_takes, field_again, IsIn-from_test, test-from_IsIn}
 use Rattle.dae_image.proofs.HeaderLaws.{bind_again}
 
 -- ---- data

@@ -1,10 +1,10 @@
 -- Which faults reading can give: the number of a `Short` is that of all bytes, and a `Trailing` comes behind a whole image.
-use Rattle.std.proofs.Common.{◌≡◌, ℕ, zero, suc, ◌+◌, ◌-◌, ◌*◌, ◌<◌, ◌≤◌, Bool, true, false, cond, ltb, eqb, List, [], ◌∷◌, ◌++◌, length, take, drop, Option, Some, None, Result, Ok, Err, refl, sym, ap, subst, ◌∙◌, append_assoc, arith, ◌⊎◌, inl, inr, lit≤}
+use Rattle.std.proofs.Common.{◌≡◌, ℕ, zero, suc, ◌+◌, ◌-◌, ◌*◌, ◌<◌, Bool, true, false, cond, ltb, eqb, List, ◌++◌, length, take, drop, Option, Some, None, Result, Ok, Err, refl, sym, ap, subst, ◌∙◌, append_assoc, arith, ◌⊎◌, inl, inr, lit≤}
 use Rattle.std.specs.Int.{w32, from_le_bytes}
 use Rattle.std.specs.Option.{ok_or}
 use Rattle.std.specs.Str.{is_utf8}
 use Rattle.std.proofs.lemmas.Bool.{eqb-false, ne_eqb}
-use Rattle.std.proofs.lemmas.List.{take_at, drop_at, take-append-drop, length-append, length-take, length-drop}
+use Rattle.std.proofs.lemmas.List.{take_at, take-append-drop, length-append, length-take, length-drop}
 use Rattle.dae_image.specs.declared.LineMark.{LineMark}
 use Rattle.dae_image.specs.declared.header.Header.{Header}
 use Rattle.dae_image.specs.declared.fields.Range.{Range}
@@ -15,8 +15,8 @@ use Rattle.dae_image.specs.declared.fault.ImageError.TheVariants as errors
 use Rattle.dae_image.specs.Ranges.{IsIn, is_in, magic_range, version_range, depth_range, memory_range, calls_range, private_range, entry_range, words_range, content_range, line_count_range, name_count_range, name_range}
 use Rattle.dae_image.specs.Contents.{Contents, header, Fits}
 use Rattle.dae_image.specs.Spelling.{numbers, body, Spells}
-use Rattle.dae_image.specs.Reading.{◌>>=◌, number_at, field_at, version_at, copies_at, budget_at, header_at, bytes_at, words_at, words_of, mark_of, line_at, lines_at, name_at, names_at, body_at, image_at}
-use Rattle.dae_image.proofs.FieldLaws.{IsBytes, done, Takes, Takes-then}
+use Rattle.dae_image.specs.Reading.{◌>>=◌, number_at, field_at, version_at, copies_at, budget_at, header_at, bytes_at, words_at, mark_of, line_at, lines_at, name_at, names_at, body_at, image_at}
+use Rattle.dae_image.proofs.FieldLaws.{IsBytes, done, Takes-then}
 use Rattle.dae_image.proofs.HeaderLaws.{bind_again, head, header_takes, header_again}
 use Rattle.dae_image.proofs.ImageLaws.{body_takes, body_again, spelling, spells}
 

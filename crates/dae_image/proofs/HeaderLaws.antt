@@ -1,6 +1,6 @@
 -- The header that is read is the one that was written, and what was written is read again.
-use Rattle.std.proofs.Common.{◌≡◌, ℕ, zero, suc, ◌+◌, ◌-◌, ◌*◌, ◌%◌, ◌^◌, ◌<◌, ◌≤◌, Bool, true, false, cond, eqb, List, [], ◌∷◌, ◌++◌, length, take, drop, Result, Ok, Err, refl, sym, ap, subst, ◌∙◌, append_assoc, arith, inl, inr, lit<, lit≤}
-use Rattle.std.proofs.lemmas.Bool.{eq-eqb, eqb-true, ne_eqb, eqb-false}
+use Rattle.std.proofs.Common.{◌≡◌, ℕ, Bool, true, false, cond, eqb, List, [], ◌∷◌, ◌++◌, Result, Ok, refl, sym, ap, subst, ◌∙◌, append_assoc, arith, lit<, lit≤}
+use Rattle.std.proofs.lemmas.Bool.{eqb-true, eqb-false}
 use Rattle.std.proofs.lemmas.List.{append-nil}
 use Rattle.std.proofs.lemmas.List.Concat.{flat_map-append}
 use Rattle.dae_base.specs.declared.Depths.{Depths}
@@ -11,7 +11,7 @@ use Rattle.dae_image.specs.Ranges.{IsIn, magic, magic_range, version_range, dept
 use Rattle.dae_image.specs.Contents.{HeaderFits}
 use Rattle.dae_image.specs.Spelling.{number, numbers, six_depths, sizes}
 use Rattle.dae_image.specs.Reading.{◌>>=◌, field_at, version_at, copies_at, budget_at, header_at}
-use Rattle.dae_image.proofs.FieldLaws.{IsBytes, step, ok_is, done, Takes, Takes-then, FieldRead, field_takes, field_again}
+use Rattle.dae_image.proofs.FieldLaws.{IsBytes, step, ok_is, done, Takes, Takes-then, field_takes, field_again}
 
 -- ---- the version
 

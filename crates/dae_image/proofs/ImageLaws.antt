@@ -1,18 +1,17 @@
 -- The two laws: what is read is spelled so, and what is spelled so is read.
-use Rattle.std.proofs.Common.{◌≡◌, ℕ, zero, suc, ◌+◌, ◌-◌, ◌*◌, ◌^◌, ◌<◌, ◌≤◌, Bool, true, false, cond, ltb, eqb, List, [], ◌∷◌, ◌++◌, length, get_or, Option, Some, None, Result, Ok, Err, refl, sym, ap, subst, ◌∙◌, append_assoc, arith, All, ◌⊎◌, inl, inr, lit<, lit≤}
-use Rattle.std.specs.List.{flat_map, list_all, AllByRecursion}
+use Rattle.std.proofs.Common.{◌≡◌, ℕ, suc, ◌-◌, ◌^◌, ◌<◌, true, eqb, List, [], ◌∷◌, ◌++◌, length, None, Ok, refl, sym, ap, subst, ◌∙◌, append_assoc, arith, inl, inr, lit≤}
+use Rattle.std.specs.List.{flat_map, AllByRecursion}
 use Rattle.std.proofs.lemmas.Bool.{eqb-true, cases_eq, cases_order}
 use Rattle.std.proofs.lemmas.List.{append-nil, nil_from_length}
 use Rattle.std.proofs.lemmas.List.Elements.{All-from_recursion, recursion_from_All}
 use Rattle.dae_image.specs.declared.LineMark.{LineMark}
 use Rattle.dae_image.specs.declared.header.Header.{Header}
-use Rattle.dae_image.specs.declared.fault.ImageError.{ImageError}
 use Rattle.dae_image.specs.declared.fault.ImageError.TheVariants as errors
 use Rattle.dae_image.specs.Ranges.{IsIn, version_range}
-use Rattle.dae_image.specs.Contents.{Contents, header, HeaderFits, Fits, are_lines, is_name}
-use Rattle.dae_image.specs.Spelling.{number, numbers, line, name, body, head_1, head_2, spelling_1, spelling_2, Spells}
-use Rattle.dae_image.specs.Reading.{◌>>=◌, bytes_at, words_at, lines_at, names_at, header_at, body_at, image_at}
-use Rattle.dae_image.proofs.FieldLaws.{IsBytes, step, holds_ok, ok_is, done, Takes, Takes-then}
+use Rattle.dae_image.specs.Contents.{Contents, header, HeaderFits, Fits, are_lines}
+use Rattle.dae_image.specs.Spelling.{numbers, line, name, body, spelling_1, spelling_2, Spells}
+use Rattle.dae_image.specs.Reading.{bytes_at, words_at, lines_at, names_at, header_at, body_at, image_at}
+use Rattle.dae_image.proofs.FieldLaws.{IsBytes, step, holds_ok, ok_is, Takes, Takes-then}
 use Rattle.dae_image.proofs.HeaderLaws.{bind_again, head, header_takes, header_again}
 use Rattle.dae_image.proofs.BodyLaws.{bytes_take, bytes_again, words_take, words_again, lines_take, lines_again, names_take, names_again}
 

@@ -5,3 +5,4 @@ pub mod BodyLaws
 pub mod ImageLaws
 pub mod ReadLaws
 pub mod FaultLaws
+pub mod MakeLaws

@@ -11,7 +11,7 @@ use Rattle.dae_image.specs.Reading.{Gives, Fails, image_at}
 use Rattle.dae_image.specs.Images.{contents, IsOrMemory, IsSpelledBefore}
 use Rattle.dae_image.proofs.FieldLaws.{IsBytes, ok_is}
 use Rattle.dae_image.proofs.ImageLaws.{image_takes, image_again}
-use Rattle.dae_image.proofs.FaultLaws.{IsFaultOf, image_fails, image_trails}
+use Rattle.dae_image.proofs.FaultLaws.{image_fails, image_trails}
 
 pub is_found : (bytes : List ℕ) (r : Result Image ImageError) → IsBytes bytes → Gives contents r (image_at bytes) → IfOk r (λ image. Spells bytes (contents image))
 is_found bytes (Ok image) fits given = (image_takes bytes (contents image) fits given).1

@@ -1,4 +1,4 @@
-use Rattle.std.proofs.Common.{◌≡◌, None}
+use Rattle.std.proofs.Common.{None}
 use Rattle.std.proofs.lemmas.Result.{err_from_is_err_and}
 use Rattle.dae_image.specs.Reading.{lines_at}
 use Rattle.dae_image.proofs.Loops.{line_goes_on, line_ends, lines_are_done}

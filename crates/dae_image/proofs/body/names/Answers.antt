@@ -1,4 +1,3 @@
-use Rattle.std.proofs.Common.{◌≡◌}
 use Rattle.std.proofs.lemmas.Result.{err_from_is_err_and}
 use Rattle.dae_image.specs.Reading.{names_at}
 use Rattle.dae_image.proofs.Loops.{name_goes_on, name_ends, names_are_done}

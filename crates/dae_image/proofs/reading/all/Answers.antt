@@ -1,4 +1,4 @@
-use Rattle.std.proofs.Common.{◌≡◌, arith, length}
+use Rattle.std.proofs.Common.{arith, length}
 use Rattle.dae_image.proofs.HeaderLaws.{header_takes}
 use Rattle.dae_image.proofs.reading.all.Goals as goal
 

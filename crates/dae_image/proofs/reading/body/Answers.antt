@@ -1,4 +1,4 @@
-use Rattle.std.proofs.Common.{◌≡◌, arith}
+use Rattle.std.proofs.Common.{arith}
 use Rattle.dae_image.proofs.ImageLaws.{body_takes, body_of}
 use Rattle.dae_image.proofs.reading.body.Goals as goal
 

@@ -1,4 +1,4 @@
-use Rattle.std.proofs.Common.{◌≡◌, arith}
+use Rattle.std.proofs.Common.{arith}
 use Rattle.dae_image.proofs.ReadLaws.{is_found, is_only, is_short, is_trailing, is_only_trailing}
 use Rattle.dae_image.proofs.reading.read.Goals as goal
 
