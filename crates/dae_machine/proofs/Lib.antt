@@ -12,3 +12,4 @@ pub mod Steps
 pub mod Generator
 pub mod Turns
 pub mod Printing
+pub mod Scheduled

@@ -1,4 +1,4 @@
-ghost use Rattle.std.specs.Prelude.{◌≡◌, ◌≢◌, ℕ, ◌+◌, List, length, Some};
+ghost use Rattle.std.specs.Prelude.{◌⊎◌, ◌≡◌, ◌≢◌, ℕ, ◌+◌, List, length, Some};
 ghost use Rattle.dae_base.specs.declared.Depths.{Depths};
 ghost use Rattle.dae_image.specs.declared.Image.{Image};
 ghost use Rattle.dae_machine.specs.declared.Pick.{Pick};
@@ -8,6 +8,7 @@ ghost use Rattle.dae_machine.specs.Machine.{Setup, State, IsCounted, IsFinal, Is
 ghost use Rattle.dae_machine.specs.Opened.{opened};
 ghost use Rattle.dae_machine.specs.Printing.{behind};
 ghost use Rattle.dae_machine.specs.Runs.{Joined};
+ghost use Rattle.dae_machine.specs.Schedules.{scheduled};
 ghost use Rattle.dae_machine.specs.Turns.{pick_of};
 
 /// Two different picks that are enabled can follow each other in both orders, and both orders give one state.
@@ -54,4 +55,9 @@ pub fn printing_is_apart()
     ensures pick { (setup : Setup) (s : State) (word : ℕ) (xs : List ℕ) → pick_of setup (behind xs s) word ≡ pick_of setup s word }
     ensures ends { (setup : Setup) (s : State) (xs : List ℕ) → IsFinal setup s → IsFinal setup (behind xs s) }
     ensures stuck { (setup : Setup) (s : State) (xs : List ℕ) → IsStuck setup s → IsStuck setup (behind xs s) }
+{}
+
+/// The turns of a schedule are a run. It is shorter than asked only where no pick is enabled any more.
+pub fn schedules_run()
+    ensures { (setup : Setup) (s : State) (words : ℕ → ℕ) (k : ℕ) → IsCounted s → (t : State) × Runs setup s (scheduled setup s words k) t × ((length (scheduled setup s words k) ≡ k) ⊎ IsQuiet setup t) }
 {}
