@@ -1,5 +1,5 @@
 -- The turns of a schedule are a run.
-use Rattle.std.proofs.Common.{◌≡◌, ℕ, zero, suc, ◌+◌, ◌⊎◌, inl, inr, List, [], ◌∷◌, length, refl, ap, sym, ◌∙◌, subst}
+use Rattle.std.proofs.Common.{◌≡◌, ℕ, zero, suc, ◌+◌, ◌⊎◌, inl, inr, [], ◌∷◌, length, refl, ap}
 use Rattle.std.specs.Prelude.{Option, Some, None, is_some, true}
 use Rattle.dae_machine.specs.declared.Pick.{Pick}
 use Rattle.dae_machine.specs.Machine.{Setup, State, step, Runs, IsCounted, IsQuiet}
