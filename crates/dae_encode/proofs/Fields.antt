@@ -1,8 +1,8 @@
 -- The fields of the words of each format, and the words of their fields.
-use Rattle.std.proofs.Common.{◌≡◌, ℕ, ◌+◌, ◌-◌, ◌*◌, ◌/◌, ◌%◌, ◌^◌, ◌<◌, ◌≤◌, arith, ℤ, pos, negsuc, neg_ℤ, ◌≤ℤ◌, ◌<ℤ◌, refl, ◌∙◌}
+use Rattle.std.proofs.Common.{◌≡◌, ℕ, ◌+◌, ◌*◌, ◌/◌, ◌%◌, ◌^◌, ◌<◌, arith, ℤ, pos, ◌≤ℤ◌, ◌<ℤ◌, ◌∙◌}
 use Rattle.std.proofs.lemmas.Int.{ints}
 use Rattle.dae_base.specs.Words.{word}
-use Rattle.dae_encode.specs.Instructions.{field, signed_in, imm_i, imm_s, imm_b, imm_u, imm_j, decode, decode_by}
+use Rattle.dae_encode.specs.Instructions.{field, signed_in, imm_i, imm_s, imm_b, imm_u, imm_j}
 use Rattle.dae_encode.specs.Spelling.{Layout, R, I, Shift, S, B, U, J, bits, in_places, IsSigned, Fits}
 
 -- ---- signed numbers of fewer bits

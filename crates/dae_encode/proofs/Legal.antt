@@ -1,5 +1,5 @@
 -- The access of an instruction is the one that its fields ask for.
-use Rattle.std.proofs.Common.{◌≡◌, ◌≢◌, ℕ, ◌-◌, ◌<◌, ◌≤◌, Bool, true, false, cond, List, [], ◌∷◌, map, Option, Some, None, refl, sym, ap, ◌∙◌, ◌⊎◌, inl, inr, arith, nat_le}
+use Rattle.std.proofs.Common.{◌≡◌, ◌≢◌, ◌<◌, ◌≤◌, Bool, List, [], ◌∷◌, map, Option, Some, None, refl, sym, ap, ◌∙◌, inl, inr, arith, nat_le}
 use Rattle.std.proofs.lemmas.Bool.Decides.{leb_tells}
 use Rattle.std.specs.List.{filter}
 use Rattle.std.proofs.lemmas.Grind.{common_steps}
@@ -7,11 +7,11 @@ use Rattle.std.proofs.lemmas.Option.{gets}
 use Rattle.dae_base.specs.declared.Side.{Side}
 use Rattle.dae_base.specs.declared.Side.TheVariants.{A, E}
 use Rattle.dae_encode.specs.declared.QueueUse.{QueueUse}
-use Rattle.dae_encode.specs.declared.QueueUse.TheVariants.{Nothing, Take, Push, Load, StoreAddress}
+use Rattle.dae_encode.specs.declared.QueueUse.TheVariants.{Nothing}
 use Rattle.dae_encode.specs.declared.Form.{Form}
 use Rattle.dae_encode.specs.declared.Form.TheVariants.{Computes, Loads, Stores, Calls}
 use Rattle.dae_encode.specs.Uses.{as_source, as_target, as_loaded, as_stored, joined, queue_use}
-use Rattle.dae_encode.specs.Legality.{RegisterField, Target, LoadTarget, Source, Stored, register, register_fields, access, accesses_of, accesses, sole}
+use Rattle.dae_encode.specs.Legality.{RegisterField, Target, LoadTarget, Source, Stored, register, access, accesses, sole}
 
 -- what a field has by its own rule
 abbrev use_of : Bool → Side → RegisterField → Option QueueUse

@@ -1,9 +1,8 @@
 -- Decoding the word of an instruction gives the instruction back.
-use Rattle.std.proofs.Common.{◌≡◌, ℕ, ◌+◌, ◌*◌, ◌/◌, ◌%◌, ◌^◌, ◌<◌, ℤ, pos, Option, Some, refl, ap, ◌∙◌, lit<, arith, ◌≤ℤ◌, ◌<ℤ◌}
+use Rattle.std.proofs.Common.{◌≡◌, ℕ, ◌^◌, ◌<◌, ℤ, pos, Bool, true, ◌&&◌, nat_lt, Some, refl, ap, ◌∙◌, lit<, arith, ◌≤ℤ◌, ◌<ℤ◌}
 use Rattle.std.proofs.lemmas.Int.{ints}
-use Rattle.dae_base.specs.Words.{word}
 use Rattle.dae_encode.specs.Instructions.{field, imm_i, imm_s, imm_b, imm_u, imm_j, branches, loads, stores, immediates, shifts, registers_only, decode, decode_by}
-use Rattle.dae_encode.specs.Spelling.{Layout, R, I, Shift, S, B, U, J, bits, in_places, IsSigned, Fits, layout, encoded, InRange}
+use Rattle.dae_encode.specs.Spelling.{Layout, R, I, Shift, S, B, U, J, bits, in_places, Fits, layout, encoded, InRange}
 use Rattle.dae_encode.specs.declared.Inst.{Inst}
 use Rattle.dae_encode.specs.declared.Inst.TheVariants.{Lui, Auipc, Jal, Jalr, Beq, Bne, Blt, Bge, Bltu, Bgeu, Lb, Lh, Lw, Lbu, Lhu, Sb, Sh, Sw, Addi, Slti, Sltiu, Xori, Ori, Andi, Slli, Srli, Srai, Add, Sub, Sll, Slt, Sltu, Xor, Srl, Sra, Or, And, Mul, Mulh, Mulhsu, Mulhu, Div, Divu, Rem, Remu, Ecall}
 use Rattle.dae_encode.proofs.Fields.{fields_r, fields_i, fields_shift, fields_s, fields_b, fields_u, fields_j, imm_i-is, imm_s-is, imm_b-is, imm_u-is, imm_j-is}
@@ -113,3 +112,32 @@ spelled Ecall w h e = rw e refl
 pub decode_encoded : (i : Inst) → InRange i → decode (encoded i) ≡ Some i
 unfolding InRange encoded
 decode_encoded i h = spelled i (in_places (layout i)) h refl
+
+-- the fields that an instruction's name gives are as wide as their places
+abbrev is_narrow : Layout → Bool
+is_narrow (R op rd f3 x y f7) = nat_lt op 128 && (nat_lt f3 8 && nat_lt f7 128)
+is_narrow (I op rd f3 x z) = nat_lt op 128 && nat_lt f3 8
+is_narrow (Shift op rd f3 x z f7) = nat_lt op 128 && (nat_lt f3 8 && nat_lt f7 128)
+is_narrow (S op f3 x y z) = nat_lt op 128 && nat_lt f3 8
+is_narrow (B op f3 x y z) = nat_lt op 128 && nat_lt f3 8
+is_narrow (U op rd z) = nat_lt op 128
+is_narrow (J op rd z) = nat_lt op 128
+
+narrow : (i : Inst) → is_narrow (layout i) ≡ true
+unfolding layout
+narrow Ecall = refl
+narrow i = refl
+
+below : (l : Layout) → Fits l → is_narrow l ≡ true → in_places l < 2 ^ 32
+below (R op rd f3 x y f7) f n = grind arith
+below (I op rd f3 x z) f n = grind arith
+below (Shift op rd f3 x z f7) f n = grind arith
+below (S op f3 x y z) f n = grind arith
+below (B op f3 x y z) f n = grind arith
+below (U op rd z) f n = grind arith
+below (J op rd z) f n = grind arith
+
+-- it is a word of 32 bits
+pub encoded_below : (i : Inst) → InRange i → encoded i < 2 ^ 32
+unfolding InRange encoded
+encoded_below i h = below (layout i) h (narrow i)

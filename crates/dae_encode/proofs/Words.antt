@@ -1,9 +1,9 @@
 -- A word that decodes is the word of its instruction.
-use Rattle.std.proofs.Common.{◌≡◌, ◌≢◌, ℕ, zero, suc, ◌+◌, ◌*◌, ◌/◌, ◌%◌, ◌^◌, ◌<◌, ℤ, pos, Bool, true, false, ◌==◌, if◌then◌else◌, Option, Some, None, IfSome, refl, sym, arith}
-use Rattle.dae_encode.specs.Instructions.{field, imm_i, imm_s, imm_b, imm_u, imm_j, branches, loads, stores, immediates, shifts, operations, multiplications, registers_only, decode, decode_by}
-use Rattle.dae_encode.specs.Spelling.{Layout, R, I, Shift, S, B, U, J, bits, in_places, IsSigned, Fits, layout, encoded, InRange}
+use Rattle.std.proofs.Common.{◌≡◌, ◌≢◌, ℕ, zero, suc, ◌%◌, ◌^◌, ◌<◌, ℤ, pos, ◌==◌, if◌then◌else◌, Option, Some, None, IfSome, refl, sym, arith}
+use Rattle.dae_encode.specs.Instructions.{field, branches, loads, stores, immediates, shifts, operations, multiplications, registers_only, decode}
+use Rattle.dae_encode.specs.Spelling.{R, I, Shift, S, B, U, J, layout, encoded, InRange}
 use Rattle.dae_encode.specs.declared.Inst.{Inst}
-use Rattle.dae_encode.specs.declared.Inst.TheVariants.{Lui, Auipc, Jal, Jalr, Beq, Bne, Blt, Bge, Bltu, Bgeu, Lb, Lh, Lw, Lbu, Lhu, Sb, Sh, Sw, Addi, Slti, Sltiu, Xori, Ori, Andi, Slli, Srli, Srai, Add, Sub, Sll, Slt, Sltu, Xor, Srl, Sra, Or, And, Mul, Mulh, Mulhsu, Mulhu, Div, Divu, Rem, Remu, Ecall}
+use Rattle.dae_encode.specs.declared.Inst.TheVariants.{Lui, Auipc, Jal, Jalr, Ecall}
 use Rattle.std.proofs.lemmas.Bool.Decides.{eqb_tells}
 use Rattle.std.proofs.Common.{IfNone, inl, inr, ap, rules}
 use Rattle.dae_encode.proofs.Spelled.{decode_encoded}

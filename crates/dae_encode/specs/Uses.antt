@@ -1,4 +1,5 @@
--- The one queue access of an instruction.
+-- The one queue access of an instruction (J. E. Smith, "Decoupled Access/Execute Computer Architectures": registers that
+-- stand for the ends of queues).
 use Rattle.std.specs.Prelude.{ℕ, Bool, nat_lt, ◌==◌, if◌then◌else◌, Option, Some, None}
 use Rattle.dae_base.specs.declared.Side.{Side}
 use Rattle.dae_base.specs.declared.Side.TheVariants.{A, E}

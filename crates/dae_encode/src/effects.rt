@@ -6,25 +6,25 @@ ghost use Rattle.dae_encode.specs.Instructions.{form, value, next, shift_left, s
 use crate::{Form, Inst};
 use dae_base::{LoadKind, Width};
 
-fn shl(x: u32, y: u32) -> u32
+fn shift_left(x: u32, y: u32) -> u32
     ensures { result ≡ shift_left x y }
 {
     x.wrapping_shl(y)
 }
 
-fn shr(x: u32, y: u32) -> u32
+fn shift_right(x: u32, y: u32) -> u32
     ensures { result ≡ shift_right x y }
 {
     x >> (y % 32)
 }
 
-fn sar(x: u32, y: u32) -> u32
+fn shift_signed(x: u32, y: u32) -> u32
     ensures { result ≡ shift_signed x y }
 {
     (x.cast_signed() >> (y % 32)).cast_unsigned()
 }
 
-fn div(x: u32, y: u32) -> u32
+fn quotient(x: u32, y: u32) -> u32
     ensures { result ≡ quotient x y }
 {
     if y == 0 {
@@ -36,7 +36,7 @@ fn div(x: u32, y: u32) -> u32
     }
 }
 
-fn rem(x: u32, y: u32) -> u32
+fn remainder(x: u32, y: u32) -> u32
     ensures { result ≡ remainder x y }
 {
     if y == 0 {
@@ -75,47 +75,48 @@ fn mulhsu(x: u32, y: u32) -> u32
     upper(product(i64::from(y), i64::from(x.cast_signed())))
 }
 
-/// The word that an instruction computes from the counter and its operands.
+/// The word that an instruction computes for its target, from its own address and the values of its sources. It is 0
+/// where the instruction has no target, and where it loads.
 #[tactic(auto, unfolding(crate::specs::Instructions::value))]
-pub fn value(inst: &Inst, pc: u32, x: u32, y: u32) -> u32
-    ensures { result ≡ value inst.now pc x y }
+pub fn value(inst: &Inst, counter: u32, first: u32, second: u32) -> u32
+    ensures { result ≡ value inst.now counter first second }
 {
     match *inst {
         Inst::Lui(_, imm) => imm.cast_unsigned(),
-        Inst::Auipc(_, imm) => pc.wrapping_add(imm.cast_unsigned()),
-        Inst::Jal(_, _) | Inst::Jalr(_, _, _) => pc.wrapping_add(4),
-        Inst::Addi(_, _, imm) => x.wrapping_add(imm.cast_unsigned()),
-        Inst::Slti(_, _, imm) => u32::from(x.cast_signed() < imm),
-        Inst::Sltiu(_, _, imm) => u32::from(x < imm.cast_unsigned()),
-        Inst::Xori(_, _, imm) => x ^ imm.cast_unsigned(),
-        Inst::Ori(_, _, imm) => x | imm.cast_unsigned(),
-        Inst::Andi(_, _, imm) => x & imm.cast_unsigned(),
-        Inst::Slli(_, _, imm) => shl(x, imm.cast_unsigned()),
-        Inst::Srli(_, _, imm) => shr(x, imm.cast_unsigned()),
-        Inst::Srai(_, _, imm) => sar(x, imm.cast_unsigned()),
-        Inst::Add(_, _, _) => x.wrapping_add(y),
-        Inst::Sub(_, _, _) => x.wrapping_sub(y),
-        Inst::Sll(_, _, _) => shl(x, y),
-        Inst::Slt(_, _, _) => u32::from(x.cast_signed() < y.cast_signed()),
-        Inst::Sltu(_, _, _) => u32::from(x < y),
-        Inst::Xor(_, _, _) => x ^ y,
-        Inst::Srl(_, _, _) => shr(x, y),
-        Inst::Sra(_, _, _) => sar(x, y),
-        Inst::Or(_, _, _) => x | y,
-        Inst::And(_, _, _) => x & y,
-        Inst::Mul(_, _, _) => x.wrapping_mul(y),
-        Inst::Mulhu(_, _, _) => ((x as u64 * y as u64) / 0x1_0000_0000) as u32,
-        Inst::Div(_, _, _) => div(x, y),
-        Inst::Divu(_, _, _) => if y == 0 { u32::MAX } else { x / y },
-        Inst::Rem(_, _, _) => rem(x, y),
-        Inst::Remu(_, _, _) => if y == 0 { x } else { x % y },
-        Inst::Mulh(_, _, _) => mulh(x, y),
-        Inst::Mulhsu(_, _, _) => mulhsu(x, y),
+        Inst::Auipc(_, imm) => counter.wrapping_add(imm.cast_unsigned()),
+        Inst::Jal(_, _) | Inst::Jalr(_, _, _) => counter.wrapping_add(4),
+        Inst::Addi(_, _, imm) => first.wrapping_add(imm.cast_unsigned()),
+        Inst::Slti(_, _, imm) => u32::from(first.cast_signed() < imm),
+        Inst::Sltiu(_, _, imm) => u32::from(first < imm.cast_unsigned()),
+        Inst::Xori(_, _, imm) => first ^ imm.cast_unsigned(),
+        Inst::Ori(_, _, imm) => first | imm.cast_unsigned(),
+        Inst::Andi(_, _, imm) => first & imm.cast_unsigned(),
+        Inst::Slli(_, _, imm) => shift_left(first, imm.cast_unsigned()),
+        Inst::Srli(_, _, imm) => shift_right(first, imm.cast_unsigned()),
+        Inst::Srai(_, _, imm) => shift_signed(first, imm.cast_unsigned()),
+        Inst::Add(_, _, _) => first.wrapping_add(second),
+        Inst::Sub(_, _, _) => first.wrapping_sub(second),
+        Inst::Sll(_, _, _) => shift_left(first, second),
+        Inst::Slt(_, _, _) => u32::from(first.cast_signed() < second.cast_signed()),
+        Inst::Sltu(_, _, _) => u32::from(first < second),
+        Inst::Xor(_, _, _) => first ^ second,
+        Inst::Srl(_, _, _) => shift_right(first, second),
+        Inst::Sra(_, _, _) => shift_signed(first, second),
+        Inst::Or(_, _, _) => first | second,
+        Inst::And(_, _, _) => first & second,
+        Inst::Mul(_, _, _) => first.wrapping_mul(second),
+        Inst::Mulhu(_, _, _) => ((first as u64 * second as u64) / 0x1_0000_0000) as u32,
+        Inst::Div(_, _, _) => quotient(first, second),
+        Inst::Divu(_, _, _) => first.checked_div(second).unwrap_or(u32::MAX),
+        Inst::Rem(_, _, _) => remainder(first, second),
+        Inst::Remu(_, _, _) => first.checked_rem(second).unwrap_or(first),
+        Inst::Mulh(_, _, _) => mulh(first, second),
+        Inst::Mulhsu(_, _, _) => mulhsu(first, second),
         _ => 0,
     }
 }
 
-/// The registers of an instruction, and its offset.
+/// The registers of an instruction, and its offset as a word. A field that it does not have is x0.
 #[tactic(auto, unfolding(crate::specs::Instructions::form))]
 pub fn form_of(inst: &Inst) -> Form
     ensures { result ≡ form inst.now }
@@ -160,30 +161,30 @@ pub fn form_of(inst: &Inst) -> Form
     }
 }
 
-fn branched(pc: u32, taken: bool, imm: i32) -> u32
-    ensures { result ≡ plus pc (if taken then word imm else 4) }
+fn branched(counter: u32, taken: bool, imm: i32) -> u32
+    ensures { result ≡ plus counter (if taken then word imm else 4) }
 {
     if taken {
-        pc.wrapping_add(imm.cast_unsigned())
+        counter.wrapping_add(imm.cast_unsigned())
     } else {
-        pc.wrapping_add(4)
+        counter.wrapping_add(4)
     }
 }
 
-/// The counter after an instruction.
+/// The counter after an instruction, from its own address and the values of its sources.
 #[tactic(auto, unfolding(crate::specs::Instructions::next))]
-pub fn next(inst: &Inst, pc: u32, x: u32, y: u32) -> u32
-    ensures { result ≡ next inst.now pc x y }
+pub fn next(inst: &Inst, counter: u32, first: u32, second: u32) -> u32
+    ensures { result ≡ next inst.now counter first second }
 {
     match *inst {
-        Inst::Jal(_, imm) => pc.wrapping_add(imm.cast_unsigned()),
-        Inst::Jalr(_, _, imm) => x.wrapping_add(imm.cast_unsigned()) / 2 * 2,
-        Inst::Beq(_, _, imm) => branched(pc, x == y, imm),
-        Inst::Bne(_, _, imm) => branched(pc, x != y, imm),
-        Inst::Blt(_, _, imm) => branched(pc, x.cast_signed() < y.cast_signed(), imm),
-        Inst::Bge(_, _, imm) => branched(pc, x.cast_signed() >= y.cast_signed(), imm),
-        Inst::Bltu(_, _, imm) => branched(pc, x < y, imm),
-        Inst::Bgeu(_, _, imm) => branched(pc, x >= y, imm),
-        _ => pc.wrapping_add(4),
+        Inst::Jal(_, imm) => counter.wrapping_add(imm.cast_unsigned()),
+        Inst::Jalr(_, _, imm) => first.wrapping_add(imm.cast_unsigned()) / 2 * 2,
+        Inst::Beq(_, _, imm) => branched(counter, first == second, imm),
+        Inst::Bne(_, _, imm) => branched(counter, first != second, imm),
+        Inst::Blt(_, _, imm) => branched(counter, first.cast_signed() < second.cast_signed(), imm),
+        Inst::Bge(_, _, imm) => branched(counter, first.cast_signed() >= second.cast_signed(), imm),
+        Inst::Bltu(_, _, imm) => branched(counter, first < second, imm),
+        Inst::Bgeu(_, _, imm) => branched(counter, first >= second, imm),
+        _ => counter.wrapping_add(4),
     }
 }

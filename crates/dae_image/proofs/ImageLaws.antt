@@ -87,7 +87,7 @@ body_again whole c rest fits =
 -- ---- the image
 
 -- the spelling in a version
-abbrev spelling : ℕ → Contents → List ℕ
+abbrev pub spelling : ℕ → Contents → List ℕ
 spelling v c = numbers (head v (header c)) ++ body c
 
 spells_1 : (c : Contents) → spelling_1 c ≡ spelling 1 c
@@ -102,7 +102,7 @@ two v is_version other = elim (cases_order v 2) [
   | inr apart ↦ elim apart [ inl less ↦ absurd (other (omega (arith, less, is_version))) | inr more ↦ absurd (omega (arith, more, is_version)) ]
 ]
 
-spells : (bytes : List ℕ) (v : ℕ) (c : Contents) → IsIn version_range v → (v ≡ 1 → c.budget.cq ≡ 0) → bytes ≡ spelling v c → Spells bytes c
+pub spells : (bytes : List ℕ) (v : ℕ) (c : Contents) → IsIn version_range v → (v ≡ 1 → c.budget.cq ≡ 0) → bytes ≡ spelling v c → Spells bytes c
 spells bytes v c is_version old text =
     elim (cases_eq v 1) [
       | inl one ↦ inr (old one, text ∙ ap (λ (k : ℕ). spelling k c) one)

@@ -4,3 +4,4 @@ pub mod HeaderLaws
 pub mod BodyLaws
 pub mod ImageLaws
 pub mod ReadLaws
+pub mod FaultLaws

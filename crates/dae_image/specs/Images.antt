@@ -1,9 +1,10 @@
 -- Images as what they hold.
-use Rattle.std.specs.Prelude.{◌≡◌, List, ℕ, Result, Ok, Err}
+use Rattle.std.specs.Prelude.{◌≡◌, ◌<◌, List, ℕ, length, take, Result, Ok, Err}
 use Rattle.dae_image.specs.declared.Image.{Image}
 use Rattle.dae_image.specs.declared.fault.ImageError.{ImageError}
 use Rattle.dae_image.specs.declared.fault.ImageError.TheVariants.{Memory}
 use Rattle.dae_image.specs.Contents.{Contents}
+use Rattle.dae_image.specs.Spelling.{Spells}
 
 abbrev pub contents : Image → Contents
 contents i = record {
@@ -25,3 +26,7 @@ contents i = record {
 abbrev pub IsOrMemory : Image → Result Image ImageError → Type 0
 IsOrMemory image (Ok read) = read ≡ image
 IsOrMemory image (Err e) = e ≡ Memory
+
+-- an image ends after the first n bytes, and others follow
+abbrev pub IsSpelledBefore : ℕ → List ℕ → Type 0
+IsSpelledBefore n bytes = (n < length bytes) × ((image : Image) × Spells (take n bytes) (contents image))

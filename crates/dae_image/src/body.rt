@@ -174,8 +174,8 @@ fn name(alloc: Global, whole: u32, bytes: &[u8]) -> Result<(Text, &[u8]), ImageE
         most: 4_096,
         step: 1,
     };
-    let (size, rest) = field(whole, Field::Name, sizes, bytes)?;
-    let (front, rest) = split(whole, size as usize, rest)?;
+    let (size, after) = field(whole, Field::Name, sizes, bytes)?;
+    let (front, rest) = split(whole, size as usize, after)?;
     let Some(text) = text_of(front) else {
         return Err(ImageError::BadField(Field::Name, offset_of(whole, bytes)));
     };

@@ -26,6 +26,15 @@ pub struct Header {
     pub names: u32,
 }
 
+/// The letters DAE1.
+pub const MAGIC: u32 = 0x3145_4144;
+
+const LETTERS: Range = Range {
+    least: MAGIC,
+    most: MAGIC,
+    step: 1,
+};
+
 const VERSION: Range = Range {
     least: 1,
     most: 2,
@@ -78,13 +87,7 @@ const NAME_COUNT: Range = Range {
 pub fn version(whole: u32, bytes: &[u8]) -> Result<(u32, &[u8]), ImageError>
     ensures { Gives (λ x. (x.0, x.1.now)) result (version_at whole bytes.now) }
 {
-    let magic = u32::from_le_bytes(*b"DAE1");
-    let letters = Range {
-        least: magic,
-        most: magic,
-        step: 1,
-    };
-    let (_, rest) = field(whole, Field::Magic, letters, bytes)?;
+    let (_, rest) = field(whole, Field::Magic, LETTERS, bytes)?;
     field(whole, Field::Version, VERSION, rest)
 }
 

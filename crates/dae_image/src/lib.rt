@@ -1,4 +1,6 @@
-// Images: the two codes, the data and the budget of a program, and their bytes.
+// Images: the two codes, the data and the budget of a program, and their bytes. `write` gives the one spelling of an
+// image in version 2. `read` takes the bytes of version 1 or 2 and gives the image that they spell, or the first fault
+// from the left: of each value, each field is in its range, so nothing above tests it again.
 #![tactic(auto)]
 
 ghost use Rattle.dae_image.specs.Contents.{Fits};
@@ -26,7 +28,9 @@ pub struct LineMark {
     pub line: u32,
 }
 
-/// A program for the machine.
+/// A program for the machine: what each queue has to hold, the bytes of common memory, how deep calls may nest, the
+/// bytes of the two private memories, the addresses of the first instructions, the words of the two codes, the data,
+/// which begin at address 16 of common memory, and where the code comes from.
 #[derive(Drop)]
 pub struct Image {
     pub budget: Depths,

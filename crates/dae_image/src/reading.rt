@@ -1,11 +1,11 @@
 //! Images from bytes.
 
-ghost use Rattle.std.specs.Prelude.{◌≡◌, ◌≤◌, length, IfOk};
+ghost use Rattle.std.specs.Prelude.{◌≡◌, ◌≤◌, ℕ, length, IfOk};
 ghost use Rattle.dae_image.specs.declared.Image.{Image};
 ghost use Rattle.dae_image.specs.Contents.{Contents, HeaderFits};
 ghost use Rattle.dae_image.specs.Spelling.{Spells};
 ghost use Rattle.dae_image.specs.Reading.{Gives, body_at, image_at};
-ghost use Rattle.dae_image.specs.Images.{contents, IsOrMemory};
+ghost use Rattle.dae_image.specs.Images.{contents, IsOrMemory, IsSpelledBefore};
 
 use crate::Image;
 use crate::body::{code, content, lines, names};
@@ -74,6 +74,11 @@ pub fn read(alloc: Global, bytes: &[u8]) -> Result<Image, ImageError>
 
     // Which fault it is.
     ensures exact { Gives contents result (image_at bytes.now) }
+
+    // A fault of too few bytes tells their number, and one of too many where an image ends.
+    ensures short { (n : ℕ) → result ≡ Err (ImageError.Short n) → n ≡ length bytes.now }
+    ensures trailing { (n : ℕ) → result ≡ Err (ImageError.Trailing n) → IsSpelledBefore n bytes.now }
+    ensures only_trailing { (n : ℕ) → IsSpelledBefore n bytes.now → Gives contents result (Err (ImageError.Trailing n)) }
 {
     all(alloc, bytes)
 }

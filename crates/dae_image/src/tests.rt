@@ -8,37 +8,46 @@ use std::alloc::{AllocError, Global};
 use std::test::*;
 
 /// Version 1: one ECALL against one ADDI.
-const HALTS: [u8; 84] = [
-    68, 65, 69, 49, 1, 0, 0, 0, 0, 0, 0, 0, 0, 0, 0, 0, 0, 0, 0, 0, 0, 0, 0, 0, 0, 0, 0, 0, 0, 0,
-    0, 0, 64, 0, 0, 0, 1, 0, 0, 0, 0, 0, 0, 0, 0, 0, 0, 0, 0, 0, 0, 0, 0, 0, 0, 0, 1, 0, 0, 0, 1,
-    0, 0, 0, 0, 0, 0, 0, 0, 0, 0, 0, 0, 0, 0, 0, 115, 0, 0, 0, 147, 2, 15, 0,
-];
+fn halts() -> [u8; 84] {
+    [
+        68, 65, 69, 49, 1, 0, 0, 0, 0, 0, 0, 0, 0, 0, 0, 0, 0, 0, 0, 0, 0, 0, 0, 0, 0, 0, 0, 0, 0,
+        0, 0, 0, 64, 0, 0, 0, 1, 0, 0, 0, 0, 0, 0, 0, 0, 0, 0, 0, 0, 0, 0, 0, 0, 0, 0, 0, 1, 0, 0,
+        0, 1, 0, 0, 0, 0, 0, 0, 0, 0, 0, 0, 0, 0, 0, 0, 0, 115, 0, 0, 0, 147, 2, 15, 0,
+    ]
+}
 
 /// Version 1: loads a word, adds one to it and stores the sum.
-const ADDS: [u8; 108] = [
-    68, 65, 69, 49, 1, 0, 0, 0, 1, 0, 0, 0, 0, 0, 0, 0, 1, 0, 0, 0, 1, 0, 0, 0, 0, 0, 0, 0, 0, 0,
-    0, 0, 64, 0, 0, 0, 1, 0, 0, 0, 0, 0, 0, 0, 0, 0, 0, 0, 0, 0, 0, 0, 0, 0, 0, 0, 3, 0, 0, 0, 3,
-    0, 0, 0, 8, 0, 0, 0, 0, 0, 0, 0, 0, 0, 0, 0, 35, 40, 224, 1, 3, 47, 64, 1, 115, 0, 0, 0, 19, 5,
-    15, 0, 19, 15, 21, 0, 115, 0, 0, 0, 0, 0, 0, 0, 7, 0, 0, 0,
-];
+fn adds() -> [u8; 108] {
+    [
+        68, 65, 69, 49, 1, 0, 0, 0, 1, 0, 0, 0, 0, 0, 0, 0, 1, 0, 0, 0, 1, 0, 0, 0, 0, 0, 0, 0, 0,
+        0, 0, 0, 64, 0, 0, 0, 1, 0, 0, 0, 0, 0, 0, 0, 0, 0, 0, 0, 0, 0, 0, 0, 0, 0, 0, 0, 3, 0, 0,
+        0, 3, 0, 0, 0, 8, 0, 0, 0, 0, 0, 0, 0, 0, 0, 0, 0, 35, 40, 224, 1, 3, 47, 64, 1, 115, 0, 0,
+        0, 19, 5, 15, 0, 19, 15, 21, 0, 115, 0, 0, 0, 0, 0, 0, 0, 7, 0, 0, 0,
+    ]
+}
 
 /// Version 2: sends one copy.
-const COPIES: [u8; 96] = [
-    68, 65, 69, 49, 2, 0, 0, 0, 0, 0, 0, 0, 0, 0, 0, 0, 0, 0, 0, 0, 0, 0, 0, 0, 0, 0, 0, 0, 0, 0,
-    0, 0, 1, 0, 0, 0, 64, 0, 0, 0, 1, 0, 0, 0, 0, 0, 0, 0, 0, 0, 0, 0, 0, 0, 0, 0, 0, 0, 0, 0, 2,
-    0, 0, 0, 2, 0, 0, 0, 0, 0, 0, 0, 0, 0, 0, 0, 0, 0, 0, 0, 19, 14, 144, 0, 115, 0, 0, 0, 19, 5,
-    14, 0, 115, 0, 0, 0,
-];
+fn copies() -> [u8; 96] {
+    [
+        68, 65, 69, 49, 2, 0, 0, 0, 0, 0, 0, 0, 0, 0, 0, 0, 0, 0, 0, 0, 0, 0, 0, 0, 0, 0, 0, 0, 0,
+        0, 0, 0, 1, 0, 0, 0, 64, 0, 0, 0, 1, 0, 0, 0, 0, 0, 0, 0, 0, 0, 0, 0, 0, 0, 0, 0, 0, 0, 0,
+        0, 2, 0, 0, 0, 2, 0, 0, 0, 0, 0, 0, 0, 0, 0, 0, 0, 0, 0, 0, 0, 19, 14, 144, 0, 115, 0, 0,
+        0, 19, 5, 14, 0, 115, 0, 0, 0,
+    ]
+}
 
 /// Version 2: three line marks, from 112 on, and two names, at 160 and 167.
-const MARKED: [u8; 173] = [
-    68, 65, 69, 49, 2, 0, 0, 0, 1, 0, 0, 0, 0, 0, 0, 0, 1, 0, 0, 0, 1, 0, 0, 0, 0, 0, 0, 0, 0, 0,
-    0, 0, 0, 0, 0, 0, 64, 0, 0, 0, 1, 0, 0, 0, 0, 0, 0, 0, 0, 0, 0, 0, 0, 0, 0, 0, 0, 0, 0, 0, 3,
-    0, 0, 0, 3, 0, 0, 0, 8, 0, 0, 0, 3, 0, 0, 0, 2, 0, 0, 0, 35, 40, 224, 1, 3, 47, 64, 1, 115, 0,
-    0, 0, 19, 5, 15, 0, 19, 15, 21, 0, 115, 0, 0, 0, 0, 0, 0, 0, 7, 0, 0, 0, 0, 0, 0, 0, 0, 0, 0,
-    0, 0, 0, 0, 0, 3, 0, 0, 0, 0, 0, 0, 0, 2, 0, 0, 0, 0, 0, 0, 0, 4, 0, 0, 0, 1, 0, 0, 0, 1, 0, 0,
-    0, 1, 0, 0, 0, 7, 0, 0, 0, 3, 0, 0, 0, 97, 46, 99, 2, 0, 0, 0, 195, 169,
-];
+fn marked() -> [u8; 173] {
+    [
+        68, 65, 69, 49, 2, 0, 0, 0, 1, 0, 0, 0, 0, 0, 0, 0, 1, 0, 0, 0, 1, 0, 0, 0, 0, 0, 0, 0, 0,
+        0, 0, 0, 0, 0, 0, 0, 64, 0, 0, 0, 1, 0, 0, 0, 0, 0, 0, 0, 0, 0, 0, 0, 0, 0, 0, 0, 0, 0, 0,
+        0, 3, 0, 0, 0, 3, 0, 0, 0, 8, 0, 0, 0, 3, 0, 0, 0, 2, 0, 0, 0, 35, 40, 224, 1, 3, 47, 64,
+        1, 115, 0, 0, 0, 19, 5, 15, 0, 19, 15, 21, 0, 115, 0, 0, 0, 0, 0, 0, 0, 7, 0, 0, 0, 0, 0,
+        0, 0, 0, 0, 0, 0, 0, 0, 0, 0, 3, 0, 0, 0, 0, 0, 0, 0, 2, 0, 0, 0, 0, 0, 0, 0, 4, 0, 0, 0,
+        1, 0, 0, 0, 1, 0, 0, 0, 1, 0, 0, 0, 7, 0, 0, 0, 3, 0, 0, 0, 97, 46, 99, 2, 0, 0, 0, 195,
+        169,
+    ]
+}
 
 fn fault(alloc: Global, bytes: &[u8]) -> Option<ImageError>
     requires { length bytes.now ≤ 536870912 }
@@ -59,13 +68,14 @@ fn changed(alloc: Global, bytes: &[u8], offset: usize, number: u32) -> Result<Ve
 
 #[test]
 fn old_versions_are_written_as_the_new_one(rt: HostRuntime) -> Result<(), Fail> {
-    let image = read(rt.alloc(), &HALTS)?;
+    let old = halts();
+    let image = read(rt.alloc(), &old)?;
     assert_eq!(rt; image.memory, 64);
     assert_eq!(rt; image.code_e.as_slice(), [0x000f_0293].as_slice());
     let written = write(rt.alloc(), &image)?;
-    let mut wanted = changed(rt.alloc(), &HALTS[..32], 4, 2)?;
+    let mut wanted = changed(rt.alloc(), &old[..32], 4, 2)?;
     wanted.extend_from_slice(&[0; 4])?;
-    wanted.extend_from_slice(&HALTS[32..])?;
+    wanted.extend_from_slice(&old[32..])?;
     assert_eq!(rt; written.as_slice(), wanted.as_slice());
     assert_eq!(rt; written.len(), 88);
     Ok(())
@@ -73,14 +83,14 @@ fn old_versions_are_written_as_the_new_one(rt: HostRuntime) -> Result<(), Fail> 
 
 #[test]
 fn new_versions_come_back(rt: HostRuntime) -> Result<(), Fail> {
-    let image = read(rt.alloc(), &COPIES)?;
+    let image = read(rt.alloc(), &copies())?;
     assert_eq!(rt; image.budget.cq, 1);
-    assert_eq!(rt; write(rt.alloc(), &image)?.as_slice(), COPIES.as_slice());
-    let image = read(rt.alloc(), &MARKED)?;
+    assert_eq!(rt; write(rt.alloc(), &image)?.as_slice(), copies().as_slice());
+    let image = read(rt.alloc(), &marked())?;
     assert_eq!(rt; image.lines.len(), 3);
     assert_eq!(rt; image.names.len(), 2);
-    assert_eq!(rt; write(rt.alloc(), &image)?.as_slice(), MARKED.as_slice());
-    let other = changed(rt.alloc(), &ADDS, 80, 0x0100_2f03)?;
+    assert_eq!(rt; write(rt.alloc(), &image)?.as_slice(), marked().as_slice());
+    let other = changed(rt.alloc(), &adds(), 80, 0x0100_2f03)?;
     let image = read(rt.alloc(), &other)?;
     assert_eq!(rt;
         image.code_a.as_slice(),
@@ -96,18 +106,18 @@ fn new_versions_come_back(rt: HostRuntime) -> Result<(), Fail> {
 #[test]
 fn short_and_long(rt: HostRuntime) -> Result<(), Fail> {
     for k in 0..84 {
-        assert_eq!(rt; fault(rt.alloc(), &HALTS[..k]), Some(Short(k as u32)));
+        assert_eq!(rt; fault(rt.alloc(), &halts()[..k]), Some(Short(k as u32)));
     }
     for k in 0..108 {
-        assert_eq!(rt; fault(rt.alloc(), &ADDS[..k]), Some(Short(k as u32)));
+        assert_eq!(rt; fault(rt.alloc(), &adds()[..k]), Some(Short(k as u32)));
     }
     for k in 0..96 {
-        assert_eq!(rt; fault(rt.alloc(), &COPIES[..k]), Some(Short(k as u32)));
+        assert_eq!(rt; fault(rt.alloc(), &copies()[..k]), Some(Short(k as u32)));
     }
     for k in 0..173 {
-        assert_eq!(rt; fault(rt.alloc(), &MARKED[..k]), Some(Short(k as u32)));
+        assert_eq!(rt; fault(rt.alloc(), &marked()[..k]), Some(Short(k as u32)));
     }
-    let mut longer = Vec::from_slice(rt.alloc(), &HALTS)?;
+    let mut longer = Vec::from_slice(rt.alloc(), &halts())?;
     longer.push(0)?;
     assert_eq!(rt; fault(rt.alloc(), &longer), Some(Trailing(84)));
     Ok(())
@@ -125,7 +135,7 @@ fn old_fields(rt: HostRuntime) -> Result<(), Fail> {
     ];
     for (offset, number, field) in rows {
         assert!(rt; offset <= 104);
-        let bytes = changed(rt.alloc(), &ADDS, offset, number)?;
+        let bytes = changed(rt.alloc(), &adds(), offset, number)?;
         assert_eq!(rt;
             fault(rt.alloc(), &bytes),
             Some(BadField(field, offset as u32))
@@ -134,9 +144,8 @@ fn old_fields(rt: HostRuntime) -> Result<(), Fail> {
     Ok(())
 }
 
-#[test]
-fn fields_of_queues_and_memories(rt: HostRuntime) -> Result<(), Fail> {
-    let rows = [
+fn queue_and_memory_fields_rows() -> [(usize, u32, Option<ImageError>); 32] {
+    [
         (0, 826622277, Some(BadField(Field::Magic, 0))),
         (4, 0, Some(BadField(Field::Version, 4))),
         (4, 3, Some(BadField(Field::Version, 4))),
@@ -169,18 +178,21 @@ fn fields_of_queues_and_memories(rt: HostRuntime) -> Result<(), Fail> {
         (48, 1073741824, None),
         (48, 1073741828, Some(BadField(Field::PrivateE, 48))),
         (48, 2, Some(BadField(Field::PrivateE, 48))),
-    ];
-    for (offset, number, wanted) in rows {
+    ]
+}
+
+#[test]
+fn queue_and_memory_fields(rt: HostRuntime) -> Result<(), Fail> {
+    for (offset, number, wanted) in queue_and_memory_fields_rows() {
         assert!(rt; offset <= 169);
-        let bytes = changed(rt.alloc(), &MARKED, offset, number)?;
+        let bytes = changed(rt.alloc(), &marked(), offset, number)?;
         assert_eq!(rt; fault(rt.alloc(), &bytes), wanted);
     }
     Ok(())
 }
 
-#[test]
-fn fields_of_codes_and_lengths(rt: HostRuntime) -> Result<(), Fail> {
-    let rows = [
+fn code_and_length_fields_rows() -> [(usize, u32, Option<ImageError>); 24] {
+    [
         (52, 8, None),
         (52, 12, Some(BadField(Field::WordsA, 60))),
         (52, 134217724, Some(BadField(Field::WordsA, 60))),
@@ -205,18 +217,21 @@ fn fields_of_codes_and_lengths(rt: HostRuntime) -> Result<(), Fail> {
         (72, 262145, Some(BadField(Field::LineCount, 72))),
         (76, 1024, Some(Short(173))),
         (76, 1025, Some(BadField(Field::NameCount, 76))),
-    ];
-    for (offset, number, wanted) in rows {
+    ]
+}
+
+#[test]
+fn code_and_length_fields(rt: HostRuntime) -> Result<(), Fail> {
+    for (offset, number, wanted) in code_and_length_fields_rows() {
         assert!(rt; offset <= 169);
-        let bytes = changed(rt.alloc(), &MARKED, offset, number)?;
+        let bytes = changed(rt.alloc(), &marked(), offset, number)?;
         assert_eq!(rt; fault(rt.alloc(), &bytes), wanted);
     }
     Ok(())
 }
 
-#[test]
-fn marks_and_names(rt: HostRuntime) -> Result<(), Fail> {
-    let rows = [
+fn marks_and_names_rows() -> [(usize, u32, Option<ImageError>); 22] {
+    [
         (112, 2, Some(BadField(Field::Line, 112))),
         (112, 1, Some(BadField(Field::Line, 128))),
         (116, 3, Some(BadField(Field::Line, 112))),
@@ -236,10 +251,17 @@ fn marks_and_names(rt: HostRuntime) -> Result<(), Fail> {
         (160, 4096, Some(Short(173))),
         (160, 4097, Some(BadField(Field::Name, 160))),
         (164, 2147483650, Some(Short(173))),
-    ];
-    for (offset, number, wanted) in rows {
+        (169, 0xa9c3_0000, None),
+        (169, 0xc3a9_0000, Some(BadField(Field::Name, 167))),
+        (169, 0x41c3_0000, Some(BadField(Field::Name, 167))),
+    ]
+}
+
+#[test]
+fn marks_and_names(rt: HostRuntime) -> Result<(), Fail> {
+    for (offset, number, wanted) in marks_and_names_rows() {
         assert!(rt; offset <= 169);
-        let bytes = changed(rt.alloc(), &MARKED, offset, number)?;
+        let bytes = changed(rt.alloc(), &marked(), offset, number)?;
         assert_eq!(rt; fault(rt.alloc(), &bytes), wanted);
     }
     Ok(())

@@ -6,6 +6,7 @@ ghost use Rattle.dae_image.specs.Contents.{header, is_name};
 ghost use Rattle.dae_image.specs.Spelling.{numbers, side_number, line, name, head_2, spelling_2};
 ghost use Rattle.dae_image.specs.Images.{contents};
 
+use crate::header::MAGIC;
 use crate::{Image, LineMark};
 use dae_base::{Side, Text};
 use std::alloc::{AllocError, Global};
@@ -25,7 +26,7 @@ fn put_head(out: &mut Vec<u8>, image: &Image) -> Result<(), AllocError>
     put_numbers(
         out,
         &[
-            u32::from_le_bytes(*b"DAE1"),
+            MAGIC,
             2,
             image.budget.ld as u32,
             image.budget.al as u32,

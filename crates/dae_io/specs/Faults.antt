@@ -1,6 +1,5 @@
 -- Faults of files and streams: how many there were, and what the last one was.
 use Rattle.std.specs.Prelude.{ℕ, ◌+◌, ◌-◌, ◌^◌, ◌≤◌, min, List, take, Option, Some}
-use Rattle.std.proofs.Common.{arith}
 use Rattle.dae_io.specs.declared.faults.ShelfFault.{ShelfFault}
 use Rattle.dae_io.specs.declared.faults.ShelfFault.TheVariants.{Fetch, Keep}
 
@@ -19,11 +18,3 @@ fetch_of name = Some (Fetch (fault_name name))
 -- the last fault is the keep of this name
 abbrev pub keep_of : List ℕ → Option ShelfFault
 keep_of name = Some (Keep (fault_name name))
-
--- a count that never falls rose where it did so in between
-pub Rose-within : (a b c d : ℕ) → a ≤ b → Rose b c → c ≤ d → Rose a d
-Rose-within a b c d first rose last = grind arith
-
--- the count of an object that never fails
-pub Rose-never : Rose 0 0 → ⊥
-Rose-never rose = omega arith

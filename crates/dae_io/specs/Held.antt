@@ -1,5 +1,5 @@
 -- The texts that a shelf in memory holds, and its room for one more.
-use Rattle.std.specs.Prelude.{ℕ, ◌<◌, ◌≤◌, List, length, reverse, Option, IsSomeAnd, option_map, string_bytes, vec_len}
+use Rattle.std.specs.Prelude.{ℕ, ◌<◌, ◌≤◌, List, reverse, Option, IsSomeAnd, option_map, string_bytes, vec_len}
 use Rattle.std.specs.List.{find}
 use Rattle.std.specs.Str.{bytes_eq}
 use Rattle.std.specs.String.{string_capacity}

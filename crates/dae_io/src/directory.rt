@@ -10,8 +10,8 @@ use std::fs::{File, Files};
 /// The shelf of the real files: a name is a path. It tells nothing of what they hold.
 #[derive(Drop)]
 pub struct DirShelf<'r, R> {
-    files: &'r R,
-    faults: Faults,
+    pub files: &'r R,
+    pub faults: Faults,
 }
 
 impl<'r, R: Files> DirShelf<'r, R> {

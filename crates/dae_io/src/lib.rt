@@ -23,4 +23,6 @@ mod prefix;
 mod shelf;
 mod sink;
 mod standard;
+#[cfg(test)]
+mod tests;
 mod transfer;

@@ -44,10 +44,7 @@ impl HeldText {
         let fits = name.len() <= self.name.capacity() && text.len() <= self.text.capacity();
         self.name.clear();
         self.text.clear();
-        if fits
-            && self.name.push_str(name).is_ok()
-            && self.text.extend_from_slice(text).is_ok()
-        {
+        if fits && self.name.push_str(name).is_ok() && self.text.extend_from_slice(text).is_ok() {
             Some(self)
         } else {
             None

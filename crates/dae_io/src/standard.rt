@@ -8,8 +8,9 @@ use std::io::Write;
 /// two streams nothing is told.
 #[derive(Drop)]
 pub struct StdSink<W> {
-    writer: W,
-    count: u64,
+    pub writer: W,
+    /// How many calls failed, up to 2^64 - 1.
+    pub count: u64,
 }
 
 impl<W: Write> StdSink<W> {

@@ -105,6 +105,7 @@ impl Machine {
         requires few { self.old.state.steps < 1000000000000 }
         ensures setup { self.new.setup ≡ self.old.setup }
         ensures state { step self.old.setup self.old.state pick ≡ Some (record self.new.state { printed = result }) }
+        ensures silent { self.new.state.printed ≡ [] }
     {
         match pick {
             Pick::A => {
@@ -136,6 +137,7 @@ impl Machine {
         requires few { self.old.state.steps < 1000000000000 }
         ensures setup { self.new.setup ≡ self.old.setup }
         ensures state { step self.old.setup self.old.state Pick.A ≡ Some (record self.new.state { printed = [] }) }
+        ensures silent { self.new.state.printed ≡ [] }
     {
         let memory = self.memory.len() as u32;
         let _ = self.a.step(&self.code_a, memory, &mut self.queues);
@@ -148,6 +150,7 @@ impl Machine {
         requires few { self.old.state.steps < 1000000000000 }
         ensures setup { self.new.setup ≡ self.old.setup }
         ensures state { step self.old.setup self.old.state Pick.E ≡ Some (record self.new.state { printed = result }) }
+        ensures silent { self.new.state.printed ≡ [] }
     {
         let memory = self.memory.len() as u32;
         let answer = self.e.step(&self.code_e, memory, &mut self.queues);
@@ -163,6 +166,7 @@ impl Machine {
         requires few { self.old.state.steps < 1000000000000 }
         ensures setup { self.new.setup ≡ self.old.setup }
         ensures state { step self.old.setup self.old.state (Pick.Fill side number) ≡ Some (record self.new.state { printed = [] }) }
+        ensures silent { self.new.state.printed ≡ [] }
     {
         if let Some(word) = self.filling(side, number) {
             self.queues.fill(side, number, word);
@@ -175,6 +179,7 @@ impl Machine {
         requires few { self.old.state.steps < 1000000000000 }
         ensures setup { self.new.setup ≡ self.old.setup }
         ensures state { step self.old.setup self.old.state Pick.Drain ≡ Some (record self.new.state { printed = [] }) }
+        ensures silent { self.new.state.printed ≡ [] }
     {
         if let Some((at, word)) = self.queues.draining() {
             self.queues.drain();

@@ -1,4 +1,6 @@
--- The queues as plain lists: what may be put in and taken out, and what memory may fill and drain.
+-- The queues as plain lists: what may be put in and taken out, and what memory may fill and drain. They are those of
+-- Smith, "Decoupled Access/Execute Computer Architectures", architecture overview: operands wait in queues between the
+-- processors, a store address waits for its datum, and a load is compared with the store addresses that wait.
 use Rattle.std.specs.Prelude.{ℕ, ◌+◌, Bool, not, ◌&&◌, nat_eq, nat_lt, nat_le, if◌then◌else◌, List, [], ◌∷◌, ◌++◌, map, Option, Some, None, is_none, option_and_then}
 use Rattle.std.specs.List.{list_any, find}
 use Rattle.std.specs.Bool.{then_some}

@@ -8,10 +8,13 @@ use std::marker::Model;
 
 /// A queue of items with a depth: what is pushed at the back is taken at the front, oldest first.
 pub trait Fifo<T: Copy> {
+    // What waits, oldest first.
     ghost held: { Self → List T };
 
+    // How many items may wait.
     ghost depth: { Self → ℕ };
 
+    // The queue after an item was appended, and after the oldest one was taken.
     ghost pushed: { T → Self → Self };
 
     ghost taken: { Self → Self };
@@ -46,6 +49,7 @@ pub trait Fifo<T: Copy> {
 
     ghost take_removes: { (q : Self) → (held (taken q) ≡ rest (held q)) × (depth (taken q) ≡ depth q) };
 
+    // A push and a take on a queue that allows both give one state in either order.
     ghost ends_commute: { (x : T) (q : Self) → nat_lt (length (held q)) (depth q) ≡ true → is_some (first (held q)) ≡ true → taken (pushed x q) ≡ pushed x (taken q) };
 }
 

@@ -9,11 +9,20 @@ ghost use Rattle.dae_queues.specs.declared.StoreAt.{StoreAt};
 ghost use Rattle.dae_queues.specs.Lists.{Slots, Stores, first, first_value, rest, without_front, with_slot, with_address, with_datum, with_value, filling_of, draining_of, without_store};
 ghost use Rattle.dae_queues.specs.Numbers.{SlotsCount, StoresCount};
 
+use crate::Fifo;
+
 /// A push at the back of a queue of words, and a take at its front.
 pub fn push_and_take()
     ensures word { (w : ℕ) (ws : List ℕ) → is_some (first ws) ≡ true → first (ws ++ w ∷ []) ≡ first ws }
     ensures room { (depth : ℕ) (ws : List ℕ) → nat_lt (length ws) depth ≡ true → nat_lt (length (rest ws)) depth ≡ true }
     ensures one_state { (w : ℕ) (ws : List ℕ) → is_some (first ws) ≡ true → rest (ws ++ w ∷ []) ≡ rest ws ++ w ∷ [] }
+{}
+
+/// A push at the back of any queue of items, and a take at its front.
+pub fn item_push_and_take<T: Copy, F: Fifo<T>>()
+    ensures item { (x : T) (q : F) → is_some (first (F.held q)) ≡ true → first (F.held (F.pushed x q)) ≡ first (F.held q) }
+    ensures room { (q : F) → nat_lt (length (F.held q)) (F.depth q) ≡ true → nat_lt (length (F.held (F.taken q))) (F.depth (F.taken q)) ≡ true }
+    ensures one_state { (x : T) (q : F) → nat_lt (length (F.held q)) (F.depth q) ≡ true → is_some (first (F.held q)) ≡ true → F.taken (F.pushed x q) ≡ F.pushed x (F.taken q) }
 {}
 
 /// A reservation at the back of a load queue, and a take at its front.

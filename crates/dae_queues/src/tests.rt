@@ -1,3 +1,4 @@
+use crate::laws::item_push_and_take;
 use crate::{Fifo, PlainFifo, RingFifo, Slot, SlotQueue, StoreAt, StoreQueue, overlap};
 use dae_base::{LoadKind, Width};
 use std::alloc::AllocError;
@@ -33,6 +34,8 @@ fn call_list(list: &mut Vec<u32>, word: u32) -> Result<Option<u32>, AllocError> 
 
 #[test]
 fn fifos_are_lists(rt: HostRuntime) -> Result<(), Fail> {
+    item_push_and_take::<u32, PlainFifo<u32>>();
+    item_push_and_take::<u32, RingFifo<u32>>();
     let mut plain = PlainFifo::with_depth(rt.alloc(), DEPTH as u16)?;
     let mut ring = RingFifo::with_depth(rt.alloc(), DEPTH as u16)?;
     let mut list = Vec::new(rt.alloc());

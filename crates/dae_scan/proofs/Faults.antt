@@ -1,5 +1,5 @@
 -- A literal's inside byte by byte.
-use Rattle.std.proofs.Common.{◌≡◌, ℕ, zero, suc, ◌+◌, ◌<◌, List, [], ◌∷◌, drop, get_or, length, refl, ap, sym, ◌∙◌, arith, Option, Some, None, Ok, Err, option_map}
+use Rattle.std.proofs.Common.{◌≡◌, ℕ, suc, ◌+◌, ◌<◌, List, ◌∷◌, drop, get_or, length, refl, ap, sym, ◌∙◌, arith, Option, Some, None, Ok, Err, option_map}
 use Rattle.std.proofs.lemmas.List.{drop_more}
 use Rattle.dae_token.specs.declared.faults.Fault.{Fault}
 use Rattle.dae_token.specs.Literals.{checked, one_on, fault_from}

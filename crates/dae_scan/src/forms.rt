@@ -2,7 +2,9 @@ ghost use Rattle.std.specs.Prelude.{◌≡◌, ◌≤◌, ◌<◌, ◌+◌, leng
 ghost use Rattle.std.specs.List.{prefix_len};
 ghost use Rattle.dae_token.specs.Forms.{is_letter, is_word, begins_number, number_rest, literal_stop, front_nowhere, closes_comment, ends_line, place_of, plain, wrong, wrong_comment, word_form, number_form, literal_fault, literal_kind, literal_form, comment_form, line_comment_form, sign_form, form, IsWithin};
 
-use crate::bytes::{begins_trigraph, byte_at, is_blank_byte, is_letter_byte, is_nowhere_byte, is_word_byte};
+use crate::bytes::{
+    begins_trigraph, byte_at, is_blank_byte, is_letter_byte, is_nowhere_byte, is_word_byte,
+};
 use crate::literals::{first_fault, first_value, values_length};
 use crate::numbers::number_kind;
 use crate::tables::sign_at;

@@ -3,7 +3,7 @@
 #![tactic(auto)]
 
 pub use forms::form_at;
-pub use literals::values_length;
+pub use literals::{append_values, values_length};
 pub use numbers::{number_kind, read_constant};
 pub use tables::{find_header, find_keyword, find_refused_word};
 

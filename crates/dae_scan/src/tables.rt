@@ -1,7 +1,9 @@
 ghost use Rattle.std.specs.Prelude.{◌≡◌, ◌≤◌, ◌<◌, length, IfSome};
 ghost use Rattle.dae_token.specs.Tables.{first_row, row_of, rows_of, sign_of, keyword_of, refused_word, header_of, suffix_of};
 
-use dae_token::{Construct, HEADERS, Header, KEYWORDS, Keyword, PieceKind, REFUSED_WORDS, SIGNS, SUFFIXES};
+use dae_token::{
+    Construct, HEADERS, Header, KEYWORDS, Keyword, PieceKind, REFUSED_WORDS, SIGNS, SUFFIXES,
+};
 
 /// The first row whose spelling begins the bytes: the spelling's length, and what it spells.
 fn find_row<T: Copy>(rows: &[(&[u8], T)], bytes: &[u8]) -> Option<(usize, T)>

@@ -18,8 +18,7 @@ use Rattle.dae_queues.specs.declared.Slot.{Slot}
 use Rattle.dae_queues.specs.Lists.{Slots, Stores, with_address, new_slot}
 use Rattle.dae_straight_compiler.specs.declared.Step.{Step}
 use Rattle.dae_straight_compiler.specs.declared.Step.TheVariants.{Clear, Begin, Times, AddTerm, SubtractTerm}
-use Rattle.dae_straight_compiler.specs.declared.Ending.{Ending}
-use Rattle.dae_straight_compiler.specs.declared.Ending.TheVariants.{Open, Store, PrintLine, Halt}
+use Rattle.dae_straight_compiler.specs.Plan.{IsStepOf}
 use Rattle.dae_straight_compiler.specs.Code.{upper, lower, load_code, store_code, factor_access, step_access, steps_access}
 use Rattle.dae_straight_compiler.proofs.Halves.{halves}
 use Rattle.dae_straight_compiler.proofs.Instructions.{CodeAt, accessor, plain, loading, storing, base_upper, load_issued, store_issued}
@@ -42,19 +41,6 @@ step_addresses SubtractTerm = []
 abbrev pub work_addresses : List Step → List ℕ
 work_addresses [] = []
 work_addresses (step ∷ steps) = step_addresses step ++ work_addresses steps
-
-abbrev pub IsStepOf : ℕ → Step → Type 0
-IsStepOf objects Clear = Unit {0}
-IsStepOf objects (Begin factor) = IsFactorOf objects factor
-IsStepOf objects (Times factor) = IsFactorOf objects factor
-IsStepOf objects AddTerm = Unit {0}
-IsStepOf objects SubtractTerm = Unit {0}
-
-abbrev pub IsEndingOf : ℕ → Ending → Type 0
-IsEndingOf objects Open = Unit {0}
-IsEndingOf objects (Store k) = k < objects
-IsEndingOf objects PrintLine = Unit {0}
-IsEndingOf objects Halt = Unit {0}
 
 -- the objects lie in common memory
 pub record Lies (objects size : ℕ) : Type 0 where

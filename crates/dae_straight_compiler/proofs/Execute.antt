@@ -21,7 +21,8 @@ use Rattle.dae_straight_compiler.proofs.Halves.{halves}
 use Rattle.dae_straight_compiler.proofs.Instructions.{CodeAt, Values, executor, plain, taking, clear_goes, term_taken, term_upper, term_lower, constant_upper, constant_lower, term_times_taken, term_times_constant, term_added, term_subtracted}
 use Rattle.dae_straight_compiler.proofs.Does.{Does, does_nothing, does_one, does_both}
 use Rattle.dae_straight_compiler.proofs.Fills.{filled_slots, queues_of, slots_of}
-use Rattle.dae_straight_compiler.proofs.Access.{factor_addresses, step_addresses, work_addresses, IsStepOf, code-split}
+use Rattle.dae_straight_compiler.specs.Plan.{IsStepOf}
+use Rattle.dae_straight_compiler.proofs.Access.{factor_addresses, step_addresses, work_addresses, code-split}
 
 -- ---- what a step makes of the values
 

@@ -10,3 +10,8 @@ pub mod Bytes
 pub mod Sums
 pub mod Program
 pub mod Statements
+pub mod Ranges
+pub mod Sizes
+pub mod Whole
+pub mod Counting
+pub mod Required

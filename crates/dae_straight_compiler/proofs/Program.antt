@@ -25,7 +25,8 @@ use Rattle.dae_straight_compiler.proofs.Walks.{state_of}
 use Rattle.dae_straight_compiler.proofs.Instructions.{CodeAt, Values, executor, accessor, plain, argument_is, call_is, status_given, access_halted}
 use Rattle.dae_straight_compiler.proofs.Does.{Does, does_one, does_both, run_of_a, run_of_e}
 use Rattle.dae_straight_compiler.proofs.Fills.{queues_of, slots_of}
-use Rattle.dae_straight_compiler.proofs.Access.{work_addresses, IsStepOf, IsEndingOf, Lies, code-split}
+use Rattle.dae_straight_compiler.specs.Plan.{IsStepOf, IsEndingOf}
+use Rattle.dae_straight_compiler.proofs.Access.{work_addresses, Lies, code-split}
 use Rattle.dae_straight_compiler.proofs.Execute.{step_values, work_values}
 use Rattle.dae_straight_compiler.proofs.Rounds.{stores_at, boundary, ending_values, ending_memory, ending_text, ending_stores, Deep, round_of, round_run, loads_counted}
 use Rattle.dae_straight_compiler.proofs.Bytes.{AllBytes, loads_words, stored_bytes}

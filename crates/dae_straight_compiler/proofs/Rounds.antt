@@ -26,7 +26,8 @@ use Rattle.dae_straight_compiler.proofs.Walks.{state_of}
 use Rattle.dae_straight_compiler.proofs.Instructions.{CodeAt, Values, executor, accessor, plain, pushing, printing, sum_pushed, argument_set, argument_is, call_is, number_printed, byte_printed}
 use Rattle.dae_straight_compiler.proofs.Does.{Does, does_nothing, does_one, does_both, does_same, run_of_a, run_of_e}
 use Rattle.dae_straight_compiler.proofs.Fills.{waiting_slots, filled_slots, queues_of, slots_of, NoneBars, fills_run}
-use Rattle.dae_straight_compiler.proofs.Access.{work_addresses, IsStepOf, IsEndingOf, Lies, is_good, code-split, work_accessed, store_done}
+use Rattle.dae_straight_compiler.specs.Plan.{IsStepOf, IsEndingOf}
+use Rattle.dae_straight_compiler.proofs.Access.{work_addresses, Lies, is_good, code-split, work_accessed, store_done}
 use Rattle.dae_straight_compiler.proofs.Execute.{work_values, LoadsWords, work_executed}
 
 abbrev pub stores_at : ℕ → Stores

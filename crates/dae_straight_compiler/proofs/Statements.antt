@@ -19,9 +19,9 @@ use Rattle.dae_straight_compiler.specs.declared.Step.TheVariants.{Clear, Begin, 
 use Rattle.dae_straight_compiler.specs.declared.Ending.{Ending}
 use Rattle.dae_straight_compiler.specs.declared.Ending.TheVariants.{Open, Store, PrintLine, Halt}
 use Rattle.dae_straight_compiler.specs.declared.Round.{Round}
-use Rattle.dae_straight_compiler.specs.Plan.{step_of_link, pending_after, link_steps, sum_steps, loads_of, rounds_from, statement_rounds, statements_rounds}
+use Rattle.dae_straight_compiler.specs.Plan.{step_of_link, pending_after, link_steps, sum_steps, loads_of, rounds_from, statement_rounds, statements_rounds, IsStepOf, IsEndingOf}
 use Rattle.dae_straight_compiler.proofs.Instructions.{Values}
-use Rattle.dae_straight_compiler.proofs.Access.{step_addresses, work_addresses, IsStepOf, IsEndingOf}
+use Rattle.dae_straight_compiler.proofs.Access.{step_addresses, work_addresses}
 use Rattle.dae_straight_compiler.proofs.Execute.{step_values, work_values}
 use Rattle.dae_straight_compiler.proofs.Rounds.{ending_stores, round_of}
 use Rattle.dae_straight_compiler.proofs.Bytes.{AllBytes, loads_words}

@@ -1,3 +1,5 @@
 pub mod Plan
 pub mod Code
 pub mod Order
+pub mod Budget
+pub mod Compiled

@@ -34,3 +34,7 @@ round_picks number r =
 abbrev pub picks_from : ℕ → List Round → List Pick
 picks_from number [] = []
 picks_from number (r ∷ rs) = round_picks number r ++ picks_from (number + work_loads r.work) rs
+
+abbrev pub rounds_loads : List Round → ℕ
+rounds_loads [] = 0
+rounds_loads (r ∷ rs) = work_loads r.work + rounds_loads rs

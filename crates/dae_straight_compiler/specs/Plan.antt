@@ -1,5 +1,7 @@
 -- The rounds of a straight program, with at most four loads in each.
-use Rattle.std.specs.Prelude.{ℕ, ◌+◌, nat_lt, if◌then◌else◌, List, [], ◌∷◌, ◌++◌}
+use Rattle.std.specs.Prelude.{ℕ, ◌+◌, ◌<◌, nat_lt, if◌then◌else◌, List, [], ◌∷◌, ◌++◌}
+use Rattle.std.specs.List.{AllByRecursion}
+use Rattle.dae_tree.specs.Form.{IsFactorOf}
 use Rattle.dae_tree.specs.declared.BinaryOperator.{BinaryOperator}
 use Rattle.dae_tree.specs.declared.BinaryOperator.TheVariants.{Add, Subtract, Multiply}
 use Rattle.dae_tree.specs.declared.Factor.{Factor}
@@ -66,3 +68,22 @@ statements_rounds (s ∷ ss) = statement_rounds s ++ statements_rounds ss
 
 abbrev pub program_rounds : StraightProgram → List Round
 program_rounds p = statements_rounds p.statements ++ record { work = []; ending = Halt } ∷ []
+
+-- ---- over declared objects
+
+abbrev pub IsStepOf : ℕ → Step → Type 0
+IsStepOf objects Clear = Unit {0}
+IsStepOf objects (Begin factor) = IsFactorOf objects factor
+IsStepOf objects (Times factor) = IsFactorOf objects factor
+IsStepOf objects AddTerm = Unit {0}
+IsStepOf objects SubtractTerm = Unit {0}
+
+abbrev pub IsEndingOf : ℕ → Ending → Type 0
+IsEndingOf objects Open = Unit {0}
+IsEndingOf objects (Store k) = k < objects
+IsEndingOf objects Line = Unit {0}
+IsEndingOf objects Halt = Unit {0}
+
+pub record IsRoundOver (objects : ℕ) (r : Round) : Type 0 where
+  pub work : AllByRecursion (IsStepOf objects) r.work
+  pub ending : IsEndingOf objects r.ending

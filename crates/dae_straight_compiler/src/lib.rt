@@ -1,6 +1,14 @@
 // The compiler of straight programs.
 #![tactic(auto)]
 
+pub use compiling::{Compiled, compile};
+
+mod budget;
+mod code;
+mod compiling;
+mod order;
+mod plan;
+
 use dae_base::Items;
 use dae_tree::Factor;
 

@@ -1,9 +1,8 @@
 -- Reading in a loop: what was read before, and what is still read.
-use Rattle.std.proofs.Common.{◌≡◌, ℕ, zero, suc, ◌+◌, ◌-◌, ◌<◌, ◌≤◌, List, [], ◌∷◌, ◌++◌, length, Option, Some, None, refl, sym, ap, subst, ◌∙◌, arith, append_assoc, append-nil, Bool, true, false, codes, Result, Ok, Err, IfOk}
+use Rattle.std.proofs.Common.{◌≡◌, ℕ, zero, suc, ◌+◌, ◌-◌, ◌<◌, ◌≤◌, List, [], ◌∷◌, ◌++◌, length, Some, None, refl, sym, ap, ◌∙◌, arith, append_assoc, append-nil, Bool, true, false, codes, Result, Ok, Err, IfOk}
 use Rattle.dae_tree.specs.declared.BinaryOperator.{BinaryOperator}
 use Rattle.dae_tree.specs.declared.Factor.{Factor}
 use Rattle.dae_tree.specs.declared.Link.{Link}
-use Rattle.dae_tree.specs.declared.Sum.{Sum}
 use Rattle.dae_tree.specs.declared.Statement.{Statement}
 use Rattle.dae_tree.specs.Form.{head_words, tail_words}
 use Rattle.dae_tree.specs.declared.StraightProgram.{StraightProgram}
@@ -81,7 +80,7 @@ no_word : (ws : List (List ℕ)) → begins (codes "return") ws ≡ true → len
 no_word [] h e = cc
 no_word (w ∷ ws) h e = omega arith
 
-length-texts : (ws : List (Bor (List ℕ))) → length (texts ws) ≡ length ws
+pub length-texts : (ws : List (Bor (List ℕ))) → length (texts ws) ≡ length ws
 length-texts [] = refl
 length-texts (w ∷ ws) = ap suc (length-texts ws)
 

@@ -1,12 +1,12 @@
 -- Names.
-use Rattle.std.proofs.Common.{◌≡◌, ℕ, zero, suc, ◌+◌, ◌<◌, ◌≤◌, Bool, true, false, cond, ◌&&◌, ◌||◌, not, List, [], ◌∷◌, ◌++◌, length, get_or, codes, Option, Some, None, refl, sym, ap, subst, ◌∙◌, arith, rules, IsUtf8, IsAscii, IsTrue, Decides}
+use Rattle.std.proofs.Common.{◌≡◌, ℕ, zero, suc, ◌<◌, Bool, true, false, cond, List, [], ◌∷◌, ◌++◌, length, get_or, Some, None, refl, sym, ap, subst, ◌∙◌, arith, IsUtf8, IsAscii}
 use Rattle.std.specs.List.{list_all}
 use Rattle.std.specs.Borrow.{Bor}
 use Rattle.std.proofs.lemmas.Str.{IsUtf8-from_ascii}
 use Rattle.std.proofs.lemmas.Str.Ascii.{IsAscii-nil}
 use Rattle.std.proofs.lemmas.Bool.Decides.{nat_tests}
-use Rattle.dae_tree.specs.Text.{is_digit, is_letter, is_name_byte}
-use Rattle.dae_tree.specs.Form.{same_bytes, is_among, begins_name, is_free_name, reserved_names}
+use Rattle.dae_tree.specs.Text.{is_letter, is_name_byte}
+use Rattle.dae_tree.specs.Form.{begins_name, is_free_name}
 use Rattle.dae_straight_reader.specs.Reading.{Read, texts, declared_at, is_new, names_from}
 use Rattle.dae_straight_reader.proofs.Numbers.{both}
 use Rattle.dae_straight_reader.proofs.Sound.{chosen}
@@ -62,7 +62,6 @@ names_stop names [] h = refl
 names_stop names (a ∷ []) h = refl
 names_stop names (a ∷ b ∷ []) h = refl
 names_stop names (a ∷ b ∷ c ∷ ws) h = stopped _ _ _ _ h
-
 
 module _ (names ws : List (List ℕ)) (x : List ℕ × List (List ℕ)) (total : Read (List (List ℕ))) (found : declared_at ws ≡ Some x) (so_far : names_from names ws ≡ total) where
   pub name_refused : is_new names x.0 ≡ false → total ≡ None

@@ -1,6 +1,6 @@
 -- What is read is spelled: each part that reading finds is within the form, and its words stood there.
-use Rattle.std.proofs.Common.{◌≡◌, ℕ, zero, suc, ◌+◌, ◌-◌, ◌<◌, ◌≤◌, ◌^◌, Bool, true, false, cond, ◌&&◌, ◌||◌, not, List, [], ◌∷◌, ◌++◌, length, codes, decimal, slice_index_or, Option, Some, None, ◌⊎◌, inl, inr, refl, sym, ap, subst, ◌∙◌, arith, rules, append_assoc, append-nil, IsTrue, Decides, length-append}
-use Rattle.std.specs.List.{AllByRecursion, list_all}
+use Rattle.std.proofs.Common.{◌≡◌, ℕ, zero, suc, ◌+◌, ◌<◌, ◌≤◌, Bool, true, false, cond, List, [], ◌∷◌, ◌++◌, length, codes, Option, Some, None, ◌⊎◌, inl, inr, refl, sym, ap, subst, ◌∙◌, arith, append_assoc, Decides, length-append}
+use Rattle.std.specs.List.{AllByRecursion}
 use Rattle.dae_tree.specs.declared.BinaryOperator.{BinaryOperator}
 use Rattle.dae_tree.specs.declared.BinaryOperator.TheVariants.{Add, Subtract, Multiply}
 use Rattle.dae_tree.specs.declared.Factor.{Factor}
@@ -10,7 +10,7 @@ use Rattle.dae_tree.specs.declared.Sum.{Sum}
 use Rattle.dae_tree.specs.declared.Statement.{Statement}
 use Rattle.dae_tree.specs.declared.Statement.TheVariants.{Assign, PrintLine}
 use Rattle.dae_tree.specs.Form.{same_bytes, name_of, operator_word, factor_word, link_words, sum_words, statement_words, statements_words, IsFactorOf, IsSumOf, IsStatementOf}
-use Rattle.dae_straight_reader.specs.Reading.{◌>>=◌, Read, or_else, after, after_all, begins, next, constant_of, place_from, object_of, constant_or, factor_of, factor_at, operator_of, operator_at, link_of, links_from, sum_of, sum_at, print_front, print_end, print_at, assignment_at, statement_at, statements_from}
+use Rattle.dae_straight_reader.specs.Reading.{◌>>=◌, or_else, after, after_all, begins, next, constant_of, place_from, object_of, constant_or, factor_of, factor_at, operator_of, operator_at, links_from, sum_at, print_front, print_end, print_at, assignment_at, statement_at, statements_from}
 use Rattle.dae_straight_reader.proofs.Numbers.{same_decides, constant_spelled}
 
 -- ---- tools
@@ -72,11 +72,11 @@ unfolding factor_of
 factor_sound names w f h = elim (factor_cases (constant_of w) (place_from 0 names w) f h) [
   | inl x ↦ subst (IsSpelled names w) (sym x.2) (constant_spelled w x.0 x.1)
   | inr x ↦
-    let p = place_sound 0 names w x.0 x.1 in
-    let e : p.0 ≡ x.0 = omega (arith, p.1) in
-    let P : ℕ → Type 0 = λ m. (m < length names) × (name_of names m ≡ w) in
-    let q = subst P e (p.2, p.3) in
-    subst (IsSpelled names w) (sym x.2) (q.0, sym q.1)
+      let p = place_sound 0 names w x.0 x.1 in
+      let e : p.0 ≡ x.0 = omega (arith, p.1) in
+      let P : ℕ → Type 0 = λ m. (m < length names) × (name_of names m ≡ w) in
+      let q = subst P e (p.2, p.3) in
+      subst (IsSpelled names w) (sym x.2) (q.0, sym q.1)
 ]
 
 abbrev IsFactorRead : List (List ℕ) → List (List ℕ) → Factor × List (List ℕ) → Type 0
@@ -122,11 +122,11 @@ links_sound zero names ws x h = subst (IsLinksRead 0 names ws) (some_is h) (tt, 
 links_sound (suc n) names ws x h = elim (went_on (operator_at ws) _ _ _ h) [
   | inl q ↦ subst (IsLinksRead (suc n) names ws) (some_is q.1) (tt, omega arith, refl)
   | inr q ↦
-    let a = bind_some _ _ _ q.2 in
-    let b = bind_some _ _ _ a.2 in
-    let f = factor_at_sound names q.0.1 a.0 a.1 in
-    let l = links_sound n names a.0.1 b.0 b.1 in
-    subst (IsLinksRead (suc n) names ws) (some_is b.2) ((f.0, l.0), omega (arith, l.1), operator_sound ws q.0 q.1 ∙ ap (λ us. operator_word q.0.0 ∷ us) (f.1 ∙ ap (λ us. factor_word names a.0.0 ∷ us) l.2))
+      let a = bind_some _ _ _ q.2 in
+      let b = bind_some _ _ _ a.2 in
+      let f = factor_at_sound names q.0.1 a.0 a.1 in
+      let l = links_sound n names a.0.1 b.0 b.1 in
+      subst (IsLinksRead (suc n) names ws) (some_is b.2) ((f.0, l.0), omega (arith, l.1), operator_sound ws q.0 q.1 ∙ ap (λ us. operator_word q.0.0 ∷ us) (f.1 ∙ ap (λ us. factor_word names a.0.0 ∷ us) l.2))
 ]
 
 abbrev IsSumRead : List (List ℕ) → List (List ℕ) → Sum × List (List ℕ) → Type 0
@@ -172,8 +172,11 @@ assignment_sound names ws x h =
     let q = subst P same (p.2, p.3) in
     let middle : d.0 ≡ (sum_words names e.0.0 ++ codes ";" ∷ []) ++ f.0 =
     s.1 ∙ ap (λ us. sum_words names e.0.0 ++ us) (after_sound (codes ";") e.0.1 f.0 f.1) ∙ sym (append_assoc (sum_words names e.0.0) (codes ";" ∷ []) f.0) in
-    subst (IsStatementRead names ws) (some_is f.2) ((q.0, s.0), next_sound ws a.0 a.1 ∙ ap (λ w. w ∷ a.0.1) (sym q.1)
-    ∙ ap (λ us. name_of names b.0 ∷ us) (after_sound (codes "=") a.0.1 d.0 d.1 ∙ ap (λ us. codes "=" ∷ us) middle))
+    subst (IsStatementRead names ws) (some_is f.2) (
+      (q.0, s.0),
+      next_sound ws a.0 a.1 ∙ ap (λ w. w ∷ a.0.1) (sym q.1)
+          ∙ ap (λ us. name_of names b.0 ∷ us) (after_sound (codes "=") a.0.1 d.0 d.1 ∙ ap (λ us. codes "=" ∷ us) middle),
+    )
 
 pub statement_sound : (names ws : List (List ℕ)) (x : Statement × List (List ℕ)) → statement_at names ws ≡ Some x → IsStatementRead names ws x
 unfolding statement_at
@@ -191,7 +194,7 @@ statement_shorter names ws x h =
     let s = statement_sound names ws x h in
     omega (arith, some_words names x.0, length-append (statement_words names x.0) x.1, ap length s.1)
 
-abbrev IsStatementsRead : List (List ℕ) → List (List ℕ) → List Statement × List (List ℕ) → Type 0
+abbrev pub IsStatementsRead : List (List ℕ) → List (List ℕ) → List Statement × List (List ℕ) → Type 0
 IsStatementsRead names ws x = AllByRecursion (IsStatementOf (length names)) x.0 × (ws ≡ statements_words names x.0 ++ x.1)
 
 pub statements_sound : (n : ℕ) (names ws : List (List ℕ)) (x : List Statement × List (List ℕ)) → statements_from n names ws ≡ Some x → IsStatementsRead names ws x

@@ -8,37 +8,50 @@ ghost use Rattle.dae_straight_reader.specs.declared.error.ReadError.TheVariants.
 ghost use Rattle.dae_straight_reader.specs.Reading.{Gives, texts, declared_at, is_new, names_from};
 
 use crate::error::ReadError;
-use crate::words::same;
+use crate::words::{is_letter, is_name_byte, same};
 use dae_base::{Items, Text};
 use std::alloc::Global;
 use std::str;
 
 /// The keywords (C90 6.1.1), and the names that the library or main has.
 const RESERVED: [&[u8]; 36] = [
-    b"auto", b"break", b"case", b"char", b"const", b"continue", b"default", b"do", b"double", b"else", b"enum",
-    b"extern", b"float", b"for", b"goto", b"if", b"int", b"long", b"register", b"return", b"short", b"signed",
-    b"sizeof", b"static", b"struct", b"switch", b"typedef", b"union", b"unsigned", b"void", b"volatile", b"while",
-    b"main", b"printf", b"putchar", b"NULL",
+    b"auto",
+    b"break",
+    b"case",
+    b"char",
+    b"const",
+    b"continue",
+    b"default",
+    b"do",
+    b"double",
+    b"else",
+    b"enum",
+    b"extern",
+    b"float",
+    b"for",
+    b"goto",
+    b"if",
+    b"int",
+    b"long",
+    b"register",
+    b"return",
+    b"short",
+    b"signed",
+    b"sizeof",
+    b"static",
+    b"struct",
+    b"switch",
+    b"typedef",
+    b"union",
+    b"unsigned",
+    b"void",
+    b"volatile",
+    b"while",
+    b"main",
+    b"printf",
+    b"putchar",
+    b"NULL",
 ];
-
-fn is_digit(byte: u8) -> bool
-    ensures { result ≡ is_digit byte }
-{
-    byte.is_ascii_digit()
-}
-
-fn is_letter(byte: u8) -> bool
-    ensures { result ≡ is_letter byte }
-{
-    byte == b'_' || byte.is_ascii_alphabetic()
-}
-
-/// Whether a byte can stand in a name: a letter, an underscore or a digit (C90 6.1.2).
-pub fn is_name_byte(byte: u8) -> bool
-    ensures { result ≡ is_name_byte byte }
-{
-    is_letter(byte) || is_digit(byte)
-}
 
 fn are_name_bytes(bytes: &[u8]) -> bool
     ensures { result ≡ list_all is_name_byte bytes.now }
@@ -118,7 +131,10 @@ fn declared<'t>(words: &[&'t [u8]]) -> Option<&'t [u8]>
 }
 
 /// The names of the declarations that words begin with, and the words after them.
-pub fn declarations<'w, 't>(alloc: Global, words: &'w [&'t [u8]]) -> Result<(Items<Text>, &'w [&'t [u8]]), ReadError>
+pub fn declarations<'w, 't>(
+    alloc: Global,
+    words: &'w [&'t [u8]],
+) -> Result<(Items<Text>, &'w [&'t [u8]]), ReadError>
     ensures gives { Gives (λ x. (x.0, texts x.1.now)) result (names_from [] (texts words.now)) }
     ensures few { IfOk result (λ x. length x.0 ≤ length words.now) }
 {

@@ -63,7 +63,10 @@ fn factor_of(names: &[Text], word: &[u8]) -> Option<Factor>
 }
 
 #[tactic(auto, unfolding(crate::specs::Reading::factor_at))]
-fn factor<'w, 't>(names: &[Text], words: &'w [&'t [u8]]) -> Result<(Factor, &'w [&'t [u8]]), ReadError>
+fn factor<'w, 't>(
+    names: &[Text],
+    words: &'w [&'t [u8]],
+) -> Result<(Factor, &'w [&'t [u8]]), ReadError>
     requires { length names.now ≤ 8192 }
     ensures { Gives (λ x. (x.0, texts x.1.now)) result (factor_at names.now (texts words.now)) }
 {
@@ -99,7 +102,11 @@ fn operator<'w, 't>(words: &'w [&'t [u8]]) -> Option<(BinaryOperator, &'w [&'t [
 
 /// The sum that words begin with, and the words after it.
 #[tactic(auto, unfolding(crate::specs::Reading::sum_at))]
-pub fn sum<'w, 't>(alloc: Global, names: &[Text], words: &'w [&'t [u8]]) -> Result<(Sum, &'w [&'t [u8]]), ReadError>
+pub fn sum<'w, 't>(
+    alloc: Global,
+    names: &[Text],
+    words: &'w [&'t [u8]],
+) -> Result<(Sum, &'w [&'t [u8]]), ReadError>
     requires { length names.now ≤ 8192 }
     ensures { Gives (λ x. (x.0, texts x.1.now)) result (sum_at names.now (texts words.now)) }
 {

@@ -93,7 +93,7 @@ definition_in hash [] = refuse (Refused Directive hash)
 definition_in hash (p ∷ ps) =
     if not (is_word_kind p.kind) then stray hash p
     else (if begins_call ps then refuse (Refused FunctionMacro hash)
-    else defined_unless (first_fault (marks_of ps)) hash (record { name = p.spelling; body = marks_of ps }))
+    else defined_unless (first_fault ps) hash (record { name = p.spelling; body = marks_of ps }))
 
 -- the header that these pieces name, and what stands behind it
 abbrev pub header_in : List Cut → Option (Header × List Cut)
@@ -197,11 +197,15 @@ abbrev pub replaced_lines : ℕ → List Definition → List (List Cut) → List
 replaced_lines n macros [] = []
 replaced_lines n macros (l ∷ ls) = line_items n macros (line_of l) ++ replaced_lines n (macros_after macros (line_of l)) ls
 
--- whether a header is included
-abbrev pub is_inclusion : Header → Line → Bool
-is_inclusion Stdio (include hash Stdio) = true
-is_inclusion Stdlib (include hash Stdlib) = true
-is_inclusion header line = false
+-- the header that a line includes, and whether one of the lines includes a header
+abbrev pub inclusion_of : Line → Option Header
+inclusion_of (include hash header) = Some header
+inclusion_of _ = None
+
+abbrev pub is_of : Header → Option Header → Bool
+is_of Stdio (Some Stdio) = true
+is_of Stdlib (Some Stdlib) = true
+is_of header found = false
 
 abbrev pub includes : Header → List (List Cut) → Bool
-includes header lines = list_any (λ l. is_inclusion header (line_of l)) lines
+includes header lines = list_any (λ l. is_of header (inclusion_of (line_of l))) lines

@@ -1,6 +1,6 @@
 -- What stands at the front of a text whose lines are joined: a blank, a word, a number, a literal, a sign, or a fault
 -- (C90 6.1, where the longest piece counts).
-use Rattle.std.specs.Prelude.{take, ◌==◌, ℕ, suc, ◌+◌, ◌-◌, ◌<◌, ◌≤◌, List, [], ◌∷◌, Bool, false, not, if◌then◌else◌, ◌&&◌, ◌||◌, nat_lt, nat_le, length, drop, slice_index, Option, Some, None, Ok, Err}
+use Rattle.std.specs.Prelude.{take, ◌==◌, ℕ, suc, ◌+◌, ◌<◌, ◌≤◌, List, [], ◌∷◌, Bool, false, not, if◌then◌else◌, ◌&&◌, ◌||◌, nat_lt, nat_le, length, drop, slice_index, Option, Some, None, Ok, Err}
 use Rattle.std.specs.List.{prefix_len}
 use Rattle.std.specs.Char.{is_ascii_alphabetic, is_ascii_digit}
 use Rattle.dae_token.specs.Tables.{sign_of}

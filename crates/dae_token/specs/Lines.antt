@@ -1,6 +1,5 @@
 -- The characters of a text: each byte with the spot where it stands, and lines joined (C90 5.1.1.2, phase 2).
 use Rattle.std.specs.Prelude.{◌==◌, ℕ, zero, suc, ◌+◌, List, [], ◌∷◌, map, if◌then◌else◌, ◌&&◌}
-use Rattle.dae_base.specs.declared.Place.{Place}
 use Rattle.dae_token.specs.declared.pieces.Spot.{Spot}
 
 -- a byte of the text, and where it stands

@@ -1,5 +1,5 @@
 -- What is read of a text: its tokens, the names and literals that they number, and the headers that it includes.
-use Rattle.std.specs.Prelude.{ℕ, ◌<◌, ◌≤◌, Bool, List, length, All}
+use Rattle.std.specs.Prelude.{ℕ, ◌<◌, ◌≤◌, Bool, List, [], ◌∷◌, length, All}
 use Rattle.dae_base.specs.declared.Place.{Place}
 use Rattle.dae_token.specs.declared.headers.Header.{Header}
 use Rattle.dae_token.specs.declared.headers.Header.TheVariants.{Stdio, Stdlib}
@@ -24,6 +24,11 @@ is_included Stdlib r = r.stdlib
 abbrev pub IsSpan : List ℕ → Token → Type 0
 IsSpan text t = (t.start < t.end) × (t.end ≤ length text)
 
+-- from a start and an end on, neither the starts nor the ends of the tokens fall
+abbrev pub AreInOrder : ℕ → ℕ → List Token → Type 0
+AreInOrder start end [] = Unit {0}
+AreInOrder start end (t ∷ ts) = (start ≤ t.start) × (end ≤ t.end) × AreInOrder t.start t.end ts
+
 -- a token's name or literal is one of those read
 abbrev pub IsNumbered : ℕ → ℕ → Kind → Type 0
 IsNumbered names literals (kinds.Name n) = n < names
@@ -32,4 +37,5 @@ IsNumbered names literals _ = Unit {0}
 
 pub record IsReading (r : Reading) : Type 0 where
   pub spans : All (IsSpan r.text) r.tokens
+  pub order : AreInOrder 0 0 r.tokens
   pub numbers : All (λ t. IsNumbered (length r.names) (length r.literals) t.kind) r.tokens

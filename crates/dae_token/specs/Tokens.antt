@@ -1,5 +1,5 @@
 -- The tokens of a text.
-use Rattle.std.specs.Prelude.{◌≡◌, ℕ, zero, suc, ◌+◌, ◌-◌, List, [], ◌∷◌, ◌++◌, Bool, if◌then◌else◌, length, Option, Some, None, Result, Ok, Err}
+use Rattle.std.specs.Prelude.{◌≡◌, ℕ, suc, ◌-◌, List, [], ◌∷◌, ◌++◌, if◌then◌else◌, length, Option, Some, None, Result, Ok, Err}
 use Rattle.std.specs.List.{list_any, position_or_len, sum_by}
 use Rattle.std.specs.Str.{bytes_eq}
 use Rattle.dae_token.specs.Lines.{joined_lines, start_of, spot_behind}
@@ -121,7 +121,4 @@ tokens_of file text room =
 abbrev pub Answers : Result Reading LexError → Room → Room → Result (Reading × Room) LexError → Type 0
 Answers (Ok reading) old new answer = answer ≡ Ok (reading, new)
 Answers (Err errors.Memory) old new answer = new ≡ old
-Answers (Err (errors.BadByte place)) old new answer = (answer ≡ Err (errors.BadByte place)) × (new ≡ old)
-Answers (Err (errors.TooManyTokens place)) old new answer = (answer ≡ Err (errors.TooManyTokens place)) × (new ≡ old)
-Answers (Err (errors.Refused construct place)) old new answer =
-    (answer ≡ Err (errors.Refused construct place)) × (new ≡ old)
+Answers (Err error) old new answer = (answer ≡ Err error) × (new ≡ old)

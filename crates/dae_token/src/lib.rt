@@ -4,7 +4,7 @@
 
 pub use constants::{Constant, SUFFIXES};
 pub use faults::{Construct, Fault, LexError};
-pub use headers::{Header, HEADERS, STDIO_MACROS, STDLIB_MACROS};
+pub use headers::{HEADERS, Header, STDIO_MACROS, STDLIB_MACROS};
 pub use literals::ESCAPES;
 pub use pieces::{Form, PieceKind, Spot};
 pub use signs::{SIGNS, Sign};

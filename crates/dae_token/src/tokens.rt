@@ -55,23 +55,23 @@ impl<'t> Model for Tokens<'t> {
     ghost Value = { Reading };
 
     ghost view = { λ t. record {
-        text = t.text.now;
-        tokens = t.tokens;
-        names = t.names;
-        literals = t.literals;
-        stdio = t.stdio;
-        stdlib = t.stdlib;
-        end = t.end;
+      text = t.text.now;
+      tokens = t.tokens;
+      names = t.names;
+      literals = t.literals;
+      stdio = t.stdio;
+      stdlib = t.stdlib;
+      end = t.end;
     } };
 
     ghost invariant = { λ t. IsReading (record {
-        text = t.text.now;
-        tokens = t.tokens;
-        names = t.names;
-        literals = t.literals;
-        stdio = t.stdio;
-        stdlib = t.stdlib;
-        end = t.end;
+      text = t.text.now;
+      tokens = t.tokens;
+      names = t.names;
+      literals = t.literals;
+      stdio = t.stdio;
+      stdlib = t.stdlib;
+      end = t.end;
     }) };
 }
 

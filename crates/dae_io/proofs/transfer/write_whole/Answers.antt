@@ -1,4 +1,4 @@
-use Rattle.dae_io.proofs.Written.{Appends-keeps, Appends-more}
+use Rattle.dae_io.proofs.Growth.{Appends-keeps, Appends-more}
 use Rattle.dae_io.proofs.transfer.write_whole.Goals as goal
 use Rattle.dae_io.proofs.transfer.write_whole.Goals.{in-Ok, in-Err}
 

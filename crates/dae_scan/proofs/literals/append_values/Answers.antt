@@ -1,7 +1,5 @@
-use Rattle.std.proofs.Common.{◌≡◌, ◌+◌, ◌-◌, ◌∷◌, [], ◌++◌, ap, sym, ◌∙◌, drop, length, arith, append_assoc}
+use Rattle.std.proofs.Common.{◌++◌, ap, sym, ◌∙◌, arith, append_assoc}
 use Rattle.std.proofs.lemmas.List.{take_rest}
-use Rattle.std.specs.Prelude.{unwrap_or}
-use Rattle.dae_token.specs.Literals.{unit_of, values_from}
 use Rattle.dae_scan.proofs.Units.{values_begin, values_skip, pred_is}
 use Rattle.dae_scan.proofs.literals.append_values.Goals as goal
 use Rattle.dae_scan.proofs.literals.append_values.Goals.{then-left-eq0+in_ok-push, else-left-eq0}

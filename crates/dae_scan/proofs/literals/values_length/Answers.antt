@@ -1,6 +1,5 @@
-use Rattle.std.proofs.Common.{◌≡◌, ◌+◌, ◌-◌, ap, sym, ◌∙◌, drop, length, arith}
+use Rattle.std.proofs.Common.{ap, length, arith}
 use Rattle.std.proofs.lemmas.List.{take_rest}
-use Rattle.dae_token.specs.Literals.{unit_of, values_from}
 use Rattle.dae_scan.proofs.Units.{values_begin, values_skip, pred_is}
 use Rattle.dae_scan.proofs.literals.values_length.Goals as goal
 use Rattle.dae_scan.proofs.literals.values_length.Goals.{then-left-eq0, else-left-eq0}

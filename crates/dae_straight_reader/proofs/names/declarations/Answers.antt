@@ -1,4 +1,4 @@
-use Rattle.std.proofs.Common.{◌≡◌, ap, ◌∙◌, sym, arith, drop}
+use Rattle.std.proofs.Common.{◌∙◌, sym, arith, drop}
 use Rattle.std.proofs.lemmas.List.{take_rest, drop-drop, length-append, length-drop}
 use Rattle.dae_straight_reader.specs.Reading.{texts}
 use Rattle.dae_straight_reader.proofs.Numbers.{both}

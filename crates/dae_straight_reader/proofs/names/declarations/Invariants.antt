@@ -1,4 +1,4 @@
-use Rattle.std.proofs.Common.{◌≡◌, ◌+◌, ◌-◌, ◌≤◌, length, drop, []}
+use Rattle.std.proofs.Common.{◌≡◌, ◌-◌, ◌≤◌, length, drop, []}
 use Rattle.dae_straight_reader.specs.Reading.{texts, names_from}
 use Rattle.dae_straight_reader.proofs.names.declarations.Given as goal
 

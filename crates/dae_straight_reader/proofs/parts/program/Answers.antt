@@ -1,4 +1,3 @@
-use Rattle.std.proofs.Common.{◌≡◌, ap, ◌∙◌, refl, sym, arith}
 use Rattle.dae_straight_reader.proofs.Loops.{words_left}
 use Rattle.dae_straight_reader.proofs.parts.program.Goals as goal
 

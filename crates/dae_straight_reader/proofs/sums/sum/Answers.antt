@@ -1,4 +1,4 @@
-use Rattle.std.proofs.Common.{ap, ◌∙◌, refl, sym, arith, rules}
+use Rattle.std.proofs.Common.{sym}
 use Rattle.std.proofs.lemmas.Result.{err_from_is_err_and}
 use Rattle.dae_straight_reader.proofs.Loops.{front_none, link_goes_on, link_fails, links_end, links_out, sum_ends, sum_fails}
 use Rattle.dae_straight_reader.proofs.sums.sum.Goals as goal

@@ -1,4 +1,4 @@
-use Rattle.std.proofs.Common.{rules, ◌+◌, []}
+use Rattle.std.proofs.Common.{rules, ◌+◌, [], refl}
 use Rattle.dae_machine.specs.declared.Pick.TheVariants.{A}
 use Rattle.dae_machine.proofs.Steps.{Moved, a_step}
 use Rattle.dae_machine.proofs.machine.Machine.move_a.Goals as goal
@@ -17,4 +17,4 @@ pub invariant_of-self : goal.invariant_of-self
 invariant_of-self c = (moved c).sound
 
 pub returns : goal.returns
-returns c = record { setup = (moved c).setup; state = (moved c).state }
+returns c = record { setup = (moved c).setup; state = (moved c).state; silent = refl }

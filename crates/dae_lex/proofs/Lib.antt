@@ -1,0 +1,12 @@
+pub mod Joining
+pub mod Cutting
+pub mod Entries
+pub mod Limits
+pub mod Turns
+pub mod LineSteps
+pub mod Rows
+pub mod Whole
+pub mod Spans
+pub mod Rising
+pub mod Numbering
+pub mod Answered

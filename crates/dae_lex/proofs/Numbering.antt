@@ -1,0 +1,106 @@
+-- The numbers of names and literals lie within their lists, and the spans of the tokens are those that were read.
+use Rattle.std.proofs.Common.{◌≡◌, ℕ, ◌+◌, ◌<◌, ◌≤◌, Bool, true, false, not, cond, ◌||◌, if◌then◌else◌, List, [], ◌∷◌, ◌++◌, map, length, refl, arith}
+use Rattle.std.specs.List.{list_any, position_or_len, AllByRecursion}
+use Rattle.std.specs.Str.{bytes_eq}
+use Rattle.std.proofs.lemmas.List.{length-append}
+use Rattle.std.proofs.lemmas.List.Elements.{All-from_recursion}
+use Rattle.dae_base.specs.declared.Place.{Place}
+use Rattle.dae_token.specs.declared.tokens.Token.{Token}
+use Rattle.dae_token.specs.Replacing.{Meaning, keyword, sign, name, constant, literal, Read}
+use Rattle.dae_token.specs.Reading.{IsSpan, IsNumbered, AreInOrder, IsReading}
+use Rattle.dae_token.specs.Tokens.{joined, names_with, names_after, literals_with, literals_after, kind_of, numbered}
+use Rattle.dae_lex.specs.Whole.{span, SpansFrom}
+use Rattle.dae_lex.proofs.Spans.{joined_steps}
+
+position_one : (b : Bool) (k n : ℕ) → k ≤ n → cond (not b) (1 + k) 0 ≤ n + 1
+position_one true k n h = omega arith
+position_one false k n h = omega arith
+
+position_most : (p : List ℕ → Bool) (ns : List (List ℕ)) → position_or_len p ns ≤ length ns
+position_most p [] = omega arith
+position_most p (n ∷ ns) = omega (arith, position_one (p n) (position_or_len p ns) (length ns) (position_most p ns))
+
+found_one : (b c : Bool) (k n : ℕ) → (c ≡ true → k < n) → (b || c) ≡ true → cond (not b) (1 + k) 0 < n + 1
+found_one true c k n h e = omega arith
+found_one false c k n h e = let l = h e in omega arith
+
+position_found : (p : List ℕ → Bool) (ns : List (List ℕ)) → list_any p ns ≡ true → position_or_len p ns < length ns
+position_found p [] h = absurd (cc)
+position_found p (n ∷ ns) h = omega (arith, found_one (p n) (list_any p ns) (position_or_len p ns) (length ns) (position_found p ns) h)
+
+with_one : (ns : List (List ℕ)) (n : List ℕ) (b : Bool) (k : ℕ) → (b ≡ true → k < length ns) → k ≤ length ns → k < length (if b then ns else ns ++ n ∷ [])
+with_one ns n true k h l = h refl
+with_one ns n false k h l = omega (arith, length-append ns (n ∷ []))
+
+grown : (ns : List (List ℕ)) (n : List ℕ) (b : Bool) → length ns ≤ length (if b then ns else ns ++ n ∷ [])
+grown ns n true = omega arith
+grown ns n false = omega (arith, length-append ns (n ∷ []))
+
+names_grow : (ns : List (List ℕ)) (m : Meaning) → length ns ≤ length (names_with ns m)
+names_grow ns (keyword k) = omega arith
+names_grow ns (sign s) = omega arith
+names_grow ns (name n) = grown ns n (list_any (bytes_eq n) ns)
+names_grow ns (constant c) = omega arith
+names_grow ns (literal bs) = omega arith
+
+literals_grow : (ls : List (List ℕ)) (m : Meaning) → length ls ≤ length (literals_with ls m)
+literals_grow ls (keyword k) = omega arith
+literals_grow ls (sign s) = omega arith
+literals_grow ls (name n) = omega arith
+literals_grow ls (constant c) = omega arith
+literals_grow ls (literal bs) = omega (arith, length-append ls (bs ∷ []))
+
+names_last : (ts : List Read) (ns : List (List ℕ)) → length ns ≤ length (names_after ns ts)
+names_last [] ns = omega arith
+names_last (t ∷ ts) ns = omega (arith, names_grow ns t.meaning, names_last ts (names_with ns t.meaning))
+
+literals_last : (ts : List Read) (ls : List (List ℕ)) → length ls ≤ length (literals_after ls ts)
+literals_last [] ls = omega arith
+literals_last (t ∷ ts) ls = omega (arith, literals_grow ls t.meaning, literals_last ts (literals_with ls t.meaning))
+
+kind_within : (m : Meaning) (ns ls : List (List ℕ)) (N L : ℕ) → length (names_with ns m) ≤ N → length (literals_with ls m) ≤ L → IsNumbered N L (kind_of ns ls m)
+kind_within (keyword k) ns ls N L h l = tt
+kind_within (sign s) ns ls N L h l = tt
+kind_within (name n) ns ls N L h l =
+    omega (arith, with_one ns n (list_any (bytes_eq n) ns) (position_or_len (bytes_eq n) ns) (position_found (bytes_eq n) ns) (position_most (bytes_eq n) ns))
+kind_within (constant c) ns ls N L h l = tt
+kind_within (literal bs) ns ls N L h l = omega (arith, length-append ls (bs ∷ []))
+
+numbered_within : (ts : List Read) (ns ls : List (List ℕ)) (N L : ℕ) → length (names_after ns ts) ≤ N → length (literals_after ls ts) ≤ L
+    → AllByRecursion (λ (t : Token). IsNumbered N L t.kind) (numbered ns ls ts)
+numbered_within [] ns ls N L h l = tt
+numbered_within (t ∷ ts) ns ls N L h l =
+    let ns1 = names_with ns t.meaning in
+    let ls1 = literals_with ls t.meaning in (
+      kind_within t.meaning ns ls N L (omega (arith, names_last ts ns1)) (omega (arith, literals_last ts ls1)),
+      numbered_within ts ns1 ls1 N L h l,
+    )
+
+numbered_spans : (text : List ℕ) (ts : List Read) (ns ls : List (List ℕ)) (s e : ℕ) → SpansFrom s e (map span ts) (length text)
+    → AllByRecursion (IsSpan text) (numbered ns ls ts)
+numbered_spans text [] ns ls s e h = tt
+numbered_spans text (t ∷ ts) ns ls s e h = ((h.2, h.3), numbered_spans text ts (names_with ns t.meaning) (literals_with ls t.meaning) t.start t.end h.4)
+
+numbered_order : (ts : List Read) (ns ls : List (List ℕ)) (s e b : ℕ) → SpansFrom s e (map span ts) b → AreInOrder s e (numbered ns ls ts)
+numbered_order [] ns ls s e b h = tt
+numbered_order (t ∷ ts) ns ls s e b h = (h.0, h.1, numbered_order ts (names_with ns t.meaning) (literals_with ls t.meaning) t.start t.end b h.4)
+
+pub is_reading : (text : List ℕ) (reads : List Read) (stdio stdlib : Bool) (end : Place) → SpansFrom 0 0 (map span reads) (length text)
+    → IsReading (record {
+      text = text;
+      tokens = numbered [] [] (joined reads);
+      names = names_after [] (joined reads);
+      literals = literals_after [] (joined reads);
+      stdio = stdio;
+      stdlib = stdlib;
+      end = end;
+    })
+is_reading text reads stdio stdlib end h =
+    let ts = joined reads in
+    let spans = joined_steps reads 0 0 (length text) h in
+    record {
+      spans = All-from_recursion (IsSpan text) (numbered [] [] ts) (numbered_spans text ts [] [] 0 0 spans);
+      order = numbered_order ts [] [] 0 0 (length text) spans;
+      numbers = All-from_recursion (λ (t : Token). IsNumbered (length (names_after [] ts)) (length (literals_after [] ts)) t.kind) (numbered [] [] ts)
+          (numbered_within ts [] [] (length (names_after [] ts)) (length (literals_after [] ts)) (omega arith) (omega arith));
+    }

@@ -1,0 +1,7 @@
+use Rattle.std.proofs.Common.{◌≡◌, ◌++◌, drop, map}
+use Rattle.dae_lex.specs.Cuts.{cut_of}
+use Rattle.dae_token.specs.Directives.{marks_of}
+use Rattle.dae_lex.proofs.directives.marks.Given as goal
+
+abbrev pub invariant-loop-piece : goal.invariant-loop-piece
+invariant-loop-piece l = map cut_of l.all.items ++ marks_of (map cut_of (drop l.piece-index l.pieces)) ≡ marks_of (map cut_of l.pieces)

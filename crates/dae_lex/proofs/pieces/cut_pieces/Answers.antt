@@ -1,0 +1,50 @@
+use Rattle.std.proofs.Common.{◌≡◌, ◌+◌, ◌-◌, ◌<◌, length, ◌++◌, map, drop, arith, ap, sym, ◌∙◌, append-nil, append_assoc}
+use Rattle.std.proofs.lemmas.List.{take_rest, length-drop, map-append}
+use Rattle.dae_token.specs.Forms.{form}
+use Rattle.dae_lex.specs.Cuts.{cut_of}
+use Rattle.dae_token.specs.Pieces.{Cut}
+use Rattle.dae_lex.proofs.Cutting.{cut_more, cut_all, piece_span}
+use Rattle.dae_lex.proofs.Rising.{bound, bound_below, bound_next, bound_end, rise_within}
+use Rattle.dae_lex.proofs.Spans.{follow_push, follow_wider}
+use Rattle.dae_lex.proofs.pieces.cut_pieces.Goals as goal
+
+pub loop-at-preserved : goal.loop-at-preserved
+loop-at-preserved c =
+    let j = c.args.joined.now in
+    let l = c.loop-at in
+    let f = c.form_at-form.result in
+    let whole = ap (λ xs. form (drop l.at xs)) c.deref.ensures.value in
+    let formed = rw (take_rest c.deref.result.now l.at) at c.form_at-form.ensures.value in
+    let more = cut_more j.bytes.items j.spots.items c.requires.same l.at f (omega arith) (formed ∙ whole) (omega (arith, c.form_at-form.ensures.within)) in
+    record {
+      order = λ n h.
+          let spots = j.spots.items in
+          let p = cut_of c.piece_at.result in
+          let s = piece_span j.bytes.items spots c.requires.same l.at f in
+          let start = ap (λ (q : Cut). q.start) c.piece_at.ensures ∙ s.0 in
+          let end = ap (λ (q : Cut). q.end) c.piece_at.ensures ∙ s.1 in
+          let near = rw (take_rest c.deref.result.now l.at, c.deref.ensures.value) at c.form_at-form.ensures.within in
+          let far : l.at + (f.length - 1) < length spots = omega (arith, near, length-drop l.at j.bytes.items, c.requires.same) in
+          let low = bound_below spots n l.at h (omega (arith, far)) in
+          let high = rise_within spots 0 n l.at (l.at + (f.length - 1)) h (omega arith) far in
+          let b : p.end ≡ bound spots (l.at + f.length) = end ∙ bound_next spots l.at f.length near.0 in
+          rw (c.in_ok-push_piece.ensures.ok, map-append, ← b)
+          (follow_push 0 (map cut_of l.pieces.items) (bound spots l.at) p (l.invariant.order n h) (omega (arith, low, start)) (omega (arith, high, start, end)));
+      within = omega (arith, c.form_at-form.ensures.within, length-drop l.at j.bytes.items, rw take_rest at c.form_at-form.ensures.within);
+      so_far = rw (c.in_ok-push_piece.ensures.ok, map-append, c.piece_at.ensures, append_assoc)
+          (ap (λ rest. map cut_of l.pieces.items ++ rest) (sym more) ∙ l.invariant.so_far);
+    }
+
+pub returns-clause-ok : goal.returns-clause-ok
+returns-clause-ok c =
+    let j = c.args.joined.now in
+    let l = c.loop-at in
+    sym (append-nil _) ∙ ap (λ rest. map cut_of l.pieces.items ++ rest)
+    (sym (cut_all j.bytes.items j.spots.items c.requires.same l.at (omega arith))) ∙ l.invariant.so_far
+
+pub returns-clause-order : goal.returns-clause-order
+returns-clause-order c = λ n h.
+    let j = c.args.joined.now in
+    let l = c.loop-at in
+    follow_wider 0 (map cut_of l.pieces.items) (bound j.spots.items l.at) n (l.invariant.order n h)
+    (bound_end j.spots.items n l.at h (omega (arith, c.requires.same, l.invariant.within)))

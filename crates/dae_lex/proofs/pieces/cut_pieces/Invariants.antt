@@ -1,0 +1,16 @@
+use Rattle.std.proofs.Common.{◌≡◌, ℕ, ◌++◌, ◌≤◌, ◌-◌, length, drop, map}
+use Rattle.dae_token.specs.Pieces.{cut}
+use Rattle.dae_lex.specs.Cuts.{cut_of, chars, Rise, FollowEachOther}
+use Rattle.dae_lex.proofs.Rising.{bound}
+use Rattle.dae_lex.proofs.pieces.cut_pieces.Given as goal
+
+abbrev pub invariant-loop-at : goal.invariant-loop-at
+invariant-loop-at l = record {
+  within : l.at ≤ length l.joined.bytes.items;
+  so_far : map cut_of l.pieces.items ++ cut 0 (drop l.at (chars l.joined.bytes.items l.joined.spots.items))
+      ≡ cut 0 (chars l.joined.bytes.items l.joined.spots.items);
+  order : (n : ℕ) → Rise 0 l.joined.spots.items n → FollowEachOther 0 (map cut_of l.pieces.items) (bound l.joined.spots.items l.at);
+}
+
+abbrev pub decreases-loop-at : goal.decreases-loop-at
+decreases-loop-at l = length l.joined.bytes.items - l.at

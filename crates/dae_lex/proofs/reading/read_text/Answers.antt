@@ -1,0 +1,46 @@
+use Rattle.std.proofs.Common.{map, length, ap, sym, ◌∙◌, subst}
+use Rattle.dae_token.specs.Lines.{bytes_of, joined_lines}
+use Rattle.dae_token.specs.Pieces.{cut}
+use Rattle.dae_lex.specs.Cuts.{cut_of, chars, Rise, FollowEachOther}
+use Rattle.dae_lex.specs.Settling.{read_of}
+use Rattle.dae_lex.specs.Whole.{SpansFrom, span}
+use Rattle.dae_lex.proofs.Joining.{all_small}
+use Rattle.dae_lex.proofs.Rising.{all_rise}
+use Rattle.dae_lex.proofs.Cutting.{chars_of}
+use Rattle.dae_lex.proofs.Spans.{pieces_steps}
+use Rattle.dae_lex.proofs.Answered.{answered, failed, reading_with}
+use Rattle.dae_lex.proofs.reading.read_text.Goals as goal
+
+pub cut_pieces-requires-clause-small : goal.cut_pieces-requires-clause-small
+cut_pieces-requires-clause-small c = rw (c.in_ok-joined.ensures.spots) (all_small c.args.file c.args.text.now c.requires)
+
+pub returns-in-Err : goal.returns-in-Err
+returns-in-Err c =
+    let j = c.in_ok-joined.joined in
+    let all = joined_lines c.args.file c.args.text.now in
+    let both = ap (λ bs. chars bs j.spots.items) c.in_ok-joined.ensures.bytes ∙ ap (chars (bytes_of all)) c.in_ok-joined.ensures.spots ∙ chars_of all in
+    let pieces = ap (map cut_of) c.deref.ensures.value ∙ c.in_ok-pieces.ensures.ok ∙ ap (cut 0) both in
+    failed c.args.file c.args.text.now c.args.room (map cut_of c.deref.result.now) pieces c.in-Err.e c.in-Err.ensures.err
+
+pub finish_text-requires-clause-spans : goal.finish_text-requires-clause-spans
+finish_text-requires-clause-spans c =
+    let j = c.in_ok-joined.joined in
+    let text = c.args.text.now in
+    let h = c.in-Ok.ensures.ok in
+    let rise = subst (λ ss. Rise 0 ss (length text)) (sym c.in_ok-joined.ensures.spots) (all_rise c.args.file text) in
+    let follow = subst (λ ps. FollowEachOther 0 (map cut_of ps) (length text)) (sym c.deref.ensures.value) (c.in_ok-pieces.ensures.order (length text) rise) in
+    let spans = ap (λ rs. map span (map read_of rs)) c.deref-2.ensures.value ∙ h.spans in
+    subst (λ xs. SpansFrom 0 0 xs (length text)) (sym spans) (pieces_steps c.args.room.replacements (map cut_of c.deref.result.now) (length text) follow)
+
+pub returns : goal.returns
+returns c =
+    let j = c.in_ok-joined.joined in
+    let text = c.args.text.now in
+    let all = joined_lines c.args.file text in
+    let both = ap (λ bs. chars bs j.spots.items) c.in_ok-joined.ensures.bytes ∙ ap (chars (bytes_of all)) c.in_ok-joined.ensures.spots ∙ chars_of all in
+    let pieces = ap (map cut_of) c.deref.ensures.value ∙ c.in_ok-pieces.ensures.ok ∙ ap (cut 0) both in
+    let seen = c.in-Ok.read.0 in
+    let tokens = c.in_ok-tokens.ensures.ok
+    ∙ ap (λ rs. reading_with text (map read_of rs) seen.stdio seen.stdlib j.end) c.deref-2.ensures.value in
+    answered c.args.file text c.args.room (map cut_of c.deref.result.now) pieces seen c.in-Ok.read.1 j.end c.in_ok-tokens.tokens c.in-Ok.ensures.ok
+    c.in_ok-joined.ensures.end tokens

@@ -1,0 +1,6 @@
+pub mod Cuts
+pub mod Settling
+pub mod Pending
+pub mod Reading
+pub mod Finishing
+pub mod Whole

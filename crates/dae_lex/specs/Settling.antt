@@ -1,0 +1,78 @@
+-- The items of a text one by one: the tokens so far, and what is left of the room.
+use Rattle.std.specs.Prelude.{◌≡◌, ℕ, zero, suc, ◌-◌, List, [], ◌∷◌, ◌++◌, map, nat_le, if◌then◌else◌, Result, Ok, Err}
+use Rattle.dae_token.specs.Literals.{values_of}
+use Rattle.dae_token.specs.Replacing.{Meaning, keyword, sign, name, constant, literal, Read, Item, taken, replaced, refused, Tested, token, failed, tested_one, literal_length}
+use Rattle.dae_token.specs.declared.tokens.Room.{Room}
+use Rattle.dae_token.specs.declared.faults.Construct.{Construct}
+use Rattle.dae_token.specs.declared.faults.Construct.TheVariants.{TooManyReplacements, LiteralsTooLong}
+use Rattle.dae_token.specs.declared.faults.LexError.{LexError}
+use Rattle.dae_token.specs.declared.faults.LexError.TheVariants as errors
+use Rattle.dae_lex.specs.declared.output.Meaning.{Meaning as Meant}
+use Rattle.dae_lex.specs.declared.output.Meaning.TheVariants as meanings
+use Rattle.dae_lex.specs.declared.output.ReadToken.{ReadToken}
+use Rattle.dae_lex.specs.declared.output.Output.{Output}
+
+-- what the code has of a token
+abbrev pub meaning_of : Meant → Meaning
+meaning_of (meanings.Keyword k) = keyword k
+meaning_of (meanings.Sign s) = sign s
+meaning_of (meanings.Name n) = name n.now
+meaning_of (meanings.Constant c) = constant c
+meaning_of (meanings.Literal inside) = literal (values_of inside.now)
+
+abbrev pub meant : Result Meant Construct → Result Meaning Construct
+meant (Ok meaning) = Ok (meaning_of meaning)
+meant (Err construct) = Err construct
+
+abbrev pub read_of : ReadToken → Read
+read_of t = record { meaning = meaning_of t.meaning; start = t.start; end = t.end; place = t.place }
+
+pub record State : Type 0 where
+  pub tokens : List Read
+  pub room : Room
+
+abbrev pub state_of : Output → State
+state_of out = record { tokens = map read_of out.tokens.items; room = out.room }
+
+-- a tested token is kept, where n tokens may follow it
+abbrev pub keep : State → ℕ → Tested → Result State LexError
+keep s n (failed error) = Err error
+keep s n (token t) =
+    if nat_le (literal_length t.meaning) s.room.literal_bytes
+    then Ok (record {
+      tokens = s.tokens ++ t ∷ [];
+      room = record {
+        tokens = n;
+        replacements = s.room.replacements;
+        literal_bytes = s.room.literal_bytes - literal_length t.meaning;
+      };
+    })
+    else Err (errors.Refused LiteralsTooLong t.place)
+
+abbrev pub step : State → Item → Result State LexError
+step s (taken meaning origin) = elim s.room.tokens [
+  | zero ↦ Err (errors.TooManyTokens origin.place)
+  | suc n ↦ keep s n (tested_one meaning origin)
+]
+step s (replaced origin) = elim s.room.replacements [
+  | zero ↦ Err (errors.Refused TooManyReplacements origin.place)
+  | suc n ↦ Ok (record {
+    tokens = s.tokens;
+    room = record { tokens = s.room.tokens; replacements = n; literal_bytes = s.room.literal_bytes };
+  })
+]
+step s (refused error) = Err error
+
+abbrev pub settle : State → List Item → Result State LexError
+settle s [] = Ok s
+settle s (item ∷ items) = elim (step s item) [ Ok t ↦ settle t items | Err error ↦ Err error ]
+
+-- what an error says of an answer: nothing, where memory ran out, and else that it is refused so
+abbrev pub Fails : {A : Type 0} → LexError → Result A LexError → Type 0
+Fails errors.Memory answer = Unit {0}
+Fails error answer = answer ≡ Err error
+
+-- a call that left this state gave what settling gives
+abbrev pub Settles : {A : Type 0} → State → Result A LexError → Result State LexError → Type 0
+Settles new (Ok x) settled = settled ≡ Ok new
+Settles new (Err error) settled = Fails error settled
