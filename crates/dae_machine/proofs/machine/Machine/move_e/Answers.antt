@@ -1,4 +1,4 @@
-use Rattle.std.proofs.Common.{rules, ◌≡◌}
+use Rattle.std.proofs.Common.{rules, ◌≡◌, refl}
 use Rattle.dae_machine.proofs.Steps.{e_step}
 use Rattle.dae_machine.proofs.machine.Machine.move_e.Goals as goal
 
@@ -22,4 +22,4 @@ returns c =
     c.step-answer.ensures.held
     c.step-answer.ensures.told in
     let same : moved.0 ≡ c.in-Did.piece = cc (moved.1, c.in-Did.is) in
-    record { setup = moved.2.setup; state = rw (← same) moved.2.state }
+    record { setup = moved.2.setup; state = rw (← same) moved.2.state; silent = refl }
