@@ -5,7 +5,7 @@ ghost use Rattle.dae_core.specs.Queues.{empty_queues};
 ghost use Rattle.std.specs.Prelude.{None};
 
 use super::*;
-use dae_base::{LoadKind, Queue, Side, Width};
+use dae_base::{Depths, LoadKind, Queue, Side, Width};
 use dae_encode::QueueUse;
 use std::test::*;
 
@@ -98,6 +98,30 @@ fn a_fault_comes_before_a_wait(rt: HostRuntime) -> Result<(), Fail> {
             CoreAnswer::Faulted(Fault::BadPc)
         )
     );
+    Ok(())
+}
+
+#[test]
+fn a_message_waits_to_be_taken(rt: HostRuntime) -> Result<(), Fail> {
+    let depths = Depths {
+        ld: 1,
+        al: 1,
+        sa: 1,
+        sd: 1,
+        ab: 1,
+        eb: 1,
+        cq: 1,
+    };
+    let mut queues = Queues::with_depths(rt.alloc(), depths)?;
+    let push = QueueUse::Push(Queue::Ab);
+    assert!(rt; queues.ready(push));
+    assert_eq!(rt; queues.peek(Queue::Ab), None);
+    if queues.ready(push) {
+        queues.commit(push, 5);
+    }
+    assert!(rt; !queues.ready(push));
+    assert_eq!(rt; queues.peek(Queue::Ab), Some(5));
+    assert!(rt; !queues.ready(QueueUse::Push(Queue::Ld)));
     Ok(())
 }
 
