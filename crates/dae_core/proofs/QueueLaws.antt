@@ -1,7 +1,6 @@
 -- Two accesses of the two sides do not disturb each other.
-use Rattle.std.proofs.Common.{◌≡◌, ℕ, ◌+◌, true, List, [], ◌∷◌, ◌++◌, length, refl, ap, sym, ◌∙◌, arith}
-use Rattle.std.specs.Prelude.{is_some, unwrap_or, nat_lt}
-use Rattle.std.proofs.lemmas.Bool.Decides.{nat_tests}
+use Rattle.std.proofs.Common.{◌≡◌, ℕ, ◌+◌, true, [], ◌∷◌, refl, ap, sym}
+use Rattle.std.specs.Prelude.{unwrap_or}
 use Rattle.dae_base.specs.declared.Side.TheVariants.{A, E}
 use Rattle.dae_base.specs.declared.Queue.TheVariants.{Ld, Al, Sd, Ab, Eb, Cq}
 use Rattle.dae_base.specs.declared.Width.{Width}
@@ -9,9 +8,7 @@ use Rattle.dae_base.specs.declared.LoadKind.{LoadKind}
 use Rattle.dae_base.specs.declared.Depths.{Depths}
 use Rattle.dae_encode.specs.declared.QueueUse.{QueueUse}
 use Rattle.dae_encode.specs.declared.QueueUse.TheVariants.{Nothing, Take, Push, Load, StoreAddress}
-use Rattle.dae_queues.specs.declared.Slot.{Slot}
 use Rattle.dae_core.specs.Queues.{Queues, belongs, possible, peek, commit}
-use Rattle.dae_queues.specs.Lists.{first, first_value, rest}
 use Rattle.dae_queues.proofs.QueueLaws.{first_more, first_value_more, rest_more, rest_slots_more, room_more, some_first_more, some_value_more}
 
 -- the accesses of A

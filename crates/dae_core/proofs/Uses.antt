@@ -1,6 +1,6 @@
 -- The access that an instruction asks for belongs to its side.
 use Rattle.std.proofs.Common.{◌≡◌, ℕ, Bool, true, false, refl}
-use Rattle.std.specs.Prelude.{Option, Some, None, nat_lt, ◌==◌, ◌%◌, ◌/◌, List, if◌then◌else◌, slice_get, slice_index}
+use Rattle.std.specs.Prelude.{Option, Some, None, nat_lt, ◌==◌, ◌%◌, ◌/◌, List, if◌then◌else◌, slice_get}
 use Rattle.dae_base.specs.declared.Side.{Side}
 use Rattle.dae_base.specs.declared.Side.TheVariants.{A, E}
 use Rattle.dae_base.specs.declared.Width.{Width}

@@ -1,6 +1,6 @@
 -- One step of a processor over the queues that it is given, and what it answers (Smith, "Decoupled Access/Execute Computer
 -- Architectures": a processor waits at an empty or a full queue).
-use Rattle.std.specs.Prelude.{◌≡◌, ℕ, Bool, if◌then◌else◌, List, [], Option, Some, None, option_map, unwrap_or}
+use Rattle.std.specs.Prelude.{◌≡◌, ℕ, Bool, if◌then◌else◌, [], Option, Some, None, option_map, unwrap_or}
 use Rattle.dae_base.specs.declared.Side.{Side}
 use Rattle.dae_base.specs.declared.Queue.{Queue}
 use Rattle.dae_base.specs.declared.Queue.TheVariants.{Sa}

@@ -1,16 +1,13 @@
-ghost use Rattle.std.specs.Prelude.{◌≡◌, ◌<◌, slice_index, slice_set};
+ghost use Rattle.std.specs.Prelude.{◌≡◌, slice_index, slice_set};
 ghost use Rattle.dae_base.specs.Words.{loaded, stored};
 
-use dae_base::{LoadKind, Width};
+use byteorder::{ByteOrder, LittleEndian};
+use dae_base::{LoadKind, Width, extend};
 
-fn byte(memory: &[u8], at: usize) -> u32
-    ensures value { result ≡ slice_index memory.now at }
-    ensures small { result < 256 }
+fn byte(memory: &[u8], at: usize) -> u8
+    ensures { result ≡ slice_index memory.now at }
 {
-    match memory.get(at) {
-        Some(byte) => u32::from(*byte),
-        None => 0,
-    }
+    memory.get(at).copied().unwrap_or(0)
 }
 
 /// The word that a load finds at a byte address, where bytes past the end read zero. Memory is little-endian.
@@ -18,36 +15,25 @@ pub fn load(memory: &[u8], kind: LoadKind, addr: u32) -> u32
     ensures { result ≡ loaded kind addr memory.now }
 {
     let at = addr as usize;
-    match kind {
-        LoadKind::U8 => byte(memory, at),
-        LoadKind::I8 => {
-            let word = byte(memory, at);
-            if word < 128 { word } else { word + 0xFFFF_FF00 }
-        }
-        LoadKind::U16 => byte(memory, at) + 256 * byte(memory, at + 1),
-        LoadKind::I16 => {
-            let word = byte(memory, at) + 256 * byte(memory, at + 1);
-            if word < 0x8000 {
-                word
-            } else {
-                word + 0xFFFF_0000
-            }
-        }
-        LoadKind::I32 => {
-            let first = byte(memory, at);
-            let second = byte(memory, at + 1);
-            let third = byte(memory, at + 1 + 1);
-            first + 256 * (second + 256 * (third + 256 * byte(memory, at + 1 + 1 + 1)))
-        }
-    }
+    let first = byte(memory, at);
+    let bytes = match kind.width() {
+        Width::B1 => [first, 0, 0, 0],
+        Width::B2 => [first, byte(memory, at + 1), 0, 0],
+        Width::B4 => [
+            first,
+            byte(memory, at + 1),
+            byte(memory, at + 1 + 1),
+            byte(memory, at + 1 + 1 + 1),
+        ],
+    };
+    extend(kind, LittleEndian::read_u32(&bytes))
 }
 
-fn put(memory: &mut [u8], at: usize, byte: u32)
-    requires { byte < 256 }
+fn put(memory: &mut [u8], at: usize, byte: u8)
     ensures { memory.new ≡ slice_set memory.old at byte }
 {
     if at < memory.len() {
-        memory[at] = byte as u8;
+        memory[at] = byte;
     }
 }
 
@@ -56,14 +42,17 @@ pub fn store(memory: &mut [u8], width: Width, addr: u32, word: u32)
     ensures { memory.new ≡ stored width addr word memory.old }
 {
     let at = addr as usize;
-    put(memory, at, word % 256);
+    let mut bytes = [0; 4];
+    LittleEndian::write_u32(&mut bytes, word);
+    let [first, second, third, fourth] = bytes;
+    put(memory, at, first);
     match width {
         Width::B1 => {}
-        Width::B2 => put(memory, at + 1, word / 256 % 256),
+        Width::B2 => put(memory, at + 1, second),
         Width::B4 => {
-            put(memory, at + 1, word / 256 % 256);
-            put(memory, at + 1 + 1, word / 256 / 256 % 256);
-            put(memory, at + 1 + 1 + 1, word / 256 / 256 / 256 % 256);
+            put(memory, at + 1, second);
+            put(memory, at + 1 + 1, third);
+            put(memory, at + 1 + 1 + 1, fourth);
         }
     }
 }

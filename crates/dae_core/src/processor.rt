@@ -1,7 +1,7 @@
-ghost use Rattle.std.specs.Prelude.{◌≡◌, ℕ, ◌<◌, ◌^◌, Bool, true, length, slice_index, Option, None, is_some, IfOk};
+ghost use Rattle.std.specs.Prelude.{◌≡◌, ℕ, ◌<◌, ◌^◌, Bool, true, length, slice_index, Option, None, is_some, IfOk, Some, [], if◌then◌else◌};
 ghost use Rattle.dae_base.specs.Words.{plus, stored, loaded, width_of};
 ghost use Rattle.dae_encode.specs.Instructions.{form};
-ghost use Rattle.dae_encode.specs.Processor.{operand, address, is_good_private, bad_address, early_fault, put_word, decoded, with_result, called, finish, halts, prints, request};
+ghost use Rattle.dae_encode.specs.Processor.{operand, address, is_good_private, is_shared, goes_on, bad_address, early_fault, put_word, decoded, with_result, called, finish, halts, prints, request};
 ghost use Rattle.dae_core.specs.Held.{HeldCore, came_to, fresh};
 ghost use Rattle.dae_core.specs.Moves.{answered_by, granted_by, unprinted, Tells};
 
@@ -266,7 +266,6 @@ impl Core {
         ensures came { finish self.old.side self.old.processor access inst.now form.now given ≡ came_to self.new.processor result }
         ensures none { result ≡ None → self.new ≡ self.old }
     {
-        let past = self.counter.wrapping_add(4);
         match *form {
             Form::Computes(rd, x, y) => {
                 let (first, second) = (self.read(given, x), self.read(given, y));
@@ -277,33 +276,57 @@ impl Core {
                 Some(Piece::empty())
             }
             Form::Loads(kind, rd, base, offset) => {
-                if is_shared(access) {
-                    self.go_on(0, 0, past);
-                    return Some(Piece::empty());
-                }
                 let addr = self.address(given, base, offset);
-                if !self.holds(kind.width(), addr) {
-                    return None;
-                }
-                let found = self.find(kind, addr);
-                self.go_on(rd, found, past);
-                Some(Piece::empty())
+                self.finish_load(access, kind, rd, addr)
             }
             Form::Stores(width, base, source, offset) => {
-                if is_shared(access) {
-                    self.go_on(0, 0, past);
-                    return Some(Piece::empty());
-                }
                 let addr = self.address(given, base, offset);
-                if !self.holds(width, addr) {
-                    return None;
-                }
                 let datum = self.read(given, source);
-                self.put(width, addr, datum);
-                Some(Piece::empty())
+                self.finish_store(access, width, addr, datum)
             }
             Form::Calls => self.call(),
         }
+    }
+
+    fn finish_load(&mut self, access: QueueUse, kind: LoadKind, rd: u8, addr: u32) -> Option<Piece>
+        ensures held { (self.new.side ≡ self.old.side) × (self.new.copies ≡ self.old.copies) }
+        ensures came { came_to self.new.processor result ≡ (if is_shared access then goes_on self.old.processor 0 0 (plus self.old.processor.counter 4) else (if is_good_private self.old.processor (width_of kind) addr then goes_on self.old.processor rd (loaded kind addr self.old.processor.private) (plus self.old.processor.counter 4) else None)) }
+        ensures none { result ≡ None → self.new ≡ self.old }
+    {
+        let past = self.counter.wrapping_add(4);
+        if is_shared(access) {
+            self.go_on(0, 0, past);
+            return Some(Piece::empty());
+        }
+        if !self.holds(kind.width(), addr) {
+            return None;
+        }
+        let found = self.find(kind, addr);
+        self.go_on(rd, found, past);
+        Some(Piece::empty())
+    }
+
+    fn finish_store(
+        &mut self,
+        access: QueueUse,
+        width: Width,
+        addr: u32,
+        datum: u32,
+    ) -> Option<Piece>
+        ensures held { (self.new.side ≡ self.old.side) × (self.new.copies ≡ self.old.copies) }
+        ensures came { came_to self.new.processor result ≡ (if is_shared access then goes_on self.old.processor 0 0 (plus self.old.processor.counter 4) else (if is_good_private self.old.processor width addr then Some (record self.old.processor { counter = plus self.old.processor.counter 4; private = stored width addr datum self.old.processor.private }, []) else None)) }
+        ensures none { result ≡ None → self.new ≡ self.old }
+    {
+        if is_shared(access) {
+            let past = self.counter.wrapping_add(4);
+            self.go_on(0, 0, past);
+            return Some(Piece::empty());
+        }
+        if !self.holds(width, addr) {
+            return None;
+        }
+        self.put(width, addr, datum);
+        Some(Piece::empty())
     }
 
     /// Whether an instruction whose access gives this word has a good private address, or none.

@@ -1,21 +1,17 @@
 -- Each step keeps the numbers of slots and stores in order.
-use Rattle.std.proofs.Common.{◌≡◌, ℕ, ◌+◌, ◌<◌, ◌≤◌, Bool, true, false, cond, List, [], ◌∷◌, ◌++◌, map, refl, ap, sym, subst, arith}
-use Rattle.std.specs.Prelude.{Option, Some, is_some}
-use Rattle.std.specs.List.{AllByRecursion, find}
+use Rattle.std.proofs.Common.{◌≡◌, ℕ, ◌+◌, true, List, [], ◌∷◌, map}
+use Rattle.std.specs.Prelude.{Some}
 use Rattle.std.proofs.lemmas.List.{map-append}
-use Rattle.std.proofs.lemmas.Bool.Decides.{nat_tests}
 use Rattle.dae_base.specs.declared.Side.{Side}
 use Rattle.dae_base.specs.declared.Side.TheVariants.{A, E}
 use Rattle.dae_encode.specs.declared.QueueUse.{QueueUse}
-use Rattle.dae_base.specs.declared.LoadKind.{LoadKind}
-use Rattle.dae_queues.specs.declared.Slot.{Slot}
 use Rattle.dae_queues.specs.declared.StoreAt.{StoreAt}
 use Rattle.dae_core.specs.Queues.{Queues, commit, possible}
-use Rattle.dae_queues.specs.Lists.{Slots, rest, first_value, without_front, with_slot, new_slot, is_waiting, waiting, give, with_value, next_store, without_store}
+use Rattle.dae_queues.specs.Lists.{rest, with_value, next_store, without_store}
 use Rattle.dae_machine.specs.Memory.{loads_of, with_loads_of}
 use Rattle.dae_base.specs.declared.Depths.{Depths}
 use Rattle.dae_core.proofs.QueueLaws.{UseOfA, UseOfE, a_nothing, a_load_ld, a_load_al, a_take_al, a_address, a_push_ab, a_push_cq, a_take_eb, e_nothing, e_take_ld}
-use Rattle.dae_queues.specs.Numbers.{Counts, SlotsCount}
+use Rattle.dae_queues.specs.Numbers.{Counts}
 use Rattle.dae_machine.specs.Memory.{QueuesCount}
 use Rattle.dae_queues.proofs.CountLaws.{counts_more, slots_more, slots_up, slots_rest, slots_given}
 

@@ -1,5 +1,5 @@
 -- The numbers of the generator.
-use Rattle.std.proofs.Common.{◌≡◌, ℕ, zero, suc, ◌+◌, refl, ap}
+use Rattle.std.proofs.Common.{◌≡◌, ℕ, zero, suc, refl, ap}
 use Rattle.dae_machine.specs.Schedules.{next_number, number_after}
 
 -- a step first or last

@@ -11,3 +11,5 @@ pub mod Kept
 pub mod Steps
 pub mod Generator
 pub mod Turns
+pub mod Printing
+pub mod Scheduled

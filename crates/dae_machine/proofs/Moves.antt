@@ -1,5 +1,5 @@
 -- One step of a processor over the machine's queues is one step of the machine.
-use Rattle.std.proofs.Common.{◌≡◌, ℕ, ◌+◌, ◌≤◌, Bool, true, false, ◌||◌, List, ◌++◌, refl, ap, sym, ◌∙◌, subst, arith}
+use Rattle.std.proofs.Common.{◌≡◌, ℕ, ◌+◌, Bool, true, false, ◌||◌, List, ◌++◌, refl, ap, sym, ◌∙◌}
 use Rattle.std.specs.Prelude.{Option, Some, None, is_some, option_map, if◌then◌else◌}
 use Rattle.dae_base.specs.declared.Side.{Side}
 use Rattle.dae_base.specs.declared.Side.TheVariants.{A, E}
@@ -15,7 +15,7 @@ use Rattle.dae_core.specs.declared.CoreAnswer.{CoreAnswer}
 use Rattle.dae_core.specs.declared.CoreAnswer.TheVariants.{Did, Waits, Halted as IsHalted, Faulted}
 use Rattle.dae_core.specs.Held.{HeldQueues, is_open}
 use Rattle.dae_core.specs.Moves.{answered_by, finished, given_by, granted_by, unprinted, waits, Tells}
-use Rattle.dae_core.specs.Queues.{Queues, belongs, commit, front, peek, possible, ready}
+use Rattle.dae_core.specs.Queues.{Queues, belongs, commit, front, peek, ready}
 use Rattle.dae_core.proofs.Uses.{AsksOwn, own_request}
 use Rattle.dae_queues.proofs.MemoryLaws.{map_some_is}
 use Rattle.dae_machine.specs.declared.Pick.TheVariants.{A as MoveA, E as MoveE}

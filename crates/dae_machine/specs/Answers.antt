@@ -1,7 +1,6 @@
 -- What keeps a processor from a step, and how a machine opens.
-use Rattle.std.specs.Prelude.{◌≡◌, Bool, true, false, Option, Some, None}
+use Rattle.std.specs.Prelude.{◌≡◌, Bool, true, false, Some, None}
 use Rattle.dae_base.specs.Budgets.{depth, first_below}
-use Rattle.dae_base.specs.declared.Queue.{Queue}
 use Rattle.dae_base.specs.declared.Side.{Side}
 use Rattle.dae_base.specs.declared.Side.TheVariants.{A, E}
 use Rattle.dae_base.specs.declared.Depths.{Depths}
@@ -9,7 +8,7 @@ use Rattle.dae_encode.specs.Processor.{Processor, request}
 use Rattle.dae_core.specs.declared.CoreAnswer.{CoreAnswer}
 use Rattle.dae_core.specs.declared.CoreAnswer.TheVariants.{Did, Waits, Halted, Faulted}
 use Rattle.dae_core.specs.Moves.{answered_by, unprinted}
-use Rattle.dae_core.specs.Queues.{Queues, front, ready}
+use Rattle.dae_core.specs.Queues.{front, ready}
 use Rattle.dae_machine.specs.declared.OpenError.{OpenError}
 use Rattle.dae_machine.specs.declared.OpenError.TheVariants.{DepthBelow, Memory}
 use Rattle.dae_machine.specs.Machine.{Setup, State, code}

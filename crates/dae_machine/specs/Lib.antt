@@ -10,3 +10,4 @@ pub mod Answers
 pub mod Schedules
 pub mod Rests
 pub mod Entries
+pub mod Printing

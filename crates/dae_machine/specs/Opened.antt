@@ -1,5 +1,5 @@
 -- The state in which a machine begins.
-use Rattle.std.specs.Prelude.{ℕ, ◌-◌, ◌+◌, not, ◌==◌, List, [], ◌++◌, length, replicate}
+use Rattle.std.specs.Prelude.{◌-◌, ◌+◌, not, ◌==◌, [], ◌++◌, length, replicate}
 use Rattle.dae_base.specs.declared.Depths.{Depths}
 use Rattle.dae_image.specs.declared.Image.{Image}
 use Rattle.dae_core.specs.Queues.{empty_queues}

@@ -1,5 +1,5 @@
 -- How a machine ends, and what one turn comes to.
-use Rattle.std.specs.Prelude.{◌≡◌, ℕ, List, Option, Some, None, is_some, true}
+use Rattle.std.specs.Prelude.{◌≡◌, ℕ, Option, Some, None}
 use Rattle.dae_encode.specs.declared.Halt.{Halt}
 use Rattle.dae_encode.specs.declared.Halt.TheVariants.{Plain, Status, Trap}
 use Rattle.dae_machine.specs.declared.Pick.{Pick}

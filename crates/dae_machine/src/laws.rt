@@ -1,12 +1,15 @@
-ghost use Rattle.std.specs.Prelude.{◌≡◌, ◌≢◌, ℕ, ◌+◌, List, length, Some};
+ghost use Rattle.std.specs.Prelude.{◌⊎◌, ◌≡◌, ◌≢◌, ℕ, ◌+◌, List, length, Some};
 ghost use Rattle.dae_base.specs.declared.Depths.{Depths};
 ghost use Rattle.dae_image.specs.declared.Image.{Image};
 ghost use Rattle.dae_machine.specs.declared.Pick.{Pick};
 ghost use Rattle.dae_machine.specs.Deeper.{IsDeeper};
 ghost use Rattle.dae_machine.specs.Ends.{CanOnlyEnd, GoesOn, HasRuns};
-ghost use Rattle.dae_machine.specs.Machine.{Setup, State, IsCounted, IsFinal, IsQuiet, Runs, step};
+ghost use Rattle.dae_machine.specs.Machine.{Setup, State, IsCounted, IsFinal, IsQuiet, IsStuck, Runs, step};
 ghost use Rattle.dae_machine.specs.Opened.{opened};
+ghost use Rattle.dae_machine.specs.Printing.{behind};
 ghost use Rattle.dae_machine.specs.Runs.{Joined};
+ghost use Rattle.dae_machine.specs.Schedules.{scheduled};
+ghost use Rattle.dae_machine.specs.Turns.{pick_of};
 
 /// Two different picks that are enabled can follow each other in both orders, and both orders give one state.
 pub fn steps_commute()
@@ -43,4 +46,18 @@ pub fn some_runs_tell_all()
 /// What runs with some depths runs so, through the same states, with deeper queues.
 pub fn deeper_runs_too()
     ensures { (setup : Setup) (d' : Depths) (s t : State) (ps : List Pick) → IsDeeper setup.depths d' → Runs setup s ps t → Runs (record setup { depths = d' }) s ps t }
+{}
+
+/// What was printed before changes neither a step nor a run, nor the pick of a word, nor how a machine rests.
+pub fn printing_is_apart()
+    ensures step { (setup : Setup) (s t : State) (p : Pick) (xs : List ℕ) → step setup s p ≡ Some t → step setup (behind xs s) p ≡ Some (behind xs t) }
+    ensures run { (setup : Setup) (s t : State) (ps : List Pick) (xs : List ℕ) → Runs setup s ps t → Runs setup (behind xs s) ps (behind xs t) }
+    ensures pick { (setup : Setup) (s : State) (word : ℕ) (xs : List ℕ) → pick_of setup (behind xs s) word ≡ pick_of setup s word }
+    ensures ends { (setup : Setup) (s : State) (xs : List ℕ) → IsFinal setup s → IsFinal setup (behind xs s) }
+    ensures stuck { (setup : Setup) (s : State) (xs : List ℕ) → IsStuck setup s → IsStuck setup (behind xs s) }
+{}
+
+/// The turns of a schedule are a run. It is shorter than asked only where no pick is enabled any more.
+pub fn schedules_run()
+    ensures { (setup : Setup) (s : State) (words : ℕ → ℕ) (k : ℕ) → IsCounted s → (t : State) × Runs setup s (scheduled setup s words k) t × ((length (scheduled setup s words k) ≡ k) ⊎ IsQuiet setup t) }
 {}

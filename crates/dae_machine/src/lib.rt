@@ -5,8 +5,8 @@
 
 use dae_base::{Piece, Queue, Side, Width};
 pub use laws::{
-    deeper_runs_too, numbers_stay, one_run_tells_all, quiet_is_last, runs_meet, some_runs_tell_all,
-    steps_commute,
+    deeper_runs_too, numbers_stay, one_run_tells_all, printing_is_apart, quiet_is_last, runs_meet,
+    schedules_run, some_runs_tell_all, steps_commute,
 };
 pub use machine::Machine;
 pub use turn_words::Words;

@@ -122,6 +122,7 @@ impl Machine {
         requires few { self.old.state.steps < 1000000000000 }
         ensures setup { self.new.setup ≡ self.old.setup }
         ensures turn { TurnedTo result word self.old.setup self.old.state self.new.state }
+        ensures silent { self.old.state.printed ≡ [] → self.new.state.printed ≡ [] }
     {
         if let Some(pick) = self.pick(word) {
             let piece = self.step(pick);

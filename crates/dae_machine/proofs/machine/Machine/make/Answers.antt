@@ -1,4 +1,4 @@
-use Rattle.std.proofs.Common.{rules, ap, sym, subst}
+use Rattle.std.proofs.Common.{rules, sym, subst}
 use Rattle.dae_core.specs.Held.{HeldQueues}
 use Rattle.dae_machine.specs.Held.{Counted}
 use Rattle.dae_machine.proofs.Opening.{none_counted}

@@ -1,5 +1,4 @@
-use Rattle.std.proofs.Common.{rules, ◌≡◌, sym, refl}
-use Rattle.dae_machine.specs.declared.Pick.TheVariants.{E}
+use Rattle.std.proofs.Common.{rules, ◌≡◌, refl}
 use Rattle.dae_machine.proofs.Steps.{e_step}
 use Rattle.dae_machine.proofs.machine.Machine.move_e.Goals as goal
 
