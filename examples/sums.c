@@ -1,0 +1,19 @@
+#include <stdio.h>
+int a;
+int b;
+int c;
+int d;
+int e;
+int main(void)
+{
+    a = 1;
+    b = 2;
+    c = 3;
+    d = 4;
+    e = 5;
+    printf("%d\n", a + b * c - d + e);
+    a = 2147483647;
+    a = a + 1;
+    printf("%d\n", a);
+    return 0;
+}
