@@ -1,15 +1,14 @@
 -- How a straight program ends, and what is due for it.
-use Rattle.std.proofs.Common.{◌≡◌, ℕ, ◌≤◌, ◌⊎◌, inl, inr, List, [], ◌∷◌, ◌++◌, length, refl, ap, sym, ◌∙◌, subst, arith, min}
+use Rattle.std.proofs.Common.{◌≡◌, ℕ, ◌≤◌, inl, inr, List, [], ◌∷◌, ◌++◌, length, refl, ap, sym, ◌∙◌, subst, arith}
 use Rattle.std.specs.Prelude.{Option}
 use Rattle.dae_base.specs.declared.Queue.TheVariants.{Ld, Al, Sa, Sd, Ab, Eb, Cq}
 use Rattle.dae_base.specs.declared.Depths.{Depths}
-use Rattle.dae_base.specs.Budgets.{depth}
 use Rattle.dae_tree.specs.declared.Statement.{Statement}
 use Rattle.dae_tree.specs.declared.Statement.TheVariants.{Assign, PrintLine}
 use Rattle.dae_tree.specs.declared.StraightProgram.{StraightProgram}
 use Rattle.dae_tree.specs.Meaning as c
 use Rattle.dae_tree.specs.Straight.{expression_of, execute_all, meaning, memory_of, data_of}
-use Rattle.dae_straight_compiler.specs.Budget.{most_names, assigns, budget_of}
+use Rattle.dae_straight_compiler.specs.Budget.{assigns, budget_of}
 use Rattle.dae_straight_compiler.specs.Compiled.{Reaches}
 use Rattle.dae_straight_compiler.proofs.Sums.{evaluated}
 use Rattle.dae_cli.specs.declared.running.TheConstants.{DEPTHS}

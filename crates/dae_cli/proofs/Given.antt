@@ -1,11 +1,11 @@
 -- How answers that are given in parts go together.
-use Rattle.std.proofs.Common.{◌≡◌, ℕ, ◌+◌, ◌-◌, ◌^◌, ◌≤◌, ◌⊎◌, inl, inr, ◌<◌, zero, suc, List, [], ◌∷◌, ◌++◌, length, refl, ap, sym, ◌∙◌, subst, take_all, min, arith}
+use Rattle.std.proofs.Common.{◌≡◌, ℕ, ◌≤◌, ◌⊎◌, inl, inr, ◌<◌, zero, suc, List, [], ◌∷◌, ◌++◌, length, refl, ap, ◌∙◌, subst, take_all, arith}
 use Rattle.std.specs.Prelude.{Option, Some, None, IfSome, take}
 use Rattle.std.specs.Io.KnownBytes.{Appends}
 use Rattle.std.proofs.lemmas.Bool.Decides.{leb_tells}
 use Rattle.dae_io.specs.Faults.{Rose}
 use Rattle.dae_io.specs.Taken.{AppendsPrefix}
-use Rattle.dae_io.proofs.Growth.{Appends-nothing, Appends-then, AppendsPrefix-whole, AppendsPrefix-then, AppendsPrefix-of_more}
+use Rattle.dae_io.proofs.Growth.{Appends-nothing, Appends-then, AppendsPrefix-whole, AppendsPrefix-then}
 use Rattle.dae_cli.specs.Answers.{Answer, answer, Gives, gives_whole, gives_part, DueOfText, due_program, due_not_built, due_memory_to_read, DueOfFile, due_text}
 
 take_long : (n : ℕ) (xs : List ℕ) → n ≤ length xs → length (take n xs) ≡ n

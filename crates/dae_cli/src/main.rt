@@ -8,9 +8,13 @@ use std::process::ExitCode;
 use std::{env, io};
 
 mod drive;
+#[cfg(test)]
+mod files;
 mod job;
 mod notes;
 mod running;
+#[cfg(test)]
+mod tests;
 mod top;
 
 // The words after the program's name.

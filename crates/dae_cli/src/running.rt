@@ -10,8 +10,8 @@ ghost use Rattle.dae_cli.specs.Answers.{Answer, answer, DueOfProgram, DueOfText,
 use crate::drive::drive;
 use crate::notes;
 use dae_base::Depths;
-use dae_io::{FetchError, Shelf, Sink};
 use dae_image::Image;
+use dae_io::{FetchError, Shelf, Sink};
 use dae_machine::{Machine, Pick};
 use dae_straight_compiler::{Compiled, compile};
 use dae_straight_reader::{ReadError, read};
@@ -71,7 +71,14 @@ fn lines(alloc: Global, compiled: &Compiled) -> Result<(String, String, String),
 }
 
 // Runs an opened machine to its end, and notes that.
-fn run_opened<O: Sink, N: Sink>(machine: Machine, picks: &[Pick], ended: &[u8], steps: &[u8], out: &mut O, note: &mut N) -> u8
+fn run_opened<O: Sink, N: Sink>(
+    machine: Machine,
+    picks: &[Pick],
+    ended: &[u8],
+    steps: &[u8],
+    out: &mut O,
+    note: &mut N,
+) -> u8
     requires run { (end : State) × Runs machine.setup machine.state picks.now end }
     requires silent { machine.state.printed ≡ [] }
     requires few { machine.state.steps + length picks.now ≤ 1000000000000 }
@@ -85,7 +92,16 @@ fn run_opened<O: Sink, N: Sink>(machine: Machine, picks: &[Pick], ended: &[u8], 
 }
 
 // Opens the machine and runs it to its end, after the line with the budget.
-fn run_image<O: Sink, N: Sink>(alloc: Global, image: &Image, picks: &[Pick], budget: &[u8], ended: &[u8], steps: &[u8], out: &mut O, note: &mut N) -> u8
+fn run_image<O: Sink, N: Sink>(
+    alloc: Global,
+    image: &Image,
+    picks: &[Pick],
+    budget: &[u8],
+    ended: &[u8],
+    steps: &[u8],
+    out: &mut O,
+    note: &mut N,
+) -> u8
     requires run { (end : State) × Runs (setup_of image.now DEPTHS) (opened image.now) picks.now end }
     requires few { length picks.now ≤ 1000000 }
     requires fit { DataFit image.now }
@@ -102,7 +118,12 @@ fn run_image<O: Sink, N: Sink>(alloc: Global, image: &Image, picks: &[Pick], bud
 }
 
 /// Compiles a program and runs it to its end. All memory is taken before the first step.
-pub fn run_program<O: Sink, N: Sink>(alloc: Global, program: &StraightProgram, out: &mut O, note: &mut N) -> u8
+pub fn run_program<O: Sink, N: Sink>(
+    alloc: Global,
+    program: &StraightProgram,
+    out: &mut O,
+    note: &mut N,
+) -> u8
     requires { IsStraight program.now }
     ensures { (due : Answer) × DueOfProgram program.now due × Gives due result (O.taken out.old) (O.taken out.new) (N.taken note.old) (N.taken note.new) (Rose (O.count out.old) (O.count out.new) ⊎ Rose (N.count note.old) (N.count note.new)) }
 {
@@ -113,7 +134,16 @@ pub fn run_program<O: Sink, N: Sink>(alloc: Global, program: &StraightProgram, o
         Ok((budget, ended, steps)) => {
             let picks = compiled.picks.as_slice();
             let (budget, ended, steps) = (budget.as_bytes(), ended.as_bytes(), steps.as_bytes());
-            run_image(alloc, &compiled.image, picks, budget, ended, steps, out, note)
+            run_image(
+                alloc,
+                &compiled.image,
+                picks,
+                budget,
+                ended,
+                steps,
+                out,
+                note,
+            )
         }
         Err(_) => noted(note, MEMORY, 7),
     }
@@ -131,7 +161,13 @@ fn run_text<O: Sink, N: Sink>(alloc: Global, text: &[u8], out: &mut O, note: &mu
 }
 
 /// Fetches a file and runs the program that it spells.
-pub fn run_file<F: Shelf, O: Sink, N: Sink>(alloc: Global, name: &str, shelf: &mut F, out: &mut O, note: &mut N) -> u8
+pub fn run_file<F: Shelf, O: Sink, N: Sink>(
+    alloc: Global,
+    name: &str,
+    shelf: &mut F,
+    out: &mut O,
+    note: &mut N,
+) -> u8
     ensures { (due : Answer) × DueOfFile name.now (F.told shelf.old name.now) (Rose (F.count shelf.old) (F.count shelf.new) × (F.last shelf.new ≡ fetch_of name.now)) due × Gives due result (O.taken out.old) (O.taken out.new) (N.taken note.old) (N.taken note.new) (Rose (O.count out.old) (O.count out.new) ⊎ Rose (N.count note.old) (N.count note.new)) }
 {
     let Ok(fault) = notes::read_line(alloc, name) else {

@@ -10,7 +10,13 @@ use std::alloc::Global;
 /// Does the job that the words after the program's name spell, and answers with the program's status. Texts come from
 /// the shelf, output goes to `out` and notes go to `note`. An answer is due by the words, by what the shelf tells and
 /// by its faults; it is given whole, or else a sink failed and holds first bytes of what was due.
-pub fn dae_main<F: Shelf, O: Sink, N: Sink>(alloc: Global, words: &[String], shelf: &mut F, out: &mut O, note: &mut N) -> u8
+pub fn dae_main<F: Shelf, O: Sink, N: Sink>(
+    alloc: Global,
+    words: &[String],
+    shelf: &mut F,
+    out: &mut O,
+    note: &mut N,
+) -> u8
     ensures { (due : Answer) × IsDue (map string_bytes words.now) (F.told shelf.old) (λ name. Rose (F.count shelf.old) (F.count shelf.new) × (F.last shelf.new ≡ fetch_of name)) due × Gives due result (O.taken out.old) (O.taken out.new) (N.taken note.old) (N.taken note.new) (Rose (O.count out.old) (O.count out.new) ⊎ Rose (N.count note.old) (N.count note.new)) }
 {
     match spelled(words) {

@@ -1,5 +1,5 @@
-use Rattle.std.proofs.Common.{rules, ◌≡◌, ℕ, ◌+◌, ◌<◌, List, ◌∷◌, drop, length, get_or, refl, ap, sym, ◌∙◌, subst, add-one, drop-cons, arith}
-use Rattle.std.specs.Prelude.{Option, OnErr}
+use Rattle.std.proofs.Common.{◌≡◌, ℕ, ◌+◌, ◌<◌, List, ◌∷◌, drop, length, get_or, subst, add-one, drop-cons, arith}
+use Rattle.std.specs.Prelude.{Option}
 use Rattle.dae_io.specs.Taken.{AppendsPrefix}
 use Rattle.dae_machine.specs.declared.Pick.{Pick}
 use Rattle.dae_machine.specs.declared.Pick.TheVariants.{A}

@@ -1,6 +1,6 @@
-use Rattle.std.proofs.Common.{rules, ◌≡◌, ℕ, zero, suc, ◌<◌, ◌≤◌, List, map, [], ◌∷◌, length, get_or, refl, ap, ap₂, sym, ◌∙◌, subst, true, arith}
+use Rattle.std.proofs.Common.{rules, ◌≡◌, ◌<◌, ◌≤◌, List, [], ◌∷◌, length, get_or, refl, ap, sym, ◌∙◌, subst, true, arith}
 use Rattle.std.specs.Prelude.{IsTrue, codes}
-use Rattle.dae_cli.specs.Words.{is_file_name, SpellsRun}
+use Rattle.dae_cli.specs.Words.{is_file_name}
 use Rattle.dae_cli.proofs.job.spelled.Goals as goal
 
 two : {X : Type 0} (xs : List X) (a b : X) → 2 ≤ length xs → length xs < 3 → a ≡ get_or xs 0 a → b ≡ get_or xs 1 b → xs ≡ a ∷ (b ∷ [])

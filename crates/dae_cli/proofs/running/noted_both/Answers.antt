@@ -1,6 +1,6 @@
-use Rattle.std.proofs.Common.{◌≡◌, [], refl}
+use Rattle.std.proofs.Common.{[], refl}
 use Rattle.dae_io.proofs.Growth.{Appends-nothing, AppendsPrefix-of_more}
-use Rattle.dae_cli.specs.Answers.{Gives, gives_whole, gives_part}
+use Rattle.dae_cli.specs.Answers.{gives_part}
 use Rattle.dae_cli.proofs.Given.{gives_for, prefix_none, gives_after, rose_later}
 use Rattle.dae_cli.proofs.running.noted_both.Goals as goal
 

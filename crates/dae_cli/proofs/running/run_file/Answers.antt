@@ -1,4 +1,4 @@
-use Rattle.std.proofs.Common.{rules, ◌≡◌, inl, inr, refl, ap}
+use Rattle.std.proofs.Common.{rules, ◌≡◌, inr}
 use Rattle.dae_io.specs.Faults.{Rose, fetch_of}
 use Rattle.dae_cli.specs.Notes.{read_line}
 use Rattle.dae_cli.specs.Answers.{due_memory_to_fetch, due_read}

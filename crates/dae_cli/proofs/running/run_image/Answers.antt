@@ -1,4 +1,4 @@
-use Rattle.std.proofs.Common.{◌≡◌, ◌++◌, [], inl, inr, refl}
+use Rattle.std.proofs.Common.{◌++◌, [], inl, inr, refl}
 use Rattle.dae_io.proofs.Growth.{Appends-nothing, AppendsPrefix-of_more}
 use Rattle.dae_cli.specs.Notes.{memory_line}
 use Rattle.dae_cli.specs.Answers.{gives_part}

@@ -1,4 +1,4 @@
-use Rattle.std.proofs.Common.{◌≡◌, ◌++◌, inl, inr, refl}
+use Rattle.std.proofs.Common.{◌++◌, inl, inr, refl}
 use Rattle.dae_cli.specs.Answers.{gives_part}
 use Rattle.dae_cli.proofs.Given.{gives_for, prefix_none, output_before}
 use Rattle.dae_cli.proofs.running.run_opened.Goals as goal

@@ -1,4 +1,4 @@
-use Rattle.std.proofs.Common.{rules, ◌≡◌, inl, inr, refl, ap, sym, ◌∙◌, length}
+use Rattle.std.proofs.Common.{rules, ◌≡◌, inr, ap, sym, ◌∙◌, length}
 use Rattle.dae_cli.specs.declared.running.TheConstants.{DEPTHS}
 use Rattle.dae_cli.specs.Notes.{budget_line, ended_line, steps_line}
 use Rattle.dae_cli.specs.Answers.{due_memory}

@@ -1,4 +1,4 @@
-use Rattle.std.proofs.Common.{◌≡◌, inl, inr, refl, ap, Err}
+use Rattle.std.proofs.Common.{inr, ap, Err}
 use Rattle.dae_cli.specs.Answers.{due_program, due_not_built, due_memory_to_read}
 use Rattle.dae_cli.proofs.Given.{gives_for}
 use Rattle.dae_cli.proofs.running.run_text.Goals as goal
