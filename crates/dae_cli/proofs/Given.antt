@@ -6,7 +6,7 @@ use Rattle.std.proofs.lemmas.Bool.Decides.{leb_tells}
 use Rattle.dae_io.specs.Faults.{Rose}
 use Rattle.dae_io.specs.Taken.{AppendsPrefix}
 use Rattle.dae_io.proofs.Growth.{Appends-nothing, Appends-then, AppendsPrefix-whole, AppendsPrefix-then}
-use Rattle.dae_cli.specs.Answers.{Answer, answer, Gives, gives_whole, gives_part, DueOfText, due_program, due_not_built, due_memory_to_read, DueOfFile, due_text}
+use Rattle.dae_cli.specs.Answers.{Answer, answer, Gives, gives_whole, gives_part, DueOfText, due_program, due_not_built, due_memory_to_read, DueOfFile, due_text, due_read, due_memory_to_fetch, IsDue, due_file, due_words}
 
 take_long : (n : ℕ) (xs : List ℕ) → n ≤ length xs → length (take n xs) ≡ n
 take_long zero xs h = refl
@@ -65,3 +65,18 @@ due_at {a} text t e d = subst (λ (x : List ℕ). DueOfText x a) e d
 
 pub gives_line : {due_status status : ℕ} {o o' n n' : Option (List ℕ)} {failed : Type 0} (line l : List ℕ) → line ≡ l → Gives (answer due_status [] line) status o o' n n' failed → Gives (answer due_status [] l) status o o' n n' failed
 gives_line {due_status} {status} {o} {o'} {n} {n'} {failed} line l e x = subst (λ (t : List ℕ). Gives (answer due_status [] t) status o o' n n' failed) e x
+
+-- ---- where nothing fails
+
+file_calm : {a : Answer} {name : List ℕ} {told : Option (List ℕ)} {failed : Type 0} → (failed → ⊥) → DueOfFile name told failed a → DueOfFile name told ⊥ a
+file_calm never (due_text text e d) = due_text text e d
+file_calm never (due_read f) = absurd (never f)
+file_calm never due_memory_to_fetch = due_memory_to_fetch
+
+pub due_calm : {a : Answer} {words : List (List ℕ)} {told : List ℕ → Option (List ℕ)} {failed : List ℕ → Type 0} → ((name : List ℕ) → failed name → ⊥) → IsDue words told failed a → IsDue words told (λ name. ⊥) a
+due_calm never (due_file name spelled d) = due_file name spelled (file_calm (never name) d)
+due_calm never (due_words none) = due_words none
+
+pub status_calm : {due : Answer} {status : ℕ} {o o' n n' : Option (List ℕ)} {failed : Type 0} → (failed → ⊥) → Gives due status o o' n n' failed → status ≡ due.status
+status_calm never (gives_whole s p q) = s
+status_calm never (gives_part s r p q) = absurd (never r)

@@ -1,10 +1,11 @@
-ghost use Rattle.std.specs.Prelude.{◌≡◌, ℕ, ◌⊎◌, List, map, string_bytes};
+ghost use Rattle.std.specs.Prelude.{◌≡◌, ℕ, ◌⊎◌, List, map, string_bytes, Option, None, Some, if◌then◌else◌};
 ghost use Rattle.dae_io.specs.Faults.{Rose, fetch_of};
+ghost use Rattle.dae_io.specs.Listed.{first_text};
 ghost use Rattle.dae_cli.specs.Answers.{Answer, IsDue, Gives};
 
 use crate::job::spelled;
 use crate::running::{noted, run_file};
-use dae_io::{Shelf, Sink};
+use dae_io::{CalmShelf, CalmSink, Shelf, Sink};
 use std::alloc::Global;
 
 /// Does the job that the words after the program's name spell, and answers with the program's status. Texts come from
@@ -23,4 +24,12 @@ pub fn dae_main<F: Shelf, O: Sink, N: Sink>(
         Some(name) => run_file(alloc, name, shelf, out, note),
         None => noted(note, b"words\n", 64),
     }
+}
+
+/// The same over a shelf and sinks that never fail: what is due is always given, and it is never due for a failed fetch.
+/// So a file that spells a straight program gives 0, another gives 2, and each may give 7 instead.
+pub fn answer_calmly(alloc: Global, words: &[String], shelf: &mut CalmShelf<'_>) -> u8
+    ensures { (due : Answer) × IsDue (map string_bytes words.now) (λ name. if shelf.old.dropped then None else Some (first_text shelf.old.texts.now name)) (λ name. ⊥) due × (result ≡ due.status) }
+{
+    dae_main(alloc, words, shelf, &mut CalmSink, &mut CalmSink)
 }
