@@ -6,7 +6,8 @@ use Rattle.std.proofs.lemmas.Bool.Decides.{leb_tells}
 use Rattle.dae_io.specs.Faults.{Rose}
 use Rattle.dae_io.specs.Taken.{AppendsPrefix}
 use Rattle.dae_io.proofs.Growth.{Appends-nothing, Appends-then, AppendsPrefix-whole, AppendsPrefix-then}
-use Rattle.dae_cli.specs.Answers.{Answer, answer, Gives, gives_whole, gives_part, DueOfText, due_program, due_not_built, due_memory_to_read, DueOfFile, due_text, due_read, due_memory_to_fetch, IsDue, due_file, due_words}
+use Rattle.dae_cli.specs.Answers.{Answer, answer, Gives, gives_whole, gives_part, DueOfText, due_program, due_not_built, due_memory_to_read, DueOfFile, due_text, due_read, due_memory_to_fetch, DueOfImageFile, due_bytes, due_no_bytes, due_memory_for_bytes, IsDue, due_file, due_image_file, due_words}
+use Rattle.dae_cli.specs.declared.options.RunOptions.{RunOptions}
 
 take_long : (n : ℕ) (xs : List ℕ) → n ≤ length xs → length (take n xs) ≡ n
 take_long zero xs h = refl
@@ -20,6 +21,9 @@ le_or_lt n = elim (leb_tells n 1048576) [ inl h ↦ inl h.1 | inr h ↦ inr h.1 
 pub gives_for : {due : Answer} {status : ℕ} {o o' n n' : Option (List ℕ)} {failed other : Type 0} → (failed → other) → Gives due status o o' n n' failed → Gives due status o o' n n' other
 gives_for f (gives_whole s p q) = gives_whole s p q
 gives_for f (gives_part s r p q) = gives_part s (f r) p q
+
+pub rose_right : {due : Answer} {status : ℕ} {o o' n n' : Option (List ℕ)} {failed other : Type 0} → Gives due status o o' n n' failed → Gives due status o o' n n' (other ⊎ failed)
+rose_right d = gives_for (λ r. inr r) d
 
 -- nothing is first bytes of anything
 pub prefix_none : (a : Option (List ℕ)) (xs : List ℕ) → AppendsPrefix a a xs
@@ -73,9 +77,15 @@ file_calm never (due_text text e d) = due_text text e d
 file_calm never (due_read f) = absurd (never f)
 file_calm never due_memory_to_fetch = due_memory_to_fetch
 
+image_calm : {a : Answer} {name : List ℕ} {told : Option (List ℕ)} {failed : Type 0} {o : RunOptions} → (failed → ⊥) → DueOfImageFile name told failed o a → DueOfImageFile name told ⊥ o a
+image_calm never (due_bytes bytes e d) = due_bytes bytes e d
+image_calm never (due_no_bytes f) = absurd (never f)
+image_calm never due_memory_for_bytes = due_memory_for_bytes
+
 pub due_calm : {a : Answer} {words : List (List ℕ)} {told : List ℕ → Option (List ℕ)} {failed : List ℕ → Type 0} → ((name : List ℕ) → failed name → ⊥) → IsDue words told failed a → IsDue words told (λ name. ⊥) a
 due_calm never (due_file name spelled d) = due_file name spelled (file_calm (never name) d)
-due_calm never (due_words none) = due_words none
+due_calm never (due_image_file options name spelled d) = due_image_file options name spelled (image_calm (never name) d)
+due_calm never (due_words none others) = due_words none others
 
 pub status_calm : {due : Answer} {status : ℕ} {o o' n n' : Option (List ℕ)} {failed : Type 0} → (failed → ⊥) → Gives due status o o' n n' failed → status ≡ due.status
 status_calm never (gives_whole s p q) = s

@@ -1,3 +1,10 @@
-pub mod Silence
+pub mod Driving
+pub mod Outcome
 pub mod Given
+pub mod Executed
+pub mod Longest
 pub mod Ends
+pub mod Spelling
+pub mod Ending
+pub mod Choosing
+pub mod Ranges

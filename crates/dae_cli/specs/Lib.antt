@@ -1,3 +1,5 @@
+pub mod Options
 pub mod Words
 pub mod Notes
 pub mod Answers
+pub mod Driving

@@ -1,29 +1,58 @@
-ghost use Rattle.std.specs.Prelude.{◌≡◌, ℕ, ◌+◌, ◌≤◌, Some, [], length, OnOk, OnErr};
+ghost use Rattle.std.specs.Prelude.{◌≡◌, ℕ, ◌≤◌, [], OnOk, OnErr, true};
 ghost use Rattle.std.specs.Io.KnownBytes.{Appends};
 ghost use Rattle.dae_io.specs.Faults.{Rose};
 ghost use Rattle.dae_io.specs.Taken.{AppendsPrefix};
-ghost use Rattle.dae_machine.specs.Machine.{State, Runs};
+ghost use Rattle.dae_cli.specs.Driving.{Drives, Rested, is_failed};
 
 use dae_base::Piece;
 use dae_io::{Sink, SinkFailed};
-use dae_machine::{Machine, Pick};
+use dae_machine::{End, Machine, Rest, Turn, Words};
 
-/// Takes the steps of these picks, which are a run of the machine, and puts out what each of them prints. It takes no
-/// memory. Where a put fails, no further step is taken.
-pub fn drive<O: Sink>(machine: &mut Machine, picks: &[Pick], out: &mut O) -> Result<(), SinkFailed>
-    requires run { (end : State) × Runs machine.old.setup machine.old.state picks.now end }
+/// What a drive came to: the machine is final, with this end, or stuck; or the stated steps were taken and it can go on;
+/// or a put failed.
+#[derive(Clone, Copy, PartialEq, Eq, Debug)]
+pub enum Driven {
+    Final(End),
+    Stuck,
+    Spent,
+    SinkFailed,
+}
+
+/// Lets the machine make the turns of the next words, until it is final or stuck or until it has taken `steps` steps in
+/// all, and puts out what each step prints, one put a step. It takes no memory. Where a put fails, no further step is
+/// taken. The steps are at most 1,000,000,000,000.
+pub fn drive<O: Sink>(machine: &mut Machine, words: &mut Words, steps: u64, out: &mut O) -> Driven
+    requires many { steps ≤ 1000000000000 }
+    requires begun { machine.old.state.steps ≤ steps }
     requires silent { machine.old.state.printed ≡ [] }
-    requires few { machine.old.state.steps + length picks.now ≤ 1000000000000 }
-    ensures whole { OnOk result ((end : State) → Runs machine.old.setup machine.old.state picks.now end → Appends (O.taken out.old) (O.taken out.new) end.printed) }
-    ensures prefix { OnErr result ((end : State) → Runs machine.old.setup machine.old.state picks.now end → AppendsPrefix (O.taken out.old) (O.taken out.new) end.printed) }
+    ensures setup { machine.new.setup ≡ machine.old.setup }
+    ensures drives { Drives result steps machine.old.setup machine.old.state machine.new.state words.old words.new (O.taken out.old) (O.taken out.new) }
     ensures counted { O.count out.old ≤ O.count out.new }
-    ensures rose { OnErr result (Rose (O.count out.old) (O.count out.new)) }
+    ensures rose { is_failed result ≡ true → Rose (O.count out.old) (O.count out.new) }
 {
-    for pick in picks {
-        let piece = machine.step(*pick);
-        put_piece(out, &piece)?;
+    for _ in machine.taken()..steps {
+        match machine.turn(words.next()) {
+            Turn::Stepped(_, piece) => {
+                if put_piece(out, &piece).is_err() {
+                    return Driven::SinkFailed;
+                }
+            }
+            Turn::Final(end) => return Driven::Final(end),
+            Turn::Stuck => return Driven::Stuck,
+        }
     }
-    Ok(())
+    rested(machine)
+}
+
+// How a machine that has taken its stated steps rests, or that it can go on.
+fn rested(machine: &Machine) -> Driven
+    ensures { Rested result machine.now.state.steps machine.now.setup machine.now.state }
+{
+    match machine.rest() {
+        Some(Rest::Final(end)) => Driven::Final(end),
+        Some(Rest::Stuck) => Driven::Stuck,
+        None => Driven::Spent,
+    }
 }
 
 // Puts out what a step printed, where that is something.

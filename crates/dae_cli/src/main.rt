@@ -4,14 +4,22 @@
 
 use dae_io::{DirShelf, StdSink};
 use std::alloc::{AllocError, Global};
+use std::env;
+use std::io::ErrorKind;
 use std::process::ExitCode;
-use std::{env, io};
 
 mod drive;
+mod exec;
+#[cfg(test)]
+mod exec_tests;
 #[cfg(test)]
 mod files;
+#[cfg(test)]
+mod images;
 mod job;
+mod line;
 mod notes;
+mod options;
 mod running;
 #[cfg(test)]
 mod tests;
@@ -26,12 +34,21 @@ fn words_of(alloc: Global, all: env::Args<Global>) -> Result<Vec<String>, AllocE
     Ok(words)
 }
 
-fn main(rt: HostRuntime) -> io::Result<ExitCode> {
+fn main(rt: HostRuntime) -> ExitCode {
     let alloc = rt.alloc();
-    let words = words_of(alloc, env::args(&rt)?)?;
     let mut shelf = DirShelf::new(&rt);
     let mut out = StdSink::new(rt.stdout());
     let mut note = StdSink::new(rt.stderr());
-    let status = top::dae_main(alloc, words.as_slice(), &mut shelf, &mut out, &mut note);
-    Ok(ExitCode::from(status))
+    let status = match env::args(&rt) {
+        Ok(all) => match words_of(alloc, all) {
+            Ok(words) => top::dae_main(alloc, words.as_slice(), &mut shelf, &mut out, &mut note),
+            Err(_) => running::noted(&mut note, b"memory\n", 7),
+        },
+        // A word that is no UTF-8 spells no job.
+        Err(error) if error.kind() == ErrorKind::InvalidData => {
+            running::noted(&mut note, b"words\n", 64)
+        }
+        Err(_) => running::noted(&mut note, b"memory\n", 7),
+    };
+    ExitCode::from(status)
 }

@@ -1,35 +1,36 @@
-ghost use Rattle.std.specs.Prelude.{◌≡◌, ℕ, ◌+◌, ◌≤◌, ◌⊎◌, List, [], ◌++◌, length, Option, take, IfOk, IfSome, string_bytes};
+ghost use Rattle.std.specs.Prelude.{◌≡◌, ℕ, ◌≤◌, ◌⊎◌, List, [], Option};
 ghost use Rattle.dae_io.specs.Faults.{Rose, fetch_of};
 ghost use Rattle.dae_tree.specs.Form.{IsStraight};
-ghost use Rattle.dae_machine.specs.Held.{DataFit};
-ghost use Rattle.dae_machine.specs.Machine.{State, Runs};
-ghost use Rattle.dae_machine.specs.Opened.{setup_of, opened};
-ghost use Rattle.dae_cli.specs.Notes.{budget_line, ended_line, memory_line, steps_line};
-ghost use Rattle.dae_cli.specs.Answers.{Answer, answer, DueOfProgram, DueOfText, DueOfFile, Gives, EndsOrWants};
+ghost use Rattle.dae_cli.specs.Answers.{Answer, answer, DueOfProgram, DueOfText, DueOfFile, Gives};
 
-use crate::drive::drive;
+use crate::exec::run_image;
 use crate::notes;
+use crate::options::RunOptions;
 use dae_base::Depths;
-use dae_image::Image;
 use dae_io::{FetchError, Shelf, Sink};
-use dae_machine::{Machine, Pick};
-use dae_straight_compiler::{Compiled, compile};
+use dae_machine::Schedule;
+use dae_straight_compiler::compile;
 use dae_straight_reader::{ReadError, read};
 use dae_tree::StraightProgram;
-use std::alloc::{AllocError, Global};
+use std::alloc::Global;
 
 /// One byte more than a source may have.
 const MOST: u32 = 1_048_577;
 
-/// How deep the queues are.
-const DEPTHS: Depths = Depths {
-    ld: 8,
-    al: 8,
-    sa: 8,
-    sd: 8,
-    ab: 8,
-    eb: 8,
-    cq: 8,
+/// How a program is run: each processor and the memory in its turn, with queues of eight items.
+const OPTIONS: RunOptions = RunOptions {
+    depths: Depths {
+        ld: 8,
+        al: 8,
+        sa: 8,
+        sd: 8,
+        ab: 8,
+        eb: 8,
+        cq: 8,
+    },
+    schedule: Schedule::Round,
+    steps: 10_000_000,
+    show: None,
 };
 
 const MEMORY: &[u8] = b"memory\n";
@@ -47,76 +48,6 @@ pub fn noted<N: Sink>(note: &mut N, line: &[u8], status: u8) -> u8
     }
 }
 
-// The same with two lines.
-fn noted_both<N: Sink>(note: &mut N, first: &[u8], second: &[u8], status: u8) -> u8
-    ensures gives { (out : Option (List ℕ)) → Gives (answer status [] (first.now ++ second.now)) result out out (N.taken note.old) (N.taken note.new) (Rose (N.count note.old) (N.count note.new)) }
-    ensures counted { N.count note.old ≤ N.count note.new }
-{
-    match note.put(first) {
-        Ok(()) => noted(note, second, status),
-        Err(_) => 6,
-    }
-}
-
-// The lines with a program's budget, with its end and with its steps.
-fn lines(alloc: Global, compiled: &Compiled) -> Result<(String, String, String), AllocError>
-    ensures budget { IfOk result (λ lines. string_bytes lines.0 ≡ budget_line compiled.now.image.budget) }
-    ensures ended { IfOk result (λ lines. string_bytes lines.1 ≡ ended_line 0) }
-    ensures steps { IfOk result (λ lines. string_bytes lines.2 ≡ steps_line (length compiled.now.picks)) }
-{
-    let budget = notes::budget_line(alloc, &compiled.image.budget)?;
-    let ended = notes::ended_line(alloc, 0)?;
-    let steps = notes::steps_line(alloc, compiled.picks.len() as u64)?;
-    Ok((budget, ended, steps))
-}
-
-// Runs an opened machine to its end, and notes that.
-fn run_opened<O: Sink, N: Sink>(
-    machine: Machine,
-    picks: &[Pick],
-    ended: &[u8],
-    steps: &[u8],
-    out: &mut O,
-    note: &mut N,
-) -> u8
-    requires run { (end : State) × Runs machine.setup machine.state picks.now end }
-    requires silent { machine.state.printed ≡ [] }
-    requires few { machine.state.steps + length picks.now ≤ 1000000000000 }
-    ensures { (end : State) → Runs machine.setup machine.state picks.now end → Gives (answer 0 end.printed (ended.now ++ steps.now)) result (O.taken out.old) (O.taken out.new) (N.taken note.old) (N.taken note.new) (Rose (O.count out.old) (O.count out.new) ⊎ Rose (N.count note.old) (N.count note.new)) }
-{
-    let mut machine = machine;
-    match drive(&mut machine, picks, out) {
-        Ok(()) => noted_both(note, ended, steps, 0),
-        Err(_) => 6,
-    }
-}
-
-// Opens the machine and runs it to its end, after the line with the budget.
-fn run_image<O: Sink, N: Sink>(
-    alloc: Global,
-    image: &Image,
-    picks: &[Pick],
-    budget: &[u8],
-    ended: &[u8],
-    steps: &[u8],
-    out: &mut O,
-    note: &mut N,
-) -> u8
-    requires run { (end : State) × Runs (setup_of image.now DEPTHS) (opened image.now) picks.now end }
-    requires few { length picks.now ≤ 1000000 }
-    requires fit { DataFit image.now }
-    ensures { (end : State) → Runs (setup_of image.now DEPTHS) (opened image.now) picks.now end → EndsOrWants (answer 0 end.printed (budget.now ++ (ended.now ++ steps.now))) (answer 7 [] (budget.now ++ memory_line)) result (O.taken out.old) (O.taken out.new) (N.taken note.old) (N.taken note.new) (Rose (O.count out.old) (O.count out.new) ⊎ Rose (N.count note.old) (N.count note.new)) }
-{
-    match note.put(budget) {
-        Err(_) => 6,
-        // No depth is below the budget, so that only memory can be wanting.
-        Ok(()) => match Machine::open(alloc, image, DEPTHS) {
-            Ok(machine) => run_opened(machine, picks, ended, steps, out, note),
-            Err(_) => noted(note, MEMORY, 7),
-        },
-    }
-}
-
 /// Compiles a program and runs it to its end. All memory is taken before the first step.
 pub fn run_program<O: Sink, N: Sink>(
     alloc: Global,
@@ -127,24 +58,8 @@ pub fn run_program<O: Sink, N: Sink>(
     requires { IsStraight program.now }
     ensures { (due : Answer) × DueOfProgram program.now due × Gives due result (O.taken out.old) (O.taken out.new) (N.taken note.old) (N.taken note.new) (Rose (O.count out.old) (O.count out.new) ⊎ Rose (N.count note.old) (N.count note.new)) }
 {
-    let Ok(compiled) = compile(alloc, program) else {
-        return noted(note, MEMORY, 7);
-    };
-    match lines(alloc, &compiled) {
-        Ok((budget, ended, steps)) => {
-            let picks = compiled.picks.as_slice();
-            let (budget, ended, steps) = (budget.as_bytes(), ended.as_bytes(), steps.as_bytes());
-            run_image(
-                alloc,
-                &compiled.image,
-                picks,
-                budget,
-                ended,
-                steps,
-                out,
-                note,
-            )
-        }
+    match compile(alloc, program) {
+        Ok(compiled) => run_image(alloc, &compiled.image, &OPTIONS, out, note),
         Err(_) => noted(note, MEMORY, 7),
     }
 }

@@ -3,7 +3,8 @@ ghost use Rattle.dae_io.specs.Faults.{Rose, fetch_of};
 ghost use Rattle.dae_io.specs.Listed.{first_text};
 ghost use Rattle.dae_cli.specs.Answers.{Answer, IsDue, Gives};
 
-use crate::job::spelled;
+use crate::exec::exec_file;
+use crate::job::{Job, spelled_job};
 use crate::running::{noted, run_file};
 use dae_io::{CalmShelf, CalmSink, Shelf, Sink};
 use std::alloc::Global;
@@ -20,8 +21,9 @@ pub fn dae_main<F: Shelf, O: Sink, N: Sink>(
 ) -> u8
     ensures { (due : Answer) × IsDue (map string_bytes words.now) (F.told shelf.old) (λ name. Rose (F.count shelf.old) (F.count shelf.new) × (F.last shelf.new ≡ fetch_of name)) due × Gives due result (O.taken out.old) (O.taken out.new) (N.taken note.old) (N.taken note.new) (Rose (O.count out.old) (O.count out.new) ⊎ Rose (N.count note.old) (N.count note.new)) }
 {
-    match spelled(words) {
-        Some(name) => run_file(alloc, name, shelf, out, note),
+    match spelled_job(words) {
+        Some(Job::Run(name)) => run_file(alloc, name, shelf, out, note),
+        Some(Job::Exec(options, name)) => exec_file(alloc, name, &options, shelf, out, note),
         None => noted(note, b"words\n", 64),
     }
 }

@@ -190,6 +190,7 @@ means_so p image bound straight memory = rw (memory, statements_done (length p.n
 
 pub whole : (p : StraightProgram) (image : Image) (picks : List Pick) → IsStraight p → 3 * length p.names ≤ 8192 → IsImageOf p image → picks ≡ picks_from 0 (program_rounds p) → IsCompiled p image picks
 whole p image picks straight few is order = record {
+  memory = is.memory;
   budget = is.budget;
   short = (let b = program_bounded p in let a = b.access in let e = b.execute in let l = b.loads in let s = picks_short 0 (program_rounds p) in let f = straight.few_tokens in let same : length picks ≡ length (picks_from 0 (program_rounds p)) = ap length order in omega arith);
   ends = λ depths reaches.

@@ -32,8 +32,9 @@ pub record EndsSo (p : StraightProgram) (image : Image) (picks : List Pick) (dep
   pub memory : state.memory ≡ after.memory
   pub only : CanOnlyEnd (setup_of image depths) (opened image) state (length picks)
 
--- the image and the canonical order of its steps
+-- the image, with common memory of 2 to the power of 20 bytes, and the canonical order of its steps
 pub record IsCompiled (p : StraightProgram) (image : Image) (picks : List Pick) : Type 0 where
+  pub memory : image.memory ≡ 1048576
   pub budget : image.budget ≡ budget_of p.statements
   pub short : length picks ≤ 1000000
   pub ends : (depths : Depths) → Reaches depths image.budget → EndsSo p image picks depths

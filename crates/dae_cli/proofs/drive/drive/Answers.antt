@@ -1,34 +1,48 @@
-use Rattle.std.proofs.Common.{◌≡◌, ℕ, ◌+◌, ◌<◌, List, ◌∷◌, drop, length, get_or, subst, add-one, drop-cons, arith}
-use Rattle.std.specs.Prelude.{Option}
+use Rattle.std.proofs.Common.{rules, ◌≡◌, ◌+◌, ◌-◌, suc, subst, arith}
+use Rattle.std.specs.Io.KnownBytes.{Appends}
 use Rattle.dae_io.specs.Taken.{AppendsPrefix}
-use Rattle.dae_machine.specs.declared.Pick.{Pick}
-use Rattle.dae_machine.specs.declared.Pick.TheVariants.{A}
-use Rattle.dae_machine.specs.Machine.{Setup, State}
-use Rattle.dae_cli.proofs.Silence.{OnTheWay, begins, goes_on, stops, on_err}
+use Rattle.dae_cli.proofs.Driving.{OnTheWay, arrives_so, ends_final, ends_stuck, goes_on, stops}
 use Rattle.dae_cli.proofs.drive.drive.Goals as goal
 
--- the picks that are left begin with the one at the index
-at_index : (setup setup_now : Setup) (start now : State) (picks : List Pick) (index : ℕ) (out_first out_now : Option (List ℕ)) → index < length picks → OnTheWay setup start picks setup_now now (drop index picks) out_first out_now → OnTheWay setup start picks setup_now now (get_or picks index A ∷ drop (index + 1) picks) out_first out_now
-at_index setup setup_now start now picks index out_first out_now h way =
-    let e : drop index picks ≡ get_or picks index A ∷ drop (index + 1) picks = rw add-one (drop-cons picks index A h) in
-    subst (λ (rest : List Pick). OnTheWay setup start picks setup_now now rest out_first out_now) e way
+pub returns-then-is_err-clause-drives : goal.returns-then-is_err-clause-drives
+returns-then-is_err-clause-drives g c =
+    let put : AppendsPrefix (g.O.Sink.taken c.loop.out) (g.O.Sink.taken c.put_piece.new.out) c.in-Stepped.piece = search rules in
+    let below = c.loop-test.true in
+    let begun = c.loop.invariant.begun in
+    stops _ _ _ _ _ _ _ _ _ c.loop.invariant.way c.args.steps c.turn.new.self.setup c.turn.new.self.state c.next.new.self c.in-Stepped.field-0 c.in-Stepped.piece c.next.result (g.O.Sink.taken c.put_piece.new.out) (omega arith) c.next.ensures.word c.next.ensures.rest c.in-Stepped.ensures.turn (c.in-Stepped.ensures.silent c.loop.invariant.way.silent) put
 
-pub loop-pick-init : goal.loop-pick-init
-loop-pick-init g c = record { way = begins _ _ c.requires.run.0 _ _ c.requires.silent c.requires.few c.requires.run.1; counted = omega arith }
+pub returns-in-Final-clause-drives : goal.returns-in-Final-clause-drives
+returns-in-Final-clause-drives g c =
+    let below = c.loop-test.true in
+    let begun = c.loop.invariant.begun in
+    ends_final _ _ _ _ _ _ _ _ _ c.loop.invariant.way c.args.steps c.turn.new.self.setup c.turn.new.self.state c.next.new.self c.in-Final.end c.next.result (omega arith) c.next.ensures.rest c.in-Final.ensures.turn
 
-pub loop-pick-preserved : goal.loop-pick-preserved
-loop-pick-preserved g c =
-    let way = at_index _ _ _ _ c.args.picks.now c.loop-pick.pick-index _ _ c.loop-pick-test.true c.loop-pick.invariant.way in
-    let stepped = c.step-piece.ensures.state in
-    let before = c.loop-pick.invariant.counted in
+pub returns-in-Stuck-clause-drives : goal.returns-in-Stuck-clause-drives
+returns-in-Stuck-clause-drives g c =
+    let below = c.loop-test.true in
+    let begun = c.loop.invariant.begun in
+    ends_stuck _ _ _ _ _ _ _ _ _ c.loop.invariant.way c.args.steps c.turn.new.self.setup c.turn.new.self.state c.next.new.self c.next.result (omega arith) c.next.ensures.rest c.in-Stuck.ensures.turn
+
+pub loop-preserved : goal.loop-preserved
+loop-preserved g c =
+    let put : Appends (g.O.Sink.taken c.loop.out) (g.O.Sink.taken c.put_piece.new.out) c.in-Stepped.piece = search rules in
+    let below = c.loop-test.true in
+    let begun = c.loop.invariant.begun in
+    let before = c.loop.invariant.counted in
     let after = c.put_piece.ensures.counted in
+    let next : suc (c.loop.counter - c.args.machine.now.state.steps) ≡ c.loop.counter + 1 - c.args.machine.now.state.steps = omega arith in
     record {
-      way = goes_on _ _ c.args.picks.now _ _ _ c.step-piece.new.self.state _ (drop (c.loop-pick.pick-index + 1) c.args.picks.now) c.step-piece.result _ _ _ way c.step-piece.ensures.setup stepped c.step-piece.ensures.silent c.in_ok-put_piece.ensures.whole;
+      begun = omega arith;
+      way = subst (λ (turns : _). OnTheWay c.args.machine.now.setup c.args.machine.now.state c.args.words.now turns c.turn.new.self.setup c.turn.new.self.state c.next.new.self (g.O.Sink.taken c.args.out.now) (g.O.Sink.taken c.put_piece.new.out)) next
+          (goes_on _ _ _ _ _ _ _ _ _ c.loop.invariant.way c.turn.new.self.setup c.turn.new.self.state c.next.new.self c.in-Stepped.field-0 c.in-Stepped.piece c.next.result (g.O.Sink.taken c.put_piece.new.out) c.next.ensures.word c.next.ensures.rest c.in-Stepped.ensures.setup c.in-Stepped.ensures.turn (c.in-Stepped.ensures.silent c.loop.invariant.way.silent) put);
       counted = omega (arith, before, after);
     }
 
-pub returns-in_err-put_piece-clause-prefix : goal.returns-in_err-put_piece-clause-prefix
-returns-in_err-put_piece-clause-prefix g c =
-    let way = at_index _ _ _ _ c.args.picks.now c.loop-pick.pick-index _ _ c.loop-pick-test.true c.loop-pick.invariant.way in
-    let put : AppendsPrefix (g.O.Sink.taken c.loop-pick.out) (g.O.Sink.taken c.put_piece.new.out) c.step-piece.result = c.in_err-put_piece.ensures.prefix in
-    on_err c.from_residual.result _ (λ end run. stops _ _ c.args.picks.now _ _ c.step-piece.new.self.state _ (drop (c.loop-pick.pick-index + 1) c.args.picks.now) c.step-piece.result _ _ _ way c.step-piece.ensures.state put end run)
+pub returns-clause-drives : goal.returns-clause-drives
+returns-clause-drives g c =
+    let done = c.loop-test.false in
+    let bound = c.loop.auto.counter-end in
+    let begun = c.loop.invariant.begun in
+    let first = c.requires.begun in
+    let steps = c.loop.invariant.way.steps in
+    arrives_so _ _ _ _ _ _ _ _ _ c.loop.invariant.way c.args.steps c.rested.result (omega arith) (omega arith) c.rested.ensures
