@@ -1,10 +1,10 @@
 #!/usr/bin/env python3
-"""Random small images and what an independent machine answers on them, as a table for a test of the program.
+"""Random small images and what an independent machine answers on them: the lines of a test of the program.
 
     random_images.py COUNT COMMAND..
 
 makes COUNT images by a fixed seed, runs `COMMAND.. exec OPTIONS FILE` on each under every kind of schedule, and prints
-the table in Rust. An image mostly matches each queue's items on both sides; some are damaged, or stuck, or go on.
+the lines. An image mostly matches each queue's items on both sides; some are damaged, or stuck, or go on.
 """
 
 import os
@@ -158,35 +158,18 @@ def answer(command, path, chosen, schedule):
     return done.returncode, done.stdout, done.stderr
 
 
-def text(data):
-    return 'b"%s"' % ''.join(
-        chr(b) if 32 <= b < 127 and b not in b'"\\' else {10: '\\n', 34: '\\"', 92: '\\\\'}.get(b, '\\x%02x' % b) for b in data)
-
-
 def main():
     count, command = int(sys.argv[1]), sys.argv[2:]
     rng = random.Random(19820426)
-    print('/// Images with options, and what is answered under the schedules of the test: one answer for all of them, or one for')
-    print('/// each. The images are random, and the answers are those of an independent machine.')
-    print('pub static IMAGES: [ImageCase; %d] = [' % count)
     with tempfile.TemporaryDirectory() as folder, ThreadPoolExecutor() as pool:
-        for number in range(count):
+        for _ in range(count):
             made, chosen = image(rng), options(rng)
             path = os.path.join(folder, 'i')
             with open(path, 'wb') as file:
                 file.write(made)
             answers = list(pool.map(lambda s: answer(command, path, chosen, s), SCHEDULES))
-            if all(a == answers[0] for a in answers):
-                answers = answers[:1]
-            print('    ImageCase {')
-            print('        image: %s,' % text(made))
-            print('        options: &[%s],' % ', '.join('"%s"' % c for c in chosen))
-            print('        answers: &[')
-            for status, out, note in answers:
-                print('            (%d, %s, %s),' % (status, text(out), text(note)))
-            print('        ],')
-            print('    },')
-    print('];')
+            answers = answers[:1] if all(a == answers[0] for a in answers) else answers
+            print(' '.join([made.hex()] + chosen) + ''.join(';%d %s %s' % (s, o.hex(), n.hex()) for s, o, n in answers))
 
 
 if __name__ == '__main__':

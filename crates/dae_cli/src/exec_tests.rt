@@ -7,13 +7,6 @@ use std::alloc::Global;
 use std::process::Abort;
 use std::test::Fail;
 
-/// An image with options, and what is answered under each of the schedules: one answer for all, or one for each.
-pub struct ImageCase {
-    pub image: &'static [u8],
-    pub options: &'static [&'static str],
-    pub answers: &'static [(u8, &'static [u8], &'static [u8])],
-}
-
 const SCHEDULES: [&str; 7] = [
     "--schedule=round",
     "--schedule=a",
@@ -231,16 +224,57 @@ fn images_of_other_lengths_are_refused(rt: HostRuntime) -> Result<(), Fail> {
     Ok(())
 }
 
+/// The bytes that a text spells in hexadecimal.
+fn decoded(rt: &impl Abort, alloc: Global, text: &str) -> Vec<u8> {
+    match hex::decode(alloc, text) {
+        Ok(bytes) => bytes,
+        Err(_) => panic!(rt; "{text}"),
+    }
+}
+
+/// The status, the output and the note of an answer in the table.
+fn answer_of(rt: &impl Abort, alloc: Global, text: &str) -> (u8, Vec<u8>, Vec<u8>) {
+    let mut parts = text.split(' ');
+    let status = parts.next().unwrap_or("").parse::<u8>().unwrap_or(255);
+    let out = decoded(rt, alloc, parts.next().unwrap_or(""));
+    let note = decoded(rt, alloc, parts.next().unwrap_or(""));
+    (status, out, note)
+}
+
+/// Answers as a line of the table says.
+fn answers_line(rt: &impl Abort, alloc: Global, line: &str) -> Result<(), Fail> {
+    let mut parts = line.split(';');
+    let mut head = parts.next().unwrap_or("").split(' ');
+    let image = decoded(rt, alloc, head.next().unwrap_or(""));
+    let mut options = Vec::new(alloc);
+    for option in head {
+        options.push(option)?;
+    }
+    let mut due = Vec::new(alloc);
+    for part in parts {
+        due.push(answer_of(rt, alloc, part))?;
+    }
+    for (at, schedule) in SCHEDULES.iter().enumerate() {
+        let each = due.as_slice().get(at);
+        if let Some((status, out, note)) = each.or(due.as_slice().first()) {
+            let due: (u8, &[u8], &[u8]) = (*status, out.as_slice(), note.as_slice());
+            answers(
+                rt,
+                alloc,
+                image.as_slice(),
+                schedule,
+                options.as_slice(),
+                due,
+            )?;
+        }
+    }
+    Ok(())
+}
+
 #[test]
 fn random_images_answer_as_elsewhere(rt: HostRuntime) -> Result<(), Fail> {
-    let alloc = rt.alloc();
-    for case in &IMAGES {
-        for (at, schedule) in SCHEDULES.iter().enumerate() {
-            let each = case.answers.get(at);
-            if let Some(due) = each.or(case.answers.first()) {
-                answers(&rt, alloc, case.image, schedule, case.options, *due)?;
-            }
-        }
+    for line in IMAGES.lines() {
+        answers_line(&rt, rt.alloc(), line)?;
     }
     Ok(())
 }
