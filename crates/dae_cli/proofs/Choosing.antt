@@ -1,12 +1,12 @@
 -- What words choose one after the other.
 use Rattle.std.proofs.Common.{◌≡◌, ℕ, ◌<◌, ◌+◌, List, [], ◌∷◌, ◌++◌, length, get_or, drop, append_assoc, refl, sym, ap, ◌∙◌, subst}
 use Rattle.std.proofs.lemmas.List.{at_drop_more}
-use Rattle.std.specs.Prelude.{Option, None, Some, map, IfSome}
+use Rattle.std.specs.Prelude.{Option, None, Some, map}
 use Rattle.std.specs.List.{AllByRecursion, cons_option, filter_map}
 use Rattle.std.specs.Option.{option_to_list, option_or}
 use Rattle.dae_cli.specs.declared.options.Setting.{Setting}
 use Rattle.dae_cli.specs.declared.options.Chosen.{Chosen}
-use Rattle.dae_cli.specs.Options.{alone, nothing, text_of, AreChosen, ChosenBy, HasBoth, IsBoth, IsInRange, IsTheOne, SpellsSetting}
+use Rattle.dae_cli.specs.Options.{alone, nothing, text_of, ChosenBy, HasBoth, IsBoth, IsInRange, IsTheOne, SpellsSetting}
 
 -- the values of one option, after the one that was chosen before
 abbrev pub IsChoiceAfter : {X : Type 0} → (Chosen → Option X) → Chosen → List Setting → Chosen → Type 0

@@ -1,5 +1,5 @@
 -- Words between the first and the last.
-use Rattle.std.proofs.Common.{◌≡◌, ℕ, ◌+◌, ◌-◌, ◌<◌, ◌≤◌, suc, List, [], ◌∷◌, ◌++◌, length, get_or, take, drop, refl, sym, ap, ◌∙◌, subst, arith, drop-cons}
+use Rattle.std.proofs.Common.{◌≡◌, ℕ, ◌+◌, ◌-◌, ◌<◌, ◌≤◌, suc, List, [], ◌∷◌, ◌++◌, length, get_or, take, drop, refl, sym, ap, ◌∙◌, arith, drop-cons}
 use Rattle.std.specs.Prelude.{IsTrue, codes, map}
 use Rattle.std.proofs.lemmas.List.{drop_all, map-append, same_from_push, take-append-drop}
 use Rattle.dae_cli.specs.declared.options.RunOptions.{RunOptions}

@@ -1,6 +1,6 @@
 -- The one spelling of numbers and of settings.
-use Rattle.std.proofs.Common.{◌≡◌, ◌≢◌, ℕ, ◌<◌, ◌≤◌, ◌^◌, zero, suc, Bool, true, false, not, ◌&&◌, nat_eq, List, [], ◌∷◌, ◌++◌, length, get_or, refl, sym, ap, ◌∙◌, subst, rules, arith}
-use Rattle.std.specs.Prelude.{Option, None, Some, Result, Ok, Err, IfSome, codes, decimal, option_map, MatchOption}
+use Rattle.std.proofs.Common.{◌≡◌, ◌≢◌, ℕ, ◌<◌, ◌^◌, zero, suc, Bool, true, false, not, ◌&&◌, nat_eq, List, [], ◌∷◌, ◌++◌, length, get_or, refl, ap, ◌∙◌, arith}
+use Rattle.std.specs.Prelude.{Option, None, Some, Result, Ok, IfSome, codes, decimal}
 use Rattle.std.specs.Borrow.{Bor}
 use Rattle.std.specs.Int.{IsInRange as IsByteFrom}
 use Rattle.std.specs.Result.{result_ok}
@@ -11,7 +11,6 @@ use Rattle.std.proofs.lemmas.Str.Parse.{numerals_by_value, tells_digits, not_in_
 use Rattle.std.proofs.lemmas.Str.Pattern.{IsSplitOnceResult, split_after, split_parts}
 use Rattle.dae_base.specs.declared.Queue.{Queue}
 use Rattle.dae_base.specs.declared.Queue.TheVariants.{Ld, Al, Sa, Sd, Ab, Eb, Cq}
-use Rattle.dae_machine.specs.declared.Schedule.{Schedule}
 use Rattle.dae_machine.specs.declared.Schedule.TheVariants.{Seed}
 use Rattle.dae_cli.specs.declared.options.Shown.{Shown}
 use Rattle.dae_cli.specs.declared.options.Setting.{Setting}

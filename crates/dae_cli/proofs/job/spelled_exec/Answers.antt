@@ -1,4 +1,4 @@
-use Rattle.std.proofs.Common.{◌≡◌, map, string_bytes, ap, sym, ◌∙◌, subst, true, rules, arith}
+use Rattle.std.proofs.Common.{◌≡◌, string_bytes, ap, sym, ◌∙◌, subst, true, rules}
 use Rattle.std.specs.Prelude.{IsTrue, codes}
 use Rattle.dae_cli.specs.Words.{is_file_name}
 use Rattle.dae_cli.proofs.Ending.{between, exec_with, no_exec}

@@ -1,4 +1,4 @@
-use Rattle.std.proofs.Common.{rules, ◌≡◌, arith}
+use Rattle.std.proofs.Common.{rules}
 use Rattle.dae_cli.proofs.Spelling.{no_number, one_number, other_number}
 use Rattle.dae_cli.proofs.options.any_number.Goals as goal
 

@@ -1,8 +1,8 @@
-use Rattle.std.proofs.Common.{◌≡◌, map, string_bytes, drop, length, rules, arith}
+use Rattle.std.proofs.Common.{map, string_bytes, arith}
 use Rattle.std.specs.Prelude.{None, Some}
 use Rattle.std.proofs.lemmas.List.{at_drop_all}
 use Rattle.dae_cli.specs.Options.{IsTheOne, SpellsSetting}
-use Rattle.dae_cli.proofs.Choosing.{IsLeft, left_next, left_at_end, none_by_setting, none_by_two, words_from}
+use Rattle.dae_cli.proofs.Choosing.{left_next, left_at_end, none_by_setting, none_by_two, words_from}
 use Rattle.dae_cli.proofs.options.chosen_of.Goals as goal
 
 pub returns-in_err-setting_of : goal.returns-in_err-setting_of

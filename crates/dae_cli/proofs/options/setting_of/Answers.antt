@@ -1,4 +1,4 @@
-use Rattle.std.proofs.Common.{arith, rules}
+use Rattle.std.proofs.Common.{arith}
 use Rattle.dae_cli.proofs.Spelling.{is_parted, no_equals, by_parts}
 use Rattle.dae_cli.proofs.options.setting_of.Goals as goal
 
