@@ -31,7 +31,7 @@ abbrev pub ticked : World → World
 ticked w = record w { items = w.items + 1 }
 
 abbrev pub fetched : Bool → World → World
-fetched counts w = record w { items = w.items + 1; loads = w.loads + (if counts then 1 else 0) }
+fetched counts w = record w { items = w.items + 1; loads = if counts then w.loads + 1 else w.loads }
 
 -- E is what the variables are kept in
 pub data Result (E : Type 0) : Type 0 where

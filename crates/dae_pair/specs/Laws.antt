@@ -1,0 +1,25 @@
+-- What is proved of a form and its pair.
+use Rattle.std.specs.Prelude.{◌≡◌, ℕ, suc, Bool, true, List}
+use Rattle.dae_ir.specs.Results.{Alike, World, IsUnder}
+use Rattle.dae_ir.specs.Form.{Env, Program, calls_of}
+use Rattle.dae_ir.specs.Classes.{Set, Classes}
+use Rattle.dae_ir.specs.Canonical.{Sides, issued, pair_calls_of}
+
+abbrev pub AgreeOn : Set → Env → Env → Type 0
+AgreeOn c x y = (v : ℕ) → c v ≡ true → y v ≡ x v
+
+-- A's variables agree with the form's on what A needs, and E's on what E needs
+pub record Agree (c : Classes) (env : Env) (b : Sides) : Type 0 where
+  pub a : AgreeOn c.s env b.a
+  pub e : AgreeOn c.needs env b.e
+
+-- the pair of a whole program does what its form does, for every bound and from every world
+abbrev pub PairKeeps : Program → (ℕ → Classes) → Type 0
+PairKeeps p of =
+    (cap n limit f : ℕ) (xs : List ℕ) (w : World)
+    → Alike (Agree (of f)) (calls_of p (issued of) n limit f xs w) (pair_calls_of p of cap n limit f xs xs w)
+
+-- one turn more: what has ended stays so, and what goes on has printed a front of what it prints then
+abbrev pub MoreTurns : Program → (ℕ → ℕ → Bool) → Type 0
+MoreTurns p counted =
+    (n limit f : ℕ) (xs : List ℕ) (w : World) → IsUnder (calls_of p counted n limit f xs w) (calls_of p counted (suc n) limit f xs w)

@@ -1,0 +1,16 @@
+ghost use Rattle.std.specs.Prelude.{ℕ, Bool};
+ghost use Rattle.dae_ir.specs.Classes.{Classes, AreClosed};
+ghost use Rattle.dae_ir.specs.Form.{Program};
+ghost use Rattle.dae_pair.specs.Laws.{MoreTurns, PairKeeps};
+
+/// For classes that are closed, the pair in canonical order does what the form does, whatever the cap, the bounds, the
+/// function, its arguments and the world before: it goes on, halts, traps or runs out of turns as the form does, with the
+/// same memory and output, as many stores, and as many loads as the form has into variables that either processor needs.
+pub fn pair_keeps()
+    ensures { (p : Program) (of : ℕ → Classes) → AreClosed p of → PairKeeps p of }
+{}
+
+/// More turns change no end of a form, and take back no output.
+pub fn more_turns()
+    ensures { (p : Program) (counted : ℕ → ℕ → Bool) → MoreTurns p counted }
+{}

@@ -1,0 +1,7 @@
+// What is proved of the pair of streams that a form is split into: in canonical order it does what the form does. The
+// theorems are the contracts of functions that do nothing.
+#![tactic(auto)]
+
+pub use laws::{more_turns, pair_keeps};
+
+mod laws;
