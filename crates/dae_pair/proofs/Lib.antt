@@ -6,3 +6,4 @@ pub mod Regions
 pub mod Split
 pub mod Under
 pub mod Turns
+pub mod Advance

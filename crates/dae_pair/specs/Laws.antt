@@ -1,6 +1,6 @@
 -- What is proved of a form and its pair.
-use Rattle.std.specs.Prelude.{◌≡◌, ℕ, suc, Bool, true, List}
-use Rattle.dae_ir.specs.Results.{Alike, World, IsUnder}
+use Rattle.std.specs.Prelude.{◌≡◌, ℕ, suc, ◌+◌, ◌≤◌, Bool, true, List}
+use Rattle.dae_ir.specs.Results.{Over, Going, Alike, World, IsUnder}
 use Rattle.dae_ir.specs.Form.{Env, Program, calls_of}
 use Rattle.dae_ir.specs.Classes.{Set, Classes}
 use Rattle.dae_ir.specs.Canonical.{Sides, issued, pair_calls_of}
@@ -23,3 +23,8 @@ PairKeeps p of =
 abbrev pub MoreTurns : Program → (ℕ → ℕ → Bool) → Type 0
 MoreTurns p counted =
     (n limit f : ℕ) (xs : List ℕ) (w : World) → IsUnder (calls_of p counted n limit f xs w) (calls_of p counted (suc n) limit f xs w)
+
+-- where a bound on turns ran out, at least so many items were executed
+abbrev pub GoingTakesTurns : Program → (ℕ → ℕ → Bool) → Type 0
+GoingTakesTurns p counted =
+    (n limit f : ℕ) (xs : List ℕ) (w u : World) → calls_of p counted n limit f xs w ≡ Over Going u → w.items + n ≤ u.items

@@ -1,7 +1,7 @@
 ghost use Rattle.std.specs.Prelude.{ℕ, Bool};
 ghost use Rattle.dae_ir.specs.Classes.{Classes, AreClosed};
 ghost use Rattle.dae_ir.specs.Form.{Program};
-ghost use Rattle.dae_pair.specs.Laws.{MoreTurns, PairKeeps};
+ghost use Rattle.dae_pair.specs.Laws.{GoingTakesTurns, MoreTurns, PairKeeps};
 
 /// For classes that are closed, the pair in canonical order does what the form does, whatever the cap, the bounds, the
 /// function, its arguments and the world before: it goes on, halts, traps or runs out of turns as the form does, with the
@@ -13,4 +13,10 @@ pub fn pair_keeps()
 /// More turns change no end of a form, and take back no output.
 pub fn more_turns()
     ensures { (p : Program) (counted : ℕ → ℕ → Bool) → MoreTurns p counted }
+{}
+
+/// Where a form runs out of n turns of a loop, it has executed at least n items: so for more and more turns it executes
+/// more and more.
+pub fn going_takes_turns()
+    ensures { (p : Program) (counted : ℕ → ℕ → Bool) → GoingTakesTurns p counted }
 {}
