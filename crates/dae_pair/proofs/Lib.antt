@@ -7,3 +7,4 @@ pub mod Split
 pub mod Under
 pub mod Turns
 pub mod Advance
+pub mod Budget

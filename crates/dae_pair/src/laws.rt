@@ -20,3 +20,11 @@ pub fn more_turns()
 pub fn going_takes_turns()
     ensures { (p : Program) (counted : ℕ → ℕ → Bool) → GoingTakesTurns p counted }
 {}
+
+ghost use Rattle.dae_pair.specs.Budget.{GroupSends, GroupsFit};
+
+/// No group has more loads for E, nor more copies, than the cap, and A's part sends as many of each as the group has.
+pub fn groups_fit()
+    ensures fit { (p : Program) (of : ℕ → Classes) → GroupsFit p of }
+    ensures sent { GroupSends }
+{}
