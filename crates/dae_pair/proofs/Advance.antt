@@ -1,8 +1,8 @@
 -- Items are only added, and where a bound on turns ran out, so many turns were made.
-use Rattle.std.proofs.Common.{◌≡◌, ℕ, zero, suc, ◌+◌, ◌≤◌, Bool, true, false, List, Option, Some, None, if◌then◌else◌, refl, ap, subst, arith}
-use Rattle.dae_ir.specs.Results.{Result, At, Over, Next, Leaves, Skips, Returns, Halted, Trapped, Going, Run, World, ticked, fetched, ◌▷◌, ◌↻◌, turns, world_of}
+use Rattle.std.proofs.Common.{◌≡◌, ℕ, zero, suc, ◌+◌, ◌≤◌, Bool, true, false, List, Option, Some, None, if◌then◌else◌, refl, subst, arith}
+use Rattle.dae_ir.specs.Results.{Result, At, Over, Next, Leaves, Skips, Returns, Halted, Trapped, Going, Run, World, ticked, ◌▷◌, ◌↻◌, turns, world_of}
 use Rattle.dae_ir.specs.Code.{Code, Done, Do, If, Loop, Meaning, exec}
-use Rattle.dae_ir.specs.Form.{Env, value, values, fault, checked, Calls, ended, does, meaning, Program, calls_of}
+use Rattle.dae_ir.specs.Form.{Env, values, fault, checked, Calls, ended, does, meaning, Program, calls_of}
 use Rattle.dae_pair.specs.Laws.{GoingTakesTurns}
 use Rattle.dae_ir.specs.declared.form.Item.{Item}
 use Rattle.dae_ir.specs.declared.form.Item.TheVariants.{Assign, Load, Store, Print, Expect, Break, Continue, Call, Return, Halt}
@@ -34,6 +34,7 @@ module _ {E : Type 0} where
   loop_advances n k d m is few w u h r f a b = by r a where
     goes : (e : E) (v : World) → u.items ≤ v.items → Advances m w (f e v)
     goes e v i = let c = b e v in record { items = omega (arith, h, i, c.items); turns = λ g. omega (arith, h, i, is, c.turns g) }
+
     by : (r : Result E) → Advances n u r → Advances m w (r ↻ f)
     by (At Next e v) a = goes e v a.items
     by (At Leaves e v) a = record { items = omega (arith, h, a.items); turns = λ g. cc }
@@ -45,7 +46,7 @@ module _ {E : Type 0} where
   turns_advance n b c hb hc zero few e w = record { items = omega (arith); turns = λ g. omega (arith) }
   turns_advance n b c hb hc (suc k) few e w =
       loop_advances n k 1 (suc k) (omega (arith)) few w (ticked w) (omega (arith)) (b e (ticked w)) _ (hb e (ticked w))
-        (λ e v. loop_advances n k 0 k (omega (arith)) (omega (arith, few)) v v (omega (arith)) (c e v) _ (hc e v) (turns_advance n b c hb hc k (omega (arith, few))))
+      (λ e v. loop_advances n k 0 k (omega (arith)) (omega (arith, few)) v v (omega (arith)) (c e v) _ (hc e v) (turns_advance n b c hb hc k (omega (arith, few))))
 
   choice_advances : (n : ℕ) (w : World) (d : Bool) (r s : Result E) → Advances n w r → Advances n w s → Advances n w (if d then r else s)
   choice_advances n w true r s h k = h

@@ -1,13 +1,13 @@
 -- No group passes the cap, and A sends as many words and copies as a group has loads and copies for E.
-use Rattle.std.proofs.Common.{◌≡◌, ℕ, ◌+◌, ◌<◌, ◌≤◌, Bool, true, false, not, ◌&&◌, ◌||◌, nat_eq, List, [], ◌∷◌, ◌++◌, length, Option, Some, None, if◌then◌else◌, refl, ap, sym, ◌∙◌, arith}
+use Rattle.std.proofs.Common.{◌≡◌, ℕ, ◌+◌, ◌<◌, ◌≤◌, Bool, true, false, not, ◌&&◌, ◌||◌, nat_eq, List, [], ◌∷◌, ◌++◌, Option, Some, None, if◌then◌else◌, refl, ◌∙◌, arith}
 use Rattle.std.proofs.lemmas.Bool.Decides.{nat_tests}
 use Rattle.dae_base.specs.declared.Place.{Place}
-use Rattle.dae_ir.specs.Results.{World, ticked, fetched}
+use Rattle.dae_ir.specs.Results.{World}
 use Rattle.dae_ir.specs.Code.{Done, Do, If, Loop, Each}
-use Rattle.dae_ir.specs.Form.{Form, Env, Program, fault}
+use Rattle.dae_ir.specs.Form.{Form, Program, fault}
 use Rattle.dae_ir.specs.Classes.{Classes}
-use Rattle.dae_ir.specs.Rounds.{Rounds, Stand, Joins, Closes, Separates, stand, decision, closed, is_for_e, is_copied, how_many, is_full, placed, region, one_sided, rounds}
-use Rattle.dae_ir.specs.Canonical.{Access, Passed, Failed, with_word, with_copy, unless, access}
+use Rattle.dae_ir.specs.Rounds.{Rounds, Stand, Joins, Closes, Separates, stand, closed, is_for_e, is_copied, how_many, is_full, placed, region, one_sided, rounds}
+use Rattle.dae_ir.specs.Canonical.{Access, Passed, Failed, with_word, with_copy, unless}
 use Rattle.dae_pair.specs.Budget.{RoundFits, GroupsFit, Sends, GroupSends}
 use Rattle.dae_ir.specs.declared.stream.Part.{Part}
 use Rattle.dae_ir.specs.declared.stream.Part.TheVariants.{Sets, Loads, Tests}
@@ -67,10 +67,10 @@ module _ (c : Classes) (cap : ℕ) (some : 0 < cap) where
   rounds_fit outside (Do place item k) g h = placed_fit place (stand c place item) g h (rounds c cap outside k) (rounds_fit outside k)
   rounds_fit outside (If place t p q k) g h =
       closed_fit g h _ (sided_fit (region outside c (If place t p q Done)) place _ _ _ (rounds_fit outside k [] none_fits)
-        (tt, rounds_fit outside p [] none_fits, rounds_fit outside q [] none_fits, rounds_fit outside k [] none_fits))
+      (tt, rounds_fit outside p [] none_fits, rounds_fit outside q [] none_fits, rounds_fit outside k [] none_fits))
   rounds_fit outside (Loop place p q k) g h =
       closed_fit g h _ (sided_fit (region outside c (Loop place p q Done)) place _ _ _ (rounds_fit outside k [] none_fits)
-        (rounds_fit outside p [] none_fits, rounds_fit outside q [] none_fits, rounds_fit outside k [] none_fits))
+      (rounds_fit outside p [] none_fits, rounds_fit outside q [] none_fits, rounds_fit outside k [] none_fits))
 
 pub groups_fit : (p : Program) (of : ℕ → Classes) → GroupsFit p of
 groups_fit p of cap some f = rounds_fit (of f) cap some true (p.body f) [] (none_fits (of f) cap some)

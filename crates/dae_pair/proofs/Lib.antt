@@ -8,3 +8,8 @@ pub mod Under
 pub mod Turns
 pub mod Advance
 pub mod Budget
+pub mod Tails
+pub mod CoverA
+pub mod CoverE
+pub mod CoverCounts
+pub mod Cover

@@ -140,15 +140,15 @@ module _ (p : Program) (of : ℕ → Classes) (c : Classes) (cap n : ℕ) (calls
   code_alike outside (If place t x y k) kept g h =
       let r : Run Env = λ env w. if holds t env then forms x env (ticked w) else forms y env (ticked w) in
       closed_alike g h _ _ (sided_alike outside place (If place t x y Done) (kept.0, kept.1, kept.2, tt) r (λ env w. bind_done (r env w)) (forms k) (rounds c cap outside k []) (If place (decision c t) (rounds c cap outside x []) (rounds c cap outside y []) (rounds c cap outside k [])) (code_alike outside k kept.3 [] tt)
-      (λ env b w ag. bind_alike (Agree c) _ _ _ _
+      (λ env b w ag. bind_alike (Agree c) (r env w) (if holds_told (decision c t) b then pairs (rounds c cap outside x []) b (ticked w) else pairs (rounds c cap outside y []) b (ticked w)) (forms k) (pairs (rounds c cap outside k []))
       (rw (test_alike t kept.0 env b ag)
       (choice_alike (holds t env) _ _ _ _ (code_alike outside x kept.1 [] tt env b (ticked w) ag) (code_alike outside y kept.2 [] tt env b (ticked w) ag)))
       (code_alike outside k kept.3 [] tt)))
   code_alike outside (Loop place body step k) kept g h =
       let r : Run Env = turns (forms body) (forms step) n in
       closed_alike g h _ _ (sided_alike outside place (Loop place body step Done) (kept.0, kept.1, tt) r (λ env w. bind_done (r env w)) (forms k) (rounds c cap outside k []) (Loop place (rounds c cap outside body []) (rounds c cap outside step []) (rounds c cap outside k [])) (code_alike outside k kept.2 [] tt)
-      (λ env b w ag. bind_alike (Agree c) _ _ _ _
-      (turns_alike (Agree c) _ _ _ _ (code_alike outside body kept.0 [] tt) (code_alike outside step kept.1 [] tt) n env b w ag)
+      (λ env b w ag. bind_alike (Agree c) (r env w) (turns (pairs (rounds c cap outside body [])) (pairs (rounds c cap outside step [])) n b w) (forms k) (pairs (rounds c cap outside k []))
+      (turns_alike (Agree c) (forms body) (forms step) (pairs (rounds c cap outside body [])) (pairs (rounds c cap outside step [])) (code_alike outside body kept.0 [] tt) (code_alike outside step kept.1 [] tt) n env b w ag)
       (code_alike outside k kept.2 [] tt)))
 
 calls_alike : (p : Program) (of : ℕ → Classes) → AreClosed p of → (cap n limit f : ℕ) (xs ys zs : List ℕ) (w : World) → Passes (of f).s 1 xs ys → Passes (of f).needs 1 xs zs → Alike (Agree (of f)) (calls_of p (issued of) n limit f xs w) (pair_calls_of p of cap n limit f ys zs w)

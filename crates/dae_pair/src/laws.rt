@@ -28,3 +28,10 @@ pub fn groups_fit()
     ensures fit { (p : Program) (of : ℕ → Classes) → GroupsFit p of }
     ensures sent { GroupSends }
 {}
+
+ghost use Rattle.dae_pair.specs.Budget.{BudgetCovers};
+
+/// The budget of a form's pair is enough for each round of each function: no queue passes it in canonical order.
+pub fn budget_covers()
+    ensures { BudgetCovers }
+{}

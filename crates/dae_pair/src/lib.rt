@@ -2,6 +2,6 @@
 // theorems are the contracts of functions that do nothing.
 #![tactic(auto)]
 
-pub use laws::{going_takes_turns, groups_fit, more_turns, pair_keeps};
+pub use laws::{budget_covers, going_takes_turns, groups_fit, more_turns, pair_keeps};
 
 mod laws;
