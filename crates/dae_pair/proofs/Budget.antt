@@ -41,8 +41,8 @@ module _ (c : Classes) (cap : ℕ) (some : 0 < cap) where
   abbrev Fit : Rounds → Type 0
   Fit code = Each (RoundFits c cap) (λ d. Unit {0}) code
 
-  none_fits : Fits []
-  none_fits = (omega (arith), omega (arith))
+  pub no_parts : Fits []
+  no_parts = (omega (arith), omega (arith))
 
   closed_fit : (g : List Part) → Fits g → (k : Rounds) → Fit k → Fit (closed g k)
   closed_fit [] h k f = f
@@ -55,8 +55,8 @@ module _ (c : Classes) (cap : ℕ) (some : 0 < cap) where
     by false e =
         let o = or_false (is_for_e c p && nat_eq (how_many (is_for_e c) g) cap) (is_copied c p && nat_eq (how_many (is_copied c) g) cap) e in
         f (g ++ p ∷ []) (more_fits (is_for_e c) cap g p h.0 o.0, more_fits (is_copied c) cap g p h.1 o.1)
-  placed_fit place (Closes last) g h r f = (h, f [] none_fits)
-  placed_fit place (Separates jump) g h r f = closed_fit g h _ (tt, f [] none_fits)
+  placed_fit place (Closes last) g h r f = (h, f [] no_parts)
+  placed_fit place (Separates jump) g h r f = closed_fit g h _ (tt, f [] no_parts)
 
   sided_fit : (o : Option Bool) (place : Place) (code : Form) (k both : Rounds) → Fit k → Fit both → Fit (one_sided o place code k both)
   sided_fit None place code k both f h = h
@@ -66,14 +66,14 @@ module _ (c : Classes) (cap : ℕ) (some : 0 < cap) where
   rounds_fit outside Done g h = closed_fit g h Done tt
   rounds_fit outside (Do place item k) g h = placed_fit place (stand c place item) g h (rounds c cap outside k) (rounds_fit outside k)
   rounds_fit outside (If place t p q k) g h =
-      closed_fit g h _ (sided_fit (region outside c (If place t p q Done)) place _ _ _ (rounds_fit outside k [] none_fits)
-      (tt, rounds_fit outside p [] none_fits, rounds_fit outside q [] none_fits, rounds_fit outside k [] none_fits))
+      closed_fit g h _ (sided_fit (region outside c (If place t p q Done)) place _ _ _ (rounds_fit outside k [] no_parts)
+      (tt, rounds_fit outside p [] no_parts, rounds_fit outside q [] no_parts, rounds_fit outside k [] no_parts))
   rounds_fit outside (Loop place p q k) g h =
-      closed_fit g h _ (sided_fit (region outside c (Loop place p q Done)) place _ _ _ (rounds_fit outside k [] none_fits)
-      (rounds_fit outside p [] none_fits, rounds_fit outside q [] none_fits, rounds_fit outside k [] none_fits))
+      closed_fit g h _ (sided_fit (region outside c (Loop place p q Done)) place _ _ _ (rounds_fit outside k [] no_parts)
+      (rounds_fit outside p [] no_parts, rounds_fit outside q [] no_parts, rounds_fit outside k [] no_parts))
 
 pub groups_fit : (p : Program) (of : ℕ → Classes) → GroupsFit p of
-groups_fit p of cap some f = rounds_fit (of f) cap some true (p.body f) [] (none_fits (of f) cap some)
+groups_fit p of cap some f = rounds_fit (of f) cap some true (p.body f) [] (no_parts (of f) cap some)
 
 sends_copy : (b : Bool) (x n m : ℕ) (r : Access) → Sends n m r → Sends n ((if b then 1 else 0) + m) (with_copy b x r)
 sends_copy true x n m (Passed env words copies w) h = (h.0, omega (arith, h.1))

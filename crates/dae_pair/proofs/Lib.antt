@@ -13,3 +13,6 @@ pub mod CoverA
 pub mod CoverE
 pub mod CoverCounts
 pub mod Cover
+pub mod Small
+pub mod Capped
+pub mod SmallBudget

@@ -104,3 +104,18 @@ abbrev pub BudgetCovers : Type 0
 BudgetCovers =
     (ir : Ir) (tables : List (List Class)) (cap : ℕ) (pair : Pair) (d : Depths) → IsPairOf ir tables cap pair → IsBudgetOf pair d
     → (f : ℕ) → Covers (classes_of tables f) d (rounds (classes_of tables f) cap true ((program_of ir).body f) [])
+
+-- ---- how large a budget is
+
+pub record IsSmall (cap : ℕ) (d : Depths) : Type 0 where
+  pub ld : d.ld ≤ cap
+  pub al : d.al ≤ 1
+  pub sa : d.sa ≤ 1
+  pub sd : d.sd ≤ 1
+  pub ab : d.ab ≤ 1
+  pub eb : d.eb ≤ 1
+  pub cq : d.cq ≤ cap
+
+abbrev pub BudgetIsSmall : Type 0
+BudgetIsSmall =
+    (ir : Ir) (tables : List (List Class)) (cap : ℕ) (pair : Pair) (d : Depths) → 0 < cap → IsPairOf ir tables cap pair → IsBudgetOf pair d → IsSmall cap d

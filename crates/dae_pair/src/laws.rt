@@ -35,3 +35,10 @@ ghost use Rattle.dae_pair.specs.Budget.{BudgetCovers};
 pub fn budget_covers()
     ensures { BudgetCovers }
 {}
+
+ghost use Rattle.dae_pair.specs.Budget.{BudgetIsSmall};
+
+/// A budget has at most the cap of loads for E and of copies, and at most 1 of each other.
+pub fn budget_is_small()
+    ensures { BudgetIsSmall }
+{}

@@ -2,6 +2,8 @@
 // theorems are the contracts of functions that do nothing.
 #![tactic(auto)]
 
-pub use laws::{budget_covers, going_takes_turns, groups_fit, more_turns, pair_keeps};
+pub use laws::{
+    budget_covers, budget_is_small, going_takes_turns, groups_fit, more_turns, pair_keeps,
+};
 
 mod laws;
