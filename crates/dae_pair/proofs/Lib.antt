@@ -16,3 +16,4 @@ pub mod Cover
 pub mod Small
 pub mod Capped
 pub mod SmallBudget
+pub mod Counted

@@ -42,3 +42,10 @@ ghost use Rattle.dae_pair.specs.Budget.{BudgetIsSmall};
 pub fn budget_is_small()
     ensures { BudgetIsSmall }
 {}
+
+ghost use Rattle.dae_pair.specs.Laws.{FewerLoads, IsWithinLoads};
+
+/// Which loads are counted changes nothing but their number. So a pair issues no more loads than its form has.
+pub fn fewer_loads()
+    ensures { (p : Program) (counted : ℕ → ℕ → Bool) (more : ℕ → ℕ → Bool) → IsWithinLoads counted more → FewerLoads p counted more }
+{}
