@@ -10,6 +10,7 @@ use Rattle.dae_ir.specs.Code.{Done, Do, If, Loop}
 use Rattle.dae_ir.specs.Form.{Form, Program, calls_of, all_loads}
 use Rattle.dae_ir.specs.Classes.{Classes}
 use Rattle.dae_ir.specs.Canonical.{pair_calls_of}
+use Rattle.dae_ir.specs.Sizes.{loads_a, loads_e, stores, conditions_a, conditions_e}
 use Rattle.dae_ir.specs.Streams.{Actions, stream_of}
 use Rattle.dae_ir.specs.Budgets.{some, in_group, never, is_told, is_message, is_own_load, is_address, is_datum, is_load_for_e, is_copy}
 use Rattle.dae_ir.specs.declared.form.Operand.TheVariants.{Variable, Number}
@@ -150,3 +151,19 @@ counted_down_eb = refl
 counted_down_pair : (world_of (pair_calls_of (alone counted_down) all_e 4 5 1 0 [] [] start)).printed ≡ [] ++ spelled Signed 1
 unfolding compared misplaced combined
 counted_down_pair = refl
+
+-- what a report counts
+filled_loads_e : loads_e (filled_classes 0) filled ≡ 1
+filled_loads_e = refl
+
+filled_loads_a : loads_a (filled_classes 0) filled ≡ 0
+filled_loads_a = refl
+
+filled_stores_counted : stores filled ≡ 1
+filled_stores_counted = refl
+
+filled_conditions_a : conditions_a (filled_classes 0) filled ≡ 1
+filled_conditions_a = refl
+
+filled_conditions_e : conditions_e (filled_classes 0) filled ≡ 0
+filled_conditions_e = refl

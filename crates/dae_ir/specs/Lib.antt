@@ -9,3 +9,4 @@ pub mod Streams
 pub mod Programs
 pub mod Budgets
 pub mod Scope
+pub mod Sizes
