@@ -17,3 +17,5 @@ pub mod Small
 pub mod Capped
 pub mod SmallBudget
 pub mod Counted
+pub mod Sizes
+pub mod Executed

@@ -1,2 +1,3 @@
 pub mod Laws
 pub mod Budget
+pub mod Sizes

@@ -49,3 +49,13 @@ ghost use Rattle.dae_pair.specs.Laws.{FewerLoads, IsWithinLoads};
 pub fn fewer_loads()
     ensures { (p : Program) (counted : ℕ → ℕ → Bool) (more : ℕ → ℕ → Bool) → IsWithinLoads counted more → FewerLoads p counted more }
 {}
+
+ghost use Rattle.dae_pair.specs.Sizes.{GroupsAreSmall, GroupsExecute, StreamsAreSmall};
+
+/// Each stream is at most twice as large as its form. Of each group a side has at most twice as many actions as the group
+/// has items, and all of these are counted as executed, up to a check that fails.
+pub fn streams_are_small()
+    ensures streams { StreamsAreSmall }
+    ensures groups { GroupsAreSmall }
+    ensures executed { GroupsExecute }
+{}

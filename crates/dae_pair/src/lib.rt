@@ -3,7 +3,8 @@
 #![tactic(auto)]
 
 pub use laws::{
-    budget_covers, budget_is_small, going_takes_turns, groups_fit, more_turns, pair_keeps,
+    budget_covers, budget_is_small, fewer_loads, going_takes_turns, groups_fit, more_turns,
+    pair_keeps, streams_are_small,
 };
 
 mod laws;
