@@ -10,3 +10,4 @@ pub mod Programs
 pub mod Budgets
 pub mod Scope
 pub mod Sizes
+pub mod SetFirst

@@ -19,3 +19,5 @@ pub mod SmallBudget
 pub mod Counted
 pub mod Sizes
 pub mod Executed
+pub mod Flow
+pub mod FlowRounds

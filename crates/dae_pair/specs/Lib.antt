@@ -1,3 +1,4 @@
 pub mod Laws
 pub mod Budget
 pub mod Sizes
+pub mod SetFirst

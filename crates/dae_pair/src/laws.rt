@@ -59,3 +59,11 @@ pub fn streams_are_small()
     ensures groups { GroupsAreSmall }
     ensures executed { GroupsExecute }
 {}
+
+ghost use Rattle.dae_pair.specs.SetFirst.{StreamsSetFirst};
+
+/// Where a form's function sets each variable before it reads it, so does each stream, from those of the variables set
+/// before that its own side needs.
+pub fn streams_set_first()
+    ensures { StreamsSetFirst }
+{}
