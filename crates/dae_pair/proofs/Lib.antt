@@ -21,3 +21,4 @@ pub mod Sizes
 pub mod Executed
 pub mod Flow
 pub mod FlowRounds
+pub mod Programs

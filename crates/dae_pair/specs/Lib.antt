@@ -2,3 +2,4 @@ pub mod Laws
 pub mod Budget
 pub mod Sizes
 pub mod SetFirst
+pub mod Programs

@@ -1,11 +1,21 @@
 ghost use Rattle.std.specs.Prelude.{ℕ, Bool};
 ghost use Rattle.dae_ir.specs.Classes.{Classes, AreClosed};
 ghost use Rattle.dae_ir.specs.Form.{Program};
-ghost use Rattle.dae_pair.specs.Laws.{GoingTakesTurns, MoreTurns, PairKeeps};
+ghost use Rattle.dae_pair.specs.Budget.{BudgetCovers, BudgetIsSmall, GroupSends, GroupsFit};
+ghost use Rattle.dae_pair.specs.Laws.{FewerLoads, GoingTakesTurns, IsWithinLoads, MoreTurns, PairKeeps};
+ghost use Rattle.dae_pair.specs.Programs.{ProgramKept};
+ghost use Rattle.dae_pair.specs.SetFirst.{StreamsSetFirst};
+ghost use Rattle.dae_pair.specs.Sizes.{GroupsAreSmall, GroupsExecute, StreamsAreSmall};
 
-/// For classes that are closed, the pair in canonical order does what the form does, whatever the cap, the bounds, the
-/// function, its arguments and the world before: it goes on, halts, traps or runs out of turns as the form does, with the
-/// same memory and output, as many stores, and as many loads as the form has into variables that either processor needs.
+/// For the classes of a form, its pair in canonical order ends as the form does, for every bound on turns, cap and memory:
+/// with the same output, memory, stores and executed items, and no more loads.
+pub fn program_kept()
+    ensures { ProgramKept }
+{}
+
+/// The same of each function, for any classes that are closed, from every world: it goes on, halts, traps or runs out of
+/// turns as the form does, with the same memory and output, as many stores, and as many loads as the form has into
+/// variables that either processor needs. What a processor needs, it computes as the form does.
 pub fn pair_keeps()
     ensures { (p : Program) (of : ℕ → Classes) → AreClosed p of → PairKeeps p of }
 {}
@@ -21,7 +31,10 @@ pub fn going_takes_turns()
     ensures { (p : Program) (counted : ℕ → ℕ → Bool) → GoingTakesTurns p counted }
 {}
 
-ghost use Rattle.dae_pair.specs.Budget.{GroupSends, GroupsFit};
+/// Which loads are counted changes nothing but their number. So a pair issues no more loads than its form has.
+pub fn fewer_loads()
+    ensures { (p : Program) (counted : ℕ → ℕ → Bool) (more : ℕ → ℕ → Bool) → IsWithinLoads counted more → FewerLoads p counted more }
+{}
 
 /// No group has more loads for E, nor more copies, than the cap, and A's part sends as many of each as the group has.
 pub fn groups_fit()
@@ -29,28 +42,15 @@ pub fn groups_fit()
     ensures sent { GroupSends }
 {}
 
-ghost use Rattle.dae_pair.specs.Budget.{BudgetCovers};
-
-/// The budget of a form's pair is enough for each round of each function: no queue passes it in canonical order.
+/// The budget of a form's pair is enough for what each round of each function puts on the queues.
 pub fn budget_covers()
     ensures { BudgetCovers }
 {}
-
-ghost use Rattle.dae_pair.specs.Budget.{BudgetIsSmall};
 
 /// A budget has at most the cap of loads for E and of copies, and at most 1 of each other.
 pub fn budget_is_small()
     ensures { BudgetIsSmall }
 {}
-
-ghost use Rattle.dae_pair.specs.Laws.{FewerLoads, IsWithinLoads};
-
-/// Which loads are counted changes nothing but their number. So a pair issues no more loads than its form has.
-pub fn fewer_loads()
-    ensures { (p : Program) (counted : ℕ → ℕ → Bool) (more : ℕ → ℕ → Bool) → IsWithinLoads counted more → FewerLoads p counted more }
-{}
-
-ghost use Rattle.dae_pair.specs.Sizes.{GroupsAreSmall, GroupsExecute, StreamsAreSmall};
 
 /// Each stream is at most twice as large as its form. Of each group a side has at most twice as many actions as the group
 /// has items, and all of these are counted as executed, up to a check that fails.
@@ -59,8 +59,6 @@ pub fn streams_are_small()
     ensures groups { GroupsAreSmall }
     ensures executed { GroupsExecute }
 {}
-
-ghost use Rattle.dae_pair.specs.SetFirst.{StreamsSetFirst};
 
 /// Where a form's function sets each variable before it reads it, so does each stream, from those of the variables set
 /// before that its own side needs.

@@ -4,7 +4,7 @@
 
 pub use laws::{
     budget_covers, budget_is_small, fewer_loads, going_takes_turns, groups_fit, more_turns,
-    pair_keeps, streams_are_small, streams_set_first,
+    pair_keeps, program_kept, streams_are_small, streams_set_first,
 };
 
 mod laws;
