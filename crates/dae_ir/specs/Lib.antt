@@ -11,3 +11,4 @@ pub mod Budgets
 pub mod Scope
 pub mod Sizes
 pub mod SetFirst
+pub mod Deeds

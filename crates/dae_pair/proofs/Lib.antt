@@ -22,3 +22,5 @@ pub mod Executed
 pub mod Flow
 pub mod FlowRounds
 pub mod Programs
+pub mod DeedsA
+pub mod DeedsE

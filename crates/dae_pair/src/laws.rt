@@ -2,6 +2,7 @@ ghost use Rattle.std.specs.Prelude.{ℕ, Bool};
 ghost use Rattle.dae_ir.specs.Classes.{Classes, AreClosed};
 ghost use Rattle.dae_ir.specs.Form.{Program};
 ghost use Rattle.dae_pair.specs.Budget.{BudgetCovers, BudgetIsSmall, GroupSends, GroupsFit};
+ghost use Rattle.dae_pair.specs.Deeds.{AGroupsDo, AHears, EGroupsDo, EGroupsHalt};
 ghost use Rattle.dae_pair.specs.Laws.{FewerLoads, GoingTakesTurns, IsWithinLoads, MoreTurns, PairKeeps};
 ghost use Rattle.dae_pair.specs.Programs.{ProgramKept};
 ghost use Rattle.dae_pair.specs.SetFirst.{StreamsSetFirst};
@@ -64,4 +65,15 @@ pub fn streams_are_small()
 /// before that its own side needs.
 pub fn streams_set_first()
     ensures { StreamsSetFirst }
+{}
+
+/// The actions of a group do what the canonical meaning says of it. A's come to the words, the copies, the address and the
+/// message of its part, or halt behind the code of the first trap. E's, with just those words and copies, come to its
+/// variables and close the group; where E hears of a trap, it does none of them. Where A hears of E's check, it goes on or
+/// halts.
+pub fn groups_do()
+    ensures a { AGroupsDo }
+    ensures e { EGroupsDo }
+    ensures trap { EGroupsHalt }
+    ensures heard { AHears }
 {}

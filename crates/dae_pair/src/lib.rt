@@ -3,8 +3,8 @@
 #![tactic(auto)]
 
 pub use laws::{
-    budget_covers, budget_is_small, fewer_loads, going_takes_turns, groups_fit, more_turns,
-    pair_keeps, program_kept, streams_are_small, streams_set_first,
+    budget_covers, budget_is_small, fewer_loads, going_takes_turns, groups_do, groups_fit,
+    more_turns, pair_keeps, program_kept, streams_are_small, streams_set_first,
 };
 
 mod laws;
