@@ -1,0 +1,14 @@
+pub mod Results
+pub mod Code
+pub mod Operations
+pub mod Form
+pub mod Classes
+pub mod Rounds
+pub mod Canonical
+pub mod Streams
+pub mod Programs
+pub mod Budgets
+pub mod Scope
+pub mod Sizes
+pub mod SetFirst
+pub mod Deeds

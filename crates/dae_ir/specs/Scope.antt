@@ -1,0 +1,66 @@
+-- Each variable, function and loop that a form names is there.
+use Rattle.std.specs.Prelude.{◌≡◌, ℕ, ◌<◌, false, List, length, slice_get, Option, Some, None, IsTrue}
+use Rattle.std.specs.List.{AllByRecursion}
+use Rattle.dae_ir.specs.Code.{Each}
+use Rattle.dae_ir.specs.Form.{form_of}
+use Rattle.dae_ir.specs.Rounds.{stays}
+use Rattle.dae_ir.specs.declared.form.Operand.{Operand}
+use Rattle.dae_ir.specs.declared.form.Operand.TheVariants.{Variable, Number}
+use Rattle.dae_ir.specs.declared.form.Value.{Value}
+use Rattle.dae_ir.specs.declared.form.Value.TheVariants.{Same, Extended, Binary, Holds, FrameAddress}
+use Rattle.dae_ir.specs.declared.form.Test.{Test}
+use Rattle.dae_ir.specs.declared.form.Check.{Check}
+use Rattle.dae_ir.specs.declared.form.Check.TheVariants.{Place, Zero, Room, Frame, Abort}
+use Rattle.dae_ir.specs.declared.form.Item.{Item}
+use Rattle.dae_ir.specs.declared.form.Item.TheVariants.{Assign, Load, Store, Print, Expect, Break, Continue, Call, Return, Halt}
+use Rattle.dae_ir.specs.declared.form.Function.{Function}
+use Rattle.dae_ir.specs.declared.form.Ir.{Ir}
+
+-- the variables are below n
+abbrev pub IsIn : ℕ → Operand → Type 0
+IsIn n (Variable v) = v < n
+IsIn n (Number k) = Unit {0}
+
+abbrev pub TestIn : ℕ → Test → Type 0
+TestIn n t = IsIn n t.left × IsIn n t.right
+
+abbrev pub ValueIn : ℕ → Value → Type 0
+ValueIn n (Same x) = IsIn n x
+ValueIn n (Extended kind x) = IsIn n x
+ValueIn n (Binary operator x y) = IsIn n x × IsIn n y
+ValueIn n (Holds t) = TestIn n t
+ValueIn n (FrameAddress offset) = Unit {0}
+
+abbrev pub CheckIn : ℕ → ℕ → Check → Type 0
+CheckIn functions n (Place width x) = IsIn n x
+CheckIn functions n (Zero x) = IsIn n x
+CheckIn functions n (Room f) = f < functions
+CheckIn functions n Frame = Unit {0}
+CheckIn functions n Abort = Unit {0}
+
+-- a call gives as many arguments as the function has parameters
+abbrev pub TakesArguments : Option Function → ℕ → Type 0
+TakesArguments None count = ⊥
+TakesArguments (Some function) count = count ≡ function.parameters
+
+abbrev pub ItemIn : List Function → ℕ → Item → Type 0
+ItemIn functions n (Assign v x) = (v < n) × ValueIn n x
+ItemIn functions n (Load v kind x) = (v < n) × IsIn n x
+ItemIn functions n (Store width x y) = IsIn n x × IsIn n y
+ItemIn functions n (Print spelling x) = IsIn n x
+ItemIn functions n (Expect check) = CheckIn (length functions) n check
+ItemIn functions n Break = Unit {0}
+ItemIn functions n Continue = Unit {0}
+ItemIn functions n (Call v f xs) = (v < n) × TakesArguments (slice_get functions f) (length xs) × AllByRecursion (IsIn n) xs
+ItemIn functions n (Return x) = IsIn n x
+ItemIn functions n (Halt x) = IsIn n x
+
+-- the result and the parameters are variables, and no Break or Continue is outside of a loop
+pub record FunctionIn (functions : List Function) (function : Function) : Type 0 where
+  pub parameters : function.parameters < function.variables
+  pub names : Each (ItemIn functions function.variables) (TestIn function.variables) (form_of function.body)
+  pub loops : IsTrue (stays false (form_of function.body))
+
+pub record IsScoped (ir : Ir) : Type 0 where
+  pub main : ir.main < length ir.functions
+  pub functions : AllByRecursion (FunctionIn ir.functions) ir.functions

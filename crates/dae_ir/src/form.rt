@@ -1,0 +1,127 @@
+// The structured form.
+
+use dae_base::{Items, LoadKind, Place, Text, Width};
+
+/// A variable of the function, or a number.
+#[derive(Clone, Copy, PartialEq, Eq, Debug)]
+pub enum Operand {
+    Variable(u32),
+    Number(u32),
+}
+
+/// An operation of C on two words (C90 6.3.5 to 6.3.12). Sums, differences and products wrap. A shift counts by the low
+/// five bits of its amount, and the right shift of a signed word copies the sign.
+#[derive(Clone, Copy, PartialEq, Eq, Debug)]
+pub enum Operator {
+    Add,
+    Subtract,
+    Multiply,
+    DivideSigned,
+    DivideUnsigned,
+    RemainderSigned,
+    RemainderUnsigned,
+    And,
+    Or,
+    Xor,
+    ShiftLeft,
+    ShiftRightSigned,
+    ShiftRightUnsigned,
+}
+
+/// A comparison of two words.
+#[derive(Clone, Copy, PartialEq, Eq, Debug)]
+pub enum Relation {
+    Equal,
+    NotEqual,
+    LessSigned,
+    AtLeastSigned,
+    LessUnsigned,
+    AtLeastUnsigned,
+}
+
+/// A condition.
+#[derive(Clone, Copy, PartialEq, Eq, Debug)]
+pub struct Test {
+    pub relation: Relation,
+    pub left: Operand,
+    pub right: Operand,
+}
+
+/// What an assignment computes: an operand, its low bits extended to a word, an operation on two operands, 1 where a
+/// condition holds and else 0, or the address so many bytes behind the start of the running function's frame.
+#[derive(Clone, Copy, PartialEq, Eq, Debug)]
+pub enum Value {
+    Same(Operand),
+    Extended(LoadKind, Operand),
+    Binary(Operator, Operand, Operand),
+    Holds(Test),
+    FrameAddress(u32),
+}
+
+/// How a printed word is spelled: its low byte, in decimal as a signed or an unsigned number, or in hexadecimal.
+#[derive(Clone, Copy, PartialEq, Eq, Debug)]
+pub enum Spelling {
+    Byte,
+    Signed,
+    Unsigned,
+    Hexadecimal,
+}
+
+/// What must hold where it stands, or the program traps: an address is good for an access of this width (3 where it is
+/// misaligned, else 2 where it is outside the memory); a number isn't 0 (1); a call of this function stands within the
+/// call limit and its frame within the memory (4); the running function's own frame does (4); never (5).
+#[derive(Clone, Copy, PartialEq, Eq, Debug)]
+pub enum Check {
+    Place(Width, Operand),
+    Zero(Operand),
+    Room(u32),
+    Frame,
+    Abort,
+}
+
+/// A statement that holds no others. `Load` and `Store` give the address first, and `Call` the variable that gets the
+/// result, the function by its place in the form, and the arguments.
+#[derive(Drop)]
+pub enum Item {
+    Assign(u32, Value),
+    Load(u32, LoadKind, Operand),
+    Store(Width, Operand, Operand),
+    Print(Spelling, Operand),
+    Expect(Check),
+    Break,
+    Continue,
+    Call(u32, u32, Items<Operand>),
+    Return(Operand),
+    Halt(Operand),
+}
+
+/// A statement, with the place that it comes from. An `If` has its two branches. A `Loop` repeats its body and its step:
+/// a `Continue` in the body goes to the step.
+#[derive(Drop)]
+pub enum Statement {
+    Simple(Place, Item),
+    If(Place, Test, Vec<Statement>, Vec<Statement>),
+    Loop(Place, Vec<Statement>, Vec<Statement>),
+}
+
+/// A function with a definition. Its variables are numbered from 0: variable 0 gets the result, and the parameters
+/// follow from 1 on. The frame is in bytes.
+#[derive(Drop)]
+pub struct Function {
+    pub name: Text,
+    pub parameters: u32,
+    pub variables: u32,
+    pub frame: u64,
+    pub body: Items<Statement>,
+}
+
+/// A program in structured form: the size of common memory and where frames begin in it, both in bytes, the most calls
+/// inside one another, the place of main among the functions, and the functions with a definition.
+#[derive(Drop)]
+pub struct Ir {
+    pub memory: u32,
+    pub frames: u32,
+    pub calls: u16,
+    pub main: u32,
+    pub functions: Items<Function>,
+}

@@ -1,0 +1,15 @@
+// The structured form of a program, and the pair of streams that it is split into for the two processors of a decoupled
+// machine (Smith, "Decoupled Access/Execute Computer Architectures"). Types, and in specs/ what they mean: the form, the
+// classes of its variables, its groups and regions, what the pair does in canonical order, which streams are a form's
+// pair, and a pair's budget. There is no code here but constructors and accessors of plain data.
+#![tactic(auto)]
+
+pub use form::{
+    Check, Function, Ir, Item, Operand, Operator, Relation, Spelling, Statement, Test, Value,
+};
+pub use stream::{
+    Action, Argument, Branch, Class, Last, Mark, Pair, Part, Step, Stream, StreamFunction,
+};
+
+mod form;
+mod stream;

@@ -1,0 +1,6 @@
+pub mod Laws
+pub mod Budget
+pub mod Sizes
+pub mod SetFirst
+pub mod Programs
+pub mod Deeds
