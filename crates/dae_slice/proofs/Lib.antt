@@ -1,0 +1,12 @@
+pub mod Lists
+pub mod Graphs
+pub mod Fresh
+pub mod Adds
+pub mod Leads
+pub mod Arguments
+pub mod Rows
+pub mod Statements
+pub mod Scoped
+pub mod Marks
+pub mod Entries
+pub mod Spread
