@@ -2,11 +2,11 @@
 
 ghost use Rattle.std.specs.Prelude.{◌≡◌, ℕ, OnOk};
 ghost use Rattle.dae_ir.specs.Classes.{classes_of};
-ghost use Rattle.dae_ir.specs.Streams.{Actions, when, a_part, e_part, parts, message, gives_address, hears_check, e_last, a_group, e_group, group_of};
+ghost use Rattle.dae_ir.specs.Streams.{Actions, mark, when, a_part, e_part, parts, message, gives_address, hears_check, e_last, a_group, e_group, group_of};
 ghost use Rattle.dae_ir.specs.declared.stream.Action.{Action};
 ghost use Rattle.dae_split.specs.Making.{is_a, Adds, message_at};
 
-use crate::classes::{class, is_for_e_alone, is_shared};
+use crate::classes::class;
 use crate::work::Task;
 use dae_base::{Items, Place, Side};
 use dae_ir::{Action, Class, Last, Mark, Operand, Part, Step};
@@ -22,6 +22,15 @@ pub fn put(steps: &mut Vec<Step>, flag: bool, mark: Mark, action: Action) -> Res
     Ok(())
 }
 
+fn at(place: Place, number: u64) -> Mark
+    ensures { result ≡ mark place number }
+{
+    Mark {
+        place,
+        group: number,
+    }
+}
+
 fn put_a_part(
     steps: &mut Vec<Step>,
     tables: &[Items<Class>],
@@ -33,56 +42,20 @@ fn put_a_part(
 {
     match part {
         Part::Sets(place, v, value) => {
-            let mark = Mark {
-                place,
-                group: number,
-            };
-            put(
-                steps,
-                class(tables, function, v).a,
-                mark,
-                Action::Set(v, value),
-            )?;
-            put(
-                steps,
-                is_shared(tables, function, v),
-                mark,
-                Action::Offer(v),
-            )
+            let class = class(tables, function, v);
+            let mark = at(place, number);
+            put(steps, class.a, mark, Action::Set(v, value))?;
+            put(steps, class.a && class.e, mark, Action::Offer(v))
         }
         Part::Loads(place, v, kind, address) => {
-            let mark = Mark {
-                place,
-                group: number,
-            };
-            put(
-                steps,
-                is_for_e_alone(tables, function, v),
-                mark,
-                Action::Issue(kind, address),
-            )?;
-            put(
-                steps,
-                class(tables, function, v).a,
-                mark,
-                Action::Own(v, kind, address),
-            )?;
-            put(
-                steps,
-                is_shared(tables, function, v),
-                mark,
-                Action::Offer(v),
-            )
+            let class = class(tables, function, v);
+            let mark = at(place, number);
+            let issue = Action::Issue(kind, address);
+            put(steps, !class.a && class.e, mark, issue)?;
+            put(steps, class.a, mark, Action::Own(v, kind, address))?;
+            put(steps, class.a && class.e, mark, Action::Offer(v))
         }
-        Part::Tests(place, check) => put(
-            steps,
-            true,
-            Mark {
-                place,
-                group: number,
-            },
-            Action::Probe(check),
-        ),
+        Part::Tests(place, check) => put(steps, true, at(place, number), Action::Probe(check)),
     }
 }
 
@@ -97,40 +70,16 @@ fn put_e_part(
 {
     match part {
         Part::Sets(place, v, value) => {
-            let mark = Mark {
-                place,
-                group: number,
-            };
-            put(
-                steps,
-                is_shared(tables, function, v),
-                mark,
-                Action::Accept(v),
-            )?;
-            put(
-                steps,
-                is_for_e_alone(tables, function, v),
-                mark,
-                Action::Set(v, value),
-            )
+            let class = class(tables, function, v);
+            let mark = at(place, number);
+            put(steps, class.a && class.e, mark, Action::Accept(v))?;
+            put(steps, !class.a && class.e, mark, Action::Set(v, value))
         }
         Part::Loads(place, v, _, _) => {
-            let mark = Mark {
-                place,
-                group: number,
-            };
-            put(
-                steps,
-                is_shared(tables, function, v),
-                mark,
-                Action::Accept(v),
-            )?;
-            put(
-                steps,
-                is_for_e_alone(tables, function, v),
-                mark,
-                Action::Receive(v),
-            )
+            let class = class(tables, function, v);
+            let mark = at(place, number);
+            put(steps, class.a && class.e, mark, Action::Accept(v))?;
+            put(steps, !class.a && class.e, mark, Action::Receive(v))
         }
         Part::Tests(..) => Ok(()),
     }
@@ -186,15 +135,7 @@ fn put_message(
     ensures { OnOk result (Adds (message number action group.now) steps.old.items steps.new.items) }
 {
     match first_check(group) {
-        Some(place) => put(
-            steps,
-            true,
-            Mark {
-                place,
-                group: number,
-            },
-            action,
-        ),
+        Some(place) => put(steps, true, at(place, number), action),
         None => Ok(()),
     }
 }
@@ -207,10 +148,7 @@ fn put_address(steps: &mut Vec<Step>, number: u64, last: Last) -> Result<(), All
             put(
                 steps,
                 true,
-                Mark {
-                    place,
-                    group: number,
-                },
+                at(place, number),
                 Action::Address(width, address),
             )
         }
@@ -222,15 +160,7 @@ fn put_hear(steps: &mut Vec<Step>, number: u64, last: Last) -> Result<(), AllocE
     ensures { OnOk result (Adds (hears_check number last) steps.old.items steps.new.items) }
 {
     match last {
-        Last::Decides(place, _) => put(
-            steps,
-            true,
-            Mark {
-                place,
-                group: number,
-            },
-            Action::Hear,
-        ),
+        Last::Decides(place, _) => put(steps, true, at(place, number), Action::Hear),
         Last::Nothing | Last::Stores(..) | Last::Prints(..) => Ok(()),
     }
 }
@@ -243,28 +173,19 @@ fn put_e_last(steps: &mut Vec<Step>, number: u64, last: Last) -> Result<(), Allo
         Last::Stores(place, _, _, datum) => put(
             steps,
             true,
-            Mark {
-                place,
-                group: number,
-            },
+            at(place, number),
             Action::Datum(datum),
         ),
         Last::Prints(place, spelling, operand) => {
             put(
                 steps,
                 true,
-                Mark {
-                    place,
-                    group: number,
-                },
+                at(place, number),
                 Action::Emit(spelling, operand),
             )
         }
         Last::Decides(place, check) => {
-            let mark = Mark {
-                place,
-                group: number,
-            };
+            let mark = at(place, number);
             put(steps, true, mark, Action::Probe(check))?;
             put(steps, true, mark, Action::Tell(Operand::Number(0)))
         }
