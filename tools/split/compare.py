@@ -1,20 +1,23 @@
-"""compare.py ORACLE PROGRAM [FIRST COUNT]: random forms of the oracle, split by the oracle and by PROGRAM.
+"""compare.py ORACLE write FORMS WANTED [FIRST COUNT]
+compare.py ORACLE compare WANTED GOT
 
-ORACLE is the folder of the oracle written in Python, and PROGRAM the built program of main.txt, build.txt and
-print.txt beside this file. Each form is written as numbers with the classes of its variables and a cap, and PROGRAM's
-two lines for it are compared with the oracle's two streams, places and group numbers included.
+Writes forms, with the classes of their variables and a cap, as numbers into FORMS, and the two streams that the oracle
+splits each into as numbers into WANTED, two lines a form. ORACLE is the folder of the oracle written in Python. The
+forms are those of its worked programs, and of its random forms from seed FIRST on. What the program of main.txt,
+build.txt and print.txt beside this file prints for FORMS is GOT: it is compared line by line, places and numbers of
+groups included. (Those three files are sources of a program crate over dae_split, with another ending so that they
+stand outside of the gate.)
 """
 
 import os
-import subprocess
 import sys
 
-ORACLE, PROGRAM = sys.argv[1], sys.argv[2]
-FIRST, COUNT = (int(x) for x in sys.argv[3:5]) if len(sys.argv) > 4 else (0, 500)
+ORACLE = sys.argv[1]
 sys.path.insert(0, ORACLE)
 sys.path.insert(0, os.path.join(ORACLE, "tests"))
 
-from dae import ir as o                                          # noqa: E402
+import papers                                                    # noqa: E402
+from dae import front, ir as o, middle                           # noqa: E402
 from dae.slices import classes                                   # noqa: E402
 from dae.split import split                                      # noqa: E402
 from random_forms import random_form, random_stretches           # noqa: E402
@@ -26,18 +29,26 @@ SPELLINGS = ("byte", "signed", "unsigned", "hex")
 
 
 class Numbers:
-    """The numbers of one form. A variable n of the oracle is n + 1 here, where the parameters come first, 0 is the
-    result, and the last variable takes a result that nobody wants."""
+    """The numbers of one form. The result is variable 0, the parameters come first, and the last variable takes a
+    result that nobody wants."""
 
     def __init__(self, form):
         self.form = form
+        self.places = {}
+        self.maps = []
         for f in form.functions:
-            assert list(f.params) == list(range(len(f.params)))
-        self.line = 0
-        self.function = None
+            others = [v for v in range(f.count) if v not in f.params]
+            self.maps.append({v: k + 1 for k, v in enumerate(list(f.params) + others)})
+        self.index = 0
+
+    def at(self, place):
+        return [self.places.setdefault(place, len(self.places) + 1)]
+
+    def v(self, n):
+        return self.maps[self.index][n]
 
     def operand(self, x):
-        return [0, x.n + 1] if isinstance(x, o.Var) else [1, x & 0xFFFFFFFF]
+        return [0, self.v(x.n)] if isinstance(x, o.Var) else [1, x & 0xFFFFFFFF]
 
     def test(self, t):
         return [RELATIONS.index(t.op)] + self.operand(t.x) + self.operand(t.y)
@@ -63,7 +74,7 @@ class Numbers:
         if isinstance(c, o.Zero):
             return [1] + self.operand(c.operand)
         if isinstance(c, o.Room):
-            return [2, c.function]
+            return [3] if c.function == self.form.main else [2, c.function]
         return [4]
 
     # -- the form -----------------------------------------------------------
@@ -75,13 +86,13 @@ class Numbers:
         return out
 
     def statement(self, s):
-        self.line += 1
-        s.place = self.line
-        at = [s.place]
+        if s.place is None:
+            s.place = ("statement", len(self.places))
+        at = self.at(s.place)
         if isinstance(s, o.Assign):
-            return [0] + at + [s.v + 1] + self.value(s.op, s.args)
+            return [0] + at + [self.v(s.v)] + self.value(s.op, s.args)
         if isinstance(s, o.Load):
-            return [1] + at + [s.v + 1, KINDS.index(s.kind)] + self.operand(s.address)
+            return [1] + at + [self.v(s.v), KINDS.index(s.kind)] + self.operand(s.address)
         if isinstance(s, o.Store):
             return [2] + at + [s.width] + self.operand(s.address) + self.operand(s.value)
         if isinstance(s, o.Print):
@@ -93,7 +104,7 @@ class Numbers:
         if isinstance(s, o.Continue):
             return [6] + at
         if isinstance(s, o.Call):
-            v = self.function.count + 1 if s.v is None else s.v + 1
+            v = self.form.functions[self.index].count + 1 if s.v is None else self.v(s.v)
             return [7] + at + [v, s.function, len(s.args)] + [n for x in s.args for n in self.operand(x)]
         if isinstance(s, o.Return):
             return [8] + at + self.operand(s.operand)
@@ -107,12 +118,12 @@ class Numbers:
     def whole(self, found, cap):
         form = self.form
         out = [form.memory, form.frames, form.calls, form.main, len(form.functions)]
-        for f in form.functions:
-            self.function = f
+        for k, f in enumerate(form.functions):
+            self.index = k
             out += [len(f.params), f.count + 2, f.frame] + self.list(f.body)
         for k, f in enumerate(form.functions):
             out += [int(found.result_a[k]), int(found.result_e[k])]
-            for v in range(f.count):
+            for v in sorted(self.maps[k], key=self.maps[k].get):
                 out += [int(v in found.a[k]), int(v in found.e[k])]
             out += [0, 0]
         return out + [cap]
@@ -122,7 +133,7 @@ class Numbers:
     def steps(self, body):
         out = [len(body)]
         for s in body:
-            out += [s.place, s.group] + self.action(s)
+            out += self.at(s.place) + [s.group] + self.action(s)
         return out
 
     def optional(self, x):
@@ -130,21 +141,21 @@ class Numbers:
 
     def action(self, s):
         if isinstance(s, o.Set):
-            return [0, s.v + 1] + self.value(s.op, s.args)
+            return [0, self.v(s.v)] + self.value(s.op, s.args)
         if isinstance(s, o.Issue):
             return [1, KINDS.index(s.kind)] + self.operand(s.address)
         if isinstance(s, o.Own):
-            return [2, s.v + 1, KINDS.index(s.kind)] + self.operand(s.address)
+            return [2, self.v(s.v), KINDS.index(s.kind)] + self.operand(s.address)
         if isinstance(s, o.Receive):
-            return [3, s.v + 1]
+            return [3, self.v(s.v)]
         if isinstance(s, o.Address):
             return [4, s.width] + self.operand(s.address)
         if isinstance(s, o.Datum):
             return [5] + self.operand(s.value)
         if isinstance(s, o.Offer):
-            return [6, s.v + 1]
+            return [6, self.v(s.v)]
         if isinstance(s, o.Accept):
-            return [7, s.v + 1]
+            return [7, self.v(s.v)]
         if isinstance(s, o.Emit):
             return [8, SPELLINGS.index(s.what)] + self.operand(s.value)
         if isinstance(s, o.Probe):
@@ -162,7 +173,7 @@ class Numbers:
         if isinstance(s, o.Call):
             given = [n for k, x in enumerate(s.args) if x is not None for n in [k + 1] + self.operand(x)]
             count = sum(x is not None for x in s.args)
-            return [15] + ([0] if s.v is None else [1, s.v + 1]) + [s.function, count] + given
+            return [15] + ([0] if s.v is None else [1, self.v(s.v)]) + [s.function, count] + given
         if isinstance(s, o.Return):
             return [16] + self.optional(s.operand)
         if isinstance(s, o.If):
@@ -177,41 +188,52 @@ class Numbers:
         form = self.form
         out = [0 if stream.side == "A" else 1, form.memory, form.frames, form.calls, form.main]
         for k, f in enumerate(stream.functions):
+            self.index = k
             source = form.functions[k]
-            out += [len(source.params), source.count + 2, source.frame] + self.steps(body_of(f))
+            out += [len(source.params), source.count + 2, source.frame] + self.steps(f.body)
         return out
-
-
-def body_of(f):
-    return f.body
 
 
 def line(numbers):
     return " ".join(str(n) for n in numbers)
 
 
-def main():
-    inputs, wanted, names = [], [], []
-    for seed in range(FIRST, FIRST + COUNT):
+def forms(first, count):
+    """Forms, each with a cap."""
+    rows = list(papers.ROWS.values()) + [text for _, text, _ in papers.PROFILE_2]
+    for source in rows:
+        files = source if isinstance(source, list) else [("a.c", source)]
+        program = front.load([(name, text.encode()) for name, text in files], 1048576, 2)
+        for cap in (1, 4):
+            yield middle.middle(program, cap=cap).form, cap
+    for seed in range(first, first + count):
         for make in (random_form, random_stretches):
-            form, _ = make(seed)
-            cap = (1, 2, 4, 64)[seed % 4]
+            yield make(seed)[0], (1, 2, 4, 64)[seed % 4]
+
+
+def write(inputs, outputs, first, count):
+    with open(inputs, "w") as questions, open(outputs, "w") as answers:
+        for form, cap in forms(first, count):
             found = classes(form, True)
             numbers = Numbers(form)
-            inputs.append(line(numbers.whole(found, cap)))
+            questions.write(line(numbers.whole(found, cap)) + "\n")
             pair = split(form, found, cap, True, True)
-            wanted += [line(numbers.stream(pair.a)), line(numbers.stream(pair.e))]
-            names.append("%s %d cap %d" % (make.__name__, seed, cap))
-    if PROGRAM == "-":
-        sys.stdout.write("\n".join(inputs) + "\n")
-        with open(sys.argv[5], "w") as file:
-            file.write("\n".join(wanted) + "\n")
-        return 0
-    got = subprocess.run([PROGRAM], input="\n".join(inputs) + "\n", capture_output=True, text=True).stdout
-    lines = [x.rstrip() for x in got.splitlines()]
-    bad = [names[k // 2] + " AE"[1 + k % 2] for k in range(len(wanted)) if k >= len(lines) or lines[k] != wanted[k]]
-    print("%d streams, %d differ%s" % (len(wanted), len(bad), "".join("\n  " + x for x in bad[:10])))
-    return 1 if bad else 0
+            for stream in (pair.a, pair.e):
+                answers.write(line(numbers.stream(stream)) + "\n")
 
 
-sys.exit(main())
+def compare(wanted, got):
+    with open(wanted) as file:
+        wanted = [x.rstrip() for x in file]
+    with open(got) as file:
+        got = [x.rstrip() for x in file]
+    bad = [k + 1 for k in range(len(wanted)) if k >= len(got) or got[k] != wanted[k]]
+    print("%d streams, %d differ%s" % (len(wanted), len(bad), "".join("\n  line %d" % k for k in bad[:10])))
+    return 1 if bad or len(got) != len(wanted) else 0
+
+
+if sys.argv[2] == "write":
+    first, count = (int(x) for x in sys.argv[5:7]) if len(sys.argv) > 6 else (0, 500)
+    write(sys.argv[3], sys.argv[4], first, count)
+else:
+    sys.exit(compare(sys.argv[3], sys.argv[4]))

@@ -9,6 +9,7 @@ use Rattle.dae_ir.specs.Streams.{Actions, mark, when, onto}
 use Rattle.dae_ir.specs.declared.form.Test.{Test}
 use Rattle.dae_ir.specs.declared.stream.Action.{Action}
 use Rattle.dae_ir.specs.declared.stream.Branch.{Branch}
+use Rattle.dae_ir.specs.declared.stream.Mark.{Mark}
 use Rattle.dae_ir.specs.declared.stream.Part.{Part}
 use Rattle.dae_ir.specs.declared.stream.Step.{Step}
 use Rattle.dae_split.specs.Making.{Adds, projected, Makes, stands_in, is_outside, tells_in, region_message, branch_at}
@@ -63,33 +64,33 @@ module _ (of : ℕ → Classes) (c : Classes) (cap n : ℕ) (m : Place) (k : Rou
   nested_loop false by_a p q (Some d) h = let e = h refl in cc
 
 module _ (by_a outside : Bool) (of : ℕ → Classes) (c : Classes) (cap : ℕ) (m : Place) (stands out tells : Bool)
-    (os ms ps ns : List Step) (on mn : ℕ) (og ng : List Part) (x : Action) (x_is : x ≡ region_message by_a) (empty : ng ≡ [])
+    (os ms ps ns : List Step) (on mn : ℕ) (og ng : List Part) (b : Mark) (b_is : b ≡ mark m mn) (x : Action) (x_is : x ≡ region_message by_a) (empty : ng ≡ [])
     (close : (o : Bool) (k : Rounds) → Makes (projected o by_a of c cap) os on ms mn k (closed og k)) (stood : stands ≡ true)
-    (put : Adds (when tells (mark m mn) x) ps ns) where
+    (put : Adds (when tells b x) ps ns) where
   pub if_made : (t : Test) (p q : Form) (branch : Branch) (first second : Actions)
       → stands ≡ stands_in by_a (region outside c (If m t p q Done)) → out ≡ is_outside outside (region outside c (If m t p q Done)) → tells ≡ tells_in (region outside c (If m t p q Done)) (If m t p q Done)
       → branch ≡ branch_at out by_a (decision c t) → first ≡ projected out by_a of c cap 0 (rounds c cap out p []) → second ≡ projected out by_a of c cap 0 (rounds c cap out q [])
-      → Adds (If (mark m mn) branch first second) ms ps
+      → Adds (If b branch first second) ms ps
       → (k : Form) → Makes (projected outside by_a of c cap) os on ns mn (rounds c cap outside k ng) (rounds c cap outside (If m t p q k) og)
   if_made t p q branch first second stands_is out_is tells_is branch_is first_is second_is put_if k =
       let rest = rounds c cap outside k [] in
       let r = region outside c (If m t p q Done) in
       let whole = one_sided r m (If m t p q Done) rest (If m (decision c t) (rounds c cap outside p []) (rounds c cap outside q []) rest) in
-      let shared : projected outside by_a of c cap mn whole ≡ If (mark m mn) branch first second (when tells (mark m mn) x (projected outside by_a of c cap mn rest)) =
-      nested_if of c cap mn m rest outside by_a t p q r (none_inside outside c (If m t p q Done)) ∙ rw (branch_is, first_is, second_is, x_is, tells_is, out_is, sym stands_is, stood) refl in
+      let shared : projected outside by_a of c cap mn whole ≡ If b branch first second (when tells b x (projected outside by_a of c cap mn rest)) =
+      nested_if of c cap mn m rest outside by_a t p q r (none_inside outside c (If m t p q Done)) ∙ rw (b_is, branch_is, first_is, second_is, x_is, tells_is, out_is, sym stands_is, stood) refl in
       rw (empty) (put (projected outside by_a of c cap mn rest) ∙ put_if _ ∙ ap (onto ms) (sym shared) ∙ close outside whole)
 
   pub loop_made : (p q : Form) (first second : Actions)
       → stands ≡ stands_in by_a (region outside c (Loop m p q Done)) → out ≡ is_outside outside (region outside c (Loop m p q Done)) → tells ≡ tells_in (region outside c (Loop m p q Done)) (Loop m p q Done)
       → first ≡ projected out by_a of c cap 0 (rounds c cap out p []) → second ≡ projected out by_a of c cap 0 (rounds c cap out q [])
-      → Adds (Loop (mark m mn) first second) ms ps
+      → Adds (Loop b first second) ms ps
       → (k : Form) → Makes (projected outside by_a of c cap) os on ns mn (rounds c cap outside k ng) (rounds c cap outside (Loop m p q k) og)
   loop_made p q first second stands_is out_is tells_is first_is second_is put_loop k =
       let rest = rounds c cap outside k [] in
       let r = region outside c (Loop m p q Done) in
       let whole = one_sided r m (Loop m p q Done) rest (Loop m (rounds c cap outside p []) (rounds c cap outside q []) rest) in
-      let shared : projected outside by_a of c cap mn whole ≡ Loop (mark m mn) first second (when tells (mark m mn) x (projected outside by_a of c cap mn rest)) =
-      nested_loop of c cap mn m rest outside by_a p q r (none_inside outside c (Loop m p q Done)) ∙ rw (first_is, second_is, x_is, tells_is, out_is, sym stands_is, stood) refl in
+      let shared : projected outside by_a of c cap mn whole ≡ Loop b first second (when tells b x (projected outside by_a of c cap mn rest)) =
+      nested_loop of c cap mn m rest outside by_a p q r (none_inside outside c (Loop m p q Done)) ∙ rw (b_is, first_is, second_is, x_is, tells_is, out_is, sym stands_is, stood) refl in
       rw (empty) (put (projected outside by_a of c cap mn rest) ∙ put_loop _ ∙ ap (onto ms) (sym shared) ∙ close outside whole)
 
 pub at_code : (view : ℕ → Rounds → Actions) (c : Classes) (cap : ℕ) (outside : Bool) (os ns : List Step) (on nn : ℕ) (og : List Part) (y : Rounds) (p q : Form) → p ≡ q

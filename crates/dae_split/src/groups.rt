@@ -22,7 +22,8 @@ pub fn put(steps: &mut Vec<Step>, flag: bool, mark: Mark, action: Action) -> Res
     Ok(())
 }
 
-fn at(place: Place, number: u64) -> Mark
+/// The mark of an action behind so many groups.
+pub fn at(place: Place, number: u64) -> Mark
     ensures { result ≡ mark place number }
 {
     Mark {

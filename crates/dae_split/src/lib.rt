@@ -11,5 +11,7 @@ mod items;
 mod parts;
 mod regions;
 mod streams;
+#[cfg(test)]
+mod tests;
 mod walk;
 mod work;

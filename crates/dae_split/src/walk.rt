@@ -9,7 +9,7 @@ ghost use Rattle.dae_ir.specs.Streams.{onto};
 ghost use Rattle.dae_split.specs.Making.{is_a, CallsFit, Adds, projected, Makes, region_message, branch_at};
 
 use crate::classes::has_test;
-use crate::groups::put;
+use crate::groups::{at, put};
 use crate::items::{add_item, close};
 use crate::regions::plan_of;
 use crate::work::{Stretch, Task};
@@ -88,10 +88,7 @@ fn add_statement(
         Statement::If(place, test, p, q) => {
             close(x, tables, task)?;
             let plan = plan_of(tables, task, outside, statement);
-            let mark = Mark {
-                place: *place,
-                group: x.number,
-            };
+            let mark = at(*place, x.number);
             if !plan.stands {
                 put(&mut x.steps, plan.tells, mark, region_message(task.side))?;
                 return Ok(());
@@ -106,10 +103,7 @@ fn add_statement(
         Statement::Loop(place, body, step) => {
             close(x, tables, task)?;
             let plan = plan_of(tables, task, outside, statement);
-            let mark = Mark {
-                place: *place,
-                group: x.number,
-            };
+            let mark = at(*place, x.number);
             if !plan.stands {
                 put(&mut x.steps, plan.tells, mark, region_message(task.side))?;
                 return Ok(());
