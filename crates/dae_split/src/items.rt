@@ -6,6 +6,7 @@ ghost use Rattle.dae_ir.specs.Classes.{classes_of, classes_in};
 ghost use Rattle.dae_ir.specs.Rounds.{Rounds, Jump, Enters, closed, placed, stand, Joins, Closes, Separates};
 ghost use Rattle.dae_ir.specs.Streams.{set_of, arguments_in, kept, jump_action, group_of};
 ghost use Rattle.dae_ir.specs.Scope.{TakesArguments};
+ghost use Rattle.dae_ir.specs.declared.form.Item.TheVariants.{Expect};
 ghost use Rattle.dae_ir.specs.declared.stream.Part.{Part};
 ghost use Rattle.dae_split.specs.Making.{is_a, ArgumentsFit, Adds, projected, Makes};
 
@@ -14,7 +15,7 @@ use crate::groups::{put, put_group};
 use crate::parts::is_full;
 use crate::work::{Stretch, Task};
 use dae_base::{Items, Place, Side};
-use dae_ir::{Action, Argument, Class, Function, Item, Last, Mark, Operand, Part};
+use dae_ir::{Action, Argument, Check, Class, Function, Item, Last, Mark, Operand, Part};
 use std::alloc::{AllocError, Global};
 
 fn end_group(
@@ -184,6 +185,25 @@ fn call(
     Ok(Action::Call(kept_variable(tables, task, v), callee, list))
 }
 
+// A check that A decides is a part of the group, and one that E decides ends it.
+fn add_check(
+    x: &mut Stretch,
+    tables: &[Items<Class>],
+    task: Task,
+    place: Place,
+    check: Check,
+) -> Result<(), AllocError>
+    requires { x.old.number < 2 ^ 63 }
+    ensures made { OnOk result ((outside : Bool) (r : List Part → Rounds) → Makes (projected outside (is_a task.side) (classes_of tables.now) (classes_of tables.now task.function) task.cap) x.old.steps.items x.old.number x.new.steps.items x.new.number (r x.new.group.items) (placed (classes_of tables.now task.function) task.cap x.old.group.items place (stand (classes_of tables.now task.function) place (Expect check)) r)) }
+    ensures number { OnOk result (x.new.number ≤ x.old.number + 1) }
+{
+    if has_check(tables, task.function, check) {
+        add_part(x, tables, task, Part::Tests(place, check))
+    } else {
+        add_last(x, tables, task, Last::Decides(place, check))
+    }
+}
+
 /// What the side does of an item. Of a call it needs to know how many parameters the function has.
 pub fn add_item(
     alloc: Global,
@@ -201,60 +221,33 @@ pub fn add_item(
 {
     match item {
         Item::Assign(v, value) => add_part(x, tables, task, Part::Sets(place, *v, *value)),
-        Item::Load(v, kind, address) => add_part(
-            x,
-            tables,
-            task,
-            Part::Loads(place, *v, *kind, *address),
-        ),
-        Item::Store(width, address, datum) => add_last(
-            x,
-            tables,
-            task,
-            Last::Stores(place, *width, *address, *datum),
-        ),
-        Item::Print(spelling, operand) => add_last(
-            x,
-            tables,
-            task,
-            Last::Prints(place, *spelling, *operand),
-        ),
-        Item::Expect(check) => {
-            if has_check(tables, task.function, *check) {
-                add_part(x, tables, task, Part::Tests(place, *check))
-            } else {
-                add_last(x, tables, task, Last::Decides(place, *check))
-            }
+        Item::Load(v, kind, address) => {
+            let part = Part::Loads(place, *v, *kind, *address);
+            add_part(x, tables, task, part)
         }
+        Item::Store(width, address, datum) => {
+            let last = Last::Stores(place, *width, *address, *datum);
+            add_last(x, tables, task, last)
+        }
+        Item::Print(spelling, operand) => {
+            let last = Last::Prints(place, *spelling, *operand);
+            add_last(x, tables, task, last)
+        }
+        Item::Expect(check) => add_check(x, tables, task, place, *check),
         Item::Break => add_jump(x, tables, task, place, Action::Break),
         Item::Continue => add_jump(x, tables, task, place, Action::Continue),
         Item::Call(v, callee, operands) => {
-            let action = call(
-                alloc,
-                functions,
-                tables,
-                task,
-                *v,
-                *callee,
-                operands.as_slice(),
-            )?;
+            let operands = operands.as_slice();
+            let action = call(alloc, functions, tables, task, *v, *callee, operands)?;
             add_jump(x, tables, task, place, action)
         }
         Item::Return(operand) => {
-            add_jump(
-                x,
-                tables,
-                task,
-                place,
-                Action::Return(kept_result(tables, task, *operand)),
-            )
+            let result = kept_result(tables, task, *operand);
+            add_jump(x, tables, task, place, Action::Return(result))
         }
-        Item::Halt(operand) => add_jump(
-            x,
-            tables,
-            task,
-            place,
-            Action::Stop(kept_status(task.side, *operand)),
-        ),
+        Item::Halt(operand) => {
+            let status = kept_status(task.side, *operand);
+            add_jump(x, tables, task, place, Action::Stop(status))
+        }
     }
 }

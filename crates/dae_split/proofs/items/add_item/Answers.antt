@@ -1,5 +1,3 @@
-use Rattle.std.proofs.Common.{◌≡◌, true, sym, ◌∙◌}
-use Rattle.dae_ir.specs.Classes.{classes_of, has_check}
 use Rattle.dae_split.proofs.Lists.{on_ok_more}
 use Rattle.dae_split.proofs.items.add_item.Goals as goal
 
@@ -8,8 +6,3 @@ returns-in-Assign-clause-made c = on_ok_more c.add_part.result c.add_part.ensure
 
 pub returns-in-Load-clause-made : goal.returns-in-Load-clause-made
 returns-in-Load-clause-made c = on_ok_more c.add_part-in-Load.result c.add_part-in-Load.ensures.made (λ h outside r. rw (c.in-Load.is) (h outside c.args.place r))
-
-pub returns-then-has_check-clause-made : goal.returns-then-has_check-clause-made
-returns-then-has_check-clause-made c =
-    let e : has_check (classes_of c.args.tables.now c.args.task.function).s c.in-Expect.check ≡ true = sym c.has_check.ensures ∙ c.if-has_check.true in
-    on_ok_more c.add_part-then-has_check.result c.add_part-then-has_check.ensures.made (λ h outside r. rw (c.in-Expect.is, e) (h outside c.args.place r))
