@@ -1,0 +1,11 @@
+use Rattle.std.proofs.Common.{◌∙◌, ap}
+use Rattle.dae_ir.specs.Streams.{onto}
+use Rattle.dae_ir.specs.declared.stream.Step.TheVariants as step
+use Rattle.dae_split.proofs.Onto.{pushed}
+use Rattle.dae_split.proofs.Rows.{onto_loop}
+use Rattle.dae_split.proofs.walk.put_loop.Goals as goal
+
+pub returns : goal.returns
+returns c k =
+    let a = c.args in
+    pushed a.steps.now.items _ (step.Loop a.mark a.body a.step) k c.in_ok-push.ensures.items ∙ ap (onto a.steps.now.items) (onto_loop a.mark a.body a.step k)

@@ -1,0 +1,143 @@
+// The steps of lists of statements, and of the lists inside them.
+
+ghost use Rattle.std.specs.Prelude.{◌≡◌, ◌+◌, ◌-◌, ◌<◌, ◌≤◌, ◌^◌, [], OnOk, IfOk};
+ghost use Rattle.dae_ir.specs.Code.{Done, If, Loop};
+ghost use Rattle.dae_ir.specs.Form.{Form, before, form_of};
+ghost use Rattle.dae_ir.specs.Classes.{classes_of};
+ghost use Rattle.dae_ir.specs.Rounds.{decision, rounds};
+ghost use Rattle.dae_ir.specs.Streams.{onto};
+ghost use Rattle.dae_split.specs.Making.{is_a, CallsFit, Adds, projected, Makes, region_message, branch_at};
+
+use crate::classes::has_test;
+use crate::groups::{at, put};
+use crate::items::{add_item, close};
+use crate::regions::plan_of;
+use crate::work::{Stretch, Task};
+use dae_base::{Items, Side};
+use dae_ir::{Action, Branch, Class, Function, Mark, Operand, Statement, Step, Test};
+use std::alloc::{AllocError, Global};
+
+// The processor that decides tells the other, but inside of a region.
+fn branch(tables: &[Items<Class>], task: Task, outside: bool, test: Test) -> Branch
+    ensures { result ≡ branch_at outside (is_a task.side) (decision (classes_of tables.now task.function) test) }
+{
+    if !outside {
+        return Branch::Silent(test);
+    }
+    match (task.side, has_test(tables, task.function, test)) {
+        (Side::A, true) | (Side::E, false) => Branch::Tells(test),
+        (Side::A, false) | (Side::E, true) => Branch::Hears,
+    }
+}
+
+// A's message behind a region of its own, which E hears.
+fn region_message(side: Side) -> Action
+    ensures { result ≡ region_message (is_a side) }
+{
+    match side {
+        Side::A => Action::Tell(Operand::Number(0)),
+        Side::E => Action::Hear,
+    }
+}
+
+fn put_if(
+    steps: &mut Vec<Step>,
+    mark: Mark,
+    branch: Branch,
+    p: Vec<Step>,
+    q: Vec<Step>,
+) -> Result<(), AllocError>
+    ensures { OnOk result (Adds (If mark branch (onto p.items Done) (onto q.items Done)) steps.old.items steps.new.items) }
+{
+    steps.push(Step::If(mark, branch, p, q))?;
+    Ok(())
+}
+
+fn put_loop(
+    steps: &mut Vec<Step>,
+    mark: Mark,
+    body: Vec<Step>,
+    step: Vec<Step>,
+) -> Result<(), AllocError>
+    ensures { OnOk result (Adds (Loop mark (onto body.items Done) (onto step.items Done)) steps.old.items steps.new.items) }
+{
+    steps.push(Step::Loop(mark, body, step))?;
+    Ok(())
+}
+
+#[cycle(walk)]
+fn add_statement(
+    alloc: Global,
+    x: &mut Stretch,
+    functions: &[Function],
+    tables: &[Items<Class>],
+    task: Task,
+    outside: bool,
+    statement: &Statement,
+) -> Result<(), AllocError>
+    requires below { x.old.number < 2 ^ 63 - 1 }
+    requires fit { CallsFit functions.now (before statement.now Done) }
+    ensures made { OnOk result ((k : Form) → Makes (projected outside (is_a task.side) (classes_of tables.now) (classes_of tables.now task.function) task.cap) x.old.steps.items x.old.number x.new.steps.items x.new.number (rounds (classes_of tables.now task.function) task.cap outside k x.new.group.items) (rounds (classes_of tables.now task.function) task.cap outside (before statement.now k) x.old.group.items)) }
+    ensures number { OnOk result (x.new.number ≤ x.old.number + 1) }
+{
+    match statement {
+        Statement::Simple(place, item) => {
+            add_item(alloc, x, functions, tables, task, *place, item)?;
+            Ok(())
+        }
+        Statement::If(place, test, p, q) => {
+            close(x, tables, task)?;
+            let plan = plan_of(tables, task, outside, statement);
+            let mark = at(*place, x.number);
+            if !plan.stands {
+                put(&mut x.steps, plan.tells, mark, region_message(task.side))?;
+                return Ok(());
+            }
+            let first = list(alloc, functions, tables, task, plan.outside, p)?;
+            let second = list(alloc, functions, tables, task, plan.outside, q)?;
+            let branch = branch(tables, task, plan.outside, *test);
+            put_if(&mut x.steps, mark, branch, first, second)?;
+            put(&mut x.steps, plan.tells, mark, region_message(task.side))?;
+            Ok(())
+        }
+        Statement::Loop(place, body, step) => {
+            close(x, tables, task)?;
+            let plan = plan_of(tables, task, outside, statement);
+            let mark = at(*place, x.number);
+            if !plan.stands {
+                put(&mut x.steps, plan.tells, mark, region_message(task.side))?;
+                return Ok(());
+            }
+            let first = list(alloc, functions, tables, task, plan.outside, body)?;
+            let second = list(alloc, functions, tables, task, plan.outside, step)?;
+            put_loop(&mut x.steps, mark, first, second)?;
+            put(&mut x.steps, plan.tells, mark, region_message(task.side))?;
+            Ok(())
+        }
+    }
+}
+
+/// What a side does of a list of statements, outside of regions or inside.
+#[cycle(walk)]
+pub fn list(
+    alloc: Global,
+    functions: &[Function],
+    tables: &[Items<Class>],
+    task: Task,
+    outside: bool,
+    body: &[Statement],
+) -> Result<Vec<Step>, AllocError>
+    requires fit { CallsFit functions.now (form_of body.now) }
+    ensures { IfOk result (λ steps. onto steps.items Done ≡ projected outside (is_a task.side) (classes_of tables.now) (classes_of tables.now task.function) task.cap 0 (rounds (classes_of tables.now task.function) task.cap outside (form_of body.now) [])) }
+{
+    let mut x = Stretch {
+        steps: Vec::new(alloc),
+        group: Vec::new(alloc),
+        number: 0,
+    };
+    for statement in body {
+        add_statement(alloc, &mut x, functions, tables, task, outside, statement)?;
+    }
+    close(&mut x, tables, task)?;
+    Ok(x.steps)
+}
