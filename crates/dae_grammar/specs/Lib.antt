@@ -1,2 +1,6 @@
 pub mod Frames
 pub mod Machine
+pub mod Runs
+pub mod Levels
+pub mod Starts
+pub mod Reads

@@ -295,7 +295,7 @@ body p tag q seen before = record { place = p; tag = tag; brace = q; seen = seen
 
 -- behind the brace of a body: the members of a structure or the enumerators of an enumeration
 abbrev pub body_opened : Bool → Body → List Frame → Names → List Mark → State
-body_opened true b s names ts = state (specifying nothing_seen []) (for_member b [] ∷ s) names ts
+body_opened true b s names ts = state (membering b []) s names ts
 body_opened false b s names ts = state (enumerating b []) s names ts
 
 abbrev pub tag_taken : Bool → Place → Seen → List Specifier → List Frame → Names → List Mark → Option State
@@ -312,8 +312,8 @@ tag_followed is p n seen before s names (sign signs.LeftBrace q ∷ ts) = Some (
 tag_followed is p n seen before s names ts = Some (state (specifying (with_whole seen) (tag_alone is p n ∷ before)) s names ts)
 
 abbrev pub members_followed : Body → List MemberLine → List Frame → Names → List Mark → Option State
-members_followed b before s names (part close_brace ∷ ts) =
-    Some (state (specifying (with_whole b.seen) (StructureBody b.place b.tag b.brace (members_onto before no_members) ∷ b.before)) s names ts)
+members_followed b (m ∷ before) s names (part close_brace ∷ ts) =
+    Some (state (specifying (with_whole b.seen) (StructureBody b.place b.tag b.brace (members_onto (m ∷ before) no_members) ∷ b.before)) s names ts)
 members_followed b before s names ts = Some (state (specifying nothing_seen []) (for_member b before ∷ s) names ts)
 
 abbrev pub enumerator_named : Body → List Entry → List Frame → Names → List Mark → Option State
