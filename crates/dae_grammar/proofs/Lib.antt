@@ -2,3 +2,5 @@ pub mod Steps
 pub mod Fronts
 pub mod Declarators
 pub mod Complete
+pub mod Statements
+pub mod Blocks

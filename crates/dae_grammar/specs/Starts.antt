@@ -4,7 +4,7 @@ use Rattle.dae_token.specs.declared.words.Keyword.{Keyword}
 use Rattle.dae_token.specs.declared.words.Keyword.TheVariants as keywords
 use Rattle.dae_token.specs.declared.signs.Sign.{Sign}
 use Rattle.dae_token.specs.declared.signs.Sign.TheVariants as signs
-use Rattle.dae_syntax.specs.Marks.{Mark, word, sign, name, constant, literal, part}
+use Rattle.dae_syntax.specs.Marks.{Mark, word, sign, name, constant, literal, part, else_word}
 use Rattle.dae_syntax.specs.Names.{Names, is_type}
 
 abbrev pub IsStartSign : Sign → Type 0
@@ -54,3 +54,11 @@ abbrev pub FollowsDeclarator : List Mark → Type 0
 FollowsDeclarator (part c ∷ ts) = Unit {0}
 FollowsDeclarator (sign g p ∷ ts) = IsSignBehindDeclarator g
 FollowsDeclarator _ = ⊥
+
+abbrev pub IsNoElse : List Mark → Type 0
+IsNoElse (part else_word ∷ ts) = ⊥
+IsNoElse _ = Unit {0}
+
+abbrev pub IsNoSemicolon : List Mark → Type 0
+IsNoSemicolon (sign signs.Semicolon p ∷ ts) = ⊥
+IsNoSemicolon _ = Unit {0}
