@@ -223,27 +223,27 @@ mutual
   read_enumerators back no_enumerators c names b s rest i h k = absurd h
   read_enumerators back (plain_then n es) c names b s rest i h k =
       back _ (to back _ _ (enumerated_end es c rest b [] n s names)
-      (read_more_enumerators back es c (with_name false n names) b (record { name = n; value = None } ∷ []) s rest i k))
+      (read_more_enumerators back es c (with_name false n names) b [] (record { name = n; value = None }) s rest i k))
   read_enumerators back (valued_then n p e es) c names b s rest i h k =
       back _ (back _
       (read back e names i.1 14 i.0 (in_enumerator b [] n p ∷ s) (spell_more_enumerators es (spell_comma c (part close_brace ∷ rest))) (omega (arith, tail_within e 14 (omega arith) i.0, front_entries es c rest))
       (stop back e 14 (in_enumerator b [] n p ∷ s) (after e names) (spell_more_enumerators es (spell_comma c (part close_brace ∷ rest))) (front_entries es c rest)
-      (back _ (read_more_enumerators back es c (with_name false n (after e names)) b (record { name = n; value = Some (p, e) } ∷ []) s rest i.2 k)))))
+      (back _ (read_more_enumerators back es c (with_name false n (after e names)) b [] (record { name = n; value = Some (p, e) }) s rest i.2 k)))))
 
-  read_more_enumerators : {P : State → Type 0} → IsBackward P → (es : Enumerators) (c : Bool) (names : Names) (b : Body) (before : List Entry) (s : List Frame) (rest : List Mark)
+  read_more_enumerators : {P : State → Type 0} → IsBackward P → (es : Enumerators) (c : Bool) (names : Names) (b : Body) (before : List Entry) (last : Entry) (s : List Frame) (rest : List Mark)
       → AreEnumerators names es
-      → P (enumerated_state b before es c s (after_enumerators es names) rest)
-      → P (state (entered b before) s names (spell_more_enumerators es (spell_comma c (part close_brace ∷ rest))))
-  read_more_enumerators back no_enumerators true names b before s rest i k = back _ (back _ k)
-  read_more_enumerators back no_enumerators false names b before s rest i k = back _ k
-  read_more_enumerators back (plain_then n es) c names b before s rest i k =
-      back _ (back _ (back _ (to back _ _ (enumerated_end es c rest b before n s names)
-      (read_more_enumerators back es c (with_name false n names) b (record { name = n; value = None } ∷ before) s rest i k))))
-  read_more_enumerators back (valued_then n p e es) c names b before s rest i k =
+      → P (enumerated_state b (last ∷ before) es c s (after_enumerators es names) rest)
+      → P (state (entered b before last) s names (spell_more_enumerators es (spell_comma c (part close_brace ∷ rest))))
+  read_more_enumerators back no_enumerators true names b before last s rest i k = back _ (back _ k)
+  read_more_enumerators back no_enumerators false names b before last s rest i k = back _ k
+  read_more_enumerators back (plain_then n es) c names b before last s rest i k =
+      back _ (back _ (back _ (to back _ _ (enumerated_end es c rest b (last ∷ before) n s names)
+      (read_more_enumerators back es c (with_name false n names) b (last ∷ before) (record { name = n; value = None }) s rest i k))))
+  read_more_enumerators back (valued_then n p e es) c names b before last s rest i k =
       back _ (back _ (back _ (back _
-      (read back e names i.1 14 i.0 (in_enumerator b before n p ∷ s) (spell_more_enumerators es (spell_comma c (part close_brace ∷ rest))) (omega (arith, tail_within e 14 (omega arith) i.0, front_entries es c rest))
-      (stop back e 14 (in_enumerator b before n p ∷ s) (after e names) (spell_more_enumerators es (spell_comma c (part close_brace ∷ rest))) (front_entries es c rest)
-      (back _ (read_more_enumerators back es c (with_name false n (after e names)) b (record { name = n; value = Some (p, e) } ∷ before) s rest i.2 k)))))))
+      (read back e names i.1 14 i.0 (in_enumerator b (last ∷ before) n p ∷ s) (spell_more_enumerators es (spell_comma c (part close_brace ∷ rest))) (omega (arith, tail_within e 14 (omega arith) i.0, front_entries es c rest))
+      (stop back e 14 (in_enumerator b (last ∷ before) n p ∷ s) (after e names) (spell_more_enumerators es (spell_comma c (part close_brace ∷ rest))) (front_entries es c rest)
+      (back _ (read_more_enumerators back es c (with_name false n (after e names)) b (last ∷ before) (record { name = n; value = Some (p, e) }) s rest i.2 k)))))))
 
   pub read_declarator : {P : State → Type 0} → IsBackward P → (d : Declarator) → ReadsDeclarator P d
   read_declarator back Absent m names i needed s rest o k = to back (state (declaring m needed) s names rest) _ (o needed s) k

@@ -231,7 +231,7 @@ members_next names b before s ws rest i = members_first names (spell_specifiers 
 
 pub enumerated_end : (es : Enumerators) (c : Bool) (rest : List Mark) (b : Body) (before : List Entry) (n : Name) (s : List Frame) (names : Names)
     → let ts = spell_more_enumerators es (spell_comma c (part close_brace ∷ rest)) in
-      enumerator_followed b before n s names ts ≡ Some (state (entered b (record { name = n; value = None } ∷ before)) s ((n.number, false) ∷ names) ts)
+      enumerator_followed b before n s names ts ≡ Some (state (entered b before (record { name = n; value = None })) s ((n.number, false) ∷ names) ts)
 enumerated_end no_enumerators true rest b before n s names = refl
 enumerated_end no_enumerators false rest b before n s names = refl
 enumerated_end (plain_then m es) c rest b before n s names = refl

@@ -4,3 +4,4 @@ pub mod Declarators
 pub mod Complete
 pub mod Statements
 pub mod Blocks
+pub mod Tokens

@@ -94,7 +94,7 @@ follows_item None (i ∷ items) p rest = tt
 
 pub plain_end : (outer : Bool) (d : Declarator) (ws : Specifiers) (before items : List Item) (s : List Frame) (names : Names) (p : Place) (rest : List Mark)
     → let ts = spell_more_items items (sign signs.Semicolon p ∷ rest) in
-      item_given outer d ws before s names ts ≡ Some (state (itemed ws (record { declarator = d; initialiser = None } ∷ before)) s names ts)
+      item_given outer d ws before s names ts ≡ Some (state (itemed ws (record { declarator = d; initialiser = None }) before) s names ts)
 plain_end true d ws [] [] s names p rest = refl
 plain_end true d ws [] (i ∷ items) s names p rest = refl
 plain_end true d ws (b ∷ before) [] s names p rest = refl
@@ -111,7 +111,7 @@ valued_begin false d ws before s names p ts = refl
 -- behind the declarator of an item
 pub read_value : {P : State → Type 0} → IsBackward P → (v : Option (Place × Initialiser)) (d : Declarator) (ws : Specifiers) (names : Names) → IsValue (with_declarator (has_typedef ws) d names) v
     → (outer : Bool) (before items : List Item) (p : Place) (s : List Frame) (rest : List Mark)
-    → P (state (itemed ws (record { declarator = d; initialiser = v } ∷ before)) s (after_value v (with_declarator (has_typedef ws) d names)) (spell_more_items items (sign signs.Semicolon p ∷ rest)))
+    → P (state (itemed ws (record { declarator = d; initialiser = v }) before) s (after_value v (with_declarator (has_typedef ws) d names)) (spell_more_items items (sign signs.Semicolon p ∷ rest)))
     → P (state (gave_declarator d) (of_item outer ws before ∷ s) names (spell_value v (spell_more_items items (sign signs.Semicolon p ∷ rest))))
 read_value back None d ws names i outer before items p s rest k =
     to back _ _ (plain_end outer d ws before items s (with_declarator (has_typedef ws) d names) p rest) k

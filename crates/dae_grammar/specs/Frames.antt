@@ -133,8 +133,8 @@ pub data Doing : Type 0 where
   membering : Body → List MemberLine → Doing
   enumerating : Body → List Entry → Doing
   enumerated : Body → List Entry → Name → Doing
-  entered : Body → List Entry → Doing
-  entering : Body → List Entry → Doing
+  entered : Body → List Entry → Entry → Doing
+  entering : Body → List Entry → Entry → Doing
   gave_specifiers : Specifiers → Doing
   -- declarators; the truth value says that some part must stand there
   declaring : Manner → Bool → Doing
@@ -145,10 +145,10 @@ pub data Doing : Type 0 where
   gave_declarator : Declarator → Doing
   -- initialisers
   initialising : Doing
-  listing : Place → List Initialiser → Doing
+  listing : Place → Initialiser → List Initialiser → Doing
   gave_initialiser : Initialiser → Doing
   -- declarations
-  itemed : Specifiers → List Item → Doing
+  itemed : Specifiers → Item → List Item → Doing
   gave_declaration : Declaration → Doing
   externals : List External → Doing
   -- statements

@@ -4,3 +4,4 @@ pub mod Runs
 pub mod Levels
 pub mod Starts
 pub mod Reads
+pub mod Taken

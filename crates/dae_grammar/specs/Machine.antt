@@ -255,7 +255,7 @@ expression_given e (behind_assignment a p o l) s names ts = Some (state (operate
 expression_given e (behind_comma a l) s names ts = Some (state (operated (Comma a e) l) s names ts)
 expression_given e (in_size d p m) s names ts = at_bracket ts (λ us. state (suffixing m (Sized d p e)) s names us)
 expression_given e (in_enumerator b before n p) s names ts =
-    Some (state (entered b (record { name = n; value = Some (p, e) } ∷ before)) s (with_name false n names) ts)
+    Some (state (entered b before (record { name = n; value = Some (p, e) })) s (with_name false n names) ts)
 expression_given e in_value s names ts = Some (state (gave_initialiser (Value e)) s names ts)
 expression_given e in_evaluation s names ts = at_semicolon ts (λ p us. state (gave_statement (Evaluate e p)) s names us)
 expression_given e (in_test h p) s names ts = at_paren ts (λ us. tested h p e s names us)
@@ -322,20 +322,20 @@ enumerator_named b before s names _ = None
 
 abbrev pub enumerator_followed : Body → List Entry → Name → List Frame → Names → List Mark → Option State
 enumerator_followed b before n s names (sign signs.Assign p ∷ ts) = Some (state (seek 14) (in_enumerator b before n p ∷ s) names ts)
-enumerator_followed b before n s names ts = Some (state (entered b (record { name = n; value = None } ∷ before)) s (with_name false n names) ts)
+enumerator_followed b before n s names ts = Some (state (entered b before (record { name = n; value = None })) s (with_name false n names) ts)
 
 abbrev pub enumeration_closed : Body → List Entry → Bool → List Frame → Names → List Mark → State
 enumeration_closed b before more s names ts =
     state (specifying (with_whole b.seen) (EnumerationBody b.place b.tag b.brace (enumerators_onto before no_enumerators) more ∷ b.before)) s names ts
 
-abbrev pub entry_followed : Body → List Entry → List Frame → Names → List Mark → Option State
-entry_followed b before s names (part comma ∷ ts) = Some (state (entering b before) s names ts)
-entry_followed b before s names (part close_brace ∷ ts) = Some (enumeration_closed b before false s names ts)
-entry_followed b before s names _ = None
+abbrev pub entry_followed : Body → List Entry → Entry → List Frame → Names → List Mark → Option State
+entry_followed b before e s names (part comma ∷ ts) = Some (state (entering b before e) s names ts)
+entry_followed b before e s names (part close_brace ∷ ts) = Some (enumeration_closed b (e ∷ before) false s names ts)
+entry_followed b before e s names _ = None
 
-abbrev pub comma_followed : Body → List Entry → List Frame → Names → List Mark → Option State
-comma_followed b before s names (part close_brace ∷ ts) = Some (enumeration_closed b before true s names ts)
-comma_followed b before s names ts = Some (state (enumerating b before) s names ts)
+abbrev pub comma_followed : Body → List Entry → Entry → List Frame → Names → List Mark → Option State
+comma_followed b before e s names (part close_brace ∷ ts) = Some (enumeration_closed b (e ∷ before) true s names ts)
+comma_followed b before e s names ts = Some (state (enumerating b (e ∷ before)) s names ts)
 
 -- a declaration without items, or its first declarator
 abbrev pub declaration_begun : Bool → Specifiers → List Frame → Names → List Mark → Option State
@@ -428,7 +428,7 @@ member_given d b lines ws before s names _ = None
 
 -- an item without a value
 abbrev pub plain_item : Declarator → Specifiers → List Item → List Frame → Names → List Mark → Option State
-plain_item d ws before s names ts = Some (state (itemed ws (record { declarator = d; initialiser = None } ∷ before)) s names ts)
+plain_item d ws before s names ts = Some (state (itemed ws (record { declarator = d; initialiser = None }) before) s names ts)
 
 abbrev pub definition_begun : Declarator → Specifiers → Place → List Frame → Names → List Mark → State
 definition_begun d ws p s names ts =
@@ -468,21 +468,21 @@ list_followed p before s names (part close_brace ∷ ts) = Some (list_closed p b
 list_followed p before s names ts = Some (state initialising (in_list p before ∷ s) names ts)
 
 abbrev pub listed : Initialiser → Place → List Initialiser → List Frame → Names → List Mark → Option State
-listed x p before s names (part comma ∷ ts) = Some (state (listing p (x ∷ before)) s names ts)
+listed x p before s names (part comma ∷ ts) = Some (state (listing p x before) s names ts)
 listed x p before s names (part close_brace ∷ ts) = Some (list_closed p (x ∷ before) false s names ts)
 listed x p before s names _ = None
 
 abbrev pub initialiser_taken : Initialiser → List Frame → Names → List Mark → Option State
 initialiser_taken x (in_list p before ∷ s) names ts = listed x p before s names ts
 initialiser_taken x (of_value ws before d p ∷ s) names ts =
-    Some (state (itemed ws (record { declarator = d; initialiser = Some (p, x) } ∷ before)) s names ts)
+    Some (state (itemed ws (record { declarator = d; initialiser = Some (p, x) }) before) s names ts)
 initialiser_taken x _ names ts = None
 
-abbrev pub item_followed : Specifiers → List Item → List Frame → Names → List Mark → Option State
-item_followed ws before s names (part comma ∷ ts) = Some (state (declaring by_name false) (of_item false ws before ∷ s) names ts)
-item_followed ws before s names (sign signs.Semicolon p ∷ ts) =
-    Some (state (gave_declaration (record { specifiers = ws; items = onto before []; end = p })) s names ts)
-item_followed ws before s names _ = None
+abbrev pub item_followed : Specifiers → Item → List Item → List Frame → Names → List Mark → Option State
+item_followed ws i before s names (part comma ∷ ts) = Some (state (declaring by_name false) (of_item false ws (i ∷ before) ∷ s) names ts)
+item_followed ws i before s names (sign signs.Semicolon p ∷ ts) =
+    Some (state (gave_declaration (record { specifiers = ws; items = onto (i ∷ before) []; end = p })) s names ts)
+item_followed ws i before s names _ = None
 
 abbrev pub declaration_taken : Declaration → List Frame → Names → List Mark → Option State
 declaration_taken d (in_file before ∷ s) names ts = Some (state (externals (Declared d ∷ before)) s names ts)
@@ -597,8 +597,8 @@ step_at (tagged is p n seen before) s names ts = tag_followed is p n seen before
 step_at (membering b before) s names ts = members_followed b before s names ts
 step_at (enumerating b before) s names ts = enumerator_named b before s names ts
 step_at (enumerated b before n) s names ts = enumerator_followed b before n s names ts
-step_at (entered b before) s names ts = entry_followed b before s names ts
-step_at (entering b before) s names ts = comma_followed b before s names ts
+step_at (entered b before e) s names ts = entry_followed b before e s names ts
+step_at (entering b before e) s names ts = comma_followed b before e s names ts
 step_at (gave_specifiers ws) s names ts = specifiers_taken ws s names ts
 step_at (declaring m needed) s names ts = declared m needed s names ts
 step_at (qualifying m p before) s names ts = qualified m p before s names ts
@@ -607,9 +607,9 @@ step_at (sizing m d p) s names ts = sized m d p s names ts
 step_at (parametering m d p) s names ts = parameters_opened m d p s names ts
 step_at (gave_declarator d) s names ts = declarator_taken d s names ts
 step_at initialising s names ts = initialised s names ts
-step_at (listing p before) s names ts = list_followed p before s names ts
+step_at (listing p x before) s names ts = list_followed p (x ∷ before) s names ts
 step_at (gave_initialiser x) s names ts = initialiser_taken x s names ts
-step_at (itemed ws before) s names ts = item_followed ws before s names ts
+step_at (itemed ws i before) s names ts = item_followed ws i before s names ts
 step_at (gave_declaration d) s names ts = declaration_taken d s names ts
 step_at (externals before) s names ts = external_begun before s names ts
 step_at (declarations i) s names ts = block_begun i s names ts
