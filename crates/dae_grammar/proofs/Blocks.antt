@@ -245,7 +245,7 @@ read_external back (Defined ws d p ds ss) names i before s rest k =
     (read_specifiers back ws names nothing_seen [] (for_declaration true ∷ in_file before ∷ s) (spell_declarator d body) i.0 (front_present d body present)
     (to back (state (gave_specifiers ws) (for_declaration true ∷ in_file before ∷ s) inner (spell_declarator d body)) _ (begun_end true ws (in_file before ∷ s) inner (spell_declarator d body) (no_semicolon_present d body present))
     (finish_declarator back d (read_declarator back d) by_name inner i.1 false (λ e. absurd cc) (of_item true ws [] ∷ in_file before ∷ s) body tt
-    (back _ (read_body back p ds ss (inside_definition ws d names) i.2 (after_parameter ws d names) (in_definition ws d (after_parameter ws d names) ∷ in_file before ∷ s) rest
+    (back _ (read_body back p ds ss (inside_definition ws d names) i.2 (inside_definition ws d names) (in_definition ws d (after_parameter ws d names) ∷ in_file before ∷ s) rest
     (back _ k))))))
 
 pub read_file : {P : State → Type 0} → IsBackward P → (xs : List External) (names : Names) → AreExternals names xs → (before : List External) (s : List Frame) (rest : List Mark)

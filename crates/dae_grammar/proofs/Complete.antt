@@ -13,10 +13,10 @@ use Rattle.dae_syntax.specs.Operators.{under, strength, operand_level, binary_si
 use Rattle.dae_syntax.specs.Words.{Seen, nothing_seen, has_type, admits, with_word, with_whole, seen_after, is_tagged_word, begins_specifiers}
 use Rattle.dae_syntax.specs.Names.{Names, is_type, has_typedef, with_name, with_declarator, after, after_all, after_specifiers, after_specifier, after_members, after_enumerators, after_declarators, after_declarator, after_parameter}
 use Rattle.dae_syntax.specs.Spelling.{spell, spell_all, spell_more, spell_specifiers, spell_specifier, spell_members, spell_enumerators, spell_more_enumerators, spell_declarators, spell_more_declarators, spell_declarator, spell_parameters, spell_more_parameters, spell_qualifiers, spell_comma, spell_tag}
-use Rattle.dae_syntax.specs.Grammar.{level, Manner, by_name, without_name, either_way, IsExpression, AreArguments, IsSpecifiers, IsSpecifier, AreMembers, AreEnumerators, AreDeclarators, IsDeclarator, AreParameters, IsPresent, IsDirect, IsNoType, IsGroup, HasParameter, HasMember, HasEnumerator, HasDeclarator, is_void_alone, leading_name}
+use Rattle.dae_syntax.specs.Grammar.{level, Manner, by_name, without_name, either_way, IsExpression, AreArguments, IsSpecifiers, IsSpecifier, AreMembers, AreEnumerators, AreDeclarators, IsDeclarator, AreParameters, IsPresent, IsDirect, IsNoType, IsGroup, HasParameter, HasMember, HasEnumerator, HasDeclarator, void_alone, leading_name}
 use Rattle.dae_syntax.specs.Trees.{Expression, Expressions, Specifiers, Specifier, Members, Enumerators, Declarators, Declarator, Parameters, Identifier, Number, Literal, Parenthesised, Index, Call, Member, Postfix, Prefix, SizeofExpression, SizeofType, Cast, Binary, Conditional, Assignment, Comma, no_expressions, expression_then, no_specifiers, specifier_then, Word, TypeName, Structure, StructureBody, Enumeration, EnumerationBody, no_members, member_then, no_enumerators, plain_then, valued_then, no_declarators, declarator_then, Absent, Named, Pointer, Grouped, Unsized, Sized, Empty, Void, Function, no_parameters, parameter_then}
 use Rattle.dae_grammar.specs.Frames.{Body, MemberLine, Entry, Open, Parameter, Frame, in_parentheses, in_index, in_arguments, behind_prefix, behind_sizeof, behind_cast, behind_binary, behind_question, behind_colon, behind_assignment, behind_comma, in_size, in_enumerator, for_cast, for_sizeof, for_parameter, for_member, behind_star, in_group, of_cast, of_sizeof, of_parameter, of_member, seek, operated, gave, calling, measuring, specifying, tagging, tagged, membering, enumerating, enumerated, entered, entering, gave_specifiers, declaring, qualifying, suffixing, sizing, parametering, gave_declarator, State, state}
-use Rattle.dae_grammar.specs.Machine.{step, operation, reach, left_level, subscript, call, member_of, step_of, binary_of, choice, assignment_of, operate, body, body_opened, arguments_onto, specifiers_onto, members_onto, enumerators_onto, declarators_onto, parameters_onto, onto, enumeration_closed, tag_alone, begins_parameters, group_opened, parenthesis_declared, word_taken}
+use Rattle.dae_grammar.specs.Machine.{closed, closed_by, step, operation, reach, left_level, subscript, call, member_of, step_of, binary_of, choice, assignment_of, operate, body, body_opened, arguments_onto, specifiers_onto, members_onto, enumerators_onto, declarators_onto, parameters_onto, onto, enumeration_closed, tag_alone, begins_parameters, group_opened, parenthesis_declared, word_taken}
 use Rattle.dae_grammar.specs.Runs.{On, IsBackward}
 use Rattle.dae_grammar.specs.Levels.{front, tail}
 use Rattle.dae_grammar.specs.Starts.{Starts, FollowsSpecifiers, FollowsDeclarator}
@@ -270,18 +270,19 @@ mutual
       (as_direct P m d s (after_declarator d names) _ i.0 (back _ (back _ k)))
   read_declarator {P} back (Void d p q) m names i needed s rest o k =
       read_declarator back d m names i.1 needed s (sign signs.LeftParen p ∷ word keywords.Void q ∷ part close_paren ∷ rest) (opens_paren m names d i.0 i.1 p _ refl)
-      (as_direct P m d s (after_declarator d names) _ i.0 (back _ (back _ k)))
+      (as_direct P m d s (after_declarator d names) _ i.0 (back _ (back _ (back _ (back _ (back _ (back _ (back _ k))))))))
   read_declarator {P} back (Function d p ps) m names i needed s rest o k =
       let ts = spell_parameters ps (part close_paren ∷ rest) in
       let inner = after_declarator d names in
       read_declarator back d m names i.1 needed s (sign signs.LeftParen p ∷ ts) (opens_paren m names d i.0 i.1 p ts (parameters_begin inner ps i.2 i.4 _))
       (as_direct P m d s inner _ i.0
-      (back _ (to back _ _ (parameters_first m d p s inner inner ps rest i.2 i.3 i.4)
-      (read_parameters back ps inner (record { declarator = d; place = p; manner = m; outside = inner }) s rest i.4 i.2 k))))
+      (back _ (to back _ _ (parameters_first m d p s inner inner ps rest i.2 i.4)
+      (read_parameters back ps inner (record { declarator = d; place = p; manner = m; outside = inner }) s rest i.4 i.2
+      (subst (λ (e : Declarator). P (state (suffixing m e) s inner rest)) (sym (ap (λ (v : Option Place). closed_by v d p ps) i.3)) k)))))
 
   read_parameters : {P : State → Type 0} → IsBackward P → (ps : Parameters) (names : Names) (o : Open) (s : List Frame) (rest : List Mark)
       → AreParameters names ps → HasParameter ps
-      → P (state (suffixing o.manner (Function o.declarator o.place ps)) s o.outside rest)
+      → P (state (suffixing o.manner (closed o ps)) s o.outside rest)
       → P (state (specifying nothing_seen []) (for_parameter o [] ∷ s) names (spell_parameters ps (part close_paren ∷ rest)))
   read_parameters back no_parameters names o s rest i h k = absurd h
   read_parameters back (parameter_then ws d ps) names o s rest i h k =
@@ -292,7 +293,7 @@ mutual
 
   read_more_parameters : {P : State → Type 0} → IsBackward P → (ps : Parameters) (names : Names) (ws : Specifiers) (d : Declarator) (o : Open) (before : List Parameter) (s : List Frame) (rest : List Mark)
       → AreParameters (with_declarator (has_typedef ws) d names) ps
-      → P (state (suffixing o.manner (Function o.declarator o.place (parameters_onto before (parameter_then ws d ps)))) s o.outside rest)
+      → P (state (suffixing o.manner (closed o (parameters_onto before (parameter_then ws d ps)))) s o.outside rest)
       → P (state (gave_declarator d) (of_parameter o before ws ∷ s) names (spell_more_parameters ps (part close_paren ∷ rest)))
   read_more_parameters back no_parameters names ws d o before s rest i k = back _ k
   read_more_parameters back (parameter_then vs e ps) names ws d o before s rest i k =

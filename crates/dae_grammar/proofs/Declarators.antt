@@ -10,7 +10,7 @@ use Rattle.dae_syntax.specs.Marks.{Mark, word, sign, name, constant, literal, pa
 use Rattle.dae_syntax.specs.Words.{Seen, nothing_seen, has_type, admits, with_word, is_tagged_word, begins_specifiers}
 use Rattle.dae_syntax.specs.Names.{Names, is_type, after_declarator}
 use Rattle.dae_syntax.specs.Spelling.{spell, spell_specifiers, spell_specifier, spell_declarator, spell_qualifiers, spell_parameters, spell_more_parameters, spell_more_enumerators, spell_comma, spell_members}
-use Rattle.dae_syntax.specs.Grammar.{Manner, by_name, without_name, either_way, IsSpecifiers, IsSpecifier, IsDeclarator, IsPresent, IsDirect, HasParameter, HasMember, AreParameters, AreMembers, is_void_alone, is_void}
+use Rattle.dae_syntax.specs.Grammar.{Manner, by_name, without_name, either_way, IsSpecifiers, IsSpecifier, IsDeclarator, IsPresent, IsDirect, HasParameter, HasMember, AreParameters, AreMembers}
 use Rattle.dae_syntax.specs.Trees.{Specifiers, Specifier, Declarator, Parameters, Enumerators, Members, no_specifiers, specifier_then, Word, TypeName, Structure, StructureBody, Enumeration, EnumerationBody, Absent, Named, Pointer, Grouped, Unsized, Sized, Empty, Void, Function, no_parameters, parameter_then, no_enumerators, plain_then, valued_then, no_members, member_then}
 use Rattle.dae_grammar.specs.Frames.{Body, MemberLine, Entry, Open, Frame, State, state, gave_declarator, suffixing, specifying, for_member, for_parameter, declaring, qualifying, behind_star, tagged, entered, gave_specifiers, membering}
 use Rattle.dae_grammar.specs.Machine.{declared, suffixed, qualified, begins_parameters, parameters_opened, word_taken, tag_followed, tag_alone, enumerator_followed, specified, specifiers_onto, onto, members_followed}
@@ -97,77 +97,27 @@ read_qualifiers back (q ∷ qs) before m p s names ts h k = back _ (read_qualifi
 
 -- ---- parameters
 
-no_part_any : (d : Declarator) (rest : List Mark) → IsNoPart rest → IsNoPart (spell_declarator d rest)
-no_part_any Absent rest h = h
-no_part_any (Named n) rest h = tt
-no_part_any (Pointer p qs d) rest h = tt
-no_part_any (Grouped p d) rest h = tt
-no_part_any (Unsized d p) rest h = no_part_any d _ tt
-no_part_any (Sized d p e) rest h = no_part_any d _ tt
-no_part_any (Empty d p) rest h = no_part_any d _ tt
-no_part_any (Void d p q) rest h = no_part_any d _ tt
-no_part_any (Function d p ps) rest h = no_part_any d _ tt
-
-parameters_state : Manner → Declarator → Place → List Frame → Names → List Mark → Option State
-parameters_state m d p s names ts = Some (state (specifying nothing_seen []) (for_parameter (record { declarator = d; place = p; manner = m; outside = names }) [] ∷ s) names ts)
-
-opened_void : (m : Manner) (d : Declarator) (p : Place) (s : List Frame) (names : Names) (q : Place) (ts : List Mark) → IsNoPart ts
-    → parameters_opened m d p s names (word keywords.Void q ∷ ts) ≡ parameters_state m d p s names (word keywords.Void q ∷ ts)
-unfolding parameters_state
-opened_void m d p s names q [] h = refl
-opened_void m d p s names q (part c ∷ ts) h = absurd h
-opened_void m d p s names q (_ ∷ ts) h = refl
-
-opened_comma : (m : Manner) (d : Declarator) (p : Place) (s : List Frame) (names : Names) (q : Place) (ts : List Mark)
-    → parameters_opened m d p s names (word keywords.Void q ∷ part comma ∷ ts) ≡ parameters_state m d p s names (word keywords.Void q ∷ part comma ∷ ts)
-unfolding parameters_state
-opened_comma m d p s names q ts = refl
-
-specifiers_no_part : (w : Specifier) (ts : List Mark) → IsNoPart (spell_specifier w ts)
-specifiers_no_part (Word p k) ts = tt
-specifiers_no_part (TypeName n) ts = tt
-specifiers_no_part (Structure p n) ts = tt
-specifiers_no_part (StructureBody p n q ms) ts = tt
-specifiers_no_part (Enumeration p n) ts = tt
-specifiers_no_part (EnumerationBody p n q es c) ts = tt
-
--- behind a first `void`
-opened_behind_void : (m : Manner) (d : Declarator) (p : Place) (s : List Frame) (names : Names) (q : Place) (ws : Specifiers) (e : Declarator) (ps : Parameters) (rest : List Mark)
-    → is_void_alone (parameter_then (specifier_then (Word q keywords.Void) ws) e ps) ≡ false
-    → let ts = word keywords.Void q ∷ spell_specifiers ws (spell_declarator e (spell_more_parameters ps (part close_paren ∷ rest))) in
-      parameters_opened m d p s names ts ≡ parameters_state m d p s names ts
-opened_behind_void m d p s names q (specifier_then w ws) e ps rest v = opened_void m d p s names q _ (specifiers_no_part w _)
-opened_behind_void m d p s names q no_specifiers Absent no_parameters rest v = absurd cc
-opened_behind_void m d p s names q no_specifiers Absent (parameter_then ws e ps) rest v = opened_comma m d p s names q _
-opened_behind_void m d p s names q no_specifiers (Named n) ps rest v = opened_void m d p s names q _ tt
-opened_behind_void m d p s names q no_specifiers (Pointer r qs e) ps rest v = opened_void m d p s names q _ tt
-opened_behind_void m d p s names q no_specifiers (Grouped r e) ps rest v = opened_void m d p s names q _ tt
-opened_behind_void m d p s names q no_specifiers (Unsized e r) ps rest v = opened_void m d p s names q _ (no_part_any e _ tt)
-opened_behind_void m d p s names q no_specifiers (Sized e r a) ps rest v = opened_void m d p s names q _ (no_part_any e _ tt)
-opened_behind_void m d p s names q no_specifiers (Empty e r) ps rest v = opened_void m d p s names q _ (no_part_any e _ tt)
-opened_behind_void m d p s names q no_specifiers (Void e r t) ps rest v = opened_void m d p s names q _ (no_part_any e _ tt)
-opened_behind_void m d p s names q no_specifiers (Function e r qs) ps rest v = opened_void m d p s names q _ (no_part_any e _ tt)
-
-opened_state : (m : Manner) (d : Declarator) (p : Place) (s : List Frame) (names inner : Names) (ps : Parameters) (rest : List Mark)
-    → HasParameter ps → is_void_alone ps ≡ false → AreParameters inner ps
-    → let ts = spell_parameters ps (part close_paren ∷ rest) in parameters_opened m d p s names ts ≡ parameters_state m d p s names ts
-unfolding parameters_state
-opened_state m d p s names inner no_parameters rest h v i = absurd h
-opened_state m d p s names inner (parameter_then no_specifiers e ps) rest h v i = absurd (let j = i.0 in cc)
-opened_state m d p s names inner (parameter_then (specifier_then (Word q keywords.Void) ws) e ps) rest h v i = opened_behind_void m d p s names q ws e ps rest v
-opened_state m d p s names inner (parameter_then (specifier_then (Word q _) ws) e ps) rest h v i = refl
-opened_state m d p s names inner (parameter_then (specifier_then (TypeName n) ws) e ps) rest h v i = refl
-opened_state m d p s names inner (parameter_then (specifier_then (Structure q n) ws) e ps) rest h v i = refl
-opened_state m d p s names inner (parameter_then (specifier_then (StructureBody q n r ms) ws) e ps) rest h v i = refl
-opened_state m d p s names inner (parameter_then (specifier_then (Enumeration q n) ws) e ps) rest h v i = refl
-opened_state m d p s names inner (parameter_then (specifier_then (EnumerationBody q n r es c) ws) e ps) rest h v i = refl
+opened_any : (m : Manner) (d : Declarator) (p : Place) (s : List Frame) (names : Names) (ts : List Mark) → IsNoPart ts
+    → parameters_opened m d p s names ts ≡ Some (state (specifying nothing_seen []) (for_parameter (record { declarator = d; place = p; manner = m; outside = names }) [] ∷ s) names ts)
+opened_any m d p s names [] h = refl
+opened_any m d p s names (part c ∷ ts) h = absurd h
+opened_any m d p s names (_ ∷ ts) h = refl
 
 pub parameters_first : (m : Manner) (d : Declarator) (p : Place) (s : List Frame) (names inner : Names) (ps : Parameters) (rest : List Mark)
-    → HasParameter ps → is_void_alone ps ≡ false → AreParameters inner ps
+    → HasParameter ps → AreParameters inner ps
     → let ts = spell_parameters ps (part close_paren ∷ rest) in
       parameters_opened m d p s names ts ≡ Some (state (specifying nothing_seen []) (for_parameter (record { declarator = d; place = p; manner = m; outside = names }) [] ∷ s) names ts)
-unfolding parameters_state
-parameters_first m d p s names inner ps rest h v i = opened_state m d p s names inner ps rest h v i
+parameters_first m d p s names inner no_parameters rest h i = absurd h
+parameters_first m d p s names inner (parameter_then no_specifiers e ps) rest h i = absurd (let j = i.0 in cc)
+parameters_first m d p s names inner (parameter_then (specifier_then w ws) e ps) rest h i = opened_any m d p s names _ (specifiers_no_part w _)
+  where
+    specifiers_no_part : (w : Specifier) (ts : List Mark) → IsNoPart (spell_specifier w ts)
+    specifiers_no_part (Word p k) ts = tt
+    specifiers_no_part (TypeName n) ts = tt
+    specifiers_no_part (Structure p n) ts = tt
+    specifiers_no_part (StructureBody p n q ms) ts = tt
+    specifiers_no_part (Enumeration p n) ts = tt
+    specifiers_no_part (EnumerationBody p n q es c) ts = tt
 
 pub parameters_begin : (names : Names) (ps : Parameters) → HasParameter ps → AreParameters names ps → (rest : List Mark) → begins_parameters names (spell_parameters ps rest) ≡ true
 parameters_begin names no_parameters h i rest = absurd h

@@ -20,7 +20,7 @@ use Rattle.dae_syntax.specs.Marks.{Mark, word, sign, name, constant, literal, pa
 use Rattle.dae_syntax.specs.Operators.{under, strength, operand_level}
 use Rattle.dae_syntax.specs.Words.{Seen, nothing_seen, has_type, admits, with_word, with_whole, begins_specifiers}
 use Rattle.dae_syntax.specs.Names.{Names, is_type, with_name, with_declarator, has_typedef, with_parameters}
-use Rattle.dae_syntax.specs.Grammar.{Manner, by_name, without_name, either_way, level}
+use Rattle.dae_syntax.specs.Grammar.{void_alone, Manner, by_name, without_name, either_way, level}
 use Rattle.dae_syntax.specs.Trees.{Expression, Expressions, Specifiers, Specifier, Members, Enumerators, Declarators, Declarator, Parameters, Initialiser, Initialisers, Item, Declaration, Statement, Statements, External, Identifier, Number, Literal, Parenthesised, Index, Call, Member, Postfix, Prefix, SizeofExpression, SizeofType, Cast, Binary, Conditional, Assignment, Comma, no_expressions, expression_then, no_specifiers, specifier_then, Word, TypeName, Structure, StructureBody, Enumeration, EnumerationBody, no_members, member_then, no_enumerators, plain_then, valued_then, no_declarators, declarator_then, Absent, Named, Pointer, Grouped, Unsized, Sized, Empty, Void, Function, no_parameters, parameter_then, Value, Listed, no_initialisers, initialiser_then, Block, Nothing, Evaluate, If, IfElse, While, Do, For, Break, Continue, Return, Switch, Case, Default, no_statements, statement_then, Declared, Defined}
 use Rattle.dae_grammar.specs.Frames.{Body, MemberLine, Entry, Open, Parameter, Head, Loop, Inside, if_head, while_head, switch_head, do_head, Frame, in_parentheses, in_index, in_arguments, behind_prefix, behind_sizeof, behind_cast, behind_binary, behind_question, behind_colon, behind_assignment, behind_comma, in_size, in_enumerator, in_value, in_evaluation, in_test, in_start, in_loop_test, in_step, in_return, in_case, for_cast, for_sizeof, for_parameter, for_member, for_declaration, behind_star, in_group, of_cast, of_sizeof, of_parameter, of_member, of_item, in_list, of_value, in_file, in_block, then_branch, else_branch, while_body, switch_body, do_body, for_body, case_body, default_body, in_statements, in_definition, Doing, seek, operated, gave, calling, measuring, specifying, tagging, tagged, membering, enumerating, enumerated, entered, entering, gave_specifiers, declaring, qualifying, suffixing, sizing, parametering, gave_declarator, initialising, listing, gave_initialiser, itemed, gave_declaration, externals, declarations, statements, stating, opening, finishing, looping, starting, testing, stepping, returning, breaking, continuing, defaulting, gave_statement, State, state}
 
@@ -408,15 +408,22 @@ sized m d p s names ts = Some (state (seek 14) (in_size d p m ∷ s) names ts)
 
 abbrev pub parameters_opened : Manner → Declarator → Place → List Frame → Names → List Mark → Option State
 parameters_opened m d p s names (part close_paren ∷ ts) = Some (state (suffixing m (Empty d p)) s names ts)
-parameters_opened m d p s names (word keywords.Void q ∷ part close_paren ∷ ts) = Some (state (suffixing m (Void d p q)) s names ts)
 parameters_opened m d p s names ts =
     Some (state (specifying nothing_seen []) (for_parameter (record { declarator = d; place = p; manner = m; outside = names }) [] ∷ s) names ts)
+
+-- the parameters are whole: `void` alone is none
+abbrev pub closed_by : Option Place → Declarator → Place → Parameters → Declarator
+closed_by (Some q) d p ps = Void d p q
+closed_by None d p ps = Function d p ps
+
+abbrev pub closed : Open → Parameters → Declarator
+closed o ps = closed_by (void_alone ps) o.declarator o.place ps
 
 abbrev pub parameter_given : Declarator → Open → List Parameter → Specifiers → List Frame → Names → List Mark → Option State
 parameter_given d o before ws s names (part comma ∷ ts) =
     Some (state (specifying nothing_seen []) (for_parameter o (record { specifiers = ws; declarator = d } ∷ before) ∷ s) (with_declarator (has_typedef ws) d names) ts)
 parameter_given d o before ws s names (part close_paren ∷ ts) =
-    Some (state (suffixing o.manner (Function o.declarator o.place (parameters_onto before (parameter_then ws d no_parameters)))) s o.outside ts)
+    Some (state (suffixing o.manner (closed o (parameters_onto before (parameter_then ws d no_parameters)))) s o.outside ts)
 parameter_given d o before ws s names _ = None
 
 abbrev pub member_given : Declarator → Body → List MemberLine → Specifiers → List Declarator → List Frame → Names → List Mark → Option State
@@ -432,7 +439,8 @@ plain_item d ws before s names ts = Some (state (itemed ws (record { declarator 
 
 abbrev pub definition_begun : Declarator → Specifiers → Place → List Frame → Names → List Mark → State
 definition_begun d ws p s names ts =
-    state (declarations (record { place = p; declarations = []; outside = names })) (in_definition ws d names ∷ s) (with_parameters d names) ts
+    let inner = with_parameters d names in
+    state (declarations (record { place = p; declarations = []; outside = inner })) (in_definition ws d names ∷ s) inner ts
 
 -- a first declarator at file scope may begin a definition
 abbrev pub item_given : Bool → Declarator → Specifiers → List Item → List Frame → Names → List Mark → Option State

@@ -1,6 +1,7 @@
 -- The grammar: which trees are of it, where the tokens are those that a tree spells. Each part is read with the names that
 -- are in scope where it stands (C90 6.3, 6.5).
 use Rattle.std.specs.Prelude.{◌≡◌, ℕ, ◌≤◌, Bool, true, false, Option, Some, None}
+use Rattle.dae_base.specs.declared.Place.{Place}
 use Rattle.dae_token.specs.declared.words.Keyword.TheVariants as keywords
 use Rattle.dae_syntax.specs.declared.expressions.Name.{Name}
 use Rattle.dae_syntax.specs.Operators.{under, strength, operand_level}
@@ -72,14 +73,15 @@ abbrev pub IsGroup : Manner → Names → Declarator → Type 0
 IsGroup by_name names d = Unit {0}
 IsGroup _ names d = IsNoType names (leading_name d)
 
--- `void` alone is no parameter
-abbrev pub is_void : Specifiers → Bool
-is_void (specifier_then (Word p keywords.Void) no_specifiers) = true
-is_void _ = false
+-- the place of `void`, where it is all of the specifiers
+abbrev pub void_word : Specifiers → Option Place
+void_word (specifier_then (Word p keywords.Void) no_specifiers) = Some p
+void_word _ = None
 
-abbrev pub is_void_alone : Parameters → Bool
-is_void_alone (parameter_then ws Absent no_parameters) = is_void ws
-is_void_alone _ = false
+-- `void` alone is no parameter
+abbrev pub void_alone : Parameters → Option Place
+void_alone (parameter_then ws Absent no_parameters) = void_word ws
+void_alone _ = None
 
 abbrev pub HasParameter : Parameters → Type 0
 HasParameter no_parameters = ⊥
@@ -164,7 +166,7 @@ abbrev mutual
   IsDeclarator manner names (Empty d p) = IsDirect d × IsDeclarator manner names d
   IsDeclarator manner names (Void d p q) = IsDirect d × IsDeclarator manner names d
   IsDeclarator manner names (Function d p ps) =
-      IsDirect d × IsDeclarator manner names d × HasParameter ps × (is_void_alone ps ≡ false)
+      IsDirect d × IsDeclarator manner names d × HasParameter ps × (void_alone ps ≡ None)
       × AreParameters (after_declarator d names) ps
 
   pub AreParameters : Names → Parameters → Type 0
