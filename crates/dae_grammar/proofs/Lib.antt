@@ -5,3 +5,7 @@ pub mod Complete
 pub mod Statements
 pub mod Blocks
 pub mod Tokens
+pub mod Lists
+pub mod Sound
+pub mod SoundDeclarators
+pub mod SoundStatements

@@ -5,3 +5,4 @@ pub mod Levels
 pub mod Starts
 pub mod Reads
 pub mod Taken
+pub mod Standing
