@@ -1,22 +1,21 @@
 -- Steps with declarators, specifiers and bodies.
-use Rattle.std.proofs.Common.{◌≡◌, ℕ, zero, suc, ◌≤◌, ◌<◌, leb, ◌&&◌, not, if◌then◌else◌, Bool, true, false, List, [], ◌∷◌, Option, Some, None, refl, sym, ap, subst, ◌∙◌, arith}
+use Rattle.std.proofs.Common.{◌≡◌, Bool, true, false, List, [], ◌∷◌, Some, None, refl}
 use Rattle.dae_base.specs.declared.Place.{Place}
 use Rattle.dae_token.specs.declared.words.Keyword.{Keyword}
 use Rattle.dae_token.specs.declared.words.Keyword.TheVariants as keywords
-use Rattle.dae_token.specs.declared.signs.Sign.{Sign}
 use Rattle.dae_token.specs.declared.signs.Sign.TheVariants as signs
 use Rattle.dae_syntax.specs.declared.expressions.Name.{Name}
-use Rattle.dae_syntax.specs.Marks.{Mark, word, sign, name, constant, literal, part, close_paren, close_bracket, close_brace, comma, colon, else_word}
-use Rattle.dae_syntax.specs.Words.{Seen, nothing_seen, has_type, admits, with_word, is_tagged_word, begins_specifiers}
-use Rattle.dae_syntax.specs.Names.{Names, is_type, after_declarator}
-use Rattle.dae_syntax.specs.Spelling.{spell, spell_specifiers, spell_specifier, spell_declarator, spell_qualifiers, spell_parameters, spell_more_parameters, spell_more_enumerators, spell_comma, spell_members}
-use Rattle.dae_syntax.specs.Grammar.{Manner, by_name, without_name, either_way, IsSpecifiers, IsSpecifier, IsDeclarator, IsPresent, IsDirect, HasParameter, HasMember, AreParameters, AreMembers}
-use Rattle.dae_syntax.specs.Trees.{Specifiers, Specifier, Declarator, Parameters, Enumerators, Members, no_specifiers, specifier_then, Word, TypeName, Structure, StructureBody, Enumeration, EnumerationBody, Absent, Named, Pointer, Grouped, Unsized, Sized, Empty, Void, Function, no_parameters, parameter_then, no_enumerators, plain_then, valued_then, no_members, member_then}
-use Rattle.dae_grammar.specs.Frames.{Body, MemberLine, Entry, Open, Frame, State, state, gave_declarator, suffixing, specifying, for_member, for_parameter, declaring, qualifying, behind_star, tagged, entered, gave_specifiers, membering}
-use Rattle.dae_grammar.specs.Machine.{declared, suffixed, qualified, begins_parameters, parameters_opened, word_taken, tag_followed, tag_alone, enumerator_followed, specified, specifiers_onto, onto, members_followed}
-use Rattle.dae_grammar.specs.Starts.{IsSignBehindSpecifiers, FollowsSpecifiers, IsSignBehindDeclarator, FollowsDeclarator}
-use Rattle.dae_grammar.specs.Runs.{On, IsBackward}
-use Rattle.dae_grammar.specs.Reads.{so_far, Opens, ReadsDeclarator, HasLine, IsNoWord, IsNoPart, IsNoBrace}
+use Rattle.dae_syntax.specs.Marks.{Mark, word, sign, name, part, close_paren, close_brace}
+use Rattle.dae_syntax.specs.Words.{Seen, nothing_seen, has_type, with_word, is_tagged_word}
+use Rattle.dae_syntax.specs.Names.{Names, after_declarator}
+use Rattle.dae_syntax.specs.Spelling.{spell_specifiers, spell_specifier, spell_declarator, spell_qualifiers, spell_parameters, spell_more_parameters, spell_more_enumerators, spell_comma}
+use Rattle.dae_syntax.specs.Grammar.{Manner, by_name, without_name, either_way, IsSpecifiers, IsDeclarator, IsPresent, IsDirect, HasParameter, AreParameters}
+use Rattle.dae_syntax.specs.Trees.{Specifiers, Specifier, Declarator, Parameters, Enumerators, no_specifiers, specifier_then, Word, TypeName, Structure, StructureBody, Enumeration, EnumerationBody, Absent, Named, Pointer, Grouped, Unsized, Sized, Empty, Void, Function, no_parameters, parameter_then, no_enumerators, plain_then, valued_then}
+use Rattle.dae_grammar.specs.Frames.{Body, MemberLine, Entry, Frame, State, state, gave_declarator, suffixing, specifying, for_member, for_parameter, declaring, qualifying, behind_star, entered, gave_specifiers}
+use Rattle.dae_grammar.specs.Machine.{declared, qualified, begins_parameters, parameters_opened, word_taken, tag_followed, tag_alone, enumerator_followed, specified, specifiers_onto, onto, members_followed}
+use Rattle.dae_grammar.specs.Starts.{FollowsSpecifiers, FollowsDeclarator}
+use Rattle.dae_grammar.specs.Runs.{IsBackward}
+use Rattle.dae_grammar.specs.Reads.{so_far, Opens, ReadsDeclarator, IsNoWord, IsNoPart, IsNoBrace}
 use Rattle.dae_grammar.proofs.Steps.{to}
 use Rattle.dae_grammar.proofs.Fronts.{suffixed_end, specifiers_begin, members_first}
 
@@ -106,7 +105,7 @@ opened_any m d p s names (_ ∷ ts) h = refl
 pub parameters_first : (m : Manner) (d : Declarator) (p : Place) (s : List Frame) (names inner : Names) (ps : Parameters) (rest : List Mark)
     → HasParameter ps → AreParameters inner ps
     → let ts = spell_parameters ps (part close_paren ∷ rest) in
-      parameters_opened m d p s names ts ≡ Some (state (specifying nothing_seen []) (for_parameter (record { declarator = d; place = p; manner = m; outside = names }) [] ∷ s) names ts)
+    parameters_opened m d p s names ts ≡ Some (state (specifying nothing_seen []) (for_parameter (record { declarator = d; place = p; manner = m; outside = names }) [] ∷ s) names ts)
 parameters_first m d p s names inner no_parameters rest h i = absurd h
 parameters_first m d p s names inner (parameter_then no_specifiers e ps) rest h i = absurd (let j = i.0 in cc)
 parameters_first m d p s names inner (parameter_then (specifier_then w ws) e ps) rest h i = opened_any m d p s names _ (specifiers_no_part w _)
@@ -176,12 +175,12 @@ specified_end seen before s names (_ ∷ ts) h f = rw h refl
 
 pub members_next : (names : Names) (b : Body) (before : List MemberLine) (s : List Frame) (ws : Specifiers) (rest : List Mark) → IsSpecifiers nothing_seen names ws
     → let ts = spell_specifiers ws rest in
-      members_followed b before s names ts ≡ Some (state (specifying nothing_seen []) (for_member b before ∷ s) names ts)
+    members_followed b before s names ts ≡ Some (state (specifying nothing_seen []) (for_member b before ∷ s) names ts)
 members_next names b before s ws rest i = members_first names (spell_specifiers ws rest) (specifiers_begin names ws i rest) b before s
 
 pub enumerated_end : (es : Enumerators) (c : Bool) (rest : List Mark) (b : Body) (before : List Entry) (n : Name) (s : List Frame) (names : Names)
     → let ts = spell_more_enumerators es (spell_comma c (part close_brace ∷ rest)) in
-      enumerator_followed b before n s names ts ≡ Some (state (entered b before (record { name = n; value = None })) s ((n.number, false) ∷ names) ts)
+    enumerator_followed b before n s names ts ≡ Some (state (entered b before (record { name = n; value = None })) s ((n.number, false) ∷ names) ts)
 enumerated_end no_enumerators true rest b before n s names = refl
 enumerated_end no_enumerators false rest b before n s names = refl
 enumerated_end (plain_then m es) c rest b before n s names = refl

@@ -1,23 +1,20 @@
 -- What stands first of a tree's tokens, and which way the machine goes there.
-use Rattle.std.proofs.Common.{◌≡◌, ℕ, zero, suc, ◌≤◌, ◌<◌, leb, ◌&&◌, not, if◌then◌else◌, Bool, true, false, List, [], ◌∷◌, Option, Some, None, refl, sym, ap, subst, ◌∙◌, arith}
+use Rattle.std.proofs.Common.{◌≡◌, ℕ, ◌≤◌, true, false, List, [], ◌∷◌, Some, refl, arith}
 use Rattle.dae_base.specs.declared.Place.{Place}
-use Rattle.dae_token.specs.declared.words.Keyword.{Keyword}
 use Rattle.dae_token.specs.declared.words.Keyword.TheVariants as keywords
-use Rattle.dae_token.specs.declared.signs.Sign.{Sign}
 use Rattle.dae_token.specs.declared.signs.Sign.TheVariants as signs
-use Rattle.dae_syntax.specs.declared.expressions.Name.{Name}
 use Rattle.dae_syntax.specs.declared.operators.PrefixOperator.{PrefixOperator}
 use Rattle.dae_syntax.specs.declared.operators.PrefixOperator.TheVariants as prefix
-use Rattle.dae_syntax.specs.Marks.{Mark, word, sign, name, constant, literal, part, close_paren, close_bracket, close_brace, comma, colon, else_word}
+use Rattle.dae_syntax.specs.Marks.{Mark, word, sign, name, part, close_paren}
 use Rattle.dae_syntax.specs.Operators.{prefix_sign}
-use Rattle.dae_syntax.specs.Words.{Seen, nothing_seen, has_type, admits, begins_specifiers}
-use Rattle.dae_syntax.specs.Names.{Names, is_type}
-use Rattle.dae_syntax.specs.Spelling.{spell, spell_specifiers, spell_specifier, spell_declarator}
-use Rattle.dae_syntax.specs.Grammar.{level, Manner, by_name, without_name, either_way, IsExpression, IsSpecifiers, IsSpecifier, IsDeclarator, IsPresent, IsDirect, IsNoType, leading_name}
-use Rattle.dae_syntax.specs.Trees.{Expression, Specifiers, Specifier, Declarator, Identifier, Number, Literal, Parenthesised, Index, Call, Member, Postfix, Prefix, SizeofExpression, SizeofType, Cast, Binary, Conditional, Assignment, Comma, no_expressions, no_specifiers, specifier_then, Word, TypeName, Structure, StructureBody, Enumeration, EnumerationBody, Absent, Named, Pointer, Grouped, Unsized, Sized, Empty, Void, Function}
-use Rattle.dae_grammar.specs.Frames.{Body, MemberLine, Frame, State, state, seek, operated, gave, in_arguments, behind_sizeof, in_parentheses, in_value, in_size, gave_declarator, suffixing, specifying, for_member}
-use Rattle.dae_grammar.specs.Machine.{called, measured, initialised, sized, parenthesis_at, suffixed, begins_parameters, members_followed}
-use Rattle.dae_grammar.specs.Starts.{IsStartSign, IsStartWord, Starts, IsSignBehindSpecifiers, FollowsSpecifiers, IsSignBehindDeclarator, FollowsDeclarator}
+use Rattle.dae_syntax.specs.Words.{nothing_seen, begins_specifiers}
+use Rattle.dae_syntax.specs.Names.{Names}
+use Rattle.dae_syntax.specs.Spelling.{spell, spell_specifiers, spell_declarator}
+use Rattle.dae_syntax.specs.Grammar.{level, Manner, by_name, IsExpression, IsSpecifiers, IsDeclarator, IsPresent, IsNoType, leading_name}
+use Rattle.dae_syntax.specs.Trees.{Expression, Specifiers, Declarator, Identifier, Number, Literal, Parenthesised, Index, Call, Member, Postfix, Prefix, SizeofExpression, SizeofType, Cast, Binary, Conditional, Assignment, Comma, no_specifiers, specifier_then, Word, TypeName, Structure, StructureBody, Enumeration, EnumerationBody, Absent, Named, Pointer, Grouped, Unsized, Sized, Empty, Void, Function}
+use Rattle.dae_grammar.specs.Frames.{Body, MemberLine, Frame, state, seek, in_arguments, behind_sizeof, in_size, gave_declarator, specifying, for_member}
+use Rattle.dae_grammar.specs.Machine.{called, measured, sized, suffixed, begins_parameters, members_followed}
+use Rattle.dae_grammar.specs.Starts.{IsStartSign, Starts, FollowsSpecifiers, FollowsDeclarator}
 use Rattle.dae_grammar.proofs.Steps.{under_least}
 
 prefix_starts : (o : PrefixOperator) → IsStartSign (prefix_sign o)

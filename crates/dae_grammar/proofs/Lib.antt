@@ -9,3 +9,4 @@ pub mod Lists
 pub mod Sound
 pub mod SoundDeclarators
 pub mod SoundStatements
+pub mod Runs

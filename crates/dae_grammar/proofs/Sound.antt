@@ -1,22 +1,20 @@
 -- Each step keeps what holds of a state: expressions.
-use Rattle.std.proofs.Common.{◌≡◌, ℕ, zero, suc, ◌≤◌, ◌<◌, leb, ◌&&◌, not, if◌then◌else◌, Bool, true, false, List, [], ◌∷◌, Option, Some, None, refl, sym, ap, subst, ◌∙◌, arith}
+use Rattle.std.proofs.Common.{◌≡◌, ℕ, ◌≤◌, leb, ◌&&◌, if◌then◌else◌, Bool, true, false, List, [], ◌∷◌, Option, Some, None, refl, sym, subst, arith}
 use Rattle.dae_base.specs.declared.Place.{Place}
-use Rattle.dae_token.specs.declared.words.Keyword.{Keyword}
 use Rattle.dae_token.specs.declared.words.Keyword.TheVariants as keywords
 use Rattle.dae_token.specs.declared.signs.Sign.{Sign}
 use Rattle.dae_token.specs.declared.signs.Sign.TheVariants as signs
 use Rattle.dae_syntax.specs.declared.operators.PrefixOperator.{PrefixOperator}
 use Rattle.dae_syntax.specs.declared.operators.PrefixOperator.TheVariants as prefix
 use Rattle.dae_syntax.specs.declared.operators.MemberOperator.{MemberOperator}
-use Rattle.dae_syntax.specs.Marks.{Mark, word, sign, name, constant, literal, part, close_paren, close_bracket, close_brace, comma, colon, else_word}
-use Rattle.dae_syntax.specs.Operators.{under, strength, operand_level}
-use Rattle.dae_syntax.specs.Words.{nothing_seen, begins_specifiers}
+use Rattle.dae_syntax.specs.Marks.{Mark, word, sign, name, constant, literal, part, close_paren, close_bracket, comma, colon}
+use Rattle.dae_syntax.specs.Words.{begins_specifiers}
 use Rattle.dae_syntax.specs.Names.{Names, is_type, after}
 use Rattle.dae_syntax.specs.Grammar.{level, IsExpression, Manner, by_name, without_name, either_way, IsGroup, IsNoType, leading_name}
-use Rattle.dae_syntax.specs.Trees.{Declarator, Sized, Expression, Identifier, Number, Literal, Parenthesised, Index, Call, Member, Postfix, Prefix, SizeofExpression, SizeofType, Cast, Binary, Conditional, Assignment, Comma, no_expressions, expression_then, Value, Evaluate, Return}
-use Rattle.dae_grammar.specs.Frames.{Head, Loop, if_head, while_head, switch_head, do_head, Frame, in_group, in_parentheses, in_index, in_arguments, behind_prefix, behind_sizeof, behind_cast, behind_binary, behind_question, behind_colon, behind_assignment, behind_comma, in_size, in_enumerator, in_value, in_evaluation, in_test, in_start, in_loop_test, in_step, in_return, in_case, Doing, seek, operated, gave, calling, measuring, State, state}
-use Rattle.dae_grammar.specs.Machine.{step, Operation, subscript, call, member_of, step_of, binary_of, choice, assignment_of, ends, operation, reach, left_level, goes_on, operate, named_member, operated_at, prefixed, sign_sought, sought, parenthesis_at, measured, called, argument_given, tested, at_paren, at_bracket, at_colon, at_semicolon, at_open, expression_given, arguments_onto}
-use Rattle.dae_grammar.specs.Standing.{MayStand, limit, awaited, stack_names, frame_names, ArgumentsHold, now_arguments, IsFrame, IsStack, IsDoing, IsHead, Holds}
+use Rattle.dae_syntax.specs.Trees.{Declarator, Sized, Expression, no_expressions, expression_then}
+use Rattle.dae_grammar.specs.Frames.{Head, if_head, while_head, switch_head, do_head, Frame, in_group, in_parentheses, in_index, in_arguments, behind_prefix, behind_sizeof, behind_cast, behind_binary, behind_question, behind_colon, behind_assignment, behind_comma, in_size, in_enumerator, in_value, in_evaluation, in_test, in_start, in_loop_test, in_step, in_return, in_case, operated, gave, calling, measuring, State}
+use Rattle.dae_grammar.specs.Machine.{Operation, subscript, call, member_of, step_of, binary_of, choice, assignment_of, ends, operation, reach, left_level, goes_on, operate, named_member, operated_at, prefixed, sign_sought, sought, measured, called, argument_given, tested, at_paren, at_bracket, at_colon, at_semicolon, at_open, expression_given}
+use Rattle.dae_grammar.specs.Standing.{MayStand, limit, awaited, stack_names, IsStack, IsDoing, IsHead, Holds}
 use Rattle.dae_grammar.proofs.Steps.{under_least, operand_least}
 use Rattle.dae_grammar.proofs.Lists.{arguments_hold, arguments_now}
 
@@ -161,10 +159,11 @@ hold_argument : (a g : Expression) (p : Place) (before : List Expression) (l : �
     → Then (argument_given a g p before l s (after a (stack_names (in_arguments g p before l ∷ s))) ts)
 hold_argument a g p before l s [] i st = tt
 hold_argument a g p before l s (part comma ∷ ts) i st = (refl, refl, ((st.0.0, st.0.1, st.0.2, st.0.3, (st.0.4, i.0, i.1)), st.1))
-hold_argument a g p before l s (part close_paren ∷ ts) i st =
-    (arguments_now (after g (stack_names s)) before (expression_then a no_expressions),
-     (st.0.0, st.0.1, (st.0.2, st.0.3, arguments_hold (after g (stack_names s)) before (expression_then a no_expressions) st.0.4 (i.0, i.1, tt))),
-     st.1)
+hold_argument a g p before l s (part close_paren ∷ ts) i st = (
+  arguments_now (after g (stack_names s)) before (expression_then a no_expressions),
+  (st.0.0, st.0.1, (st.0.2, st.0.3, arguments_hold (after g (stack_names s)) before (expression_then a no_expressions) st.0.4 (i.0, i.1, tt))),
+  st.1,
+)
 hold_argument a g p before l s (_ ∷ ts) i st = tt
 
 hold_tested : (h : Head) (p : Place) (e : Expression) (s : List Frame) (ts : List Mark) → IsExpression (stack_names (in_test h p ∷ s)) e → IsHead (stack_names s) h → IsStack s

@@ -1,21 +1,20 @@
 -- Each step keeps what holds of a state: specifiers and declarators.
-use Rattle.std.proofs.Common.{◌≡◌, ℕ, ◌≤◌, ◌&&◌, not, if◌then◌else◌, Bool, true, false, List, [], ◌∷◌, Option, Some, None, refl, sym, ap, subst, ◌∙◌, arith}
+use Rattle.std.proofs.Common.{◌≡◌, ◌&&◌, not, Bool, true, false, List, [], ◌∷◌, Option, Some, None, refl, sym, ap, subst}
 use Rattle.dae_base.specs.declared.Place.{Place}
 use Rattle.dae_token.specs.declared.words.Keyword.{Keyword}
 use Rattle.dae_token.specs.declared.words.Keyword.TheVariants as keywords
-use Rattle.dae_token.specs.declared.signs.Sign.{Sign}
 use Rattle.dae_token.specs.declared.signs.Sign.TheVariants as signs
 use Rattle.dae_syntax.specs.declared.expressions.Name.{Name}
-use Rattle.dae_syntax.specs.Marks.{Mark, word, sign, name, constant, literal, part, close_paren, close_bracket, close_brace, comma, colon, else_word}
-use Rattle.dae_syntax.specs.Words.{Seen, nothing_seen, has_type, admits, with_word, with_whole, seen_after, begins_specifiers}
-use Rattle.dae_syntax.specs.Names.{Names, is_type, has_typedef, with_name, with_declarator, after_specifiers, after_declarator, after_parameter, with_parameters}
-use Rattle.dae_syntax.specs.Grammar.{Manner, by_name, without_name, either_way, IsSpecifiers, IsSpecifier, IsDeclarator, IsDirect, IsPresent, IsGroup, IsNoType, leading_name, void_alone, AreParameters, HasParameter}
-use Rattle.dae_syntax.specs.Trees.{Specifiers, Specifier, Declarator, Parameters, Item, no_specifiers, specifier_then, Word, TypeName, Structure, StructureBody, Enumeration, EnumerationBody, no_members, member_then, no_enumerators, no_declarators, declarator_then, Absent, Named, Pointer, Grouped, Unsized, Sized, Empty, Void, Function, no_parameters, parameter_then}
-use Rattle.dae_grammar.specs.Frames.{Body, MemberLine, Entry, Open, Parameter, Inside, Frame, in_group, for_cast, for_sizeof, for_parameter, for_member, for_declaration, behind_star, of_cast, of_sizeof, of_parameter, of_member, of_item, in_file, Doing, specifying, tagging, tagged, membering, enumerating, enumerated, entered, entering, gave_specifiers, declaring, qualifying, suffixing, sizing, parametering, gave_declarator, State, state}
-use Rattle.dae_grammar.specs.Machine.{step, specifiers_end, word_taken, specified, body, body_opened, tag_taken, tag_alone, tag_followed, members_followed, enumerator_named, enumerator_followed, enumeration_closed, entry_followed, comma_followed, declaration_begun, specifiers_given, begins_parameters, group_opened, parenthesis_declared, nothing_declared, bracket_declared, name_declared, declared, qualified, suffixed, sized, parameters_opened, closed_by, closed, parameter_given, member_given, item_given, declarator_given, plain_item, definition_begun, specifiers_onto, members_onto, enumerators_onto, enumerator_before, declarators_onto, parameters_onto}
-use Rattle.dae_grammar.specs.Standing.{limit, manner, stack_names, frame_names, now_specifiers, now_lines, now_entries, after_entry, now_parameters, seen_now, SpecifiersHold, LinesHold, EntriesHold, ParametersHold, MayStand, MustStand, IsBegun, IsBody, IsOpen, IsFrame, IsStack, IsGroupAhead, IsNeeded, IsSuffixSign, IsSuffixAhead, HasAhead, IsDoing, Holds}
+use Rattle.dae_syntax.specs.Marks.{Mark, word, sign, name, part, close_paren, close_bracket, close_brace, comma}
+use Rattle.dae_syntax.specs.Words.{Seen, nothing_seen, has_type, admits, with_word, with_whole}
+use Rattle.dae_syntax.specs.Names.{Names, is_type, has_typedef, with_declarator, after_specifiers, after_declarator}
+use Rattle.dae_syntax.specs.Grammar.{Manner, by_name, without_name, either_way, IsSpecifiers, IsDeclarator, IsPresent, IsNoType, leading_name, void_alone, AreParameters, HasParameter}
+use Rattle.dae_syntax.specs.Trees.{Specifiers, Specifier, Declarator, Parameters, Item, no_specifiers, no_members, member_then, no_enumerators, no_declarators, declarator_then, Absent, Named, Pointer, Grouped, Unsized, Empty, Void, Function, no_parameters, parameter_then}
+use Rattle.dae_grammar.specs.Frames.{Body, MemberLine, Entry, Open, Parameter, Frame, in_group, for_cast, for_sizeof, for_parameter, for_member, for_declaration, behind_star, of_cast, of_sizeof, of_parameter, of_member, of_item, specifying, declaring, suffixing, gave_declarator, state}
+use Rattle.dae_grammar.specs.Machine.{specifiers_end, word_taken, specified, body, body_opened, tag_taken, tag_alone, tag_followed, members_followed, enumerator_named, enumerator_followed, enumeration_closed, entry_followed, comma_followed, declaration_begun, specifiers_given, begins_parameters, parenthesis_declared, nothing_declared, bracket_declared, name_declared, declared, qualified, suffixed, sized, parameters_opened, closed_by, parameter_given, member_given, item_given, declarator_given, plain_item, parameters_onto}
+use Rattle.dae_grammar.specs.Standing.{manner, stack_names, now_specifiers, now_lines, now_entries, after_entry, seen_now, SpecifiersHold, LinesHold, EntriesHold, MayStand, MustStand, IsBegun, IsBody, IsOpen, IsStack, IsGroupAhead, IsNeeded, IsSuffixAhead, HasAhead, IsDoing, Holds}
 use Rattle.dae_grammar.proofs.Lists.{specifiers_hold, specifiers_now, members_hold, members_now, members_some, enumerators_hold, enumerators_now, enumerators_some, declarators_hold, declarators_now, declarators_some, parameters_hold, parameters_some}
-use Rattle.dae_grammar.proofs.Sound.{Then, decide, decide_state, and_left, and_right, stand_along, then_paren}
+use Rattle.dae_grammar.proofs.Sound.{Then, decide, and_left, and_right, stand_along, then_paren}
 
 -- ---- specifiers
 
@@ -91,10 +90,11 @@ hold_members b [] s (part close_brace ∷ ts) i h st = (refl, (refl, tt), ((i, h
 hold_members b [] s (_ ∷ ts) i h st = (refl, (refl, tt), ((i, h), st))
 hold_members b (m ∷ before) s [] i h st = (refl, (refl, tt), ((i, h), st))
 hold_members b (m ∷ before) s (part close_brace ∷ ts) i h st =
-    let n = now_specifiers b.before (stack_names s) in
-    (members_now n (m ∷ before) no_members,
-     (ap with_whole i.0, (i.1, (subst (λ (y : Seen). has_type y ≡ false) i.0 i.2, members_some before (member_then m.specifiers m.declarators m.end no_members) tt, members_hold n (m ∷ before) no_members h tt))),
-     st)
+    let n = now_specifiers b.before (stack_names s) in (
+      members_now n (m ∷ before) no_members,
+      (ap with_whole i.0, (i.1, (subst (λ (y : Seen). has_type y ≡ false) i.0 i.2, members_some before (member_then m.specifiers m.declarators m.end no_members) tt, members_hold n (m ∷ before) no_members h tt))),
+      st,
+    )
 hold_members b (m ∷ before) s (_ ∷ ts) i h st = (refl, (refl, tt), ((i, h), st))
 
 pub hold_enumerating : (b : Body) (before : List Entry) (s : List Frame) (ts : List Mark) → IsBody (stack_names s) b → EntriesHold (now_specifiers b.before (stack_names s)) before → IsStack s
@@ -112,10 +112,11 @@ hold_enumerated b before x s (_ ∷ ts) i h st = (refl, (i, (h, tt)), st)
 hold_closed : (b : Body) (before : List Entry) (e : Entry) (c : Bool) (s : List Frame) (ts : List Mark) → IsBody (stack_names s) b → EntriesHold (now_specifiers b.before (stack_names s)) (e ∷ before) → IsStack s
     → Holds (enumeration_closed b (e ∷ before) c s (after_entry e (now_entries before (now_specifiers b.before (stack_names s)))) ts)
 hold_closed b before e c s ts i h st =
-    let n = now_specifiers b.before (stack_names s) in
-    (enumerators_now n (e ∷ before) no_enumerators,
-     (ap with_whole i.0, (i.1, (subst (λ (y : Seen). has_type y ≡ false) i.0 i.2, enumerators_some before e no_enumerators, enumerators_hold n (e ∷ before) no_enumerators h tt))),
-     st)
+    let n = now_specifiers b.before (stack_names s) in (
+      enumerators_now n (e ∷ before) no_enumerators,
+      (ap with_whole i.0, (i.1, (subst (λ (y : Seen). has_type y ≡ false) i.0 i.2, enumerators_some before e no_enumerators, enumerators_hold n (e ∷ before) no_enumerators h tt))),
+      st,
+    )
 
 pub hold_entered : (b : Body) (before : List Entry) (e : Entry) (s : List Frame) (ts : List Mark) → IsBody (stack_names s) b → EntriesHold (now_specifiers b.before (stack_names s)) (e ∷ before) → IsStack s
     → Then (entry_followed b before e s (after_entry e (now_entries before (now_specifiers b.before (stack_names s)))) ts)
@@ -266,10 +267,11 @@ hold_member_line : (d : Declarator) (b : Body) (lines : List MemberLine) (ws : S
 hold_member_line d b lines ws before s [] i st = tt
 hold_member_line d b lines ws before s (part comma ∷ ts) i st = (refl, (refl, tt, tt), ((st.0.0, st.0.1, st.0.2, (st.0.3, i)), st.1))
 hold_member_line d b lines ws before s (sign signs.Semicolon p ∷ ts) i st =
-    let n = after_specifiers ws (now_lines lines (now_specifiers b.before (stack_names s))) in
-    (declarators_now n before (declarator_then d no_declarators),
-     (st.0.0, (st.0.1, st.0.2, declarators_some before (declarator_then d no_declarators) tt, declarators_hold n before (declarator_then d no_declarators) st.0.3 (i, tt))),
-     st.1)
+    let n = after_specifiers ws (now_lines lines (now_specifiers b.before (stack_names s))) in (
+      declarators_now n before (declarator_then d no_declarators),
+      (st.0.0, (st.0.1, st.0.2, declarators_some before (declarator_then d no_declarators) tt, declarators_hold n before (declarator_then d no_declarators) st.0.3 (i, tt))),
+      st.1,
+    )
 hold_member_line d b lines ws before s (_ ∷ ts) i st = tt
 
 hold_plain : (outer : Bool) (d : Declarator) (ws : Specifiers) (before : List Item) (s : List Frame) (ts : List Mark)

@@ -1,22 +1,20 @@
 -- Each step keeps what holds of a state: initialisers, declarations, statements, and every step.
-use Rattle.std.proofs.Common.{◌≡◌, ℕ, ◌≤◌, not, if◌then◌else◌, Bool, true, false, List, [], ◌∷◌, Option, Some, None, refl, sym, ap, subst, ◌∙◌, arith}
+use Rattle.std.proofs.Common.{◌≡◌, Bool, true, false, List, [], ◌∷◌, Option, refl, sym, subst}
 use Rattle.dae_base.specs.declared.Place.{Place}
 use Rattle.dae_token.specs.declared.words.Keyword.{Keyword}
 use Rattle.dae_token.specs.declared.words.Keyword.TheVariants as keywords
 use Rattle.dae_token.specs.declared.signs.Sign.{Sign}
 use Rattle.dae_token.specs.declared.signs.Sign.TheVariants as signs
-use Rattle.dae_syntax.specs.Marks.{Mark, word, sign, name, constant, literal, part, close_paren, close_bracket, close_brace, comma, colon, else_word}
-use Rattle.dae_syntax.specs.Words.{nothing_seen, begins_specifiers}
-use Rattle.dae_syntax.specs.Names.{Names, has_typedef, after, after_specifiers, after_initialiser, after_item, after_declaration, after_optional, after_statement, after_declarator}
-use Rattle.dae_syntax.specs.Grammar.{IsExpression}
+use Rattle.dae_syntax.specs.Marks.{Mark, word, sign, part, close_paren, close_brace, comma, else_word}
+use Rattle.dae_syntax.specs.Words.{begins_specifiers}
+use Rattle.dae_syntax.specs.Names.{Names, has_typedef, after, after_specifiers, after_initialiser, after_item, after_declaration, after_optional, after_statement}
 use Rattle.dae_syntax.specs.Statements.{IsInitialiser, IsDeclaration, IsStatement, takes_else}
-use Rattle.dae_syntax.specs.Trees.{Expression, Specifiers, Declarator, Initialiser, Initialisers, Item, Declaration, Statement, Statements, External, Listed, no_initialisers, initialiser_then, Block, Nothing, Evaluate, If, IfElse, While, Do, For, Break, Continue, Return, Switch, Case, Default, no_statements, statement_then, Declared, Defined}
-use Rattle.dae_grammar.specs.Frames.{Head, if_head, while_head, switch_head, do_head, Loop, Inside, Frame, in_list, of_value, of_item, in_file, in_block, then_branch, else_branch, while_body, switch_body, do_body, for_body, case_body, default_body, in_statements, in_definition, Doing, seek, operated, gave, calling, measuring, specifying, tagging, tagged, membering, enumerating, enumerated, entered, entering, gave_specifiers, declaring, qualifying, suffixing, sizing, parametering, gave_declarator, initialising, listing, gave_initialiser, itemed, gave_declaration, externals, declarations, statements, stating, opening, finishing, looping, starting, testing, stepping, returning, breaking, continuing, defaulting, gave_statement, State, state}
-use Rattle.dae_grammar.specs.Machine.{step, initialised, listed, list_followed, list_closed, initialiser_taken, item_followed, declaration_taken, external_begun, block_begun, block_followed, evaluation_begun, sign_stated, word_stated, stated, started, loop_tested, stepped, returned, branched, done_followed, defined, statement_given, initialisers_onto, statements_onto, onto}
-use Rattle.dae_grammar.specs.Standing.{limit, manner, stack_names, frame_names, doing_names, now_initialisers, now_items, now_declarations, now_statements, now_externals, head_names, InitialisersHold, ItemsHold, DeclarationsHold, StatementsHold, ExternalsHold, IsInside, IsLoop, IsHead, IsFrame, IsStack, IsDoing, Holds}
-use Rattle.dae_grammar.specs.Starts.{IsNoElse}
+use Rattle.dae_syntax.specs.Trees.{Expression, Specifiers, Declarator, Initialiser, Item, Declaration, Statement, External, no_initialisers, initialiser_then, Block, no_statements}
+use Rattle.dae_grammar.specs.Frames.{Loop, Inside, Frame, in_list, of_value, in_file, in_block, then_branch, else_branch, while_body, switch_body, do_body, for_body, case_body, default_body, in_statements, in_definition, Doing, seek, operated, gave, calling, measuring, specifying, tagging, tagged, membering, enumerating, enumerated, entered, entering, gave_specifiers, declaring, qualifying, suffixing, sizing, parametering, gave_declarator, initialising, listing, gave_initialiser, itemed, gave_declaration, externals, declarations, statements, stating, opening, finishing, looping, starting, testing, stepping, returning, breaking, continuing, defaulting, gave_statement, state}
+use Rattle.dae_grammar.specs.Machine.{step, initialised, listed, list_followed, list_closed, initialiser_taken, item_followed, declaration_taken, external_begun, block_begun, block_followed, evaluation_begun, sign_stated, word_stated, stated, started, loop_tested, stepped, returned, branched, done_followed, defined, statement_given}
+use Rattle.dae_grammar.specs.Standing.{stack_names, doing_names, now_initialisers, now_items, now_declarations, now_statements, now_externals, InitialisersHold, StatementsHold, ExternalsHold, IsInside, IsLoop, IsStack, IsDoing, Holds}
 use Rattle.dae_grammar.proofs.Lists.{initialisers_hold, initialisers_now, initialisers_some, items_hold, items_now, declarations_hold, declarations_now, statements_hold}
-use Rattle.dae_grammar.proofs.Sound.{Then, decide, then_paren, then_colon, then_semicolon, then_open, hold_sought, hold_operated, hold_expression, hold_called, hold_measured}
+use Rattle.dae_grammar.proofs.Sound.{Then, decide, then_colon, then_semicolon, then_open, hold_sought, hold_operated, hold_expression, hold_called, hold_measured}
 use Rattle.dae_grammar.proofs.SoundDeclarators.{hold_specified, hold_tag, hold_tagged, hold_members, hold_enumerating, hold_enumerated, hold_entered, hold_entering, hold_specifiers, hold_declared, hold_qualified, hold_suffixed, hold_sized, hold_opened, hold_declarator}
 
 -- ---- initialisers and declarations
@@ -28,10 +26,11 @@ hold_initialised s (_ ∷ ts) st = (refl, refl, (tt, st))
 
 hold_closed_list : (p : Place) (x : Initialiser) (before : List Initialiser) (c : Bool) (s : List Frame) (ts : List Mark) → InitialisersHold (stack_names s) (x ∷ before) → IsStack s
     → Holds (list_closed p (x ∷ before) c s (after_initialiser x (now_initialisers before (stack_names s))) ts)
-hold_closed_list p x before c s ts h st =
-    (initialisers_now (stack_names s) (x ∷ before) no_initialisers,
-     (initialisers_some before (initialiser_then x no_initialisers) tt, initialisers_hold (stack_names s) (x ∷ before) no_initialisers h tt),
-     st)
+hold_closed_list p x before c s ts h st = (
+  initialisers_now (stack_names s) (x ∷ before) no_initialisers,
+  (initialisers_some before (initialiser_then x no_initialisers) tt, initialisers_hold (stack_names s) (x ∷ before) no_initialisers h tt),
+  st,
+)
 
 hold_listed : (x : Initialiser) (p : Place) (before : List Initialiser) (s : List Frame) (ts : List Mark) → IsInitialiser (stack_names (in_list p before ∷ s)) x → IsStack (in_list p before ∷ s)
     → Then (listed x p before s (after_initialiser x (stack_names (in_list p before ∷ s))) ts)
@@ -80,12 +79,17 @@ hold_block : (i : Inside) (before : List Statement) (s : List Frame) (ts : List 
     → Then (block_followed i before s (now_statements before (now_declarations i.declarations (stack_names s))) ts)
 hold_block i before s [] h st = (refl, tt, (h, st))
 hold_block i before s (part close_brace ∷ ts) h st =
-    let n = stack_names s in
-    (h.0.0,
-     ((declarations_hold n i.declarations [] h.0.1 tt,
-       statements_hold _ before no_statements (subst (λ (m : Names). StatementsHold m before) (declarations_now n i.declarations []) h.1) tt),
-      λ x. absurd cc),
-     st)
+    let n = stack_names s in (
+      h.0.0,
+      (
+        (
+          declarations_hold n i.declarations [] h.0.1 tt,
+          statements_hold _ before no_statements (subst (λ (m : Names). StatementsHold m before) (declarations_now n i.declarations []) h.1) tt,
+        ),
+        λ x. absurd cc,
+      ),
+      st,
+    )
 hold_block i before s (_ ∷ ts) h st = (refl, tt, (h, st))
 
 hold_evaluation : (s : List Frame) (ts : List Mark) → IsStack s → Then (evaluation_begun s (stack_names s) ts)

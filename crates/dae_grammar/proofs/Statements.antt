@@ -1,26 +1,22 @@
 -- The machine reads each tree of the grammar: initialisers, declarations, statements and files.
-use Rattle.std.proofs.Common.{◌≡◌, ℕ, zero, suc, ◌≤◌, ◌<◌, leb, ◌&&◌, not, if◌then◌else◌, Bool, true, false, List, [], ◌∷◌, ◌++◌, Option, Some, None, refl, sym, ap, subst, ◌∙◌, arith}
+use Rattle.std.proofs.Common.{◌≡◌, ◌<◌, Bool, true, false, List, [], ◌∷◌, Option, Some, None, refl, arith}
 use Rattle.dae_base.specs.declared.Place.{Place}
-use Rattle.dae_token.specs.declared.words.Keyword.{Keyword}
-use Rattle.dae_token.specs.declared.words.Keyword.TheVariants as keywords
-use Rattle.dae_token.specs.declared.signs.Sign.{Sign}
 use Rattle.dae_token.specs.declared.signs.Sign.TheVariants as signs
-use Rattle.dae_syntax.specs.declared.expressions.Name.{Name}
-use Rattle.dae_syntax.specs.Marks.{Mark, word, sign, name, constant, literal, part, close_paren, close_bracket, close_brace, comma, colon, else_word}
-use Rattle.dae_syntax.specs.Words.{Seen, nothing_seen, begins_specifiers}
-use Rattle.dae_syntax.specs.Names.{Names, has_typedef, with_declarator, after, after_specifiers, after_declarator, after_parameter, after_initialiser, after_initialisers, after_value, after_item, after_items, after_declaration, after_declarations, after_optional, after_statement, after_statements, after_external, with_parameters, inside_definition}
+use Rattle.dae_syntax.specs.Marks.{Mark, sign, part, close_brace}
+use Rattle.dae_syntax.specs.Words.{nothing_seen}
+use Rattle.dae_syntax.specs.Names.{Names, has_typedef, with_declarator, after, after_specifiers, after_declarator, after_initialiser, after_initialisers, after_value, after_item, after_items, after_declaration}
 use Rattle.dae_syntax.specs.Spelling.{spell, spell_specifiers, spell_declarator, spell_comma}
-use Rattle.dae_syntax.specs.Grammar.{level, by_name, IsExpression, IsSpecifiers, IsDeclarator, IsPresent}
-use Rattle.dae_syntax.specs.Statements.{spell_initialiser, spell_initialisers, spell_more_initialisers, spell_value, spell_item, spell_items, spell_more_items, spell_declaration, spell_declarations, spell_optional, spell_test, spell_statement, spell_statements, spell_external, spell_file, IsInitialiser, AreInitialisers, IsValue, IsItem, AreItems, IsDeclaration, AreDeclarations, IsOptional, takes_else, IsStatement, AreStatements, IsExternal, AreExternals, IsTreeOf, HasInitialiser}
-use Rattle.dae_syntax.specs.Trees.{Expression, Specifiers, Declarator, Initialiser, Initialisers, Item, Declaration, Statement, Statements, External, no_specifiers, specifier_then, Absent, Named, Pointer, Grouped, Unsized, Sized, Empty, Void, Function, Value, Listed, no_initialisers, initialiser_then, Block, Nothing, Evaluate, If, IfElse, While, Do, For, Break, Continue, Return, Switch, Case, Default, no_statements, statement_then, Declared, Defined}
-use Rattle.dae_grammar.specs.Frames.{Head, if_head, while_head, switch_head, do_head, Loop, Inside, Frame, in_value, in_evaluation, in_test, in_start, in_loop_test, in_step, in_return, in_case, for_declaration, of_item, in_list, of_value, in_file, in_block, then_branch, else_branch, while_body, switch_body, do_body, for_body, case_body, default_body, in_statements, in_definition, seek, gave, specifying, gave_specifiers, declaring, gave_declarator, initialising, listing, gave_initialiser, itemed, gave_declaration, externals, declarations, statements, stating, opening, finishing, looping, starting, testing, stepping, returning, breaking, continuing, defaulting, gave_statement, State, state}
-use Rattle.dae_grammar.specs.Machine.{step, onto, initialisers_onto, statements_onto, initialised, list_followed, item_given, declaration_begun, block_begun, block_followed, stated, started, loop_tested, stepped, returned, branched, loop_of, for_of, block_of, external_begun, begun, ended}
-use Rattle.dae_grammar.specs.Runs.{On, IsBackward}
-use Rattle.dae_grammar.specs.Levels.{front, tail}
-use Rattle.dae_grammar.specs.Starts.{Starts, FollowsSpecifiers, FollowsDeclarator, IsNoElse, IsNoSemicolon}
+use Rattle.dae_syntax.specs.Grammar.{by_name, IsExpression, IsSpecifiers, IsPresent}
+use Rattle.dae_syntax.specs.Statements.{spell_initialiser, spell_more_initialisers, spell_value, spell_item, spell_items, spell_more_items, spell_declaration, IsInitialiser, AreInitialisers, IsValue, AreItems, IsDeclaration}
+use Rattle.dae_syntax.specs.Trees.{Expression, Specifiers, Declarator, Initialiser, Initialisers, Item, Declaration, Absent, Named, Pointer, Grouped, Unsized, Sized, Empty, Void, Function, Value, Listed, no_initialisers, initialiser_then}
+use Rattle.dae_grammar.specs.Frames.{Frame, in_value, for_declaration, of_item, in_list, of_value, seek, gave, specifying, gave_specifiers, declaring, gave_declarator, initialising, gave_initialiser, itemed, gave_declaration, State, state}
+use Rattle.dae_grammar.specs.Machine.{onto, initialisers_onto, initialised, list_followed, item_given, declaration_begun}
+use Rattle.dae_grammar.specs.Runs.{IsBackward}
+use Rattle.dae_grammar.specs.Levels.{front}
+use Rattle.dae_grammar.specs.Starts.{Starts, FollowsDeclarator, IsNoSemicolon}
 use Rattle.dae_grammar.specs.Reads.{IsNoPart}
-use Rattle.dae_grammar.proofs.Steps.{to, level_most, tail_most, tail_within, stop}
-use Rattle.dae_grammar.proofs.Fronts.{starts, no_specifiers_first, specifiers_begin, front_present, named_present}
+use Rattle.dae_grammar.proofs.Steps.{to, level_most, tail_most, stop}
+use Rattle.dae_grammar.proofs.Fronts.{starts, front_present, named_present}
 use Rattle.dae_grammar.proofs.Declarators.{finish_declarator}
 use Rattle.dae_grammar.proofs.Complete.{read, read_specifiers, read_declarator}
 
@@ -94,7 +90,7 @@ follows_item None (i ∷ items) p rest = tt
 
 pub plain_end : (outer : Bool) (d : Declarator) (ws : Specifiers) (before items : List Item) (s : List Frame) (names : Names) (p : Place) (rest : List Mark)
     → let ts = spell_more_items items (sign signs.Semicolon p ∷ rest) in
-      item_given outer d ws before s names ts ≡ Some (state (itemed ws (record { declarator = d; initialiser = None }) before) s names ts)
+    item_given outer d ws before s names ts ≡ Some (state (itemed ws (record { declarator = d; initialiser = None }) before) s names ts)
 plain_end true d ws [] [] s names p rest = refl
 plain_end true d ws [] (i ∷ items) s names p rest = refl
 plain_end true d ws (b ∷ before) [] s names p rest = refl

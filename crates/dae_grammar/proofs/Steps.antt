@@ -1,8 +1,7 @@
 -- Steps with expressions: which go on, and which end one.
-use Rattle.std.proofs.Common.{◌≡◌, ℕ, zero, suc, ◌≤◌, ◌<◌, leb, ◌&&◌, if◌then◌else◌, Bool, true, false, List, [], ◌∷◌, Option, Some, None, refl, sym, ap, subst, ◌∙◌, arith}
+use Rattle.std.proofs.Common.{◌≡◌, ℕ, ◌≤◌, ◌<◌, leb, true, false, List, [], ◌∷◌, Option, Some, refl, sym, subst, arith}
 use Rattle.dae_base.specs.declared.Place.{Place}
 use Rattle.dae_token.specs.declared.signs.Sign.{Sign}
-use Rattle.dae_token.specs.declared.signs.Sign.TheVariants as signs
 use Rattle.dae_syntax.specs.declared.operators.BinaryOperator.{BinaryOperator}
 use Rattle.dae_syntax.specs.declared.operators.BinaryOperator.TheVariants as binary
 use Rattle.dae_syntax.specs.declared.operators.AssignmentOperator.{AssignmentOperator}
@@ -13,13 +12,13 @@ use Rattle.dae_syntax.specs.declared.operators.PostfixOperator.{PostfixOperator}
 use Rattle.dae_syntax.specs.declared.operators.PostfixOperator.TheVariants as postfix
 use Rattle.dae_syntax.specs.declared.operators.MemberOperator.{MemberOperator}
 use Rattle.dae_syntax.specs.declared.operators.MemberOperator.TheVariants as member
-use Rattle.dae_syntax.specs.Marks.{Mark, word, sign, name, constant, literal, part, close_paren, close_bracket, close_brace, comma, colon, else_word}
+use Rattle.dae_syntax.specs.Marks.{Mark, sign, part, comma}
 use Rattle.dae_syntax.specs.Operators.{under, strength, operand_level, binary_sign, assignment_sign, prefix_sign, postfix_sign, member_sign}
 use Rattle.dae_syntax.specs.Names.{Names}
 use Rattle.dae_syntax.specs.Grammar.{level}
-use Rattle.dae_syntax.specs.Trees.{Expression, Identifier, Number, Literal, Parenthesised, Index, Call, Member, Postfix, Prefix, SizeofExpression, SizeofType, Cast, Binary, Conditional, Assignment, Comma}
+use Rattle.dae_syntax.specs.Trees.{Expression, Prefix, SizeofExpression, Cast, Binary, Conditional, Assignment, Comma}
 use Rattle.dae_grammar.specs.Frames.{Frame, State, state, seek, operated, gave, behind_prefix, behind_comma}
-use Rattle.dae_grammar.specs.Machine.{step, Operation, subscript, call, member_of, step_of, binary_of, choice, assignment_of, ends, operation, reach, left_level, goes_on, operate, operated_at, sign_sought}
+use Rattle.dae_grammar.specs.Machine.{step, Operation, member_of, step_of, binary_of, assignment_of, operation, reach, left_level, operate}
 use Rattle.dae_grammar.specs.Runs.{On, IsBackward}
 use Rattle.dae_grammar.specs.Levels.{front, tail}
 

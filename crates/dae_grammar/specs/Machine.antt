@@ -188,8 +188,8 @@ operated_at e l s names ts = Some (state (gave e) s names ts)
 abbrev pub parenthesis_at : Place → ℕ → List Frame → Names → List Mark → State
 parenthesis_at p l s names ts =
     if begins_specifiers names ts && leb 3 l
-      then state (specifying nothing_seen []) (for_cast p l ∷ s) names ts
-      else state (seek 16) (in_parentheses p l ∷ s) names ts
+    then state (specifying nothing_seen []) (for_cast p l ∷ s) names ts
+    else state (seek 16) (in_parentheses p l ∷ s) names ts
 
 abbrev pub prefixed : PrefixOperator → Place → ℕ → List Frame → Names → List Mark → Option State
 prefixed o p l s names ts = Some (state (seek (operand_level o)) (behind_prefix p o l ∷ s) names ts)
@@ -217,8 +217,8 @@ sought l s names _ = None
 abbrev pub measured : Place → ℕ → List Frame → Names → List Mark → Option State
 measured p l s names (sign signs.LeftParen q ∷ ts) =
     if begins_specifiers names ts
-      then Some (state (specifying nothing_seen []) (for_sizeof p q l ∷ s) names ts)
-      else Some (state (seek 2) (behind_sizeof p l ∷ s) names (sign signs.LeftParen q ∷ ts))
+    then Some (state (specifying nothing_seen []) (for_sizeof p q l ∷ s) names ts)
+    else Some (state (seek 2) (behind_sizeof p l ∷ s) names (sign signs.LeftParen q ∷ ts))
 measured p l s names ts = Some (state (seek 2) (behind_sizeof p l ∷ s) names ts)
 
 abbrev pub called : Expression → Place → ℕ → List Frame → Names → List Mark → Option State
@@ -286,8 +286,8 @@ specified seen before s names (word k p ∷ ts) =
     if admits seen k then Some (word_taken k p seen before s names ts) else specifiers_end seen before s names (word k p ∷ ts)
 specified seen before s names (name n ∷ ts) =
     if not (has_type seen) && is_type names n.number
-      then Some (state (specifying (with_whole seen) (TypeName n ∷ before)) s names ts)
-      else specifiers_end seen before s names (name n ∷ ts)
+    then Some (state (specifying (with_whole seen) (TypeName n ∷ before)) s names ts)
+    else specifiers_end seen before s names (name n ∷ ts)
 specified seen before s names ts = specifiers_end seen before s names ts
 
 abbrev pub body : Place → Option Name → Place → Seen → List Specifier → Body
@@ -369,8 +369,8 @@ abbrev pub parenthesis_declared : Manner → Place → List Frame → Names → 
 parenthesis_declared by_name p s names ts = group_opened by_name p s names ts
 parenthesis_declared m p s names ts =
     if begins_parameters names ts
-      then Some (state (suffixing m Absent) s names (sign signs.LeftParen p ∷ ts))
-      else group_opened m p s names ts
+    then Some (state (suffixing m Absent) s names (sign signs.LeftParen p ∷ ts))
+    else group_opened m p s names ts
 
 -- no part, where none must stand and the name may be lacking
 abbrev pub nothing_declared : Manner → Bool → List Frame → Names → List Mark → Option State
@@ -506,8 +506,8 @@ external_begun before s names ts = Some (state (specifying nothing_seen []) (for
 abbrev pub block_begun : Inside → List Frame → Names → List Mark → Option State
 block_begun i s names ts =
     if begins_specifiers names ts
-      then Some (state (specifying nothing_seen []) (for_declaration false ∷ in_block i ∷ s) names ts)
-      else Some (state (statements i []) s names ts)
+    then Some (state (specifying nothing_seen []) (for_declaration false ∷ in_block i ∷ s) names ts)
+    else Some (state (statements i []) s names ts)
 
 abbrev pub block_of : Inside → List Statement → Statement
 block_of i before = Block i.place (onto i.declarations []) (statements_onto before no_statements)

@@ -1,5 +1,5 @@
 -- What it means that the machine reads a tree: a property that holds behind it holds before it.
-use Rattle.std.specs.Prelude.{◌≡◌, ℕ, ◌≤◌, ◌<◌, Bool, true, List, [], ◌∷◌, Option, Some}
+use Rattle.std.specs.Prelude.{◌≡◌, Bool, List, [], ◌∷◌, Some}
 use Rattle.dae_token.specs.declared.signs.Sign.TheVariants as signs
 use Rattle.dae_syntax.specs.Marks.{Mark, word, sign, part}
 use Rattle.dae_syntax.specs.Names.{Names, after_declarator}

@@ -10,7 +10,7 @@ use Rattle.dae_syntax.specs.Names.{Names, has_typedef, with_name, with_declarato
 use Rattle.dae_syntax.specs.Grammar.{level, Manner, by_name, without_name, either_way, IsExpression, IsSpecifiers, IsSpecifier, AreDeclarators, IsDeclarator, IsDirect, IsPresent, IsGroup, HasDeclarator}
 use Rattle.dae_syntax.specs.Statements.{IsInitialiser, IsItem, IsDeclaration, IsOptional, IsStatement, IsExternal, takes_else}
 use Rattle.dae_syntax.specs.Trees.{Expression, Specifier, Declarator, Initialiser, Item, Declaration, Statement, External, Absent}
-use Rattle.dae_grammar.specs.Frames.{Body, MemberLine, Entry, Open, Parameter, Head, Loop, Inside, if_head, while_head, switch_head, do_head, Frame, in_parentheses, in_index, in_arguments, behind_prefix, behind_sizeof, behind_cast, behind_binary, behind_question, behind_colon, behind_assignment, behind_comma, in_size, in_enumerator, in_value, in_evaluation, in_test, in_start, in_loop_test, in_step, in_return, in_case, for_cast, for_sizeof, for_parameter, for_member, for_declaration, behind_star, in_group, of_cast, of_sizeof, of_parameter, of_member, of_item, in_list, of_value, in_file, in_block, then_branch, else_branch, while_body, switch_body, do_body, for_body, case_body, default_body, in_statements, in_definition, Doing, seek, operated, gave, calling, measuring, specifying, tagging, tagged, membering, enumerating, enumerated, entered, entering, gave_specifiers, declaring, qualifying, suffixing, sizing, parametering, gave_declarator, initialising, listing, gave_initialiser, itemed, gave_declaration, externals, declarations, statements, stating, opening, finishing, looping, starting, testing, stepping, returning, breaking, continuing, defaulting, gave_statement, State, state}
+use Rattle.dae_grammar.specs.Frames.{Body, MemberLine, Entry, Open, Parameter, Head, Loop, Inside, do_head, Frame, in_parentheses, in_index, in_arguments, behind_prefix, behind_sizeof, behind_cast, behind_binary, behind_question, behind_colon, behind_assignment, behind_comma, in_size, in_enumerator, in_value, in_test, in_loop_test, in_step, in_case, for_cast, for_sizeof, for_parameter, for_member, behind_star, in_group, of_cast, of_sizeof, of_parameter, of_member, of_item, in_list, of_value, in_file, in_block, then_branch, else_branch, while_body, switch_body, for_body, case_body, in_statements, in_definition, Doing, seek, operated, gave, calling, measuring, specifying, tagging, tagged, membering, enumerating, enumerated, entered, entering, gave_specifiers, declaring, qualifying, suffixing, sizing, parametering, gave_declarator, listing, gave_initialiser, itemed, gave_declaration, externals, declarations, statements, opening, finishing, testing, stepping, gave_statement, State, state}
 use Rattle.dae_grammar.specs.Machine.{begins_parameters}
 use Rattle.dae_grammar.specs.Starts.{IsNoElse}
 

@@ -1,5 +1,5 @@
 -- What may stand first where an expression, a declarator or what follows specifiers begins.
-use Rattle.std.specs.Prelude.{◌≡◌, ℕ, false, List, [], ◌∷◌}
+use Rattle.std.specs.Prelude.{◌≡◌, false, List, ◌∷◌}
 use Rattle.dae_token.specs.declared.words.Keyword.{Keyword}
 use Rattle.dae_token.specs.declared.words.Keyword.TheVariants as keywords
 use Rattle.dae_token.specs.declared.signs.Sign.{Sign}

@@ -1,10 +1,10 @@
 -- The tokens that a state of the machine has taken, before the tokens that are left.
-use Rattle.std.specs.Prelude.{ℕ, Bool, true, false, List, [], ◌∷◌, Option, Some, None}
+use Rattle.std.specs.Prelude.{Bool, true, false, List, [], ◌∷◌, Option, Some, None}
 use Rattle.dae_base.specs.declared.Place.{Place}
 use Rattle.dae_token.specs.declared.words.Keyword.{Keyword}
 use Rattle.dae_token.specs.declared.words.Keyword.TheVariants as keywords
 use Rattle.dae_token.specs.declared.signs.Sign.TheVariants as signs
-use Rattle.dae_syntax.specs.Marks.{Mark, word, sign, name, part, close_paren, close_bracket, close_brace, comma, colon, else_word}
+use Rattle.dae_syntax.specs.Marks.{Mark, word, sign, name, part, close_paren, comma, colon, else_word}
 use Rattle.dae_syntax.specs.Operators.{binary_sign, assignment_sign, prefix_sign}
 use Rattle.dae_syntax.specs.Spelling.{spell, spell_specifiers, spell_specifier, spell_declarators, spell_declarator, spell_qualifiers, spell_tag}
 use Rattle.dae_syntax.specs.Statements.{spell_initialiser, spell_item, spell_declaration, spell_optional, spell_test, spell_statement, spell_external}
