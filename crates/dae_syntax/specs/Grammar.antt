@@ -1,6 +1,6 @@
 -- The grammar: which trees are of it, where the tokens are those that a tree spells. Each part is read with the names that
 -- are in scope where it stands (C90 6.3, 6.5).
-use Rattle.std.specs.Prelude.{◌≡◌, ℕ, ◌≤◌, Bool, true, false, Option, Some, None}
+use Rattle.std.specs.Prelude.{◌≡◌, ℕ, ◌≤◌, true, false, Option, Some, None}
 use Rattle.dae_base.specs.declared.Place.{Place}
 use Rattle.dae_token.specs.declared.words.Keyword.TheVariants as keywords
 use Rattle.dae_syntax.specs.declared.expressions.Name.{Name}
