@@ -7,3 +7,5 @@ pub mod Spelling
 pub mod Grammar
 pub mod Statements
 pub mod Depth
+pub mod Views
+pub mod FileViews
