@@ -1,0 +1,12 @@
+pub mod Steps
+pub mod Fronts
+pub mod Declarators
+pub mod Complete
+pub mod Statements
+pub mod Blocks
+pub mod Tokens
+pub mod Lists
+pub mod Sound
+pub mod SoundDeclarators
+pub mod SoundStatements
+pub mod Runs

@@ -1,0 +1,64 @@
+-- What may stand first where an expression, a declarator or what follows specifiers begins.
+use Rattle.std.specs.Prelude.{◌≡◌, false, List, ◌∷◌}
+use Rattle.dae_token.specs.declared.words.Keyword.{Keyword}
+use Rattle.dae_token.specs.declared.words.Keyword.TheVariants as keywords
+use Rattle.dae_token.specs.declared.signs.Sign.{Sign}
+use Rattle.dae_token.specs.declared.signs.Sign.TheVariants as signs
+use Rattle.dae_syntax.specs.Marks.{Mark, word, sign, name, constant, literal, part, else_word}
+use Rattle.dae_syntax.specs.Names.{Names, is_type}
+
+abbrev pub IsStartSign : Sign → Type 0
+IsStartSign signs.LeftParen = Unit {0}
+IsStartSign signs.Increment = Unit {0}
+IsStartSign signs.Decrement = Unit {0}
+IsStartSign signs.And = Unit {0}
+IsStartSign signs.Times = Unit {0}
+IsStartSign signs.Plus = Unit {0}
+IsStartSign signs.Minus = Unit {0}
+IsStartSign signs.Tilde = Unit {0}
+IsStartSign signs.Not = Unit {0}
+IsStartSign _ = ⊥
+
+abbrev pub IsStartWord : Keyword → Type 0
+IsStartWord keywords.Sizeof = Unit {0}
+IsStartWord _ = ⊥
+
+-- the first token of an expression
+abbrev pub Starts : Names → List Mark → Type 0
+Starts names (name n ∷ ts) = is_type names n.number ≡ false
+Starts names (constant p c ∷ ts) = Unit {0}
+Starts names (literal p n ∷ ts) = Unit {0}
+Starts names (sign g p ∷ ts) = IsStartSign g
+Starts names (word k p ∷ ts) = IsStartWord k
+Starts names _ = ⊥
+
+abbrev pub IsSignBehindSpecifiers : Sign → Type 0
+IsSignBehindSpecifiers signs.LeftBrace = ⊥
+IsSignBehindSpecifiers _ = Unit {0}
+
+-- what follows specifiers: a declarator, or what follows declarators where there is none
+abbrev pub FollowsSpecifiers : List Mark → Type 0
+FollowsSpecifiers (name n ∷ ts) = Unit {0}
+FollowsSpecifiers (part c ∷ ts) = Unit {0}
+FollowsSpecifiers (sign g p ∷ ts) = IsSignBehindSpecifiers g
+FollowsSpecifiers _ = ⊥
+
+abbrev pub IsSignBehindDeclarator : Sign → Type 0
+IsSignBehindDeclarator signs.Semicolon = Unit {0}
+IsSignBehindDeclarator signs.Assign = Unit {0}
+IsSignBehindDeclarator signs.LeftBrace = Unit {0}
+IsSignBehindDeclarator _ = ⊥
+
+-- what follows a declarator
+abbrev pub FollowsDeclarator : List Mark → Type 0
+FollowsDeclarator (part c ∷ ts) = Unit {0}
+FollowsDeclarator (sign g p ∷ ts) = IsSignBehindDeclarator g
+FollowsDeclarator _ = ⊥
+
+abbrev pub IsNoElse : List Mark → Type 0
+IsNoElse (part else_word ∷ ts) = ⊥
+IsNoElse _ = Unit {0}
+
+abbrev pub IsNoSemicolon : List Mark → Type 0
+IsNoSemicolon (sign signs.Semicolon p ∷ ts) = ⊥
+IsNoSemicolon _ = Unit {0}

@@ -1,0 +1,33 @@
+// The laws of the grammar. A machine with a stack reads the tokens of a file one by one. It comes to a tree exactly where
+// the grammar has one, and to no other tree. It takes: trees and the grammar. It promises: the laws below, for every list
+// of tokens. Nothing here runs; the code of the machine stands above.
+#![tactic(auto)]
+
+ghost use Rattle.std.specs.Prelude.{◌≡◌, ℕ, List, [], None};
+ghost use Rattle.dae_syntax.specs.Marks.{Mark};
+ghost use Rattle.dae_syntax.specs.Names.{Names};
+ghost use Rattle.dae_syntax.specs.Statements.{IsTreeOf};
+ghost use Rattle.dae_syntax.specs.Trees.{External};
+ghost use Rattle.dae_grammar.specs.Frames.{State};
+ghost use Rattle.dae_grammar.specs.Machine.{begun, ended, onto, step};
+ghost use Rattle.dae_grammar.specs.Runs.{run};
+
+/// Each tree of the grammar is read from the tokens that it spells.
+pub fn trees_are_read()
+    ensures { (tokens : List Mark) (file : List External) → IsTreeOf tokens file → (turns : ℕ) × (names : Names) × (run turns (begun tokens) ≡ ended (onto file []) names) }
+{}
+
+/// What is read to the end is a tree of the grammar that spells the tokens.
+pub fn what_is_read_is_a_tree()
+    ensures { (tokens : List Mark) (turns : ℕ) (before : List External) (names : Names) → run turns (begun tokens) ≡ ended before names → IsTreeOf tokens (onto before []) }
+{}
+
+/// Tokens have at most one tree.
+pub fn trees_are_unique()
+    ensures { (tokens : List Mark) (a b : List External) → IsTreeOf tokens a → IsTreeOf tokens b → a ≡ b }
+{}
+
+/// Where the machine stops on tokens that have a tree, it has read that tree to the end.
+pub fn stops_behind_a_tree()
+    ensures { (tokens : List Mark) (turns : ℕ) (s : State) → run turns (begun tokens) ≡ s → step s ≡ None → (file : List External) → IsTreeOf tokens file → (names : Names) × (s ≡ ended (onto file []) names) }
+{}

@@ -1,0 +1,11 @@
+pub mod Marks
+pub mod Operators
+pub mod Trees
+pub mod Names
+pub mod Words
+pub mod Spelling
+pub mod Grammar
+pub mod Statements
+pub mod Depth
+pub mod Views
+pub mod FileViews
