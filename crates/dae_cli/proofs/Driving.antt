@@ -1,6 +1,6 @@
 -- A machine on its way through the turns of a schedule, with all that it printed put out.
-use Rattle.std.proofs.Common.{rules, ◌≡◌, ℕ, zero, suc, ◌+◌, ◌-◌, ◌≤◌, List, [], ◌∷◌, ◌++◌, length, refl, ap, sym, ◌∙◌, subst, append_assoc, append-nil, inl, inr, arith}
-use Rattle.std.specs.Prelude.{◌≢◌, Option, Some, None, Result, Ok, Err, OnErr, option_map, option_and_then}
+use Rattle.std.proofs.Common.{◌≡◌, ℕ, zero, suc, ◌+◌, ◌-◌, ◌≤◌, List, [], ◌∷◌, ◌++◌, length, refl, ap, sym, ◌∙◌, subst, append-nil, inl, inr, arith}
+use Rattle.std.specs.Prelude.{◌≢◌, Option, Some, None, option_map, option_and_then}
 use Rattle.std.specs.Io.KnownBytes.{Appends}
 use Rattle.dae_io.specs.Taken.{AppendsPrefix}
 use Rattle.dae_io.proofs.Growth.{Appends-nothing, Appends-then}
@@ -9,7 +9,7 @@ use Rattle.dae_machine.specs.declared.Pick.{Pick}
 use Rattle.dae_machine.specs.declared.Pick.TheVariants.{A as MoveA, E as MoveE, Fill, Drain}
 use Rattle.dae_queues.proofs.MemoryLaws.{and_then_some, map_some_is}
 use Rattle.dae_machine.specs.Memory.{fill, drain}
-use Rattle.dae_machine.specs.Machine.{Setup, State, move, moved_a, moved_e, filled, drained, step, Runs, IsQuiet}
+use Rattle.dae_machine.specs.Machine.{Setup, State, move, moved_a, moved_e, filled, drained, step, IsQuiet}
 use Rattle.dae_machine.specs.Printing.{behind}
 use Rattle.dae_machine.specs.Runs.{run_by}
 use Rattle.dae_machine.specs.Schedules.{Standing, and_then_on, coming, scheduled, turned}
@@ -21,7 +21,7 @@ use Rattle.dae_machine.specs.declared.Turn.TheVariants as turn
 use Rattle.dae_machine.proofs.Printing.{final_behind, pick_behind, quiet_behind, step_behind, stuck_behind}
 use Rattle.dae_cli.specs.declared.drive.Driven.{Driven}
 use Rattle.dae_cli.specs.declared.drive.Driven.TheVariants.{Final, Stuck, Spent, SinkFailed}
-use Rattle.dae_cli.specs.Driving.{DrivesOn, Drives, Rested, StandsLater, StopsAt, Turns, unprinted, is_failed}
+use Rattle.dae_cli.specs.Driving.{DrivesOn, Drives, Rested, StandsLater, StopsAt, Turns, unprinted}
 
 -- so many turns were made, each of them a step
 pub record Made (setup : Setup) (s : State) (words : ℕ → ℕ) (turns : ℕ) (t : State) : Type 0 where

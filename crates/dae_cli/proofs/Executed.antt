@@ -1,7 +1,6 @@
 -- What a drive came to is due.
-use Rattle.std.proofs.Common.{rules, ◌≡◌, ◌⊎◌, inl, inr, ℕ, suc, ◌+◌, ◌-◌, ◌≤◌, List, [], ◌∷◌, ◌++◌, length, take, refl, ap, sym, ◌∙◌, subst, arith}
-use Rattle.std.specs.Prelude.{◌≢◌, Option, Some, None, Result, Ok, Err}
-use Rattle.std.specs.Io.KnownBytes.{Appends}
+use Rattle.std.proofs.Common.{◌≡◌, ◌⊎◌, inl, inr, ℕ, suc, ◌+◌, ◌-◌, List, [], length, take, refl, ap, sym, ◌∙◌, subst, arith}
+use Rattle.std.specs.Prelude.{◌≢◌, Option, Some, None, Err}
 use Rattle.dae_io.specs.Taken.{AppendsPrefix}
 use Rattle.dae_io.proofs.Growth.{AppendsPrefix-of_more, AppendsPrefix-then}
 use Rattle.dae_base.specs.declared.Queue.{Queue}
@@ -12,11 +11,9 @@ use Rattle.dae_image.specs.declared.fault.ImageError.TheVariants as errors
 use Rattle.dae_image.specs.Images.{contents}
 use Rattle.dae_image.specs.Reading.{Fails, image_at}
 use Rattle.dae_image.specs.Spelling.{Spells}
-use Rattle.dae_machine.specs.declared.Pick.{Pick}
-use Rattle.dae_machine.specs.Held.{is_plain}
 use Rattle.dae_machine.specs.Machine.{Setup, State, IsCounted}
 use Rattle.dae_machine.specs.Opened.{opened}
-use Rattle.dae_machine.specs.Schedules.{Standing, coming, scheduled, word_of}
+use Rattle.dae_machine.specs.Schedules.{Standing, coming, word_of}
 use Rattle.dae_cli.specs.declared.drive.Driven.{Driven}
 use Rattle.dae_cli.specs.declared.drive.Driven.TheVariants.{Final, Stuck, Spent, SinkFailed}
 use Rattle.dae_cli.specs.declared.options.RunOptions.{RunOptions}

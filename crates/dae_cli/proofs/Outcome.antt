@@ -1,5 +1,5 @@
 -- How the turns of a schedule come out: they always lead somewhere, and there a machine is final or stuck, or can go on.
-use Rattle.std.proofs.Common.{rules, ◌≡◌, ◌⊎◌, ℕ, zero, suc, ◌+◌, Bool, true, false, List, [], ◌∷◌, ◌++◌, length, refl, ap, sym, ◌∙◌, subst, inl, inr, arith}
+use Rattle.std.proofs.Common.{◌≡◌, ◌⊎◌, ℕ, zero, suc, ◌+◌, Bool, true, false, List, [], ◌∷◌, length, refl, ap, sym, ◌∙◌, subst, inl, inr, arith}
 use Rattle.std.specs.Prelude.{Option, Some, None, is_some, option_and_then}
 use Rattle.dae_encode.specs.declared.Halt.{Halt}
 use Rattle.dae_encode.specs.declared.Halt.TheVariants.{Plain, Status, Trap}
@@ -11,7 +11,7 @@ use Rattle.dae_machine.specs.Held.{is_plain}
 use Rattle.dae_machine.specs.Ends.{IsPrefixOf}
 use Rattle.dae_machine.specs.Machine.{Setup, State, step, Runs, IsCounted, IsFinal, IsQuiet}
 use Rattle.dae_machine.specs.Runs.{run_by}
-use Rattle.dae_machine.specs.Schedules.{and_then_on, scheduled, turned}
+use Rattle.dae_machine.specs.Schedules.{scheduled, turned}
 use Rattle.dae_machine.specs.Turns.{pick_of}
 use Rattle.dae_machine.proofs.Diamond.{counted_step}
 use Rattle.dae_machine.proofs.Ends.{run_prints}

@@ -1,5 +1,5 @@
 -- What a job answers, puts out and notes, and why.
-use Rattle.std.specs.Prelude.{◌≡◌, ◌≢◌, ℕ, ◌⊎◌, List, [], ◌++◌, length, take, Option, Some, None, IfSome, Err}
+use Rattle.std.specs.Prelude.{◌≡◌, ◌≢◌, ℕ, List, [], ◌++◌, length, take, Option, Some, None, IfSome, Err}
 use Rattle.std.specs.Io.KnownBytes.{Appends}
 use Rattle.dae_io.specs.Taken.{AppendsPrefix}
 use Rattle.dae_base.specs.declared.Queue.{Queue}

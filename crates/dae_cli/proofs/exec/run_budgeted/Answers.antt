@@ -1,6 +1,5 @@
 use Rattle.std.proofs.Common.{rules, ◌≡◌, inr, subst}
 use Rattle.dae_machine.specs.declared.OpenError.{OpenError}
-use Rattle.dae_machine.specs.declared.OpenError.TheVariants.{DepthBelow, Memory}
 use Rattle.dae_machine.specs.Answers.{Refuses}
 use Rattle.dae_base.specs.Budgets.{depth}
 use Rattle.dae_cli.specs.Notes.{depth_line}

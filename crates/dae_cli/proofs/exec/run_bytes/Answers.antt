@@ -1,4 +1,4 @@
-use Rattle.std.proofs.Common.{inr, take_all}
+use Rattle.std.proofs.Common.{take_all}
 use Rattle.dae_cli.specs.Answers.{due_image}
 use Rattle.dae_cli.proofs.Given.{rose_right}
 use Rattle.dae_cli.proofs.Executed.{refused_due}

@@ -1,4 +1,4 @@
-use Rattle.std.proofs.Common.{rules, ◌≡◌, inl, inr, refl, [], subst}
+use Rattle.std.proofs.Common.{rules, ◌≡◌, inl, inr, refl}
 use Rattle.dae_io.proofs.Growth.{AppendsPrefix-of_more}
 use Rattle.dae_cli.specs.Notes.{budget_line}
 use Rattle.dae_cli.specs.Answers.{due_budget, due_memory_for_lines, gives_part}
