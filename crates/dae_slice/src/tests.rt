@@ -1,15 +1,31 @@
+ghost use Rattle.std.specs.Prelude.{◌≡◌};
+
 use super::*;
-use dae_base::{Items, Place};
-use dae_ir::{Item, Operand, Statement, Value};
+use dae_base::Side;
+use dae_ir::{Class, Operand, Relation, Test};
+
+fn equal(left: Operand, right: Operand) -> Test
+    ensures same { result.left ≡ left }
+    ensures other { result.right ≡ right }
+{
+    Test {
+        relation: Relation::Equal,
+        left,
+        right,
+    }
+}
 
 #[test]
-fn nothing(rt: HostRuntime) {
-    let place = Place {
-        file: 0,
-        line: 1,
-        col: 1,
-    };
-    let item = Item::Assign(1, Value::Same(Operand::Number(0)));
-    let _statement = Statement::Simple(place, item);
-    assert!(rt; true);
+fn conditions_are_decided(rt: HostRuntime) {
+    let classes = [
+        Class { a: false, e: true },
+        Class { a: true, e: false },
+        Class { a: true, e: true },
+    ];
+    let first = equal(Operand::Variable(1), Operand::Variable(2));
+    assert!(rt; decider(&first, &classes) == Side::A);
+    let second = equal(Operand::Variable(1), Operand::Variable(0));
+    assert!(rt; decider(&second, &classes) == Side::E);
+    let third = equal(Operand::Number(1), Operand::Number(0));
+    assert!(rt; decider(&third, &classes) == Side::A);
 }

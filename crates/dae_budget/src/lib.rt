@@ -1,0 +1,13 @@
+// How many items each queue of the decoupled machine must hold for a pair of streams. It takes the pair and gives seven
+// numbers: the most loads for E and the most copies of one group, and 1 for each other queue that is used at all. It
+// takes no memory and doesn't fail.
+#![tactic(auto)]
+
+pub use depths::budget;
+
+mod depths;
+mod kinds;
+mod tally;
+#[cfg(test)]
+mod tests;
+mod uses;
