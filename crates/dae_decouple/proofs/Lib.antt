@@ -1,0 +1,4 @@
+pub mod Rest
+pub mod Nested
+pub mod Ordered
+pub mod Groups

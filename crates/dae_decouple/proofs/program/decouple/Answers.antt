@@ -1,0 +1,31 @@
+use Rattle.std.proofs.Common.{◌<◌, arith}
+use Rattle.dae_pair.proofs.Cover.{budget_covers}
+use Rattle.dae_pair.proofs.Programs.{program_kept}
+use Rattle.dae_pair.proofs.SmallBudget.{budget_is_small}
+use Rattle.dae_decouple.proofs.Groups.{small_groups}
+use Rattle.dae_decouple.proofs.program.decouple.Goals as goal
+
+pub budget-budget-requires : goal.budget-budget-requires
+budget-budget-requires c =
+    let pair = rw c.as_slice.ensures at c.in_ok-pair.ensures in
+    small_groups c.args.ir.now c.in_ok-tables.tables c.args.cap c.in_ok-pair.pair (omega (arith, c.requires.some)) c.requires.few pair
+
+pub returns : goal.returns
+returns c =
+    let ir = c.args.ir.now in
+    let cap = c.args.cap in
+    let tables = c.in_ok-tables.tables in
+    let made = c.in_ok-pair.pair in
+    let pair = rw c.as_slice.ensures at c.in_ok-pair.ensures in
+    let some : 0 < cap = omega (arith, c.requires.some) in
+    let due = c.budget-budget.ensures in
+    let budget = c.budget-budget.result in
+    record {
+      tables = tables;
+      classes = c.in_ok-tables.ensures.least;
+      pair = pair;
+      budget = due;
+      small = budget_is_small ir tables cap made budget some pair due;
+      covers = budget_covers ir tables cap made budget pair due;
+      same = program_kept ir tables c.in_ok-tables.ensures.least cap;
+    }
