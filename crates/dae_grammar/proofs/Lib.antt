@@ -10,3 +10,5 @@ pub mod Sound
 pub mod SoundDeclarators
 pub mod SoundStatements
 pub mod Runs
+pub mod Falls
+pub mod FirstPlaces
