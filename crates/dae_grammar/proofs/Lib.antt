@@ -12,3 +12,5 @@ pub mod SoundStatements
 pub mod Runs
 pub mod Falls
 pub mod FirstPlaces
+pub mod Lengths
+pub mod Examples

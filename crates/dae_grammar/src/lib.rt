@@ -7,7 +7,7 @@ ghost use Rattle.std.specs.Prelude.{◌≡◌, ℕ, ◌+◌, ◌*◌, ◌<◌, �
 ghost use Rattle.dae_syntax.specs.Depth.{first_deeper, nodes_file};
 ghost use Rattle.dae_syntax.specs.Marks.{Mark};
 ghost use Rattle.dae_syntax.specs.Names.{Names};
-ghost use Rattle.dae_syntax.specs.Statements.{IsTreeOf};
+ghost use Rattle.dae_syntax.specs.Statements.{IsTreeOf, spell_external};
 ghost use Rattle.dae_syntax.specs.Trees.{External};
 ghost use Rattle.dae_grammar.specs.FirstPlaces.{firsts_file};
 ghost use Rattle.dae_grammar.specs.Frames.{State};
@@ -44,4 +44,9 @@ pub fn runs_are_short()
 /// The first node deeper than a limit is the first at the depth behind it. The depth of what stands at file scope is 1.
 pub fn too_deep_is_one_past_the_limit()
     ensures { (file : List External) (limit : ℕ) → first_deeper limit (nodes_file file) ≡ firsts_file file limit }
+{}
+
+/// A declaration or definition spells as many tokens before others as alone.
+pub fn lengths_add()
+    ensures { (x : External) (rest : List Mark) → length (spell_external x rest) ≡ length (spell_external x []) + length rest }
 {}
