@@ -5,14 +5,17 @@ use Rattle.std.proofs.lemmas.Bool.Decides.{nat_tests}
 use Rattle.std.proofs.lemmas.Bool.{cases_eq, cases_lt, cases_order}
 use Rattle.dae_ir.specs.Code.{Done, Do, If, Loop}
 use Rattle.dae_ir.specs.Streams.{Actions, actions_of}
-use Rattle.dae_ir.specs.Budgets.{in_group, AllInside, AnyInside, AllLists, AnyList, IsLargest}
+use Rattle.dae_ir.specs.Budgets.{in_group, AllInside, AnyInside, AllLists, AnyList, IsLargest, IsBudgetOf, stands, is_load_for_e, is_copy, is_own_load, is_address, is_datum, is_message, is_told, never}
 use Rattle.dae_ir.specs.declared.stream.Action.{Action}
 use Rattle.dae_ir.specs.declared.stream.Mark.{Mark}
 use Rattle.dae_ir.specs.declared.stream.Branch.{Branch}
 use Rattle.dae_ir.specs.declared.stream.StreamFunction.{StreamFunction}
 use Rattle.dae_budget.specs.Kinds.{is_counted}
-use Rattle.dae_budget.specs.Tallies.{IsOrdered, IsSmall, one, most, most_of_all}
+use Rattle.dae_budget.specs.Tallies.{IsOrdered, IsSmall, HasSmallGroups, one, most, most_of_all}
 use Rattle.dae_budget.specs.declared.kinds.Counted.{Counted}
+use Rattle.dae_budget.specs.declared.kinds.Counted.TheVariants.{Loads, Copies}
+use Rattle.dae_ir.specs.declared.stream.Pair.{Pair}
+use Rattle.dae_base.specs.declared.Depths.{Depths}
 
 here : (b : Bool) (x y : ℕ) → x ≡ y → (if b && nat_eq x y then 1 else 0) ≡ one b
 here true x y e = grind (arith, nat_tests)
@@ -275,3 +278,40 @@ module _ (kind : Counted) where
       by_met : (m ≡ 0) ⊎ AnyList (Has m) functions → m < 2 ^ 16
       by_met (inl z) = omega arith
       by_met (inr a) = few functions m s a
+
+-- ---- a budget whose numbers are small says that all groups are
+
+inside_weaker : (P Q : Actions → Type 0) → ((code : Actions) → P code → Q code) → (code : Actions) → AllInside P code → AllInside Q code
+inside_weaker P Q f Done h = tt
+inside_weaker P Q f (Do mark x k) h = inside_weaker P Q f k h
+inside_weaker P Q f (If mark b p q k) h = ((f p h.0.0, inside_weaker P Q f p h.0.1), (f q h.1.0, inside_weaker P Q f q h.1.1), inside_weaker P Q f k h.2)
+inside_weaker P Q f (Loop mark p q k) h = ((f p h.0.0, inside_weaker P Q f p h.0.1), (f q h.1.0, inside_weaker P Q f q h.1.1), inside_weaker P Q f k h.2)
+
+lists_weaker : (P Q : Actions → Type 0) → ((code : Actions) → P code → Q code) → (functions : List StreamFunction) → AllLists P functions → AllLists Q functions
+lists_weaker P Q f [] h = tt
+lists_weaker P Q f (g ∷ gs) h = ((f (actions_of g.body) h.0.0, inside_weaker P Q f (actions_of g.body) h.0.1), lists_weaker P Q f gs h.1)
+
+pub small_by : (f : Action → Bool) (functions : List StreamFunction) (m : ℕ) → m < 2 ^ 16 → IsLargest f m functions → AllLists (IsSmall f) functions
+small_by f functions m lt h = lists_weaker (λ code. (g : ℕ) → in_group f g code ≤ m) (IsSmall f) (λ code k g. let a = k g in omega arith) functions h.bound
+
+pub small_groups : (pair : Pair) → AllLists (IsOrdered 0) pair.a.functions → ((b : Depths) → IsBudgetOf pair b → (b.ld < 2 ^ 16) × (b.cq < 2 ^ 16)) → HasSmallGroups pair
+small_groups pair o small =
+    let a = pair.a.functions in
+    let e = pair.e.functions in
+    let b : Depths = record {
+      ld = most_of_all Loads a;
+      al = stands is_own_load never a;
+      sa = stands is_address never a;
+      sd = stands is_datum never e;
+      ab = stands is_message is_told a;
+      eb = stands is_message is_told e;
+      cq = most_of_all Copies a;
+    } in
+    let loads = largest Loads a (most_of_all Loads a) o refl in
+    let copies = largest Copies a (most_of_all Copies a) o refl in
+    let s = small b (record { ld = loads; al = refl; sa = refl; sd = refl; ab = refl; eb = refl; cq = copies }) in
+    record {
+      ordered = o;
+      loads = small_by is_load_for_e a (most_of_all Loads a) s.0 loads;
+      copies = small_by is_copy a (most_of_all Copies a) s.1 copies;
+    }

@@ -1,3 +1,4 @@
 pub mod Rows
 pub mod Totals
 pub mod Found
+pub mod Ordered

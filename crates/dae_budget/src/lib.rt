@@ -4,9 +4,11 @@
 #![tactic(auto)]
 
 pub use depths::budget;
+pub use laws::groups_are_small;
 
 mod depths;
 mod kinds;
+mod laws;
 mod tally;
 #[cfg(test)]
 mod tests;

@@ -10,3 +10,7 @@ pub mod Sound
 pub mod SoundDeclarators
 pub mod SoundStatements
 pub mod Runs
+pub mod Falls
+pub mod FirstPlaces
+pub mod Lengths
+pub mod Examples

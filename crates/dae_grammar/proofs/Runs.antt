@@ -1,11 +1,13 @@
 -- Runs of the machine: they come to each tree of the grammar, and to nothing else.
-use Rattle.std.proofs.Common.{◌≡◌, ℕ, zero, suc, List, [], Option, Some, None, refl, sym, ap, subst, ◌∙◌}
+use Rattle.std.proofs.Common.{◌≡◌, ℕ, zero, suc, ◌+◌, ◌*◌, ◌≤◌, ◌<◌, List, [], length, Option, Some, None, refl, sym, ap, subst, ◌∙◌, arith}
 use Rattle.dae_syntax.specs.Marks.{Mark}
 use Rattle.dae_syntax.specs.Names.{Names}
 use Rattle.dae_syntax.specs.Statements.{IsTreeOf, spell_file}
 use Rattle.dae_syntax.specs.Trees.{External}
 use Rattle.dae_grammar.specs.Frames.{State, state, externals}
 use Rattle.dae_grammar.specs.Machine.{step, begun, ended, onto}
+use Rattle.dae_grammar.specs.Measure.{measure}
+use Rattle.dae_grammar.proofs.Falls.{Falls, falls}
 use Rattle.dae_grammar.specs.Runs.{On, IsBackward, run}
 use Rattle.dae_grammar.specs.Taken.{tokens_of}
 use Rattle.dae_grammar.specs.Standing.{Holds}
@@ -100,3 +102,26 @@ pub stopped : (tokens : List Mark) (turns : ℕ) (s : State) → run turns (begu
 stopped tokens turns s e h file i =
     let p = complete tokens file i in
     (p.1, same_end turns p.0 (begun tokens) s (ended (onto file []) p.1) e p.2 h refl)
+
+-- ---- a run is no longer than the tokens allow
+
+falls_by : (m : ℕ) (r : Option State) (t : State) → r ≡ Some t → Falls m r → measure t < m
+falls_by m r t e h = subst (λ (q : Option State). Falls m q) e h
+
+pub step_falls : (s t : State) → step s ≡ Some t → measure t < measure s
+step_falls (state d s names ts) t e = falls_by (measure (state d s names ts)) (step (state d s names ts)) t e (falls d s names ts)
+
+pub stops : (turns : ℕ) (s : State) → measure s ≤ turns → step (run turns s) ≡ None
+stops zero s h = go (step s) refl
+  where
+    go : (r : Option State) → step s ≡ r → r ≡ None
+    go None e = refl
+    go (Some t) e = absurd (omega (arith, step_falls s t e))
+stops (suc turns) s h = go (λ t k. stops turns t k) (step s) refl
+  where
+    go : ((t : State) → measure t ≤ turns → step (run turns t) ≡ None) → (r : Option State) → step s ≡ r → step (elim r [ None ↦ s | Some t ↦ run turns t ]) ≡ None
+    go f None e = e
+    go f (Some t) e = f t (omega (arith, step_falls s t e))
+
+pub bounded : (tokens : List Mark) (turns : ℕ) → 12 * length tokens + 9 ≤ turns → step (run turns (begun tokens)) ≡ None
+bounded tokens turns h = stops turns (begun tokens) (omega arith)

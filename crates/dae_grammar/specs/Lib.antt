@@ -6,3 +6,5 @@ pub mod Starts
 pub mod Reads
 pub mod Taken
 pub mod Standing
+pub mod Measure
+pub mod FirstPlaces

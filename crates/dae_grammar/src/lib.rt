@@ -3,13 +3,16 @@
 // of tokens. Nothing here runs; the code of the machine stands above.
 #![tactic(auto)]
 
-ghost use Rattle.std.specs.Prelude.{◌≡◌, ℕ, List, [], None};
+ghost use Rattle.std.specs.Prelude.{◌≡◌, ℕ, ◌+◌, ◌*◌, ◌<◌, ◌≤◌, List, [], Some, None, length};
+ghost use Rattle.dae_syntax.specs.Depth.{first_deeper, nodes_file};
 ghost use Rattle.dae_syntax.specs.Marks.{Mark};
 ghost use Rattle.dae_syntax.specs.Names.{Names};
-ghost use Rattle.dae_syntax.specs.Statements.{IsTreeOf};
+ghost use Rattle.dae_syntax.specs.Statements.{IsTreeOf, spell_external};
 ghost use Rattle.dae_syntax.specs.Trees.{External};
+ghost use Rattle.dae_grammar.specs.FirstPlaces.{firsts_file};
 ghost use Rattle.dae_grammar.specs.Frames.{State};
 ghost use Rattle.dae_grammar.specs.Machine.{begun, ended, onto, step};
+ghost use Rattle.dae_grammar.specs.Measure.{measure};
 ghost use Rattle.dae_grammar.specs.Runs.{run};
 
 /// Each tree of the grammar is read from the tokens that it spells.
@@ -30,4 +33,20 @@ pub fn trees_are_unique()
 /// Where the machine stops on tokens that have a tree, it has read that tree to the end.
 pub fn stops_behind_a_tree()
     ensures { (tokens : List Mark) (turns : ℕ) (s : State) → run turns (begun tokens) ≡ s → step s ≡ None → (file : List External) → IsTreeOf tokens file → (names : Names) × (s ≡ ended (onto file []) names) }
+{}
+
+/// Each step lowers a number, so that the machine stops within twelve steps a token and nine.
+pub fn runs_are_short()
+    ensures falls { (s t : State) → step s ≡ Some t → measure t < measure s }
+    ensures stops { (tokens : List Mark) (turns : ℕ) → 12 * length tokens + 9 ≤ turns → step (run turns (begun tokens)) ≡ None }
+{}
+
+/// The first node deeper than a limit is the first at the depth behind it. The depth of what stands at file scope is 1.
+pub fn too_deep_is_one_past_the_limit()
+    ensures { (file : List External) (limit : ℕ) → first_deeper limit (nodes_file file) ≡ firsts_file file limit }
+{}
+
+/// A declaration or definition spells as many tokens before others as alone.
+pub fn lengths_add()
+    ensures { (x : External) (rest : List Mark) → length (spell_external x rest) ≡ length (spell_external x []) + length rest }
 {}

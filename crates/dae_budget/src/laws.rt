@@ -1,0 +1,8 @@
+ghost use Rattle.dae_budget.specs.Laws.{PairsAreOrdered, SmallBudgetsSmallGroups};
+
+/// The groups of a form's pair come in order. Where they do, and each budget of a pair has small numbers, its groups are
+/// as `budget` asks.
+pub fn groups_are_small()
+    ensures ordered { PairsAreOrdered }
+    ensures small { SmallBudgetsSmallGroups }
+{}
