@@ -1,4 +1,2 @@
 pub mod Rest
 pub mod Nested
-pub mod Ordered
-pub mod Groups

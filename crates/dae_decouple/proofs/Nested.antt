@@ -45,7 +45,7 @@ module _ (I : Item → Type 0) (J : Test → Type 0) where
 
 -- ---- tests of two things, one after the other
 
--- a statement W is in scope where X and Y are; r is the test of Y, made where X holds
+-- W is X and Y, and Y is tested where X holds
 module _ (W X Y : Type 0) (parts : W ↔ (X × Y)) where
   pub both_tested : (a b : Bool) → IsTrue a ↔ X → a ≡ true → IsTrue b ↔ Y → IsTrue b ↔ W
   both_tested a b x e y = (λ t. parts.1 (x.0 e, y.0 t), λ w. y.1 (parts.0 w).1)

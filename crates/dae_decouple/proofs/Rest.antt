@@ -1,9 +1,8 @@
 -- A test of a list that goes on as long as each item passes.
-use Rattle.std.proofs.Common.{◌≡◌, ◌↔◌, ℕ, ◌+◌, ◌<◌, ◌≤◌, Bool, true, false, List, length, drop, get_or}
+use Rattle.std.proofs.Common.{◌≡◌, ◌↔◌, ℕ, ◌+◌, ◌<◌, Bool, true, false, List, length, drop, get_or}
 use Rattle.std.specs.Prelude.{IsTrue}
 use Rattle.std.specs.List.{AllByRecursion}
 use Rattle.std.proofs.lemmas.Bool.{iff_false}
-use Rattle.std.proofs.lemmas.List.{drop_all}
 use Rattle.dae_ir.specs.Code.{Each, Done}
 use Rattle.dae_ir.specs.Form.{before, form_of}
 use Rattle.dae_ir.specs.declared.form.Item.{Item}
@@ -20,21 +19,12 @@ module _ (W R X S : Type 0) (next : R ↔ (X × S)) (so_far : R ↔ W) (b : Bool
   pub gives_up : b ≡ false → IsTrue false ↔ W
   gives_up e = (λ t. absurd (let f : false ≡ true = t in cc), λ w. absurd (iff_false test e (next.0 (so_far.1 w)).0))
 
-pub ends : (W R : Type 0) → R → R ↔ W → IsTrue true ↔ W
-ends W R r so_far = (λ t. so_far.0 r, λ w. let e : true ≡ true = cc in e)
-
 -- ---- what is still to be tested
 
 pub all_next : {A : Type 0} (P : A → Type 0) (xs : List A) (i : ℕ) (x : A) → i < length xs → x ≡ get_or xs i x
     → AllByRecursion P (drop i xs) ↔ (P x × AllByRecursion P (drop (i + 1) xs))
 all_next P xs i x lt is = rw (drop_at xs i x lt is) (λ h. h, λ h. h)
 
-pub all_none : {A : Type 0} (P : A → Type 0) (xs : List A) (i : ℕ) → length xs ≤ i → AllByRecursion P (drop i xs)
-all_none P xs i le = rw (drop_all i xs le) tt
-
 pub each_next : (I : Item → Type 0) (J : Test → Type 0) (ss : List Statement) (i : ℕ) (s : Statement) → i < length ss → s ≡ get_or ss i s
     → Each I J (form_of (drop i ss)) ↔ (Each I J (before s Done) × Each I J (form_of (drop (i + 1) ss)))
 each_next I J ss i s lt is = rw (drop_at ss i s lt is) (each_before I J s (form_of (drop (i + 1) ss)))
-
-pub each_none : (I : Item → Type 0) (J : Test → Type 0) (ss : List Statement) (i : ℕ) → length ss ≤ i → Each I J (form_of (drop i ss))
-each_none I J ss i le = rw (drop_all i ss le) tt

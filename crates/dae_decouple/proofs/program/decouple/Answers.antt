@@ -2,13 +2,21 @@ use Rattle.std.proofs.Common.{◌<◌, arith}
 use Rattle.dae_pair.proofs.Cover.{budget_covers}
 use Rattle.dae_pair.proofs.Programs.{program_kept}
 use Rattle.dae_pair.proofs.SmallBudget.{budget_is_small}
-use Rattle.dae_decouple.proofs.Groups.{small_groups}
+use Rattle.dae_budget.proofs.Found.{small_groups}
+use Rattle.dae_budget.proofs.Ordered.{pair_ordered}
 use Rattle.dae_decouple.proofs.program.decouple.Goals as goal
 
 pub budget-budget-requires : goal.budget-budget-requires
 budget-budget-requires c =
+    let ir = c.args.ir.now in
+    let cap = c.args.cap in
+    let tables = c.in_ok-tables.tables in
+    let made = c.in_ok-pair.pair in
     let pair = rw c.as_slice.ensures at c.in_ok-pair.ensures in
-    small_groups c.args.ir.now c.in_ok-tables.tables c.args.cap c.in_ok-pair.pair (omega (arith, c.requires.some)) c.requires.few pair
+    let some : 0 < cap = omega (arith, c.requires.some) in
+    let few = c.requires.few in
+    small_groups made (pair_ordered ir tables cap made pair)
+    (λ budget due. let small = budget_is_small ir tables cap made budget some pair due in let ld = small.ld in let cq = small.cq in (omega arith, omega arith))
 
 pub returns : goal.returns
 returns c =
