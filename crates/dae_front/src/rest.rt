@@ -1,6 +1,7 @@
-ghost use Rattle.std.specs.Prelude.{◌≡◌, ◌∷◌, length, IfSome};
-ghost use Rattle.dae_syntax.specs.Marks.{marks, mark};
-ghost use Rattle.dae_front.specs.Fronts.{Fronts};
+ghost use Rattle.std.specs.Prelude.{◌≡◌, ◌∷◌, List, length, IfSome};
+ghost use Rattle.dae_syntax.specs.Marks.{Mark, marks, mark, mark_of};
+ghost use Rattle.dae_base.specs.declared.Place.{Place};
+ghost use Rattle.dae_front.specs.Fronts.{Fronts, TookSign, TookWord, TookName, sign_at, word_at, name_at};
 
 use dae_base::Place;
 use dae_syntax::Name;
@@ -63,5 +64,112 @@ impl<'t> Rest<'t> {
         } else {
             None
         }
+    }
+
+    /// The sign that stands next.
+    pub fn sign(&self) -> Option<Sign>
+        ensures { result ≡ sign_at self.now }
+    {
+        match self.front() {
+            Some(token) => sign_in(token.kind),
+            None => None,
+        }
+    }
+
+    /// The keyword that stands next.
+    pub fn word(&self) -> Option<Keyword>
+        ensures { result ≡ word_at self.now }
+    {
+        match self.front() {
+            Some(token) => word_in(token.kind),
+            None => None,
+        }
+    }
+
+    /// The name that stands next.
+    pub fn name(&self) -> Option<Name>
+        ensures { result ≡ name_at self.now }
+    {
+        match self.front() {
+            Some(token) => name_in(token.kind, token.place),
+            None => None,
+        }
+    }
+
+    /// Takes this sign, if it stands next.
+    #[tactic(auto, using(crate::proofs::ByKind::sign_is))]
+    pub fn take_sign(&mut self, sign: Sign) -> Option<Place>
+        ensures { TookSign sign result self.old self.new }
+    {
+        if self.sign() != Some(sign) {
+            return None;
+        }
+        match self.advance() {
+            Some(token) => Some(token.place),
+            None => None,
+        }
+    }
+
+    /// Takes this keyword, if it stands next.
+    #[tactic(auto, using(crate::proofs::ByKind::word_is))]
+    pub fn take_word(&mut self, word: Keyword) -> Option<Place>
+        ensures { TookWord word result self.old self.new }
+    {
+        if self.word() != Some(word) {
+            return None;
+        }
+        match self.advance() {
+            Some(token) => Some(token.place),
+            None => None,
+        }
+    }
+
+    /// Takes a name, if one stands next.
+    #[tactic(auto, using(crate::proofs::ByKind::name_is))]
+    pub fn take_name(&mut self) -> Option<Name>
+        ensures { TookName result self.old self.new }
+    {
+        let name = self.name()?;
+        self.advance()?;
+        Some(name)
+    }
+}
+
+#[tactic(auto, using(crate::proofs::ByKind::sign_kept, crate::proofs::ByKind::no_sign))]
+fn sign_in(kind: Kind) -> Option<Sign>
+    ensures { (p : Place) (ts : List Mark) → sign_at (mark_of kind p ∷ ts) ≡ result }
+{
+    match kind {
+        Kind::Sign(sign) => Some(sign),
+        Kind::Keyword(_) => None,
+        Kind::Name(_) => None,
+        Kind::Constant(_) => None,
+        Kind::Literal(_) => None,
+    }
+}
+
+#[tactic(auto, using(crate::proofs::ByKind::word_kept, crate::proofs::ByKind::no_word))]
+fn word_in(kind: Kind) -> Option<Keyword>
+    ensures { (p : Place) (ts : List Mark) → word_at (mark_of kind p ∷ ts) ≡ result }
+{
+    match kind {
+        Kind::Sign(_) => None,
+        Kind::Keyword(word) => Some(word),
+        Kind::Name(_) => None,
+        Kind::Constant(_) => None,
+        Kind::Literal(_) => None,
+    }
+}
+
+#[tactic(auto, using(crate::proofs::ByKind::no_name_sign, crate::proofs::ByKind::no_name_word))]
+fn name_in(kind: Kind, place: Place) -> Option<Name>
+    ensures { (ts : List Mark) → name_at (mark_of kind place ∷ ts) ≡ result }
+{
+    match kind {
+        Kind::Sign(_) => None,
+        Kind::Keyword(_) => None,
+        Kind::Name(number) => Some(Name { place, number }),
+        Kind::Constant(_) => None,
+        Kind::Literal(_) => None,
     }
 }
