@@ -1,5 +1,5 @@
 -- Tables of names as lists.
-use Rattle.std.proofs.Common.{◌≡◌, ℕ, ◌+◌, ◌<◌, ◌≤◌, Bool, List, [], ◌∷◌, ◌++◌, map, length, take, drop, get_or, reverse, subst, refl, ap, sym, ◌∙◌, arith}
+use Rattle.std.proofs.Common.{◌≡◌, ℕ, ◌+◌, ◌<◌, ◌≤◌, List, [], ◌∷◌, ◌++◌, map, length, take, drop, get_or, reverse, subst, refl, ap, sym, ◌∙◌, arith}
 use Rattle.std.proofs.lemmas.List.{reverse-append, take-append-le, take-append-drop, take_more, length-take}
 use Rattle.dae_syntax.specs.Names.{Names, is_type}
 use Rattle.dae_front.specs.declared.scope.Binding.{Binding}

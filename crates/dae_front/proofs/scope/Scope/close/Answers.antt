@@ -1,4 +1,4 @@
-use Rattle.std.proofs.Common.{◌≡◌, ◌∷◌, [], ◌++◌, length, List, ℕ, subst}
+use Rattle.std.proofs.Common.{◌≡◌, ◌∷◌, [], ◌++◌, length, subst}
 use Rattle.dae_front.specs.Shown.{AreWithin}
 use Rattle.dae_front.proofs.Shown.{closed_shown}
 use Rattle.dae_front.proofs.scope.Scope.close.Goals as goal
