@@ -1,5 +1,5 @@
 -- What stands at the front, by a token's kind.
-use Rattle.std.proofs.Common.{◌≡◌, List, ◌∷◌, Some, None, refl, sym, ap, ◌∙◌}
+use Rattle.std.proofs.Common.{◌≡◌, Bool, false, List, [], ◌∷◌, Option, Some, None, refl, sym, ap, ◌∙◌}
 use Rattle.dae_base.specs.declared.Place.{Place}
 use Rattle.dae_token.specs.declared.words.Keyword.{Keyword}
 use Rattle.dae_token.specs.declared.words.Keyword.TheVariants as keywords
@@ -8,7 +8,9 @@ use Rattle.dae_token.specs.declared.signs.Sign.TheVariants as signs
 use Rattle.dae_token.specs.declared.tokens.Kind.{Kind}
 use Rattle.dae_token.specs.declared.tokens.Kind.TheVariants as kinds
 use Rattle.dae_syntax.specs.declared.expressions.Name.{Name}
-use Rattle.dae_syntax.specs.Marks.{Mark, name, mark_of, sign_mark, word_mark}
+use Rattle.dae_syntax.specs.Marks.{Mark, word, sign, name, constant, literal, part, close_paren, close_bracket, close_brace, comma, colon, else_word, mark_of, sign_mark, word_mark}
+use Rattle.dae_syntax.specs.Names.{Names, is_type}
+use Rattle.dae_syntax.specs.Words.{nothing_seen, admits, begins_specifiers}
 use Rattle.dae_front.specs.Fronts.{sign_at, word_at, name_at}
 
 pub sign_kept : (g : Sign) (p : Place) (ts : List Mark) → sign_at (sign_mark g p ∷ ts) ≡ Some g
@@ -70,3 +72,26 @@ name_is (kinds.Sign h) p ts n e = let q = no_name_sign h p ts in cc
 name_is (kinds.Keyword k) p ts n e = let q = no_name_word k p ts in cc
 name_is (kinds.Constant c) p ts n e = cc
 name_is (kinds.Literal m) p ts n e = cc
+
+abbrev by_name : Names → Option Name → Bool
+by_name names None = false
+by_name names (Some n) = is_type names n.number
+
+abbrev by_front : Names → Option Keyword → Option Name → Bool
+by_front names None o = by_name names o
+by_front names (Some k) o = admits nothing_seen k
+
+-- a token that only closes or parts begins no specifiers, nor does `else`
+pub begins_by : (names : Names) (ts : List Mark) → begins_specifiers names ts ≡ by_front names (word_at ts) (name_at ts)
+begins_by names [] = refl
+begins_by names (word k p ∷ ts) = refl
+begins_by names (sign g p ∷ ts) = refl
+begins_by names (name n ∷ ts) = refl
+begins_by names (constant p c ∷ ts) = refl
+begins_by names (literal p n ∷ ts) = refl
+begins_by names (part close_paren ∷ ts) = refl
+begins_by names (part close_bracket ∷ ts) = refl
+begins_by names (part close_brace ∷ ts) = refl
+begins_by names (part comma ∷ ts) = refl
+begins_by names (part colon ∷ ts) = refl
+begins_by names (part else_word ∷ ts) = refl

@@ -6,7 +6,7 @@
 
 pub use rest::Rest;
 pub use scope::{Binding, Scope};
-pub use words::Seen;
+pub use words::{Seen, begins_specifiers};
 
 mod rest;
 mod scope;

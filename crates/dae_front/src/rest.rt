@@ -1,7 +1,7 @@
 ghost use Rattle.std.specs.Prelude.{◌≡◌, ◌∷◌, List, length, IfSome};
 ghost use Rattle.dae_syntax.specs.Marks.{Mark, marks, mark, mark_of};
 ghost use Rattle.dae_base.specs.declared.Place.{Place};
-ghost use Rattle.dae_front.specs.Fronts.{Fronts, TookSign, TookWord, TookName, sign_at, word_at, name_at};
+ghost use Rattle.dae_front.specs.Fronts.{Fronts, behind, TookSign, TookWord, TookName, sign_at, word_at, name_at};
 
 use dae_base::Place;
 use dae_syntax::Name;
@@ -63,6 +63,23 @@ impl<'t> Rest<'t> {
             Some(token)
         } else {
             None
+        }
+    }
+
+    /// The tokens behind the next.
+    pub fn behind(&self) -> Rest<'t>
+        ensures { result ≡ behind self.now }
+    {
+        if self.at < self.tokens.len() {
+            Rest {
+                tokens: self.tokens,
+                at: self.at + 1,
+            }
+        } else {
+            Rest {
+                tokens: self.tokens,
+                at: self.at,
+            }
         }
     }
 

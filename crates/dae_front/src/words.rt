@@ -2,6 +2,8 @@ ghost use Rattle.std.specs.Prelude.{◌≡◌};
 ghost use Rattle.dae_syntax.specs.Words as words;
 ghost use Rattle.dae_front.specs.Seen.{seen_of};
 
+use crate::rest::Rest;
+use crate::scope::Scope;
 use dae_token::Keyword;
 
 /// What was read of specifiers: a storage class; signed or unsigned; char; short or long; int; a type that stands alone.
@@ -85,5 +87,19 @@ impl Seen {
         let mut seen = self;
         seen.whole = true;
         seen
+    }
+}
+
+/// Whether the next token begins specifiers, where these names are in scope.
+#[tactic(auto, using(crate::proofs::ByKind::begins_by))]
+pub fn begins_specifiers(names: &Scope, rest: &Rest<'_>) -> bool
+    ensures { result ≡ words.begins_specifiers names.now.names rest.now }
+{
+    if let Some(word) = rest.word() {
+        Seen::nothing().admits(word)
+    } else if let Some(name) = rest.name() {
+        names.is_type(name.number)
+    } else {
+        false
     }
 }
