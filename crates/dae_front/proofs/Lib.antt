@@ -1,0 +1,3 @@
+pub mod Shown
+pub mod ByKind
+pub mod Behind

@@ -1,0 +1,54 @@
+-- Tables of names as lists.
+use Rattle.std.proofs.Common.{◌≡◌, ℕ, ◌+◌, ◌<◌, ◌≤◌, List, [], ◌∷◌, ◌++◌, map, length, take, drop, get_or, reverse, subst, refl, ap, sym, ◌∙◌, arith}
+use Rattle.std.proofs.lemmas.List.{reverse-append, take-append-le, take-append-drop, take_more, length-take}
+use Rattle.dae_syntax.specs.Names.{Names, is_type}
+use Rattle.dae_front.specs.declared.scope.Binding.{Binding}
+use Rattle.dae_front.specs.Scopes.{Scopes, bound, closed}
+use Rattle.dae_front.specs.Shown.{pair_of, shown, cuts, shown_outside, Fall, AreWithin}
+
+pub shown_more : (bs : List Binding) (b : Binding) → shown (bs ++ b ∷ []) ≡ pair_of b ∷ shown bs
+shown_more bs b = ap (map pair_of) (reverse-append bs (b ∷ []))
+
+cuts_same : (bs cs : List Binding) (limit : ℕ) (ks : List ℕ) → ((k : ℕ) → k ≤ limit → take k bs ≡ take k cs) → Fall limit ks → cuts bs ks ≡ cuts cs ks
+cuts_same bs cs limit [] e h = refl
+cuts_same bs cs limit (k ∷ ks) e h =
+    rw (e k h.0) (ap (λ (ns : List Names). shown (take k cs) ∷ ns) (cuts_same bs cs k ks (λ j le. e j (omega (arith, h.0))) h.1))
+
+cuts_more : (bs : List Binding) (b : Binding) (limit : ℕ) (ks : List ℕ) → limit ≤ length bs → Fall limit ks → cuts (bs ++ b ∷ []) ks ≡ cuts bs ks
+cuts_more bs b limit ks le h = cuts_same (bs ++ b ∷ []) bs limit ks (λ k l. take-append-le k bs (b ∷ []) (omega arith)) h
+
+-- the first k of a list, cut at j, are its first j
+cut_twice : (k : ℕ) (bs : List Binding) (j : ℕ) → k ≤ length bs → j ≤ k → take j (take k bs) ≡ take j bs
+cut_twice k bs j le l =
+    let m : length (take k bs) ≡ k = omega (arith, length-take k bs) in
+    let e : take j (take k bs ++ drop k bs) ≡ take j (take k bs) = take-append-le j (take k bs) (drop k bs) (omega arith) in
+    sym e ∙ ap (take j) (take-append-drop k bs)
+
+pub fall_more : (limit more : ℕ) (ks : List ℕ) → limit ≤ more → Fall limit ks → Fall more ks
+fall_more limit more [] le h = tt
+fall_more limit more (k ∷ ks) le h = (omega (arith, h.0), h.1)
+
+scopes : Names → List Names → Scopes
+scopes names outside = record { names = names; outside = outside }
+
+pub bound_shown : (bs : List Binding) (b : Binding) (starts : List ℕ) → AreWithin (length bs) starts
+    → record { names = shown (bs ++ b ∷ []); outside = shown_outside (bs ++ b ∷ []) starts } ≡ bound b.name b.is_type (record { names = shown bs; outside = shown_outside bs starts })
+unfolding scopes
+bound_shown bs b starts h =
+    ap (λ (ns : Names). scopes ns (shown_outside (bs ++ b ∷ []) starts)) (shown_more bs b) ∙ ap (λ (os : List Names). scopes (pair_of b ∷ shown bs) os) (cuts_more bs b (length bs) (reverse starts) (omega arith) h)
+
+closed_at : (bs : List Binding) (k : ℕ) (ks js : List ℕ) → js ≡ k ∷ ks → Fall (length bs) js
+    → record { names = shown (take k bs); outside = cuts (take k bs) ks } ≡ closed (record { names = shown bs; outside = cuts bs js })
+unfolding scopes
+closed_at bs k ks js e h =
+    let g : Fall (length bs) (k ∷ ks) = subst (Fall (length bs)) e h in
+    rw e (ap (λ (os : List Names). scopes (shown (take k bs)) os) (cuts_same (take k bs) bs k ks (λ j le. cut_twice k bs j g.0 le) g.1))
+
+pub closed_shown : (bs : List Binding) (starts : List ℕ) (k : ℕ) → AreWithin (length bs) (starts ++ k ∷ [])
+    → record { names = shown (take k bs); outside = shown_outside (take k bs) starts } ≡ closed (record { names = shown bs; outside = shown_outside bs (starts ++ k ∷ []) })
+closed_shown bs starts k h = closed_at bs k (reverse starts) (reverse (starts ++ k ∷ [])) (reverse-append starts (k ∷ [])) h
+
+pub type_at : (bs : List Binding) (k : ℕ) (b : Binding) (n : ℕ) → k < length bs → b ≡ get_or bs k b → is_type (shown (take (k + 1) bs)) n ≡ is_type (pair_of b ∷ shown (take k bs)) n
+type_at bs k b n lt e =
+    let t : take (k + 1) bs ≡ take k bs ++ b ∷ [] = take_more bs k b lt ∙ ap (λ (c : Binding). take k bs ++ c ∷ []) (sym e) in
+    ap (λ (xs : List Binding). is_type (shown xs) n) t ∙ ap (λ (xs : Names). is_type xs n) (shown_more (take k bs) b)

@@ -1,0 +1,4 @@
+pub mod Fronts
+pub mod Scopes
+pub mod Shown
+pub mod Seen
