@@ -1,22 +1,21 @@
-"""compare.py ORACLE write FORMS WANTED [FIRST COUNT]
-compare.py ORACLE compare WANTED GOT
+"""compare.py OTHER write FORMS WANTED FIRST COUNT [FILE..]
+compare.py OTHER compare WANTED GOT
 
-Writes forms, with the classes of their variables and a cap, as numbers into FORMS, and the two streams that the oracle
-splits each into as numbers into WANTED, two lines a form. ORACLE is the folder of the oracle written in Python. The
-forms are those of its worked programs, and of its random forms from seed FIRST on. What the program of main.txt,
-build.txt and print.txt beside this file prints for FORMS is GOT: it is compared line by line, places and numbers of
-groups included. (Those three files are sources of a program crate over dae_split, with another ending so that they
-stand outside of the gate.)
+Writes forms, with the classes of their variables and a cap, as numbers into FORMS, and the two streams that an independent
+implementation splits each into as numbers into WANTED, two lines a form. OTHER is the folder of that implementation, which
+is in Python. The forms are those of the C files, and random ones from seed FIRST on, COUNT of each kind. What the program
+of main.txt, build.txt and print.txt beside this file prints for FORMS is GOT: it is compared line by line, places and
+numbers of groups included. (Those three files are sources of a program crate over dae_split, with another ending so that
+they stand outside of the gate.)
 """
 
 import os
 import sys
 
-ORACLE = sys.argv[1]
-sys.path.insert(0, ORACLE)
-sys.path.insert(0, os.path.join(ORACLE, "tests"))
+OTHER = sys.argv[1]
+sys.path.insert(0, OTHER)
+sys.path.insert(0, os.path.join(OTHER, "tests"))
 
-import papers                                                    # noqa: E402
 from dae import front, ir as o, middle                           # noqa: E402
 from dae.slices import classes                                   # noqa: E402
 from dae.split import split                                      # noqa: E402
@@ -198,12 +197,11 @@ def line(numbers):
     return " ".join(str(n) for n in numbers)
 
 
-def forms(first, count):
+def forms(first, count, files):
     """Forms, each with a cap."""
-    rows = list(papers.ROWS.values()) + [text for _, text, _ in papers.PROFILE_2]
-    for source in rows:
-        files = source if isinstance(source, list) else [("a.c", source)]
-        program = front.load([(name, text.encode()) for name, text in files], 1048576, 2)
+    for name in files:
+        with open(name, "rb") as file:
+            program = front.load([(name, file.read())], 1048576, 2)
         for cap in (1, 4):
             yield middle.middle(program, cap=cap).form, cap
     for seed in range(first, first + count):
@@ -211,9 +209,9 @@ def forms(first, count):
             yield make(seed)[0], (1, 2, 4, 64)[seed % 4]
 
 
-def write(inputs, outputs, first, count):
+def write(inputs, outputs, first, count, files):
     with open(inputs, "w") as questions, open(outputs, "w") as answers:
-        for form, cap in forms(first, count):
+        for form, cap in forms(first, count, files):
             found = classes(form, True)
             numbers = Numbers(form)
             questions.write(line(numbers.whole(found, cap)) + "\n")
@@ -233,7 +231,6 @@ def compare(wanted, got):
 
 
 if sys.argv[2] == "write":
-    first, count = (int(x) for x in sys.argv[5:7]) if len(sys.argv) > 6 else (0, 500)
-    write(sys.argv[3], sys.argv[4], first, count)
+    write(sys.argv[3], sys.argv[4], int(sys.argv[5]), int(sys.argv[6]), sys.argv[7:])
 else:
     sys.exit(compare(sys.argv[3], sys.argv[4]))
