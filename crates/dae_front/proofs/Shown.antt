@@ -1,10 +1,10 @@
 -- Tables of names as lists.
-use Rattle.std.proofs.Common.{◌≡◌, ℕ, ◌+◌, ◌<◌, ◌≤◌, List, [], ◌∷◌, ◌++◌, map, length, take, drop, get_or, reverse, subst, refl, ap, sym, ◌∙◌, arith}
-use Rattle.std.proofs.lemmas.List.{reverse-append, take-append-le, take-append-drop, take_more, length-take}
+use Rattle.std.proofs.Common.{◌≡◌, ℕ, ◌+◌, ◌-◌, ◌<◌, ◌≤◌, List, [], ◌∷◌, ◌++◌, map, length, take, drop, get_or, reverse, subst, refl, ap, sym, ◌∙◌, append_assoc, append-nil, arith}
+use Rattle.std.proofs.lemmas.List.{take_rest, get_or-reverse, reverse-append, take-append-le, take-append-drop, take_more, length-take}
 use Rattle.dae_syntax.specs.Names.{Names, is_type}
 use Rattle.dae_front.specs.declared.scope.Binding.{Binding}
-use Rattle.dae_front.specs.Scopes.{Scopes, bound, closed}
-use Rattle.dae_front.specs.Shown.{pair_of, shown, cuts, shown_outside, Fall, AreWithin}
+use Rattle.dae_front.specs.Scopes.{Scopes, bound, closed, innermost}
+use Rattle.dae_front.specs.Shown.{pair_of, shown, cuts, shown_outside, bound_all, Fall, AreWithin}
 
 pub shown_more : (bs : List Binding) (b : Binding) → shown (bs ++ b ∷ []) ≡ pair_of b ∷ shown bs
 shown_more bs b = ap (map pair_of) (reverse-append bs (b ∷ []))
@@ -52,3 +52,41 @@ pub type_at : (bs : List Binding) (k : ℕ) (b : Binding) (n : ℕ) → k < leng
 type_at bs k b n lt e =
     let t : take (k + 1) bs ≡ take k bs ++ b ∷ [] = take_more bs k b lt ∙ ap (λ (c : Binding). take k bs ++ c ∷ []) (sym e) in
     ap (λ (xs : List Binding). is_type (shown xs) n) t ∙ ap (λ (xs : Names). is_type xs n) (shown_more (take k bs) b)
+
+bound_append : (bs cs : List Binding) (names : Names) → bound_all (bs ++ cs) names ≡ bound_all cs (bound_all bs names)
+bound_append [] cs names = refl
+bound_append (b ∷ bs) cs names = bound_append bs cs (pair_of b ∷ names)
+
+bound_more : (bs : List Binding) (k : ℕ) (d : Binding) (names : Names) → k < length bs → bound_all (take (k + 1) bs) names ≡ pair_of (get_or bs k d) ∷ bound_all (take k bs) names
+bound_more bs k d names lt =
+    ap (λ (xs : List Binding). bound_all xs names) (take_more bs k d lt) ∙ bound_append (take k bs) (get_or bs k d ∷ []) names
+
+pub bound_next : (bs : List Binding) (k : ℕ) (d : Binding) (old now : Scopes) → k < length bs → now ≡ record { names = bound_all (take k bs) old.names; outside = old.outside }
+    → bound (get_or bs k d).name (get_or bs k d).is_type now ≡ record { names = bound_all (take (k + 1) bs) old.names; outside = old.outside }
+unfolding scopes
+bound_next bs k d old now lt e =
+    ap (bound (get_or bs k d).name (get_or bs k d).is_type) e ∙ ap (λ (ns : Names). scopes ns old.outside) (sym (bound_more bs k d old.names lt))
+
+-- the names of bindings in two parts are those of the first, with the second bound behind
+shown_append : (bs cs : List Binding) → shown (bs ++ cs) ≡ bound_all cs (shown bs)
+shown_append bs [] = ap shown (append-nil bs)
+shown_append bs (c ∷ cs) =
+    ap shown (sym (append_assoc bs (c ∷ []) cs)) ∙ shown_append (bs ++ c ∷ []) cs ∙ ap (bound_all cs) (shown_more bs c)
+
+pub shown_split : (bs : List Binding) (k : ℕ) → shown bs ≡ bound_all (drop k bs) (shown (take k bs))
+shown_split bs k = ap shown (sym (take-append-drop k bs)) ∙ shown_append (take k bs) (drop k bs)
+
+innermost_at : (bs : List Binding) (ks : List ℕ) → innermost (cuts bs ks) ≡ shown (take (get_or ks 0 0) bs)
+innermost_at bs [] = refl
+innermost_at bs (k ∷ ks) = refl
+
+last_first : (ks : List ℕ) → get_or (reverse ks) 0 0 ≡ get_or ks (length ks - 1) 0
+last_first [] = refl
+last_first (k ∷ ks) = get_or-reverse (k ∷ ks) 0 0 (omega arith) ∙ ap (λ (n : ℕ). get_or (k ∷ ks) n 0) (omega arith)
+
+-- the names of the bindings behind the last start, or of all
+pub inner_shown : (bs : List Binding) (starts : List ℕ) (k : ℕ) → k ≡ get_or starts (length starts - 1) 0
+    → shown bs ≡ bound_all (take (length bs - k) (drop k bs)) (innermost (shown_outside bs starts))
+inner_shown bs starts k e =
+    let o : innermost (shown_outside bs starts) ≡ shown (take k bs) = innermost_at bs (reverse starts) ∙ ap (λ (n : ℕ). shown (take n bs)) (last_first starts ∙ sym e) in
+    rw (take_rest bs k, o) (shown_split bs k)

@@ -18,3 +18,8 @@ closed_to names (o ∷ os) = record { names = o; outside = os }
 
 abbrev pub closed : Scopes → Scopes
 closed s = closed_to s.names s.outside
+
+-- the names outside the innermost scope that is open, or none
+abbrev pub innermost : List Names → Names
+innermost [] = []
+innermost (o ∷ os) = o

@@ -23,3 +23,8 @@ Fall limit (k ∷ ks) = (k ≤ limit) × Fall k ks
 
 abbrev pub AreWithin : ℕ → List ℕ → Type 0
 AreWithin length starts = Fall length (reverse starts)
+
+-- the names behind these bindings, each before the next
+abbrev pub bound_all : List Binding → Names → Names
+bound_all [] names = names
+bound_all (b ∷ bindings) names = bound_all bindings (pair_of b ∷ names)

@@ -66,6 +66,13 @@ impl<'t> Rest<'t> {
         }
     }
 
+    /// Passes over the next token, if one is left.
+    pub fn skip(&mut self)
+        ensures { self.new ≡ behind self.old }
+    {
+        *self = self.behind();
+    }
+
     /// The tokens behind the next.
     pub fn behind(&self) -> Rest<'t>
         ensures { result ≡ behind self.now }

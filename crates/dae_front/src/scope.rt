@@ -1,6 +1,7 @@
 ghost use Rattle.std.specs.Prelude.{◌≡◌, ◌∷◌, [], IfOk, IfSome};
 ghost use Rattle.dae_syntax.specs.Names.{is_type};
-ghost use Rattle.dae_front.specs.Scopes.{bound, opened, closed};
+ghost use Rattle.dae_front.specs.Scopes.{bound, opened, closed, innermost};
+ghost use Rattle.dae_front.specs.Shown.{bound_all};
 
 use std::alloc::{AllocError, Global};
 use std::marker::Model;
@@ -50,6 +51,26 @@ impl Scope {
     {
         self.bindings.push(Binding { name, is_type })?;
         Ok(())
+    }
+
+    /// Adds names, each behind the one before.
+    pub fn bind_all(&mut self, bindings: &[Binding]) -> Result<(), AllocError>
+        ensures { IfOk result (λ _. self.new ≡ record { names = bound_all bindings.now self.old.names; outside = self.old.outside }) }
+    {
+        for binding in bindings {
+            self.bind(binding.name, binding.is_type)?;
+        }
+        Ok(())
+    }
+
+    /// The names of the innermost scope that is open, or of the whole, in their order.
+    pub fn inner(&self, alloc: Global) -> Result<Vec<Binding>, AllocError>
+        ensures { IfOk result (λ inner. self.now.names ≡ bound_all inner.items (innermost self.now.outside)) }
+    {
+        let start = self.starts.last().copied().unwrap_or(0);
+        let mut inner = Vec::new(alloc);
+        inner.extend_from_slice(&self.bindings[start..])?;
+        Ok(inner)
     }
 
     /// Opens a scope.

@@ -13,4 +13,5 @@ pub mod Runs
 pub mod Falls
 pub mod FirstPlaces
 pub mod Lengths
+pub mod Adding
 pub mod Examples

@@ -37,6 +37,16 @@ complete tokens file i =
     let q : Arrives goal (begun tokens) = subst (λ (ts : List Mark). Arrives goal (begun ts)) (sym i.1) r in
     (q.0, names, q.1)
 
+-- ---- a step behind a run
+
+pub run_next : (turns : ℕ) (s t : State) → step (run turns s) ≡ Some t → run (suc turns) s ≡ t
+run_next zero s t e = subst (λ (r : Option State). (elim r [ None ↦ s | Some u ↦ u ]) ≡ t) (sym e) refl
+run_next (suc turns) s t e = go (λ u k. run_next turns u t k) (step s) refl e
+  where
+    go : ((u : State) → step (run turns u) ≡ Some t → run (suc turns) u ≡ t) → (r : Option State) → step s ≡ r → step (elim r [ None ↦ s | Some u ↦ run turns u ]) ≡ Some t → elim r [ None ↦ s | Some u ↦ run (suc turns) u ] ≡ t
+    go f None k e = cc
+    go f (Some u) k e = f u e
+
 -- ---- what every run keeps
 
 step_holds : (s : State) → Holds s → Then (step s)
@@ -45,7 +55,7 @@ step_holds (state d s names ts) h = holds d s names ts h
 step_keeps : (s : State) → Keeps (tokens_of s) (step s)
 step_keeps (state d s names ts) = keeps d s names ts
 
-run_holds : (turns : ℕ) (s : State) → Holds s → Holds (run turns s)
+pub run_holds : (turns : ℕ) (s : State) → Holds s → Holds (run turns s)
 run_holds zero s h = h
 run_holds (suc turns) s h = go (λ t k. run_holds turns t k) (step s) (step_holds s h)
   where
@@ -53,7 +63,7 @@ run_holds (suc turns) s h = go (λ t k. run_holds turns t k) (step s) (step_hold
     go f None k = h
     go f (Some t) k = f t k
 
-run_keeps : (turns : ℕ) (s : State) → tokens_of (run turns s) ≡ tokens_of s
+pub run_keeps : (turns : ℕ) (s : State) → tokens_of (run turns s) ≡ tokens_of s
 run_keeps zero s = refl
 run_keeps (suc turns) s = go (λ t. run_keeps turns t) (step s) (step_keeps s)
   where
@@ -61,9 +71,12 @@ run_keeps (suc turns) s = go (λ t. run_keeps turns t) (step s) (step_keeps s)
     go f None k = refl
     go f (Some t) k = f t ∙ k
 
+pub stands : (tokens : List Mark) (turns : ℕ) → Holds (run turns (begun tokens))
+stands tokens turns = run_holds turns (begun tokens) (refl, tt, tt)
+
 pub sound : (tokens : List Mark) (turns : ℕ) (before : List External) (names : Names) → run turns (begun tokens) ≡ ended before names → IsTreeOf tokens (onto before [])
 sound tokens turns before names e =
-    let h : Holds (ended before names) = subst Holds e (run_holds turns (begun tokens) (refl, tt, tt)) in
+    let h : Holds (ended before names) = subst Holds e (stands tokens turns) in
     let t : tokens_of (ended before names) ≡ tokens = subst (λ (s : State). tokens_of s ≡ tokens) e (run_keeps turns (begun tokens)) in
     (externals_hold [] before [] h.1 tt, sym t ∙ sym (externals_spelled before [] []))
 

@@ -3,17 +3,19 @@
 // of tokens. Nothing here runs; the code of the machine stands above.
 #![tactic(auto)]
 
-ghost use Rattle.std.specs.Prelude.{◌≡◌, ℕ, ◌+◌, ◌*◌, ◌<◌, ◌≤◌, List, [], Some, None, length};
+ghost use Rattle.std.specs.Prelude.{◌≡◌, ℕ, suc, ◌+◌, ◌*◌, ◌<◌, ◌≤◌, ◌++◌, List, [], Some, None, length};
 ghost use Rattle.dae_syntax.specs.Depth.{first_deeper, nodes_file};
 ghost use Rattle.dae_syntax.specs.Marks.{Mark};
-ghost use Rattle.dae_syntax.specs.Names.{Names};
+ghost use Rattle.dae_syntax.specs.Names.{Names, after_parameters};
 ghost use Rattle.dae_syntax.specs.Statements.{IsTreeOf, spell_external};
-ghost use Rattle.dae_syntax.specs.Trees.{External};
+ghost use Rattle.dae_syntax.specs.Trees.{External, Parameters};
 ghost use Rattle.dae_grammar.specs.FirstPlaces.{firsts_file};
 ghost use Rattle.dae_grammar.specs.Frames.{State};
 ghost use Rattle.dae_grammar.specs.Machine.{begun, ended, onto, step};
 ghost use Rattle.dae_grammar.specs.Measure.{measure};
 ghost use Rattle.dae_grammar.specs.Runs.{run};
+ghost use Rattle.dae_grammar.specs.Standing.{Holds};
+ghost use Rattle.dae_grammar.specs.Taken.{tokens_of};
 
 /// Each tree of the grammar is read from the tokens that it spells.
 pub fn trees_are_read()
@@ -49,4 +51,24 @@ pub fn too_deep_is_one_past_the_limit()
 /// A declaration or definition spells as many tokens before others as alone.
 pub fn lengths_add()
     ensures { (x : External) (rest : List Mark) → length (spell_external x rest) ≡ length (spell_external x []) + length rest }
+{}
+
+/// What is read of tokens is of the grammar, with the names in scope where it stands.
+pub fn what_is_read_stands()
+    ensures { (tokens : List Mark) (turns : ℕ) → Holds (run turns (begun tokens)) }
+{}
+
+/// The tokens that were taken and those that are left are the tokens of the file.
+pub fn tokens_are_kept()
+    ensures { (tokens : List Mark) (turns : ℕ) → tokens_of (run turns (begun tokens)) ≡ tokens }
+{}
+
+/// Parameters add names that do not depend on the names before.
+pub fn parameters_add_names()
+    ensures { (parameters : Parameters) (names : Names) → after_parameters parameters names ≡ after_parameters parameters [] ++ names }
+{}
+
+/// Where the machine can step behind a run, the run one longer comes to where that step does.
+pub fn runs_go_on()
+    ensures { (tokens : List Mark) (turns : ℕ) (t : State) → step (run turns (begun tokens)) ≡ Some t → run (suc turns) (begun tokens) ≡ t }
 {}
