@@ -1,0 +1,22 @@
+use Rattle.std.proofs.Common.{refl, ap, ◌∙◌}
+use Rattle.dae_base.specs.declared.Place.{Place}
+use Rattle.dae_syntax.specs.Trees as tree
+use Rattle.dae_syntax.specs.Views.{view}
+use Rattle.dae_grammar.specs.FirstPlaces.{firsts, both, over}
+use Rattle.dae_parts.proofs.Showing.{shows_over, shows_made, shows_absent, shows_pair, ap_three}
+use Rattle.dae_nodes.proofs.expressions.conditional.Goals as goal
+use Rattle.dae_nodes.proofs.expressions.conditional.Goals.{in-Some+in_ok-new-in-Some+in_ok-new-in-Some-2+in_ok-new-in-Some-3, in-None}
+
+pub returns : goal.returns
+returns c = λ a b d h k l.
+    let rest = shows_pair _ _ _ _ c.args.then.read c.args.other.read c.in_ok-rest.rest b d k.read l.read c.in_ok-rest.ensures in
+    let parts = shows_pair _ _ _ _ c.args.test.read c.in_ok-rest.rest c.in_ok-parts.parts a (b, d) h.read rest c.in_ok-parts.ensures in
+    let whole = shows_over _ _ c.args.test.place c.in_ok-parts.parts c.in_ok-tree.field-0 (a, (b, d)) parts c.in_ok-tree.ensures in
+    record {
+      read = elim c.match-tree.branch [
+        | in-Some+in_ok-new-in-Some+in_ok-new-in-Some-2+in_ok-new-in-Some-3 w ↦ shows_made _ _ view firsts _ c.match-tree.tree (a, (b, d)) (tree.Conditional a c.args.place b d) _ _ whole (ap (λ (p : Place). over p (both (firsts a) (both (firsts b) (firsts d)))) h.place) w.in-Some.is w.tree-is (λ e. ap_three (λ x y z. tree.Conditional x c.args.place y z) (ap view w.in_ok-new-in-Some.ensures.ok ∙ ap (λ (p : _). p.0) e) (ap view w.in_ok-new-in-Some-2.ensures.ok ∙ ap (λ (p : _). p.1.0) e) (ap view w.in_ok-new-in-Some-3.ensures.ok ∙ ap (λ (p : _). p.1.1) e))
+        | in-None w ↦ shows_absent _ _ view firsts _ c.match-tree.tree (a, (b, d)) (tree.Conditional a c.args.place b d) whole (ap (λ (p : Place). over p (both (firsts a) (both (firsts b) (firsts d)))) h.place) w.in-None.is w.tree-is
+      ];
+      level = refl;
+      place = h.place;
+    }

@@ -1,0 +1,10 @@
+use Rattle.std.proofs.Common.{refl}
+use Rattle.dae_syntax.specs.Trees as tree
+use Rattle.dae_grammar.specs.FirstPlaces.{firsts}
+use Rattle.dae_parts.proofs.Showing.{shows_leaf}
+use Rattle.dae_syntax.specs.Views.{view}
+use Rattle.dae_nodes.proofs.expressions.constant.Goals as goal
+
+pub returns : goal.returns
+returns c =
+    record { read = shows_leaf view firsts c.args.place c.flat.result c.in_ok-read.read _ (tree.Number c.args.place c.args.constant) c.flat.ensures.tree c.flat.ensures.places c.in_ok-read.ensures refl refl; level = refl; place = refl }
