@@ -1,0 +1,77 @@
+ghost use Rattle.std.specs.Prelude.{◌≡◌, ◌∷◌, List, Option, Some, None, IfOk};
+ghost use Rattle.dae_syntax.specs.Trees.{Expression, Initialiser as InitialiserTree};
+ghost use Rattle.dae_grammar.specs.Frames as plain;
+ghost use Rattle.dae_grammar.specs.Frames.{Frame as PlainFrame};
+ghost use Rattle.dae_grammar.specs.Machine.{expression_given, initialised, list_followed, listed};
+ghost use Rattle.dae_parts.specs.Parts.{ShowsOperand, ShowsInitialiser, ShowsInitialisers};
+ghost use Rattle.dae_frames.specs.States.{Stands, Follows, outside_stack};
+
+use dae_base::Place;
+use dae_bodies::{initialiser_list, value, with_initialiser};
+use dae_frames::{Doing, Frame, Machine};
+use dae_parts::{Operand, Read, no_initialisers};
+use dae_syntax::Initialiser;
+use dae_token::Sign;
+use std::alloc::AllocError;
+
+/// Before an initialiser (C90 6.5.7).
+#[tactic(auto, using(crate::proofs::Otherwise::initialised_otherwise))]
+pub fn initialising(machine: &mut Machine<'_>) -> Result<Option<Doing>, AllocError>
+    ensures { (s : List PlainFrame) → Stands machine.old s (outside_stack s)
+        → IfOk result (λ r. Follows r machine.new (initialised s machine.old.scope.names machine.old.rest)) }
+{
+    if let Some(brace) = machine.rest.take_sign(Sign::LeftBrace) {
+        machine.push(Frame::InList(brace, no_initialisers(machine.alloc)))?;
+        return Ok(Some(Doing::Initialising));
+    }
+    machine.push(Frame::InValue)?;
+    Ok(Some(Doing::Seek(15)))
+}
+
+/// Behind the comma in a list of initialisers.
+#[tactic(auto, using(crate::proofs::Otherwise::list_otherwise))]
+pub fn listing(
+    machine: &mut Machine<'_>,
+    place: Place,
+    list: Read<Vec<Initialiser>>,
+) -> Result<Option<Doing>, AllocError>
+    ensures { (xs : List InitialiserTree) (s : List PlainFrame) → ShowsInitialisers list xs → Stands machine.old s (outside_stack s)
+        → IfOk result (λ r. Follows r machine.new (list_followed place xs s machine.old.scope.names machine.old.rest)) }
+{
+    if machine.rest.take_sign(Sign::RightBrace).is_some() {
+        let whole = initialiser_list(machine.alloc, place, list, true)?;
+        return Ok(Some(Doing::GaveInitialiser(whole)));
+    }
+    machine.push(Frame::InList(place, list))?;
+    Ok(Some(Doing::Initialising))
+}
+
+/// Behind an initialiser in a list.
+#[tactic(auto, using(crate::proofs::Otherwise::listed_or_none))]
+pub fn in_list(
+    machine: &mut Machine<'_>,
+    initialiser: Read<Initialiser>,
+    place: Place,
+    before: Read<Vec<Initialiser>>,
+) -> Result<Option<Doing>, AllocError>
+    ensures { (x : InitialiserTree) (xs : List InitialiserTree) (s : List PlainFrame) → ShowsInitialiser initialiser x → ShowsInitialisers before xs → Stands machine.old s (outside_stack s)
+        → IfOk result (λ r. Follows r machine.new (listed x place xs s machine.old.scope.names machine.old.rest)) }
+{
+    let list = with_initialiser(before, initialiser)?;
+    if machine.rest.take_sign(Sign::Comma).is_some() {
+        return Ok(Some(Doing::Listing(place, list)));
+    }
+    if machine.rest.take_sign(Sign::RightBrace).is_none() {
+        return Ok(None);
+    }
+    let whole = initialiser_list(machine.alloc, place, list, false)?;
+    Ok(Some(Doing::GaveInitialiser(whole)))
+}
+
+/// Behind the expression of an initialiser.
+pub fn in_value(machine: &mut Machine<'_>, operand: Operand) -> Result<Option<Doing>, AllocError>
+    ensures { (e : Expression) (s : List PlainFrame) → ShowsOperand operand e → Stands machine.old s (outside_stack s)
+        → IfOk result (λ r. Follows r machine.new (expression_given e plain.in_value s machine.old.scope.names machine.old.rest)) }
+{
+    Ok(Some(Doing::GaveInitialiser(value(operand))))
+}
