@@ -1,0 +1,6 @@
+use Rattle.dae_syntax.specs.Marks.{marks}
+use Rattle.dae_parse.specs.Reached.{Reached}
+use Rattle.dae_parse.proofs.run.run.Given as goal
+
+abbrev pub invariant-loop-turn : goal.invariant-loop-turn
+invariant-loop-turn l = Reached (marks l.tokens) l.doing l.machine

@@ -1,0 +1,13 @@
+-- Where a file stands in the machine.
+use Rattle.std.specs.Prelude.{◌≡◌, List, []}
+use Rattle.dae_grammar.specs.Frames.{Frame, Doing, externals, State, state}
+use Rattle.dae_declarations.specs.Bottom.{IsBottom}
+
+-- Between two externals nothing stands on the stack.
+abbrev pub IsEmptyAt : Doing → List Frame → Type 0
+IsEmptyAt (externals before) s = s ≡ []
+IsEmptyAt _ s = Unit {0}
+
+-- Both hold of a state's stack.
+abbrev pub IsBottomState : State → Type 0
+IsBottomState (state d s names ts) = IsBottom s × IsEmptyAt d s

@@ -1,0 +1,47 @@
+-- What a turn of the parser's machine comes to, and what a run of it.
+use Rattle.std.specs.Prelude.{◌≡◌, ℕ, List, [], Option, Some, None}
+use Rattle.dae_token.specs.declared.tokens.Token.{Token}
+use Rattle.dae_syntax.specs.Marks.{Mark, marks}
+use Rattle.dae_syntax.specs.Statements.{IsTreeOf}
+use Rattle.dae_syntax.specs.Trees.{External}
+use Rattle.dae_grammar.specs.Frames as plain
+use Rattle.dae_grammar.specs.Machine.{begun, onto}
+use Rattle.dae_grammar.specs.Runs.{run}
+use Rattle.dae_frames.specs.declared.frames.Before.{Before}
+use Rattle.dae_frames.specs.declared.frames.Doing.{Doing}
+use Rattle.dae_frames.specs.declared.machine.Machine.{Machine}
+use Rattle.dae_frames.specs.Frames.{ShowsDoing, ShowsFile}
+use Rattle.dae_frames.specs.States.{Stands, Follows, outside_stack, outside_doing}
+use Rattle.dae_parse.specs.declared.turn.Turn.{Turn}
+use Rattle.dae_parse.specs.declared.turn.Turn.TheVariants as turn
+use Rattle.dae_parse.specs.declared.run.Outcome.{Outcome}
+use Rattle.dae_parse.specs.declared.run.Outcome.TheVariants as outcome
+
+-- a file is whole at the end of the tokens, between two externals
+abbrev pub IsWhole : Before → plain.Doing → List Mark → Type 0
+IsWhole b (plain.externals xs) [] = ShowsFile b xs
+IsWhole b _ _ = ⊥
+
+abbrev pub IsNotWhole : plain.Doing → List Mark → Type 0
+IsNotWhole (plain.externals xs) [] = ⊥
+IsNotWhole _ _ = Unit {0}
+
+-- the next state of the grammar's machine, or none, or the whole file
+abbrev pub TurnFollows : Turn → Machine → plain.Doing → List Mark → Option plain.State → Type 0
+TurnFollows (turn.Next next) m d rest t = Follows (Some next) m t
+TurnFollows (turn.Whole b) m d rest t = IsWhole b d rest
+TurnFollows turn.Stopped m d rest t = (t ≡ None) × IsNotWhole d rest
+
+-- the machine shows a state that the grammar's machine comes to
+pub record Reached (tokens : List Mark) (doing : Doing) (m : Machine) : Type 0 where
+  pub turns : ℕ
+  pub does : plain.Doing
+  pub stack : List plain.Frame
+  pub come : run turns (begun tokens) ≡ plain.state does stack m.scope.names m.rest
+  pub shown : ShowsDoing doing does
+  pub stands : Stands m stack (outside_doing does (outside_stack stack))
+
+-- the tree of the tokens was read, or there is none
+abbrev pub Comes : List Token → Outcome → Type 0
+Comes tokens (outcome.Whole b) = (xs : List External) × ShowsFile b xs × IsTreeOf (marks tokens) (onto xs [])
+Comes tokens (outcome.Stopped at) = (file : List External) → ¬ IsTreeOf (marks tokens) file

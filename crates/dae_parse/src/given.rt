@@ -1,0 +1,213 @@
+ghost use Rattle.std.specs.Prelude.{◌≡◌, ◌∷◌, List, length, IfOk};
+ghost use Rattle.dae_syntax.specs.Trees.{Expression, Specifiers, Declarator, Initialiser as InitialiserTree, Declaration as DeclarationTree, Statement as StatementTree};
+ghost use Rattle.dae_grammar.specs.Frames as plain;
+ghost use Rattle.dae_grammar.specs.Frames.{Frame as PlainFrame, state};
+ghost use Rattle.dae_grammar.specs.Machine.{given, specifiers_taken, declarator_taken, initialiser_taken, declaration_taken, statement_taken};
+ghost use Rattle.dae_grammar.specs.Standing.{Holds};
+ghost use Rattle.dae_grammar.specs.Taken.{tokens_of};
+ghost use Rattle.dae_declarations.specs.Bottom.{IsBottom};
+ghost use Rattle.dae_parts.specs.Parts.{ShowsOperand, ShowsSpecified, ShowsDeclared, ShowsInitialiser, ShowsDeclaration, ShowsStatement};
+ghost use Rattle.dae_frames.specs.Frames.{is_block};
+ghost use Rattle.dae_frames.specs.States.{Stands, Follows, outside_stack};
+
+use dae_declarations::{
+    for_declaration, in_block, in_definition, in_file, in_list, in_value, of_item, of_value,
+};
+use dae_declarators::{
+    behind_star, for_cast, for_member, for_parameter, for_sizeof, in_enumerator, in_group, in_size,
+    of_cast, of_member, of_parameter, of_sizeof,
+};
+use dae_expressions::{
+    behind_assignment, behind_binary, behind_cast, behind_colon, behind_comma, behind_prefix,
+    behind_question, behind_sizeof, in_arguments, in_index, in_parentheses,
+};
+use dae_frames::{Doing, Frame, Machine};
+use dae_parts::{Declared, Operand, Read, Specified};
+use dae_statements::{
+    case_body, default_body, do_body, else_branch, for_body, in_case, in_evaluation, in_loop_test,
+    in_return, in_start, in_statements, in_step, in_test, switch_body, then_branch, while_body,
+};
+use dae_syntax::{Declaration, Initialiser, Statement};
+use std::alloc::AllocError;
+
+/// Behind an expression, for what awaits it.
+pub fn gave(machine: &mut Machine<'_>, a: Operand) -> Result<Option<Doing>, AllocError>
+    ensures { (e : Expression) (s : List PlainFrame) → ShowsOperand a e → Stands machine.old s (outside_stack s)
+        → IfOk result (λ r. Follows r machine.new (given e s machine.old.scope.names machine.old.rest)) }
+{
+    let Some(frame) = machine.pop() else {
+        return Ok(None);
+    };
+    match frame {
+        Frame::InParentheses(place, level) => in_parentheses(machine, a, place, level),
+        Frame::InIndex(base, place, level) => in_index(machine, a, base, place, level),
+        Frame::InArguments(callee, place, before, level) => {
+            in_arguments(machine, a, callee, place, before, level)
+        }
+        Frame::BehindPrefix(place, operator, level) => {
+            behind_prefix(machine, a, place, operator, level)
+        }
+        Frame::BehindSizeof(place, level) => behind_sizeof(machine, a, place, level),
+        Frame::BehindCast(place, specified, declared, level) => {
+            behind_cast(machine, a, place, specified, declared, level)
+        }
+        Frame::BehindBinary(left, place, operator, level) => {
+            behind_binary(machine, a, left, place, operator, level)
+        }
+        Frame::BehindQuestion(test, place, level) => behind_question(
+            machine, a, test, place, level,
+        ),
+        Frame::BehindColon(test, place, then, level) => {
+            behind_colon(machine, a, test, place, then, level)
+        }
+        Frame::BehindAssignment(left, place, operator, level) => {
+            behind_assignment(machine, a, left, place, operator, level)
+        }
+        Frame::BehindComma(left, level) => behind_comma(machine, a, left, level),
+        Frame::InSize(declared, place, manner) => in_size(machine, a, declared, place, manner),
+        Frame::InEnumerator(body, list, name, place) => {
+            in_enumerator(machine, a, body, list, name, place)
+        }
+        Frame::InValue => in_value(machine, a),
+        Frame::InEvaluation => in_evaluation(machine, a),
+        Frame::InTest(head, paren) => in_test(machine, a, head, paren),
+        Frame::InStart(word, paren) => in_start(machine, a, word, paren),
+        Frame::InLoopTest(word, paren, start, first) => {
+            in_loop_test(machine, a, word, paren, start, first)
+        }
+        Frame::InStep(parts) => in_step(machine, a, parts),
+        Frame::InReturn(place) => in_return(machine, a, place),
+        Frame::InCase(place) => in_case(machine, a, place),
+        _ => Ok(None),
+    }
+}
+
+/// Behind specifiers, for what awaits them.
+pub fn gave_specifiers(
+    machine: &mut Machine<'_>,
+    specified: Specified,
+) -> Result<Option<Doing>, AllocError>
+    ensures { (ws : Specifiers) (s : List PlainFrame) → ShowsSpecified specified ws → Stands machine.old s (outside_stack s)
+        → IfOk result (λ r. Follows r machine.new (specifiers_taken ws s machine.old.scope.names machine.old.rest)) }
+{
+    let Some(frame) = machine.pop() else {
+        return Ok(None);
+    };
+    match frame {
+        Frame::ForCast(place, level) => for_cast(machine, specified, place, level),
+        Frame::ForSizeof(place, paren, level) => {
+            for_sizeof(machine, specified, place, paren, level)
+        }
+        Frame::ForParameter(open, list) => for_parameter(machine, specified, open, list),
+        Frame::ForMember(body, members) => for_member(machine, specified, body, members),
+        Frame::ForDeclaration(outer) => for_declaration(machine, specified, outer),
+        _ => Ok(None),
+    }
+}
+
+/// Behind a declarator, for what awaits it.
+pub fn gave_declarator(
+    machine: &mut Machine<'_>,
+    declared: Declared,
+) -> Result<Option<Doing>, AllocError>
+    ensures { (d : Declarator) (s : List PlainFrame) → ShowsDeclared declared d → Stands machine.old s (outside_stack s)
+        → Holds (state (plain.gave_declarator d) s machine.old.scope.names machine.old.rest)
+        → IfOk result (λ r. Follows r machine.new (declarator_taken d s machine.old.scope.names machine.old.rest)) }
+{
+    let Some(frame) = machine.pop() else {
+        return Ok(None);
+    };
+    match frame {
+        Frame::BehindStar(place, qualifiers) => behind_star(machine, declared, place, qualifiers),
+        Frame::InGroup(place, manner) => in_group(machine, declared, place, manner),
+        Frame::OfCast(place, specified, level) => of_cast(
+            machine, declared, place, specified, level,
+        ),
+        Frame::OfSizeof(place, paren, specified, level) => {
+            of_sizeof(machine, declared, place, paren, specified, level)
+        }
+        Frame::OfParameter(open, list, specified) => {
+            of_parameter(machine, declared, open, list, specified)
+        }
+        Frame::OfMember(body, members, specified, before) => {
+            of_member(machine, declared, body, members, specified, before)
+        }
+        Frame::OfItem(outer, specified, items) => of_item(
+            machine, declared, outer, specified, items,
+        ),
+        _ => Ok(None),
+    }
+}
+
+/// Behind an initialiser, for what awaits it.
+pub fn gave_initialiser(
+    machine: &mut Machine<'_>,
+    initialiser: Read<Initialiser>,
+) -> Result<Option<Doing>, AllocError>
+    ensures { (x : InitialiserTree) (s : List PlainFrame) → ShowsInitialiser initialiser x → Stands machine.old s (outside_stack s)
+        → IfOk result (λ r. Follows r machine.new (initialiser_taken x s machine.old.scope.names machine.old.rest)) }
+{
+    let Some(frame) = machine.pop() else {
+        return Ok(None);
+    };
+    match frame {
+        Frame::InList(place, before) => in_list(machine, initialiser, place, before),
+        Frame::OfValue(specified, items, declared, place) => {
+            of_value(machine, initialiser, specified, items, declared, place)
+        }
+        _ => Ok(None),
+    }
+}
+
+/// Behind a declaration, for what awaits it, in a file of so many tokens.
+pub fn gave_declaration(
+    machine: &mut Machine<'_>,
+    found: Read<Declaration>,
+    total: usize,
+) -> Result<Option<Doing>, AllocError>
+    ensures { (d : DeclarationTree) (s : List PlainFrame) → ShowsDeclaration found d → Stands machine.old s (outside_stack s)
+        → IsBottom s → length (tokens_of (state (plain.gave_declaration d) s machine.old.scope.names machine.old.rest)) ≡ total
+        → IfOk result (λ r. Follows r machine.new (declaration_taken d s machine.old.scope.names machine.old.rest)) }
+{
+    let Some(frame) = machine.pop() else {
+        return Ok(None);
+    };
+    match frame {
+        Frame::InFile(before) => in_file(machine, found, before, total),
+        Frame::InBlock(inside) => in_block(machine, found, inside),
+        _ => Ok(None),
+    }
+}
+
+/// Behind a statement, for what awaits it, in a file of so many tokens.
+pub fn gave_statement(
+    machine: &mut Machine<'_>,
+    found: Read<Statement>,
+    is_body: bool,
+    total: usize,
+) -> Result<Option<Doing>, AllocError>
+    ensures { (b : StatementTree) (s : List PlainFrame) → ShowsStatement found b → is_body ≡ is_block b → Stands machine.old s (outside_stack s)
+        → IsBottom s → length (tokens_of (state (plain.gave_statement b) s machine.old.scope.names machine.old.rest)) ≡ total
+        → IfOk result (λ r. Follows r machine.new (statement_taken b s machine.old.scope.names machine.old.rest)) }
+{
+    let Some(frame) = machine.pop() else {
+        return Ok(None);
+    };
+    match frame {
+        Frame::ThenBranch(place, paren, test) => then_branch(machine, found, place, paren, test),
+        Frame::ElseBranch(place, paren, test, then) => {
+            else_branch(machine, found, place, paren, test, then)
+        }
+        Frame::WhileBody(place, paren, test) => while_body(machine, found, place, paren, test),
+        Frame::SwitchBody(place, paren, test) => switch_body(machine, found, place, paren, test),
+        Frame::DoBody(place) => do_body(machine, found, place),
+        Frame::ForBody(parts, step) => for_body(machine, found, parts, step),
+        Frame::CaseBody(place, value) => case_body(machine, found, place, value),
+        Frame::DefaultBody(place) => default_body(machine, found, place),
+        Frame::InStatements(inside, before) => in_statements(machine, found, inside, before),
+        Frame::InDefinition(specified, declared) => {
+            in_definition(machine, found, is_body, specified, declared, total)
+        }
+        _ => Ok(None),
+    }
+}
