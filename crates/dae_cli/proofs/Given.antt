@@ -6,7 +6,7 @@ use Rattle.std.proofs.lemmas.Bool.Decides.{leb_tells}
 use Rattle.dae_io.specs.Faults.{Rose}
 use Rattle.dae_io.specs.Taken.{AppendsPrefix}
 use Rattle.dae_io.proofs.Growth.{Appends-nothing, Appends-then, AppendsPrefix-whole, AppendsPrefix-then}
-use Rattle.dae_cli.specs.Answers.{Answer, answer, Gives, gives_whole, gives_part, DueOfText, due_program, due_not_built, due_memory_to_read, DueOfFile, due_text, due_read, due_memory_to_fetch, DueOfImageFile, due_bytes, due_no_bytes, due_memory_for_bytes, IsDue, due_file, due_image_file, due_words}
+use Rattle.dae_cli.specs.Answers.{Answer, answer, Gives, gives_whole, gives_part, DueOfText, due_too_long, due_no_tokens, due_no_tree, due_program, due_not_built, due_memory_to_read, DueOfFile, due_text, due_read, due_memory_to_fetch, DueOfImageFile, due_bytes, due_no_bytes, due_memory_for_bytes, IsDue, due_file, due_image_file, due_words}
 use Rattle.dae_cli.specs.declared.options.RunOptions.{RunOptions}
 
 take_long : (n : ℕ) (xs : List ℕ) → n ≤ length xs → length (take n xs) ≡ n
@@ -48,24 +48,29 @@ output_before o o' n n' out more put (gives_whole s p q) = gives_whole s put q
 output_before o o' n n' out more put (gives_part s r p q) = gives_part s r (AppendsPrefix-whole o o' out put) q
 
 -- a text that was fetched up to one byte more than a program may have stands for the whole text
-cut : {a : Answer} (held text : List ℕ) → text ≡ take 1048577 held → DueOfText text a → (length held ≤ 1048576) ⊎ (1048576 < length held) → DueOfText held a
-cut {a} held text e d (inl short) = subst (λ (t : List ℕ). DueOfText t a) (e ∙ take_all 1048577 held (omega arith)) d
-cut held text e (due_program p only d) (inr long) =
-    let short = only.spells.short in
+too_long : (held text : List ℕ) → text ≡ take 1048577 held → 1048576 < length held → length text ≤ 1048576 → ⊥
+too_long held text e long short =
     let size : length text ≡ 1048577 = ap length e ∙ take_long 1048577 held (omega arith) in
-    absurd (omega arith)
-cut held text e (due_not_built none) (inr long) = due_not_built (λ p s. let short = s.short in absurd (omega arith))
-cut held text e due_memory_to_read (inr long) = due_memory_to_read
+    omega arith
 
-pub fetched : {a : Answer} {name : List ℕ} {failed : Type 0} (told : Option (List ℕ)) (text : List ℕ) → IfSome told (λ held. text ≡ take 1048577 held) → DueOfText text a → DueOfFile name told failed a
+cut : {a : Answer} (name held text : List ℕ) → text ≡ take 1048577 held → DueOfText name text a → (length held ≤ 1048576) ⊎ (1048576 < length held) → DueOfText name held a
+cut {a} name held text e d (inl short) = subst (λ (t : List ℕ). DueOfText name t a) (e ∙ take_all 1048577 held (omega arith)) d
+cut name held text e (due_too_long h) (inr long) = due_too_long long
+cut name held text e (due_no_tokens x other short h) (inr long) = absurd (too_long held text e long short)
+cut name held text e (due_no_tree r x read other h) (inr long) = absurd (too_long held text e long read.short)
+cut name held text e (due_program r file p read tree only h) (inr long) = absurd (too_long held text e long read.short)
+cut name held text e (due_not_built r file read tree none) (inr long) = absurd (too_long held text e long read.short)
+cut name held text e due_memory_to_read (inr long) = due_memory_to_read
+
+pub fetched : {a : Answer} {name : List ℕ} {failed : Type 0} (told : Option (List ℕ)) (text : List ℕ) → IfSome told (λ held. text ≡ take 1048577 held) → DueOfText name text a → DueOfFile name told failed a
 fetched None text e d = due_text text tt d
-fetched (Some held) text e d = due_text held refl (cut held text e d (le_or_lt (length held)))
+fetched {name = name} (Some held) text e d = due_text held refl (cut name held text e d (le_or_lt (length held)))
 
 pub rose_later : (a b c : ℕ) → a ≤ b → Rose b c → Rose a c
 rose_later a b c h r = grind arith
 
-pub due_at : {a : Answer} (text t : List ℕ) → text ≡ t → DueOfText text a → DueOfText t a
-due_at {a} text t e d = subst (λ (x : List ℕ). DueOfText x a) e d
+pub due_at : {a : Answer} {name : List ℕ} (text t : List ℕ) → text ≡ t → DueOfText name text a → DueOfText name t a
+due_at {a} {name} text t e d = subst (λ (x : List ℕ). DueOfText name x a) e d
 
 pub gives_line : {due_status status : ℕ} {o o' n n' : Option (List ℕ)} {failed : Type 0} (line l : List ℕ) → line ≡ l → Gives (answer due_status [] line) status o o' n n' failed → Gives (answer due_status [] l) status o o' n n' failed
 gives_line {due_status} {status} {o} {o'} {n} {n'} {failed} line l e x = subst (λ (t : List ℕ). Gives (answer due_status [] t) status o o' n n' failed) e x

@@ -1,6 +1,7 @@
 pub mod Driving
 pub mod Outcome
 pub mod Given
+pub mod Refused
 pub mod Executed
 pub mod Longest
 pub mod Ends

@@ -1,5 +1,5 @@
 -- What a job answers, puts out and notes, and why.
-use Rattle.std.specs.Prelude.{◌≡◌, ◌≢◌, ℕ, List, [], ◌++◌, length, take, Option, Some, None, IfSome, Err}
+use Rattle.std.specs.Prelude.{◌≡◌, ◌≢◌, ℕ, ◌<◌, ◌≤◌, List, [], ◌++◌, length, take, Option, Some, None, IfSome, Ok, Err}
 use Rattle.std.specs.Io.KnownBytes.{Appends}
 use Rattle.dae_io.specs.Taken.{AppendsPrefix}
 use Rattle.dae_base.specs.declared.Queue.{Queue}
@@ -16,16 +16,26 @@ use Rattle.dae_machine.specs.Opened.{opened, setup_of}
 use Rattle.dae_machine.specs.Schedules.{word_of}
 use Rattle.dae_machine.specs.declared.End.TheVariants.{Ended, Trapped}
 use Rattle.dae_tree.specs.declared.StraightProgram.{StraightProgram}
-use Rattle.dae_tree.specs.Form.{Spells}
 use Rattle.dae_tree.specs.Meaning as c
 use Rattle.dae_tree.specs.Straight.{meaning}
 use Rattle.dae_straight_compiler.specs.Compiled.{IsCompiled}
+use Rattle.dae_token.specs.declared.faults.LexError.{LexError}
+use Rattle.dae_token.specs.declared.faults.LexError.TheVariants as lex_errors
+use Rattle.dae_token.specs.declared.tokens.Room.{Room}
+use Rattle.dae_token.specs.Reading.{Reading}
+use Rattle.dae_token.specs.Tokens.{tokens_of}
+use Rattle.dae_syntax.specs.Trees.{External}
+use Rattle.dae_parse.specs.declared.error.ParseError.{ParseError}
+use Rattle.dae_parse.specs.declared.error.ParseError.TheVariants as tree_errors
+use Rattle.dae_parse.specs.Parsed.{IsRefused, IsWithinLimits}
+use Rattle.dae_straight_reader.specs.Spelled.{IsTreeSpelled}
 use Rattle.dae_cli.specs.declared.drive.Driven.{Driven}
 use Rattle.dae_cli.specs.declared.drive.Driven.TheVariants.{Final, Stuck, Spent, SinkFailed}
 use Rattle.dae_cli.specs.declared.options.RunOptions.{RunOptions}
 use Rattle.dae_cli.specs.Driving.{Rested, Turns}
 use Rattle.dae_cli.specs.Words.{SpellsRun, SpellsExec}
 use Rattle.dae_cli.specs.Notes.{words_line, memory_line, not_built_line, read_line, budget_line, depth_line, image_line, ended_line, steps_line, end_lines}
+use Rattle.dae_cli.specs.Refusals.{too_long_line, lex_line, tree_line}
 
 -- a status, what is put out and what is noted
 pub record Answer : Type 0 where
@@ -36,10 +46,20 @@ pub record Answer : Type 0 where
 abbrev pub answer : ℕ → List ℕ → List ℕ → Answer
 answer status out note = record { status = status; out = out; note = note }
 
--- the bytes spell this program and no other
-pub record SpellsOnly (bytes : List ℕ) (p : StraightProgram) : Type 0 where
-  pub spells : Spells bytes p
-  pub only : (q : StraightProgram) → Spells bytes q → q ≡ p
+-- the limits on what is read of a job
+abbrev pub whole_room : Room
+whole_room = record { tokens = 65536; replacements = 65536; literal_bytes = 65536 }
+
+-- the text is no longer than a source may be, and this is read of it
+pub record IsRead (text : List ℕ) (r : Reading) : Type 0 where
+  pub short : length text ≤ 1048576
+  pub left : Room
+  pub tokens : tokens_of 0 text whole_room ≡ Ok (r, left)
+
+-- the file's tree spells this program and no other
+pub record SpellsOnly (r : Reading) (file : List External) (p : StraightProgram) : Type 0 where
+  pub spells : IsTreeSpelled r file p
+  pub only : (q : StraightProgram) → IsTreeSpelled r file q → q ≡ p
 
 -- the program's image, with the canonical order of its steps, and how the program ends
 pub record Run (p : StraightProgram) : Type 0 where
@@ -60,16 +80,21 @@ pub data DueOfProgram (p : StraightProgram) : Answer → Type 0 where
   due_memory : DueOfProgram p (answer 7 [] memory_line)
   due_memory_to_open : (r : Run p) → DueOfProgram p (answer 7 [] (budget_line r.image.budget ++ memory_line))
 
--- what is due for a file's text: it spells a program; it spells none; or memory was wanting
-pub data DueOfText (text : List ℕ) : Answer → Type 0 where
-  due_program : {a : Answer} (p : StraightProgram) → SpellsOnly text p → DueOfProgram p a → DueOfText text a
-  due_not_built : ((p : StraightProgram) → ¬ (Spells text p)) → DueOfText text (answer 2 [] not_built_line)
-  due_memory_to_read : DueOfText text (answer 7 [] memory_line)
+-- what is due for the text of a file with this name: it is longer than a source may be; or it has no tokens, and the first
+-- cause is told; or they have no tree within the limits, and the cause is told; or the tree spells a program; or it spells
+-- none; or memory was wanting
+pub data DueOfText (name text : List ℕ) : Answer → Type 0 where
+  due_too_long : 1048576 < length text → DueOfText name text (answer 2 [] (too_long_line name))
+  due_no_tokens : (e : LexError) → e ≢ lex_errors.Memory → length text ≤ 1048576 → tokens_of 0 text whole_room ≡ Err e → DueOfText name text (answer 2 [] (lex_line name e))
+  due_no_tree : (r : Reading) (e : ParseError) → IsRead text r → e ≢ tree_errors.Memory → IsRefused r e → DueOfText name text (answer 2 [] (tree_line name e))
+  due_program : {a : Answer} (r : Reading) (file : List External) (p : StraightProgram) → IsRead text r → IsWithinLimits r.tokens file → SpellsOnly r file p → DueOfProgram p a → DueOfText name text a
+  due_not_built : (r : Reading) (file : List External) → IsRead text r → IsWithinLimits r.tokens file → ((p : StraightProgram) → ¬ (IsTreeSpelled r file p)) → DueOfText name text (answer 2 [] not_built_line)
+  due_memory_to_read : DueOfText name text (answer 7 [] memory_line)
 
 -- what is due for a file: for the text that the shelf tells of its name; for its fetch, where that failed; or memory was
 -- wanting
 pub data DueOfFile (name : List ℕ) (told : Option (List ℕ)) (failed : Type 0) : Answer → Type 0 where
-  due_text : {a : Answer} (text : List ℕ) → IfSome told (λ held. held ≡ text) → DueOfText text a → DueOfFile name told failed a
+  due_text : {a : Answer} (text : List ℕ) → IfSome told (λ held. held ≡ text) → DueOfText name text a → DueOfFile name told failed a
   due_read : failed → DueOfFile name told failed (answer 5 [] (read_line name))
   due_memory_to_fetch : DueOfFile name told failed (answer 7 [] memory_line)
 

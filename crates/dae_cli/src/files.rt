@@ -1,5 +1,5 @@
 /// Texts of files, with the status and the output that are due. Outputs are those of gcc with wrapping arithmetic.
-pub const FILES: [(&[u8], u8, &[u8]); 54] = [
+pub const FILES: [(&[u8], u8, &[u8]); 55] = [
     (
         b"#include <stdio.h>\nint a;int b;int _c;int Dn;int int0;int main(void){a=1390851128;b=647892279;_c=1695753998;Dn=207388624;int0=311111475;_c=a+Dn-int0*b+a-_c-int0*int0*a+int0;printf(\"%d\\n\",Dn+_c*a*_c+int0-b+Dn*_c);return 0;}",
         0,
@@ -243,12 +243,12 @@ pub const FILES: [(&[u8], u8, &[u8]); 54] = [
     ),
     (
         b"#include <stdio.h>\nint a;int b;int _c;int Dn;int int0;int main(void){/* */return 0;}",
-        2,
+        0,
         b"",
     ),
     (
         b"#include <stdio.h>\nint a;int b;int _c;int Dn;int int0;int main(void){a=1;\r\nreturn 0;}",
-        2,
+        0,
         b"",
     ),
     (
@@ -258,4 +258,9 @@ pub const FILES: [(&[u8], u8, &[u8]); 54] = [
     ),
     (b"int a;int main(void){a=5;return 0;}", 0, b""),
     (b"#include <stdio.h>\nint main(void){return 0;}", 0, b""),
+    (
+        b"#include <stdio.h>\n#define N 7\nint g;int main(void){/* */g=N;printf(\"%d\\n\",g);return 0;}",
+        0,
+        b"7\n",
+    ),
 ];

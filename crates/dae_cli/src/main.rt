@@ -20,6 +20,7 @@ mod job;
 mod line;
 mod notes;
 mod options;
+mod refusals;
 mod running;
 #[cfg(test)]
 mod tests;

@@ -1,21 +1,34 @@
-ghost use Rattle.std.specs.Prelude.{◌≡◌, ℕ, ◌≤◌, ◌⊎◌, List, [], Option};
+ghost use Rattle.std.specs.Prelude.{◌≡◌, ℕ, ◌≤◌, ◌⊎◌, List, [], Option, IfOk, IfErr, string_bytes};
 ghost use Rattle.dae_io.specs.Faults.{Rose, fetch_of};
 ghost use Rattle.dae_tree.specs.Form.{IsStraight};
-ghost use Rattle.dae_cli.specs.Answers.{Answer, answer, DueOfProgram, DueOfText, DueOfFile, Gives};
+ghost use Rattle.dae_syntax.specs.Trees.{External};
+ghost use Rattle.dae_parse.specs.Parsed.{IsRefused, IsWithinLimits};
+ghost use Rattle.dae_cli.specs.Notes.{memory_line};
+ghost use Rattle.dae_cli.specs.Answers.{Answer, answer, IsRead, DueOfProgram, DueOfText, DueOfFile, Gives};
 
 use crate::exec::run_image;
-use crate::notes;
 use crate::options::RunOptions;
+use crate::{notes, refusals};
 use dae_base::Depths;
 use dae_io::{FetchError, Shelf, Sink};
+use dae_lex::tokens;
 use dae_machine::Schedule;
+use dae_parse::{ParseError, parse};
 use dae_straight_compiler::compile;
 use dae_straight_reader::{ReadError, read};
+use dae_token::{LexError, Room, Tokens};
 use dae_tree::StraightProgram;
-use std::alloc::Global;
+use std::alloc::{AllocError, Global};
 
 /// One byte more than a source may have.
 const MOST: u32 = 1_048_577;
+
+/// The limits on what is read of a job.
+const ROOM: Room = Room {
+    tokens: 65_536,
+    replacements: 65_536,
+    literal_bytes: 65_536,
+};
 
 /// How a program is run: each processor and the memory in its turn, with queues of eight items.
 const OPTIONS: RunOptions = RunOptions {
@@ -64,14 +77,71 @@ pub fn run_program<O: Sink, N: Sink>(
     }
 }
 
-// Runs the program that a text spells.
-fn run_text<O: Sink, N: Sink>(alloc: Global, text: &[u8], out: &mut O, note: &mut N) -> u8
-    ensures { (due : Answer) × DueOfText text.now due × Gives due result (O.taken out.old) (O.taken out.new) (N.taken note.old) (N.taken note.new) (Rose (O.count out.old) (O.count out.new) ⊎ Rose (N.count note.old) (N.count note.new)) }
+// Notes the line of a refusal, or that memory was wanting for it.
+fn refused<N: Sink>(line: Result<String, AllocError>, note: &mut N) -> u8
+    ensures { (wanted : List ℕ) → IfOk line (λ text. string_bytes text ≡ wanted) → (out : Option (List ℕ)) → Gives (answer 2 [] wanted) result out out (N.taken note.old) (N.taken note.new) (Rose (N.count note.old) (N.count note.new)) ⊎ Gives (answer 7 [] memory_line) result out out (N.taken note.old) (N.taken note.new) (Rose (N.count note.old) (N.count note.new)) }
 {
-    match read(alloc, text) {
+    match line {
+        Ok(text) => noted(note, text.as_bytes(), 2),
+        Err(_) => noted(note, MEMORY, 7),
+    }
+}
+
+// Runs the program that these tokens spell, which have a tree.
+fn run_tree<O: Sink, N: Sink>(alloc: Global, tokens: &Tokens<'_>, out: &mut O, note: &mut N) -> u8
+    ensures { (name text : List ℕ) (file : List External) → IsRead text tokens.now → IsWithinLimits tokens.now.tokens file → (due : Answer) × DueOfText name text due × Gives due result (O.taken out.old) (O.taken out.new) (N.taken note.old) (N.taken note.new) (Rose (O.count out.old) (O.count out.new) ⊎ Rose (N.count note.old) (N.count note.new)) }
+{
+    match read(alloc, tokens) {
         Ok(program) => run_program(alloc, &program, out, note),
         Err(ReadError::NotBuilt) => noted(note, NOT_BUILT, 2),
         Err(ReadError::Memory) => noted(note, MEMORY, 7),
+    }
+}
+
+// Whether the tokens have a tree within the limits, or why they have none. Its memory is given back.
+fn accept(alloc: Global, tokens: &Tokens<'_>) -> Result<(), ParseError>
+    ensures ok { IfOk result (λ _. (file : List External) × IsWithinLimits tokens.now.tokens file) }
+    ensures err { IfErr result (λ e. IsRefused tokens.now e) }
+{
+    let _file = parse(alloc, tokens)?;
+    Ok(())
+}
+
+// Runs the program that the tree of these tokens spells.
+fn run_tokens<O: Sink, N: Sink>(
+    alloc: Global,
+    name: &str,
+    tokens: &Tokens<'_>,
+    out: &mut O,
+    note: &mut N,
+) -> u8
+    ensures { (text : List ℕ) → IsRead text tokens.now → (due : Answer) × DueOfText name.now text due × Gives due result (O.taken out.old) (O.taken out.new) (N.taken note.old) (N.taken note.new) (Rose (O.count out.old) (O.count out.new) ⊎ Rose (N.count note.old) (N.count note.new)) }
+{
+    match accept(alloc, tokens) {
+        Ok(()) => run_tree(alloc, tokens, out, note),
+        Err(ParseError::Memory) => noted(note, MEMORY, 7),
+        Err(error) => refused(refusals::tree_line(alloc, name, error), note),
+    }
+}
+
+// Runs the program that a text spells.
+fn run_text<O: Sink, N: Sink>(
+    alloc: Global,
+    name: &str,
+    text: &[u8],
+    out: &mut O,
+    note: &mut N,
+) -> u8
+    ensures { (due : Answer) × DueOfText name.now text.now due × Gives due result (O.taken out.old) (O.taken out.new) (N.taken note.old) (N.taken note.new) (Rose (O.count out.old) (O.count out.new) ⊎ Rose (N.count note.old) (N.count note.new)) }
+{
+    if text.len() >= MOST as usize {
+        return refused(refusals::too_long_line(alloc, name), note);
+    }
+    let mut room = ROOM;
+    match tokens(alloc, 0, text, &mut room) {
+        Ok(tokens) => run_tokens(alloc, name, &tokens, out, note),
+        Err(LexError::Memory) => noted(note, MEMORY, 7),
+        Err(error) => refused(refusals::lex_line(alloc, name, error), note),
     }
 }
 
@@ -89,7 +159,7 @@ pub fn run_file<F: Shelf, O: Sink, N: Sink>(
         return noted(note, MEMORY, 7);
     };
     match shelf.fetch(alloc, name, MOST) {
-        Ok(text) => run_text(alloc, text.as_slice(), out, note),
+        Ok(text) => run_text(alloc, name, text.as_slice(), out, note),
         Err(FetchError::Failed) => noted(note, fault.as_bytes(), 5),
         Err(FetchError::Memory) => noted(note, MEMORY, 7),
     }

@@ -1,7 +1,7 @@
 use crate::files::FILES;
 use crate::top::dae_main;
 use dae_io::{FailingCall, MemShelf, MemSink};
-use std::alloc::Global;
+use std::alloc::{AllocError, Global};
 use std::process::Abort;
 use std::test::Fail;
 
@@ -141,8 +141,15 @@ fn each_case_is_answered(rt: HostRuntime) -> Result<(), Fail> {
     Ok(())
 }
 
-// The status and the output for a file.
-fn runs(rt: &impl Abort, alloc: Global, text: &[u8], status: u8, due: &[u8]) -> Result<(), Fail> {
+// What is answered, put out and noted where `a.c` holds the text.
+fn runs(
+    rt: &impl Abort,
+    alloc: Global,
+    text: &[u8],
+    status: u8,
+    due: &[u8],
+    noted: Option<&[u8]>,
+) -> Result<(), Fail> {
     let mut words = Vec::new(alloc);
     words.push(String::from_str(alloc, "run")?)?;
     words.push(String::from_str(alloc, "a.c")?)?;
@@ -153,13 +160,175 @@ fn runs(rt: &impl Abort, alloc: Global, text: &[u8], status: u8, due: &[u8]) -> 
     let given = dae_main(alloc, words.as_slice(), &mut shelf, &mut out, &mut note);
     assert_eq!(rt; given, status);
     assert_eq!(rt; out.taken.as_slice(), due);
+    if let Some(line) = noted {
+        assert_eq!(rt; note.taken.as_slice(), line);
+    }
     Ok(())
 }
 
 #[test]
 fn each_file_is_run(rt: HostRuntime) -> Result<(), Fail> {
     for (text, status, due) in &FILES {
-        runs(&rt, rt.alloc(), text, *status, due)?;
+        runs(&rt, rt.alloc(), text, *status, due, None)?;
+    }
+    Ok(())
+}
+
+/// A text, in parts that stand as often as stated, with the status and the note that are due.
+struct Row {
+    parts: &'static [(&'static [u8], u32)],
+    status: u8,
+    note: &'static [u8],
+}
+
+const NOT_RUN: [Row; 18] = [
+    Row {
+        parts: &[(b"int main(void){@}", 1)],
+        status: 2,
+        note: b"refused bad-byte a.c:1:16\n",
+    },
+    Row {
+        parts: &[(b"int main(void){return 0}", 1)],
+        status: 2,
+        note: b"refused syntax a.c:1:24\n",
+    },
+    Row {
+        parts: &[(b"int main(void)\n{\n    goto a;\na:;}", 1)],
+        status: 2,
+        note: b"refused goto a.c:3:5\n",
+    },
+    Row {
+        parts: &[
+            (b"int main(void){return ", 1),
+            (b"(", 196),
+            (b"0", 1),
+            (b")", 196),
+            (b";}", 1),
+        ],
+        status: 2,
+        note: b"refused not-built\n",
+    },
+    Row {
+        parts: &[
+            (b"int main(void){return ", 1),
+            (b"(", 197),
+            (b"0", 1),
+            (b")", 197),
+            (b";}", 1),
+        ],
+        status: 2,
+        note: b"refused too-deep a.c:1:220\n",
+    },
+    Row {
+        parts: &[(b"int main(void){", 1), (b";", 8_185), (b"}", 1)],
+        status: 2,
+        note: b"refused not-built\n",
+    },
+    Row {
+        parts: &[(b"int main(void){", 1), (b";", 8_186), (b"}", 1)],
+        status: 2,
+        note: b"refused function-too-long a.c:1:1\n",
+    },
+    Row {
+        parts: &[],
+        status: 2,
+        note: b"refused not-built\n",
+    },
+    Row {
+        parts: &[(b" ", 1_048_577)],
+        status: 2,
+        note: b"refused source-too-long a.c\n",
+    },
+    Row {
+        parts: &[(b"typedef int t;int main(void){int t=3;t=4;return 0;}", 1)],
+        status: 2,
+        note: b"refused not-built\n",
+    },
+    Row {
+        parts: &[
+            (b"typedef int t;int f(t);int g(t x);int h(int(t));", 1),
+            (b"int main(void){int x;x=(t)3;x=sizeof(t);return x;}", 1),
+        ],
+        status: 2,
+        note: b"refused not-built\n",
+    },
+    Row {
+        parts: &[(b"typedef int t;int main(void){int t=3;t x;return 0;}", 1)],
+        status: 2,
+        note: b"refused syntax a.c:1:40\n",
+    },
+    Row {
+        parts: &[(
+            b"int main(void){switch(1){case 1:case 2:;default:;}return 0;}",
+            1,
+        )],
+        status: 2,
+        note: b"refused not-built\n",
+    },
+    Row {
+        parts: &[(b"int a[2]={1,2,};enum{A,B,}x;int main(void){return 0;}", 1)],
+        status: 2,
+        note: b"refused not-built\n",
+    },
+    Row {
+        parts: &[(b"int main(void){int a;a=1+2=3;return 0;}", 1)],
+        status: 2,
+        note: b"refused syntax a.c:1:27\n",
+    },
+    Row {
+        parts: &[(b"int main(void){return 0;", 1)],
+        status: 2,
+        note: b"refused syntax a.c:1:25\n",
+    },
+    Row {
+        parts: &[
+            (b"int main(void){return (0)", 1),
+            (b"+(0)", 299),
+            (b";}", 1),
+        ],
+        status: 2,
+        note: b"refused too-deep a.c:1:23\n",
+    },
+    Row {
+        parts: &[
+            (b"int main(void){return ", 1),
+            (b"(", 10_000),
+            (b"0", 1),
+            (b")", 10_000),
+            (b";}", 1),
+        ],
+        status: 2,
+        note: b"refused too-deep a.c:1:220\n",
+    },
+];
+
+fn add(text: &mut Vec<u8>, part: &[u8], times: u32) -> Result<(), AllocError> {
+    for _ in 0..times {
+        text.extend_from_slice(part)?;
+    }
+    Ok(())
+}
+
+fn text_of(alloc: Global, parts: &[(&[u8], u32)]) -> Result<Vec<u8>, AllocError> {
+    let mut text = Vec::new(alloc);
+    for (part, times) in parts {
+        add(&mut text, part, *times)?;
+    }
+    Ok(text)
+}
+
+#[test]
+fn each_refusal_is_noted(rt: HostRuntime) -> Result<(), Fail> {
+    for row in &NOT_RUN {
+        let text = text_of(rt.alloc(), row.parts)?;
+        runs(
+            &rt,
+            rt.alloc(),
+            text.as_slice(),
+            row.status,
+            b"",
+            Some(row.note),
+        )?;
     }
     Ok(())
 }

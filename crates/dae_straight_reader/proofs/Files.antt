@@ -1,43 +1,30 @@
--- Files: the line that includes <stdio.h>, and the text after it.
-use Rattle.std.proofs.Common.{◌≡◌, ℕ, ◌<◌, ◌≤◌, Bool, true, false, cond, ◌&&◌, nat_le, ◌||◌, not, List, length, Some, None, refl, sym, ap, ◌∙◌, arith}
+-- Files: their tokens and their words.
+use Rattle.std.proofs.Common.{◌≡◌, ℕ, ◌+◌, ◌<◌, ◌≤◌, cond, nat_le, List, [], ◌∷◌, ◌++◌, length, take, get_or, refl, sym, ap, ◌∙◌, arith}
 use Rattle.std.specs.Borrow.{Bor}
-use Rattle.std.proofs.lemmas.Bool.{le-leb, lt-leb}
-use Rattle.dae_tree.specs.declared.StraightProgram.{StraightProgram}
-use Rattle.dae_tree.specs.Text.{words}
-use Rattle.dae_tree.specs.Form.{prints}
-use Rattle.dae_straight_reader.specs.Reading.{◌>>=◌, texts, includes, text_of, program_at, allowed, program_of}
+use Rattle.std.proofs.lemmas.List.{length-map, take_more}
+use Rattle.std.proofs.lemmas.Bool.{le-leb}
+use Rattle.dae_token.specs.Reading.{Reading}
+use Rattle.dae_syntax.specs.Marks.{mark, marks}
+use Rattle.dae_straight_reader.specs.Reading.{texts}
+use Rattle.dae_straight_reader.specs.Spelled.{mark_word, words_of}
 use Rattle.dae_straight_reader.proofs.Loops.{length-texts}
 
-pub both_pass : {A : Type 0} (a b : ℕ) (x y : A) → a ≤ 1048576 → b ≤ 8192 → cond (nat_le a 1048576 && nat_le b 8192) x y ≡ x
-both_pass a b x y h k = rw (le-leb a 1048576 h, le-leb b 8192 k) refl
+texts-push : (found : List (Bor (List ℕ))) (w : Bor (List ℕ)) → texts (found ++ w ∷ []) ≡ texts found ++ w.now ∷ []
+texts-push [] w = refl
+texts-push (v ∷ found) w = ap (λ us. v.now ∷ us) (texts-push found w)
 
-neither : (a : Bool) → (a && false) ≡ false
-neither true = refl
-neither false = refl
+-- one more word as a slice
+pub slice_pushed : (words : List (List ℕ)) (i : ℕ) (item : List ℕ) (found more : List (Bor (List ℕ))) (w : Bor (List ℕ)) → i < length words → item ≡ get_or words i item → w.now ≡ item
+    → more ≡ found ++ w ∷ [] → texts found ≡ take i words → texts more ≡ take (i + 1) words
+slice_pushed words i item found more w lt is value e so_far =
+    let t : take (i + 1) words ≡ take i words ++ get_or words i item ∷ [] = take_more words i item lt in
+    ap texts e ∙ texts-push found w ∙ ap (λ us. us ++ w.now ∷ []) so_far ∙ ap (λ v. take i words ++ v ∷ []) (value ∙ is) ∙ sym t
 
-second_fails : {A : Type 0} (a b : ℕ) (x y : A) → 8192 < b → cond (nat_le a 1048576 && nat_le b 8192) x y ≡ y
-second_fails a b x y k = rw (lt-leb b 8192 k, neither (nat_le a 1048576)) refl
+pub few_pass : {A : Type 0} (n : ℕ) (x y : A) → n ≤ 8192 → cond (nat_le n 8192) x y ≡ x
+few_pass n x y h = rw (le-leb n 8192 h) refl
 
-module _ (bytes : List ℕ) (ws : List (Bor (List ℕ))) (cut : texts ws ≡ words (text_of bytes)) where
-  length_cut : length (words (text_of bytes)) ≡ length ws
-  length_cut = sym (ap length cut) ∙ length-texts ws
+pub length_words : (r : Reading) → length (words_of r) ≡ length r.tokens
+length_words r = length-map (marks r.tokens) (mark_word r.names r.literals) ∙ length-map r.tokens mark
 
-  pub too_many : 8192 < length ws → program_of bytes ≡ None
-  unfolding program_of
-  too_many h = second_fails (length bytes) (length (words (text_of bytes))) _ _ (omega (arith, length_cut))
-
-  pub outcome : (has_stdio : Bool) (p : StraightProgram) → has_stdio ≡ includes bytes → length bytes ≤ 1048576 → length ws ≤ 8192 → program_at has_stdio (texts ws) ≡ Some p → program_of bytes ≡ allowed has_stdio p
-  unfolding program_of
-  outcome has_stdio p h short few read =
-      let found : program_at (includes bytes) (words (text_of bytes)) ≡ Some p =
-      ap (λ b. program_at b (words (text_of bytes))) (sym h) ∙ ap (program_at has_stdio) (sym cut) ∙ read in
-      both_pass (length bytes) (length (words (text_of bytes))) _ _ short (omega (arith, length_cut))
-      ∙ ap (λ o. o >>= allowed (includes bytes)) found ∙ ap (λ b. allowed b p) (sym h)
-
-  pub taken : (has_stdio : Bool) (p : StraightProgram) → has_stdio ≡ includes bytes → length bytes ≤ 1048576 → length ws ≤ 8192 → program_at has_stdio (texts ws) ≡ Some p
-      → (has_stdio || not (prints p.statements)) ≡ true → program_of bytes ≡ Some p
-  taken has_stdio p h short few read may = outcome has_stdio p h short few read ∙ ap (λ b. cond b (Some p) None) may
-
-  pub prints_alone : (has_stdio : Bool) (p : StraightProgram) → has_stdio ≡ includes bytes → length bytes ≤ 1048576 → length ws ≤ 8192 → program_at has_stdio (texts ws) ≡ Some p
-      → (has_stdio || not (prints p.statements)) ≡ false → program_of bytes ≡ None
-  prints_alone has_stdio p h short few read may = outcome has_stdio p h short few read ∙ ap (λ b. cond b (Some p) None) may
+pub few_slices : (r : Reading) (spelled : List (List ℕ)) (ws : List (Bor (List ℕ))) → length r.tokens ≤ 8192 → spelled ≡ words_of r → texts ws ≡ spelled → length ws ≤ 8192
+few_slices r spelled ws few e f = omega (arith, few, length-texts ws, ap length f, ap length e, length_words r)

@@ -2,9 +2,9 @@ mod Numbers
 mod NameLaws
 mod Loops
 mod Sound
-mod Cutting
 mod Files
 mod SoundFiles
 mod Again
 mod AgainFiles
 mod Whole
+mod Alone

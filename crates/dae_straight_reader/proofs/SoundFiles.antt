@@ -1,14 +1,15 @@
 -- What is read of a file is spelled.
-use Rattle.std.proofs.Common.{◌≡◌, ℕ, Bool, true, false, cond, ◌&&◌, ◌||◌, not, List, [], ◌∷◌, ◌++◌, length, drop, codes, Option, Some, None, refl, sym, ap, subst, ◌∙◌, arith, append_assoc, append-nil}
+use Rattle.std.proofs.Common.{◌≡◌, ℕ, Bool, true, false, cond, ◌&&◌, ◌||◌, not, nat_le, List, [], ◌∷◌, ◌++◌, length, codes, Option, Some, None, refl, sym, ap, subst, ◌∙◌, arith, append_assoc, append-nil}
 use Rattle.std.specs.List.{AllByRecursion, list_all}
 use Rattle.std.proofs.lemmas.Bool.{leb-true}
 use Rattle.std.proofs.lemmas.Bool.Decides.{same_from_decides}
-use Rattle.std.proofs.lemmas.List.{take-append-drop}
+use Rattle.dae_token.specs.Reading.{Reading}
 use Rattle.dae_tree.specs.declared.Statement.{Statement}
 use Rattle.dae_tree.specs.declared.StraightProgram.{StraightProgram}
-use Rattle.dae_tree.specs.Text.{words}
-use Rattle.dae_tree.specs.Form.{same_bytes, is_among, is_free_name, are_distinct, declarations_words, head_words, tail_words, statements_words, program_words, include_line, with_include, IsStatementOf, Spells}
-use Rattle.dae_straight_reader.specs.Reading.{body_at, is_new, names_from, program, at_end, program_at, includes, text_of, program_of}
+use Rattle.dae_tree.specs.Form.{same_bytes, is_among, is_free_name, are_distinct, declarations_words, head_words, tail_words, statements_words, program_words, IsStatementOf}
+use Rattle.dae_straight_reader.specs.Reading.{body_at, is_new, names_from, program, at_end, ◌>>=◌, program_at, allowed, program_of}
+use Rattle.dae_straight_reader.specs.Spelled.{words_of, IsSpelled}
+use Rattle.dae_straight_reader.proofs.Files.{length_words}
 use Rattle.dae_straight_reader.proofs.Numbers.{same_decides, both}
 use Rattle.dae_straight_reader.proofs.Sound.{bind_some, some_is, chosen, after_all_sound, statements_sound}
 
@@ -132,31 +133,21 @@ program_sound has_stdio ws p h =
 
 -- ---- files
 
-pub include_front : (bytes : List ℕ) → bytes ≡ with_include (includes bytes) (text_of bytes)
-include_front bytes = by_test (includes bytes) refl where
-  by_test : (t : Bool) → includes bytes ≡ t → bytes ≡ with_include t (cond t (drop (length include_line) bytes) bytes)
-  by_test true h = sym (take-append-drop (length include_line) bytes) ∙ ap (λ front. front ++ drop (length include_line) bytes) ((same_decides _ _).0 h)
-  by_test false h = refl
-
-pub file_sound : (bytes : List ℕ) (p : StraightProgram) → program_of bytes ≡ Some p → Spells bytes p
+pub file_sound : (r : Reading) (p : StraightProgram) → program_of r ≡ Some p → IsSpelled r p
 unfolding program_of
-file_sound bytes p h =
-    let o = opened _ _ _ h in
-    let small = both _ _ o.0 in
+file_sound r p h =
+    let o = opened (nat_le (length r.tokens) 8192) (program_at r.stdio (words_of r) >>= allowed r.stdio) p h in
     let a = bind_some _ _ _ o.1 in
     let c = chosen _ _ _ a.2 in
-    let r = program_sound (includes bytes) (words (text_of bytes)) a.0 a.1 in
-    let front : bytes ≡ with_include a.0.has_stdio (text_of bytes) = include_front bytes ∙ ap (λ b. with_include b (text_of bytes)) (sym r.includes_it) in
-    subst (Spells bytes) c.1 (record {
+    let s = program_sound r.stdio (words_of r) a.0 a.1 in
+    subst (IsSpelled r) c.1 (record {
       straight = record {
-        names = r.free;
-        distinct = r.distinct;
-        statements = r.statements;
-        included = rw r.includes_it c.0;
-        few_tokens = omega (arith, leb-true _ _ small.1, ap length r.spelled);
+        names = s.free;
+        distinct = s.distinct;
+        statements = s.statements;
+        included = rw s.includes_it c.0;
+        few_tokens = omega (arith, leb-true _ _ o.0, ap length s.spelled, length_words r);
       };
-      text = text_of bytes;
-      begins = front;
-      spelled = r.spelled;
-      short = leb-true _ _ small.0;
+      words = s.spelled;
+      included = sym s.includes_it;
     })

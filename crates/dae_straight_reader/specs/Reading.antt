@@ -1,7 +1,8 @@
 -- Reading from left to right: a part of the form and the words after it, or nothing.
-use Rattle.std.specs.Prelude.{◌≡◌, ℕ, zero, suc, ◌+◌, ◌^◌, Bool, true, false, ◌&&◌, ◌||◌, ◌==◌, not, if◌then◌else◌, nat_le, nat_lt, List, [], ◌∷◌, ◌++◌, length, drop, take, codes, decimal, Option, Some, None, Result, Ok, Err}
+use Rattle.std.specs.Prelude.{◌≡◌, ℕ, zero, suc, ◌+◌, ◌^◌, Bool, true, false, ◌&&◌, ◌||◌, ◌==◌, not, if◌then◌else◌, nat_le, nat_lt, List, [], ◌∷◌, ◌++◌, length, codes, decimal, Option, Some, None, Result, Ok, Err}
 use Rattle.std.specs.Borrow.{Bor}
 use Rattle.std.specs.Str.Parse.{digits_value}
+use Rattle.dae_token.specs.Reading.{Reading}
 use Rattle.dae_tree.specs.declared.BinaryOperator.{BinaryOperator}
 use Rattle.dae_tree.specs.declared.BinaryOperator.TheVariants.{Add, Subtract, Multiply}
 use Rattle.dae_tree.specs.declared.Factor.{Factor}
@@ -11,10 +12,10 @@ use Rattle.dae_tree.specs.declared.Sum.{Sum}
 use Rattle.dae_tree.specs.declared.Statement.{Statement}
 use Rattle.dae_tree.specs.declared.Statement.TheVariants.{Assign, PrintLine}
 use Rattle.dae_tree.specs.declared.StraightProgram.{StraightProgram}
-use Rattle.dae_tree.specs.Text.{is_name_byte, is_blank, words}
-use Rattle.dae_tree.specs.Form.{same_bytes, is_among, is_free_name, head_words, tail_words, include_line, prints}
+use Rattle.dae_tree.specs.Form.{same_bytes, is_among, is_free_name, head_words, tail_words, prints}
 use Rattle.dae_straight_reader.specs.declared.error.ReadError.{ReadError}
 use Rattle.dae_straight_reader.specs.declared.error.ReadError.TheVariants.{NotBuilt, Memory}
+use Rattle.dae_straight_reader.specs.Spelled.{words_of}
 
 infixl 10 ◌>>=◌
 abbrev pub ◌>>=◌ : {A B : Type 0} → Option A → (A → Option B) → Option B
@@ -47,27 +48,6 @@ with_front front read = read >>= λ x. Some (front ++ x.0, x.1)
 abbrev pub texts : List (Bor (List ℕ)) → List (List ℕ)
 texts [] = []
 texts (w ∷ ws) = w.now ∷ texts ws
-
--- ---- the first word of a text
-
--- how many bytes of names stand in front, and how many bytes reach up to the next quote
-abbrev pub name_length : List ℕ → ℕ
-name_length [] = 0
-name_length (b ∷ bs) = if is_name_byte b then suc (name_length bs) else 0
-
-abbrev pub literal_length : List ℕ → ℕ
-literal_length [] = 0
-literal_length (b ∷ bs) = if b == 34 then 1 else suc (literal_length bs)
-
--- how many bytes the first word has, or the blank in front
-abbrev pub first_length : List ℕ → ℕ
-first_length [] = 0
-first_length (b ∷ bs) = if is_name_byte b then suc (name_length bs) else (if b == 34 then suc (literal_length bs) else 1)
-
--- the word that these bytes are, where they are no blank
-abbrev pub shown : List ℕ → List (List ℕ)
-shown [] = []
-shown (b ∷ bs) = if is_blank b then [] else (b ∷ bs) ∷ []
 
 -- ---- words
 
@@ -212,14 +192,5 @@ program_at has_stdio ws =
 abbrev pub allowed : Bool → StraightProgram → Option StraightProgram
 allowed has_stdio p = if has_stdio || not (prints p.statements) then Some p else None
 
-abbrev pub includes : List ℕ → Bool
-includes bytes = same_bytes (take (length include_line) bytes) include_line
-
-abbrev pub text_of : List ℕ → List ℕ
-text_of bytes = if includes bytes then drop (length include_line) bytes else bytes
-
-unfoldable pub program_of : List ℕ → Option StraightProgram
-program_of bytes =
-    if nat_le (length bytes) 1048576 && nat_le (length (words (text_of bytes))) 8192
-    then (program_at (includes bytes) (words (text_of bytes)) >>= allowed (includes bytes))
-    else None
+unfoldable pub program_of : Reading → Option StraightProgram
+program_of r = if nat_le (length r.tokens) 8192 then (program_at r.stdio (words_of r) >>= allowed r.stdio) else None

@@ -9,7 +9,7 @@ use thiserror::Error;
 /// Why no program is read.
 #[derive(Clone, Copy, Debug, PartialEq, Eq, Error)]
 pub enum ReadError {
-    /// The bytes spell no straight program.
+    /// The tokens spell no straight program.
     #[error("the file holds no straight program")]
     NotBuilt,
     /// Memory is wanting.

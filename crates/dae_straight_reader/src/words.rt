@@ -1,13 +1,11 @@
-//! The words of a text, and what stands at the front of them.
+//! Words, and what stands at the front of a list of them.
 
-ghost use Rattle.std.specs.Prelude.{◌≡◌, ◌≤◌, ◌<◌, ◌++◌, ℕ, length, take, drop, IfOk, IfErr};
-ghost use Rattle.dae_tree.specs.Text.{is_digit, is_letter, is_name_byte, is_blank, words};
+ghost use Rattle.std.specs.Prelude.{◌≡◌};
+ghost use Rattle.dae_tree.specs.Text.{is_digit, is_letter, is_name_byte};
 ghost use Rattle.dae_tree.specs.Form.{same_bytes};
-ghost use Rattle.dae_straight_reader.specs.Reading.{Gives, texts, after, after_all, begins, next, name_length, literal_length, first_length};
-ghost use Rattle.dae_straight_reader.specs.declared.error.ReadError.TheVariants.{Memory};
+ghost use Rattle.dae_straight_reader.specs.Reading.{Gives, texts, after, after_all, begins, next};
 
 use crate::error::ReadError;
-use std::alloc::Global;
 
 /// Whether two texts are one.
 pub fn same(left: &[u8], right: &[u8]) -> bool
@@ -34,67 +32,6 @@ pub fn is_name_byte(byte: u8) -> bool
     ensures { result ≡ is_name_byte byte }
 {
     is_letter(byte) || is_digit(byte)
-}
-
-fn is_blank(byte: u8) -> bool
-    ensures { result ≡ is_blank byte }
-{
-    matches!(byte, b' ' | b'\t' | b'\n')
-}
-
-/// How many bytes of a name or a number stand in front.
-fn name_len(text: &[u8]) -> usize
-    ensures value { result ≡ name_length text.now }
-    ensures within { result ≤ length text.now }
-{
-    for (at, byte) in text.iter().enumerate() {
-        if !is_name_byte(*byte) {
-            return at;
-        }
-    }
-    text.len()
-}
-
-/// How many bytes there are up to the next quote and with it, or in all where there is none.
-fn literal_len(text: &[u8]) -> usize
-    ensures value { result ≡ literal_length text.now }
-    ensures within { result ≤ length text.now }
-{
-    for (at, byte) in text.iter().enumerate() {
-        if *byte == b'"' {
-            return at + 1;
-        }
-    }
-    text.len()
-}
-
-/// How many bytes the first word of a text has, or the blank in front of it.
-fn first_len(text: &[u8]) -> usize
-    ensures value { result ≡ first_length text.now }
-    ensures within { result ≤ length text.now }
-{
-    match text {
-        [b'"', rest @ ..] => 1 + literal_len(rest),
-        [first, ..] if !is_name_byte(*first) => 1,
-        _ => name_len(text),
-    }
-}
-
-/// The words of a text, in order.
-pub fn cut<'t>(alloc: Global, text: &'t [u8]) -> Result<Vec<&'t [u8]>, ReadError>
-    ensures cut { IfOk result (λ found. texts found.items ≡ words text.now) }
-    ensures err { IfErr result (λ error. error ≡ Memory) }
-{
-    let mut found = Vec::new(alloc);
-    let mut at = 0;
-    while at < text.len() {
-        let len = first_len(&text[at..]);
-        if !is_blank(text[at]) {
-            found.push(&text[at..at + len])?;
-        }
-        at += len;
-    }
-    Ok(found)
 }
 
 /// The first word, and the words after it.

@@ -1,16 +1,14 @@
-use Rattle.std.proofs.Common.{inr, ap, Err}
-use Rattle.dae_cli.specs.Answers.{due_program, due_not_built, due_memory_to_read}
+use Rattle.std.proofs.Common.{rules, inr}
+use Rattle.dae_cli.specs.Answers.{due_too_long, due_memory_to_read}
 use Rattle.dae_cli.proofs.Given.{gives_for}
+use Rattle.dae_cli.proofs.Refused.{refused_due, no_tokens}
 use Rattle.dae_cli.proofs.running.run_text.Goals as goal
 
-pub returns-in-Ok : goal.returns-in-Ok
-returns-in-Ok g c =
-    let r = c.run_program.ensures in
-    (r.0, due_program c.in-Ok.program (record { spells = c.in-Ok.ensures.found; only = c.in-Ok.ensures.only }) r.1, r.2)
-
-pub returns-in-Err-NotBuilt : goal.returns-in-Err-NotBuilt
-returns-in-Err-NotBuilt g c =
-    (_, due_not_built (c.in-Err-NotBuilt.ensures.not_built (ap Err c.in-Err-NotBuilt.field-0-is)), gives_for (λ r. inr r) (c.noted.ensures.gives _))
+pub returns-then-text : goal.returns-then-text
+returns-then-text g c = refused_due (due_too_long (search rules)) (c.refused.ensures _ c.too_long_line.ensures _)
 
 pub returns-in-Err-Memory : goal.returns-in-Err-Memory
-returns-in-Err-Memory g c = (_, due_memory_to_read, gives_for (λ r. inr r) (c.noted-in-Err-Memory.ensures.gives _))
+returns-in-Err-Memory g c = (_, due_memory_to_read, gives_for (λ r. inr r) (c.noted.ensures.gives _))
+
+pub returns-in-Err : goal.returns-in-Err
+returns-in-Err g c = refused_due (no_tokens _ _ c.in-Err.error _ (search rules) (search rules) c.in-Err.ensures.answer) (c.refused-in-Err.ensures _ c.lex_line.ensures _)
