@@ -15,4 +15,4 @@ pub mod Printing
 pub mod Scheduled
 pub mod Walks
 pub mod Pushed
-pub mod Laws
+pub mod LawsOfRuns
