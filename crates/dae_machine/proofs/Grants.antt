@@ -46,7 +46,7 @@ pub record Moved (d : Depths) (side : Side) (p : Processor) (q : Queues) (asked 
   pub can : possible d use' q ≡ true
   pub does : finish side p use' inst (form inst) (peek use' q) ≡ Some result
 
-AsksOwn : Side → Request → Type 0
+abbrev AsksOwn : Side → Request → Type 0
 AsksOwn side asked = (u : QueueUse) (w : ℕ) (i : Inst) → asked ≡ Asks u w i → belongs side u ≡ true
 
 granted_was : (d : Depths) (side : Side) (p : Processor) (q : Queues) (asked : Request) (r : After × Queues) → AsksOwn side asked → granted d side p q asked ≡ Some r → (m : Moved d side p q asked) × ((m.result, commit m.use' m.word q) ≡ r)
