@@ -18,7 +18,7 @@ use std::marker::Model;
 mod shown;
 mod turns;
 
-/// A machine. Clauses see its state without the printed bytes, and what no step changes.
+/// A machine. Clauses see its state without printed bytes, and what no step changes.
 #[derive(Drop)]
 pub struct Machine {
     a: Core,
@@ -46,7 +46,8 @@ impl Machine {
     #[tactic(auto, using(crate::proofs::Opening::data_fit))]
     pub fn open(alloc: Global, image: &Image, depths: Depths) -> Result<Machine, OpenError>
         requires { CanHold depths }
-        ensures ok { IfOk result (λ machine. machine ≡ record { setup = setup_of image.now depths; state = opened image.now }) }
+        ensures setup { IfOk result (λ machine. machine.setup ≡ setup_of image.now depths) }
+        ensures state { IfOk result (λ machine. machine.state ≡ opened image.now) }
         ensures reaches { IfOk result (λ machine. Reaches depths image.now.budget) }
         ensures err { IfErr result (λ e. Refuses e image.now.budget depths) }
     {
@@ -58,7 +59,8 @@ impl Machine {
     fn make(alloc: Global, image: &Image, depths: Depths) -> Result<Machine, AllocError>
         requires depths { CanHold depths }
         requires fit { DataFit image.now }
-        ensures { IfOk result (λ machine. machine ≡ record { setup = setup_of image.now depths; state = opened image.now }) }
+        ensures setup { IfOk result (λ machine. machine.setup ≡ setup_of image.now depths) }
+        ensures state { IfOk result (λ machine. machine.state ≡ opened image.now) }
     {
         let copies = image.budget.cq != 0;
         Ok(Machine {
