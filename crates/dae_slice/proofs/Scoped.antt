@@ -80,14 +80,14 @@ module _ (functions : List Function) (scoped : AllByRecursion (FunctionIn functi
     }
 
     item_targets : (x : Item) → ItemIn functions n x → HasTargets (in_range functions) f x
-    item_targets (Assign v x) h = all v h.0
+    item_targets (Assign v x) h = all v h.0.1
     item_targets (Load v kind x) h = tt
     item_targets (Store width x y) h = tt
     item_targets (Print spelling x) h = tt
     item_targets (Expect check) h = tt
     item_targets Break h = tt
     item_targets Continue h = tt
-    item_targets (Call v g xs) h = record { target = all v h.0; parameters = λ k pos le. parameter_there g (length xs) k h.1 le }
+    item_targets (Call v g xs) h = record { target = all v h.0.1; parameters = λ k pos le. parameter_there g (length xs) k h.1 le }
     item_targets (Return x) h = all 0 some
     item_targets (Halt x) h = tt
 
