@@ -1,6 +1,6 @@
 -- What a form must be, so that the pair and its code may be made: each variable, function and loop that it names is there,
 -- constants are words, variable 0 gets a function's result alone, no code falls off its end, and main halts.
-use Rattle.std.specs.Prelude.{◌≡◌, ℕ, ◌<◌, ◌^◌, Bool, true, false, not, List, length, slice_get, Option, Some, None, IsTrue}
+use Rattle.std.specs.Prelude.{◌≡◌, ℕ, ◌<◌, ◌^◌, Bool, true, false, not, ◌||◌, List, length, slice_get, Option, Some, None, IsTrue}
 use Rattle.std.specs.List.{AllByRecursion}
 use Rattle.dae_ir.specs.Code.{Done, Do, If, Loop, Each, every}
 use Rattle.dae_ir.specs.Form.{Form, form_of}
@@ -60,28 +60,31 @@ ItemIn functions n (Call v f xs) = IsTarget n v × TakesArguments (slice_get fun
 ItemIn functions n (Return x) = IsIn n x
 ItemIn functions n (Halt x) = IsIn n x
 
--- there is a return or a halt in the code's own list, so that its end isn't reached
-abbrev pub FormCloses : Form → Type 0
-FormCloses Done = ⊥
-FormCloses (Do place (Return x) k) = Unit {0}
-FormCloses (Do place (Halt x) k) = Unit {0}
-FormCloses (Do place item k) = FormCloses k
-FormCloses (If place t p q k) = FormCloses k
-FormCloses (Loop place body step k) = FormCloses k
-
--- the result and the parameters are variables, and no Break or Continue is outside of a loop
-pub record FunctionIn (functions : List Function) (function : Function) : Type 0 where
-  pub parameters : function.parameters < function.variables
-  pub names : Each (ItemIn functions function.variables) (TestIn function.variables) (form_of function.body)
-  pub loops : IsTrue (stays false (form_of function.body))
-  pub closes : FormCloses (form_of function.body)
-
 abbrev pub is_return : Item → Bool
 is_return (Return x) = true
 is_return item = false
 
+abbrev pub is_end : Item → Bool
+is_end (Return x) = true
+is_end (Halt x) = true
+is_end item = false
+
+-- there is a return or a halt in the code's own list, so that its end isn't reached
+abbrev pub closes : Form → Bool
+closes Done = false
+closes (Do place item k) = is_end item || closes k
+closes (If place t p q k) = closes k
+closes (Loop place body step k) = closes k
+
 abbrev pub never_returns : Form → Bool
 never_returns code = every (λ item. not (is_return item)) (λ t. true) code
+
+-- the result and the parameters are variables, no Break or Continue is outside of a loop, and the end isn't reached
+pub record FunctionIn (functions : List Function) (function : Function) : Type 0 where
+  pub parameters : function.parameters < function.variables
+  pub names : Each (ItemIn functions function.variables) (TestIn function.variables) (form_of function.body)
+  pub loops : IsTrue (stays false (form_of function.body))
+  pub ends : IsTrue (closes (form_of function.body))
 
 -- main has no parameters, and ends by a halt alone
 abbrev pub IsMain : Option Function → Type 0
