@@ -12,9 +12,9 @@ use Rattle.dae_ir.specs.Rounds.{is_a_item, Round, Group, Alone, Region, Decision
 use Rattle.dae_ir.specs.Canonical.{Sides, PairCalls, pair_calls_of, entered_both}
 use Rattle.dae_ir.specs.Streams.{Actions, stream_of}
 use Rattle.dae_pair.specs.Budget.{OwnWithin, Covers, AWithin, EWithin, AtMost}
-use Rattle.dae_runs.specs.Spots.{Ends, point, Waiting, Spot}
-use Rattle.dae_runs.specs.Sides.{Implements}
-use Rattle.dae_runs.proofs.Landing.{exits, Lands}
+use Rattle.dae_rounds.specs.Spots.{Ends, point, Waiting, Spot}
+use Rattle.dae_rounds.specs.Sides.{Implements}
+use Rattle.dae_rounds.proofs.Laws.{exits, Lands}
 use Rattle.dae_runs.proofs.Regions.{ItemOfA, region_a_lands, region_e_lands}
 use Rattle.dae_runs.proofs.RegionRounds.{IsRegion, rounds_ok}
 use Rattle.dae_runs.proofs.Stretches.{RoundFits, DecisionFits, CallsLand, code_lands}

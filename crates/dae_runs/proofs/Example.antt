@@ -29,10 +29,10 @@ use Rattle.dae_ir.specs.declared.form.Item.TheVariants.{Halt}
 use Rattle.dae_ir.specs.declared.stream.Action.{Action}
 use Rattle.dae_ir.specs.declared.stream.Action.TheVariants.{Set, Issue, Own, Receive, Address, Datum, Offer, Accept, Emit, Probe, Tell, Hear, Stop, Break, Continue, Call, Return}
 use Rattle.dae_machine.specs.Uses.{Use, Says}
-use Rattle.dae_runs.specs.Follows.{IsFit, halts}
-use Rattle.dae_runs.specs.Spots.{weight, Spot, Came, Moves, acts, goes_behind, ends_body, ends_step, breaks, continues, branches, tells, hears, enters, calls_it, returns, goes_back}
+use Rattle.dae_rounds.specs.Follows.{IsFit, halts}
+use Rattle.dae_rounds.specs.Spots.{weight, Spot, Came, Moves, acts, goes_behind, ends_body, ends_step, breaks, continues, branches, tells, hears, enters, calls_it, returns, goes_back}
 use Rattle.dae_machine.specs.Walks.{Goes, stays, quiet}
-use Rattle.dae_runs.specs.Sides.{Walked}
+use Rattle.dae_rounds.specs.Sides.{Walked}
 use Rattle.dae_runs.specs.Promises.{OnlyEnds}
 use Rattle.dae_runs.proofs.Forms.{zero_bytes}
 use Rattle.dae_runs.proofs.Calls.{body_of}

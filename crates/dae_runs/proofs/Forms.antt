@@ -35,12 +35,11 @@ use Rattle.dae_pair.proofs.Laws.{program_kept}
 use Rattle.dae_pair.proofs.Laws.{budget_covers}
 use Rattle.dae_ir.specs.Budgets.{IsBudgetOf}
 use Rattle.dae_ir.specs.declared.stream.Pair.{Pair}
-use Rattle.dae_runs.specs.Spots.{Ends as Here, point, Spot, spot}
-use Rattle.dae_runs.specs.Sides.{Implements}
+use Rattle.dae_rounds.specs.Spots.{Ends as Here, point, Spot, spot}
+use Rattle.dae_rounds.specs.Sides.{Implements}
 use Rattle.dae_base.specs.Budgets.{Reaches}
 use Rattle.dae_runs.specs.Promises.{Begins, OnlyEnds, EndsAs, Ends, Continues, Tells, DoesForm}
-use Rattle.dae_runs.proofs.Slots.{Counts}
-use Rattle.dae_runs.proofs.Landing.{IsSound, order_run}
+use Rattle.dae_rounds.proofs.Laws.{Counts, IsSound, order_run}
 use Rattle.dae_machine.proofs.LawsOfRuns.{memory_length, data_fit}
 use Rattle.std.proofs.lemmas.List.Elements.{recursion_from_All}
 use Rattle.dae_runs.proofs.Calls.{body_of}
@@ -131,7 +130,7 @@ module _ (ir : Ir) (tables : List (List Class)) (cap : ℕ) (image : Image) (mos
   module _ (At_a At_e : Spot → Processor → Type 0) (code_a : Implements setup p true (body_of setup p of cap true) most At_a) (code_e : Implements setup p false (body_of setup p of cap false) most At_e)
       (begins_a : Begins setup true most At_a (opened image).a (spot (point (body_of setup p of cap true ir.main) Here) (entered_both (of ir.main) [] []).a (deeper p ir.main w) [])) (begins_e : Begins setup false most At_e (opened image).e (spot (point (body_of setup p of cap false ir.main) Here) (entered_both (of ir.main) [] []).e (deeper p ir.main w) []))
       -- what is known of the form and its pair
-      (pair : Pair) (least : AreClassesOf ir tables) (is_pair : IsPairOf ir tables cap pair) (is_budget : IsBudgetOf pair image.budget) where
+      (pair : Pair) (least : AreClassesOf ir tables) (is_pair : IsPairOf ir tables cap pair) (is_budget : IsBudgetOf pair image.budget) (size : image.memory ≡ ir.memory) where
     covers : (f : ℕ) → Covers (of f) image.budget (rounds (of f) cap true (p.body f) [])
     covers = budget_covers ir tables cap pair image.budget is_pair is_budget
 
@@ -185,4 +184,4 @@ module _ (ir : Ir) (tables : List (List Class)) (cap : ℕ) (image : Image) (mos
         record { state = y.state; picks = y.picks; order = y.order; long = y.long; short = subst (λ (k : ℕ). length y.picks ≤ most * (8 * k + 26)) s.items y.short; printed = y.printed' ∙ s.printed }
 
     pub does_form : DoesForm ir image most
-    does_form = record { ends = tells; continues = continues; goes_on = for_ever }
+    does_form = record { size = size; ends = tells; continues = continues; goes_on = for_ever }

@@ -1,24 +1,12 @@
-mod Does
-mod Slots
-mod Both
-mod Worlds
-mod PartsA
-mod PartsE
-mod Tails
-mod Landing
-mod Play
-mod Sends
-mod Final
-mod Groups
-mod Control
 mod Stretches
 mod Sided
 mod RegionsA
 mod RegionsE
 mod RegionEnds
-mod Regions
 mod RegionRounds
+mod Regions
 mod Calls
 mod Whole
 mod Forms
 mod Example
+pub mod Laws

@@ -28,24 +28,16 @@ use Rattle.dae_ir.specs.declared.form.Operand.TheVariants.{Number}
 use Rattle.dae_ir.specs.declared.form.Test.{Test}
 use Rattle.dae_ir.specs.declared.stream.Action.TheVariants.{Tell, Hear}
 use Rattle.dae_machine.specs.Uses.{Use, Takes}
-use Rattle.dae_runs.specs.Follows.{Leaves as Leaves', Follows, went, takes, pushes}
-use Rattle.dae_runs.specs.Spots.{Behind, Point, point, Waiting, Spot, spot, Arrives, acts}
+use Rattle.dae_rounds.specs.Follows.{Leaves as Leaves', Follows, went, takes, pushes}
+use Rattle.dae_rounds.specs.Spots.{Behind, Point, point, Waiting, Spot, spot, Arrives, acts}
 use Rattle.dae_machine.specs.Walks.{Walks, stays as stays', quiet, makes}
-use Rattle.dae_runs.specs.Sides.{Implements}
+use Rattle.dae_rounds.specs.Sides.{Implements}
 use Rattle.dae_machine.specs.Walks.{nothing}
-use Rattle.dae_runs.specs.Order.{Round, none}
+use Rattle.dae_rounds.specs.Order.{Round, none}
 use Rattle.dae_machine.specs.Walks.{state_of, Grants, ends, grants}
 use Rattle.dae_machine.proofs.LawsOfRuns.{ran_e}
 use Rattle.dae_machine.proofs.LawsOfRuns.{often-append}
-use Rattle.dae_runs.proofs.Worlds.{loads_words}
-use Rattle.dae_runs.proofs.Does.{Does, did_a, did_e}
-use Rattle.dae_runs.proofs.Both.{does_both, does_one, does_same}
-use Rattle.dae_runs.proofs.Slots.{held, resting, none_waits}
-use Rattle.dae_runs.proofs.PartsA.{lt_true, with_al}
-use Rattle.dae_runs.proofs.Landing.{level, exits, IsSound, Stands, Arrived, Lands}
-use Rattle.dae_runs.proofs.Play.{one_each, Part, play, ends_with}
-use Rattle.dae_runs.proofs.Groups.{rest_words, rest_empty, arrives}
-use Rattle.dae_runs.proofs.Control.{no_move}
+use Rattle.dae_rounds.proofs.Laws.{loads_words, Does, did_a, did_e, does_both, does_one, does_same, held, resting, none_waits, lt_true, with_al, level, exits, IsSound, Stands, Arrived, Lands, one_each, Part, play, ends_with, rest_words, rest_empty, arrives, no_move}
 use Rattle.dae_runs.proofs.Sided.{exit, IsBlock, Still, Does_as}
 use Rattle.dae_runs.proofs.RegionsA.{whole_region_a}
 use Rattle.dae_runs.proofs.RegionsE.{region_e_does}

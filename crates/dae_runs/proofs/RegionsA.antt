@@ -22,14 +22,8 @@ use Rattle.dae_ir.specs.declared.stream.Part.{Part}
 use Rattle.dae_ir.specs.declared.stream.Part.TheVariants.{Sets, Loads as Load', Tests}
 use Rattle.dae_pair.specs.Budget.{is_own_part, is_test, any_part, OwnWithin}
 use Rattle.dae_core.specs.Queues.{Queues}
-use Rattle.dae_runs.specs.Spots.{Arrives, Behind, After, Body, Turn, point, left, skipped, Waiting, spot, breaks, continues}
-use Rattle.dae_runs.proofs.Worlds.{LoadsWords}
-use Rattle.dae_runs.proofs.Both.{does_to}
-use Rattle.dae_runs.proofs.Does.{Does, here}
-use Rattle.dae_runs.proofs.Slots.{Counts, Loads, resting, sending, words_for}
-use Rattle.dae_runs.proofs.PartsA.{HasRoom, Comes, parts_come, with_al}
-use Rattle.dae_runs.proofs.Tails.{IsMessage, silent, message_is}
-use Rattle.dae_runs.proofs.Groups.{rest_is}
+use Rattle.dae_rounds.specs.Spots.{Arrives, Behind, After, Body, Turn, point, left, skipped, Waiting, spot, breaks, continues}
+use Rattle.dae_rounds.proofs.Laws.{LoadsWords, does_to, Does, here, Counts, Loads, resting, sending, words_for, HasRoom, Comes, parts_come, with_al, IsMessage, silent, message_is, rest_is}
 use Rattle.dae_runs.proofs.Sided.{exit, still_itself, still_ticked, Reached, Does_as, List_does, Spare_does, spare_less, IsBlock, then_does, moved, branch_does, loop_does}
 
 pub and_false : (b : Bool) → (b && false) ≡ false

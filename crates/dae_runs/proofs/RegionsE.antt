@@ -22,14 +22,8 @@ use Rattle.dae_ir.specs.declared.stream.Part.{Part}
 use Rattle.dae_ir.specs.declared.stream.Part.TheVariants.{Sets, Loads as Load', Tests}
 use Rattle.dae_ir.specs.declared.stream.Last.TheVariants.{Prints}
 use Rattle.dae_pair.specs.Budget.{is_test, any_part}
-use Rattle.dae_runs.specs.Spots.{Arrives, Behind, After, Body, Turn, Point, point, left, skipped, Waiting, Spot, spot, breaks, continues}
-use Rattle.dae_runs.proofs.Worlds.{LoadsWords}
-use Rattle.dae_runs.proofs.Both.{does_to}
-use Rattle.dae_runs.proofs.Does.{Does, here}
-use Rattle.dae_runs.proofs.Slots.{resting}
-use Rattle.dae_runs.proofs.PartsA.{with_al}
-use Rattle.dae_runs.proofs.PartsE.{parts_taken}
-use Rattle.dae_runs.proofs.Tails.{IsMessage, silent, message_is, emit_does}
+use Rattle.dae_rounds.specs.Spots.{Arrives, Behind, After, Body, Turn, Point, point, left, skipped, Waiting, Spot, spot, breaks, continues}
+use Rattle.dae_rounds.proofs.Laws.{LoadsWords, does_to, Does, here, resting, with_al, parts_taken, IsMessage, silent, message_is, emit_does}
 use Rattle.dae_runs.proofs.Sided.{exit, Still, still_itself, still_ticked, still_on, Reached, Does_as, List_does, Spare_does, spare_less, IsBlock, then_does, moved, branch_does, loop_does}
 use Rattle.dae_runs.proofs.RegionsA.{and_false, item_of, run_parts, parts_then}
 

@@ -10,13 +10,9 @@ use Rattle.dae_ir.specs.Streams.{Actions}
 use Rattle.dae_ir.specs.declared.form.Test.{Test}
 use Rattle.dae_ir.specs.declared.stream.Mark.{Mark}
 use Rattle.dae_ir.specs.declared.stream.Branch.TheVariants.{Silent}
-use Rattle.dae_runs.specs.Spots.{weight, Behind, Ends, After, Body, Turn, Point, point, left, skipped, Waiting, Spot, spot, Arrives, Moves, goes_behind, ends_body, ends_step, branches, enters}
+use Rattle.dae_rounds.specs.Spots.{weight, Behind, Ends, After, Body, Turn, Point, point, left, skipped, Waiting, Spot, spot, Arrives, Moves, goes_behind, ends_body, ends_step, branches, enters}
 use Rattle.dae_machine.specs.Walks.{ends}
-use Rattle.dae_runs.proofs.Does.{Does, here}
-use Rattle.dae_runs.proofs.Both.{does_same, does_both, does_one}
-use Rattle.dae_runs.proofs.Slots.{Counts, resting}
-use Rattle.dae_runs.proofs.PartsA.{with_al}
-use Rattle.dae_runs.proofs.Landing.{least_of}
+use Rattle.dae_rounds.proofs.Laws.{Does, here, does_same, does_both, does_one, Counts, resting, with_al, least_of}
 
 -- the point to which each way leads from code with k behind it
 abbrev pub exit : Actions → Behind → Way → Point

@@ -16,15 +16,12 @@ use Rattle.dae_ir.specs.declared.form.Operand.{Operand}
 use Rattle.dae_ir.specs.declared.stream.Mark.{Mark}
 use Rattle.dae_ir.specs.declared.stream.Branch.TheVariants.{Tells, Hears}
 use Rattle.dae_ir.specs.declared.form.Check.TheVariants.{Room}
-use Rattle.dae_runs.specs.Spots.{weight_of, Behind, Ends, After, Body, Turn, Point, point, left, skipped, Waiting, waits, Spot, spot, put_some, given, with_result, Arrives, Moves, goes_behind, ends_body, ends_step, breaks, continues, enters, calls_it, returns, goes_back}
-use Rattle.dae_runs.specs.Sides.{Implements}
-use Rattle.dae_runs.proofs.Landing.{level, exits, least_of, IsSound, Stands, Arrived, Lands, then_lands, less}
-use Rattle.dae_runs.proofs.Groups.{rest_empty, GroupFits, group_lands}
-use Rattle.dae_runs.proofs.Play.{Part}
+use Rattle.dae_rounds.specs.Spots.{weight_of, Behind, Ends, After, Body, Turn, Point, point, left, skipped, Waiting, waits, Spot, spot, put_some, given, with_result, Arrives, Moves, goes_behind, ends_body, ends_step, breaks, continues, enters, calls_it, returns, goes_back}
+use Rattle.dae_rounds.specs.Sides.{Implements}
+use Rattle.dae_rounds.proofs.Laws.{level, exits, least_of, IsSound, Stands, Arrived, Lands, then_lands, less, rest_empty, GroupFits, group_lands, Part, one_move, control, told_by_a, told_by_e, both_halt}
 use Rattle.dae_machine.specs.Walks.{nothing}
-use Rattle.dae_runs.specs.Order.{Round as Turn_of, none}
+use Rattle.dae_rounds.specs.Order.{Round as Turn_of, none}
 use Rattle.dae_core.specs.Queues.{Queues}
-use Rattle.dae_runs.proofs.Control.{one_move, control, told_by_a, told_by_e, both_halt}
 
 abbrev no_round : Turn_of
 no_round = record { access = []; fills = []; execute = []; hears = []; drains = [] }

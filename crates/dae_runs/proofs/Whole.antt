@@ -20,16 +20,14 @@ use Rattle.dae_ir.specs.Rounds.{rounds}
 use Rattle.dae_ir.specs.Canonical.{Sides, pair_calls_of, entered_both}
 use Rattle.dae_pair.specs.Budget.{Covers}
 use Rattle.dae_machine.proofs.LawsOfRuns.{often-append}
-use Rattle.dae_runs.specs.Spots.{Ends, point, Point, Spot, spot}
-use Rattle.dae_runs.specs.Sides.{Implements}
+use Rattle.dae_rounds.specs.Spots.{Ends, point, Point, Spot, spot}
+use Rattle.dae_rounds.specs.Sides.{Implements}
 use Rattle.dae_machine.specs.Walks.{nothing}
-use Rattle.dae_runs.specs.Order.{InOrder, Round, picks_of, Rounds}
+use Rattle.dae_rounds.specs.Order.{InOrder, Round, picks_of, Rounds}
 use Rattle.dae_runs.specs.Promises.{Begins, OnlyEnds, EndsAs}
 use Rattle.dae_machine.specs.Walks.{state_of, Grants, ends}
 use Rattle.dae_machine.proofs.LawsOfRuns.{ran_a, ran_e}
-use Rattle.dae_runs.proofs.Slots.{Counts, resting}
-use Rattle.dae_runs.proofs.Landing.{GoesOn, level, IsSound, Stands, Ended, Lands, then_order, order_run}
-use Rattle.dae_runs.proofs.Groups.{rest_empty, one_round}
+use Rattle.dae_rounds.proofs.Laws.{Counts, resting, GoesOn, level, IsSound, Stands, Ended, Lands, then_order, order_run, rest_empty, one_round}
 use Rattle.dae_runs.proofs.Calls.{body_of, calls_land}
 
 often_few : (e : Pick → Bool) (ps : List Pick) → often e ps ≤ length ps

@@ -1,5 +1,1 @@
-pub mod Follows
-pub mod Spots
-pub mod Sides
-pub mod Order
 pub mod Promises

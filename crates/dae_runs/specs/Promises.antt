@@ -14,9 +14,9 @@ use Rattle.dae_meaning.specs.Worlds.{World}
 use Rattle.dae_meaning.specs.Results.{Over, End, Halted, Trapped, Going, Astray, world_of}
 use Rattle.dae_ir.specs.Programs.{side, outcome}
 use Rattle.dae_ir.specs.declared.form.Ir.{Ir}
-use Rattle.dae_runs.specs.Spots.{Spot}
+use Rattle.dae_rounds.specs.Spots.{Spot}
 use Rattle.dae_machine.specs.Walks.{Walks}
-use Rattle.dae_runs.specs.Order.{InOrder}
+use Rattle.dae_rounds.specs.Order.{InOrder}
 
 -- from its entry a processor comes to where it agrees with the first spot, without a use of a queue
 pub record Begins (setup : Setup) (by_a : Bool) (most : ℕ) (At : Spot → Processor → Type 0) (first : Processor) (start : Spot) : Type 0 where
@@ -78,8 +78,10 @@ Tells image most (Trapped code) w = Ends image most (Trap code) w
 Tells image most Going w = Unit {0}
 Tells image most Astray w = Unit {0}
 
--- the image does what the form does, in every order of steps: this is what the function that makes an image promises
+-- the image has the memory of the form and does what the form does, in every order of steps: this is what the function
+-- that makes an image promises
 pub record DoesForm (ir : Ir) (image : Image) (most : ℕ) : Type 0 where
+  pub size : image.memory ≡ ir.memory
   pub ends : (n : ℕ) (end : End) (w : World) → outcome ir n (opened image).memory ≡ Over end w → Tells image most end w
   pub continues : (n : ℕ) (w : World) → outcome ir n (opened image).memory ≡ Over Going w → Continues image most n w
   pub goes_on : ((n : ℕ) → (w : World) × (outcome ir n (opened image).memory ≡ Over Going w)) → (depths : Depths) → Reaches depths image.budget

@@ -18,14 +18,14 @@ use Rattle.dae_ir.specs.declared.stream.Mark.{Mark}
 use Rattle.dae_ir.specs.declared.stream.Part.{Part}
 use Rattle.dae_ir.specs.declared.stream.Part.TheVariants.{Sets, Loads as Load', Tests}
 use Rattle.dae_ir.specs.declared.stream.Action.TheVariants.{Set, Receive, Accept}
-use Rattle.dae_runs.specs.Follows.{went, takes}
-use Rattle.dae_runs.specs.Spots.{Behind, Waiting, Spot, Arrives, point, spot, acts}
+use Rattle.dae_rounds.specs.Follows.{went, takes}
+use Rattle.dae_rounds.specs.Spots.{Behind, Waiting, Spot, Arrives, point, spot, acts}
 use Rattle.dae_machine.specs.Walks.{ends, grants}
 use Rattle.dae_machine.specs.Walks.{AreWords}
-use Rattle.dae_runs.proofs.Does.{Does, here}
-use Rattle.dae_runs.proofs.Both.{does_to, does_both, does_one}
-use Rattle.dae_runs.proofs.Worlds.{LoadsWords}
-use Rattle.dae_runs.proofs.Slots.{Counts, Loads, held, filled_slots, words_for}
+use Rattle.dae_rounds.proofs.Does.{Does, here}
+use Rattle.dae_rounds.proofs.Both.{does_to, does_both, does_one}
+use Rattle.dae_rounds.proofs.Worlds.{LoadsWords}
+use Rattle.dae_rounds.proofs.Slots.{Counts, Loads, held, filled_slots, words_for}
 
 no_more : {X : Type 0} (n : ℕ) → length {A = ℕ} [] ≡ 1 + n → X
 no_more n h = absurd (omega (arith, h))

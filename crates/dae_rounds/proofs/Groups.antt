@@ -32,25 +32,25 @@ use Rattle.dae_ir.specs.declared.stream.Part.TheVariants.{Sets, Loads as Load', 
 use Rattle.dae_ir.specs.declared.stream.Last.{Last}
 use Rattle.dae_ir.specs.declared.stream.Last.TheVariants.{Nothing, Stores, Prints, Decides}
 use Rattle.dae_pair.specs.Budget.{is_test, any_part, is_store, is_decided}
-use Rattle.dae_runs.specs.Spots.{Behind, Point, point, Waiting, Spot, spot, Came, Arrives, Halted}
-use Rattle.dae_runs.specs.Sides.{Implements}
+use Rattle.dae_rounds.specs.Spots.{Behind, Point, point, Waiting, Spot, spot, Came, Arrives, Halted}
+use Rattle.dae_rounds.specs.Sides.{Implements}
 use Rattle.dae_machine.specs.Walks.{nothing}
-use Rattle.dae_runs.specs.Order.{Round, picks_of, IsRound, IsEmpty, Rounds, none, more}
+use Rattle.dae_rounds.specs.Order.{Round, picks_of, IsRound, IsEmpty, Rounds, none, more}
 use Rattle.dae_machine.specs.Walks.{state_of}
 use Rattle.dae_machine.specs.Walks.{AreWords, WordsWait}
-use Rattle.dae_runs.proofs.Does.{Does, here, did_a}
-use Rattle.dae_runs.proofs.Both.{does_both}
-use Rattle.dae_runs.proofs.Worlds.{loads_words, Like, LoadsWords, fault_code}
+use Rattle.dae_rounds.proofs.Does.{Does, here, did_a}
+use Rattle.dae_rounds.proofs.Both.{does_both}
+use Rattle.dae_rounds.proofs.Worlds.{loads_words, Like, LoadsWords, fault_code}
 use Rattle.dae_meaning.proofs.Laws.{stored_bytes}
 use Rattle.dae_meaning.proofs.Laws.{stored_length}
-use Rattle.dae_runs.proofs.Slots.{Counts, Loads, held, resting, sending, waiting_slots, filled_slots, words_for, NoneBars, none_waits, new_waits}
-use Rattle.dae_runs.proofs.PartsA.{HasRoom, Passes, Fails, Comes, parts_come}
-use Rattle.dae_runs.proofs.PartsE.{parts_taken}
-use Rattle.dae_runs.proofs.Sends.{Sends, group_sends}
-use Rattle.dae_runs.proofs.Tails.{told_as, bit, has_address, issued_by, addresses, IsPlaced, closes_a, a_hears, a_hears_trap, hear_does, hear_halts, datum_does, emit_does, decide_does, decide_halts}
-use Rattle.dae_runs.proofs.Landing.{level, exits, IsSound, Stands, Arrived, Ended, Lands}
-use Rattle.dae_runs.proofs.Play.{one_each, Part, Played, play, Whole, ends_with}
-use Rattle.dae_runs.proofs.Final.{final}
+use Rattle.dae_rounds.proofs.Slots.{Counts, Loads, held, resting, sending, waiting_slots, filled_slots, words_for, NoneBars, none_waits, new_waits}
+use Rattle.dae_rounds.proofs.PartsA.{HasRoom, Passes, Fails, Comes, parts_come}
+use Rattle.dae_rounds.proofs.PartsE.{parts_taken}
+use Rattle.dae_rounds.proofs.Sends.{Sends, group_sends}
+use Rattle.dae_rounds.proofs.Tails.{told_as, bit, has_address, issued_by, addresses, IsPlaced, closes_a, a_hears, a_hears_trap, hear_does, hear_halts, datum_does, emit_does, decide_does, decide_halts}
+use Rattle.dae_rounds.proofs.Landing.{level, exits, IsSound, Stands, Arrived, Ended, Lands}
+use Rattle.dae_rounds.proofs.Play.{one_each, Part, Played, play, Whole, ends_with}
+use Rattle.dae_rounds.proofs.Final.{final}
 
 pub spot_like : (at : Point) (env : Env) (w u : World) (calls : List Waiting) → Like w u → spot at env w calls ≡ spot at env u calls
 spot_like at env w u calls h = rw (h.frame, h.top, h.depth) refl

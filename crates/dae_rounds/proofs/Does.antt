@@ -14,9 +14,9 @@ use Rattle.dae_ir.specs.Streams.{Actions}
 use Rattle.dae_ir.specs.Programs.{side}
 use Rattle.dae_ir.specs.Deeds.{Quit}
 use Rattle.dae_machine.specs.Uses.{Use}
-use Rattle.dae_runs.specs.Follows.{IsFit}
-use Rattle.dae_runs.specs.Spots.{weight, Spot, Came, Arrives, Halted, Moves}
-use Rattle.dae_runs.specs.Sides.{Agrees, Implements}
+use Rattle.dae_rounds.specs.Follows.{IsFit}
+use Rattle.dae_rounds.specs.Spots.{weight, Spot, Came, Arrives, Halted, Moves}
+use Rattle.dae_rounds.specs.Sides.{Agrees, Implements}
 use Rattle.dae_machine.specs.Walks.{nothing}
 use Rattle.dae_machine.specs.Walks.{WordsWait}
 use Rattle.dae_machine.proofs.LawsOfRuns.{words_wait}

@@ -16,18 +16,18 @@ use Rattle.dae_ir.specs.declared.form.Test.{Test}
 use Rattle.dae_ir.specs.declared.stream.Mark.{Mark}
 use Rattle.dae_ir.specs.declared.stream.Action.TheVariants.{Stop}
 use Rattle.dae_ir.specs.declared.stream.Branch.TheVariants.{Tells, Hears}
-use Rattle.dae_runs.specs.Follows.{halts}
-use Rattle.dae_runs.specs.Spots.{weight, Behind, After, Point, point, Waiting, Spot, spot, Arrives, Halted, Moves, acts, tells, hears}
-use Rattle.dae_runs.specs.Sides.{Implements}
+use Rattle.dae_rounds.specs.Follows.{halts}
+use Rattle.dae_rounds.specs.Spots.{weight, Behind, After, Point, point, Waiting, Spot, spot, Arrives, Halted, Moves, acts, tells, hears}
+use Rattle.dae_rounds.specs.Sides.{Implements}
 use Rattle.dae_machine.specs.Walks.{nothing}
 use Rattle.dae_machine.specs.Walks.{state_of, ends, grants}
-use Rattle.dae_runs.proofs.Does.{Does, here, stops, did_a}
-use Rattle.dae_runs.proofs.Both.{does_one}
-use Rattle.dae_runs.proofs.Slots.{Counts, held, resting, none_waits}
-use Rattle.dae_runs.proofs.PartsA.{lt_true}
-use Rattle.dae_runs.proofs.Landing.{level, IsSound, Stands, Arrived, Ended}
-use Rattle.dae_runs.proofs.Play.{Part, play, ends_with}
-use Rattle.dae_runs.proofs.Groups.{rest_words, rest_empty, arrives, ends_so}
+use Rattle.dae_rounds.proofs.Does.{Does, here, stops, did_a}
+use Rattle.dae_rounds.proofs.Both.{does_one}
+use Rattle.dae_rounds.proofs.Slots.{Counts, held, resting, none_waits}
+use Rattle.dae_rounds.proofs.PartsA.{lt_true}
+use Rattle.dae_rounds.proofs.Landing.{level, IsSound, Stands, Arrived, Ended}
+use Rattle.dae_rounds.proofs.Play.{Part, play, ends_with}
+use Rattle.dae_rounds.proofs.Groups.{rest_words, rest_empty, arrives, ends_so}
 
 -- one move without a use, and none
 pub one_move : {setup : Setup} {p : Program} {by_a : Bool} {body : ℕ → Actions} {m : List ℕ} {l : ℕ} {s t : Spot} {q : Queues} → Moves p by_a setup.memory body l s [] (Arrives t) → Part setup p by_a body m s q [] (Arrives t) q (weight s) l

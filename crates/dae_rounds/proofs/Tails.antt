@@ -24,13 +24,13 @@ use Rattle.dae_ir.specs.declared.stream.Last.{Last}
 use Rattle.dae_ir.specs.declared.stream.Last.TheVariants.{Nothing, Stores, Prints, Decides}
 use Rattle.dae_pair.specs.Budget.{is_test, any_part, is_store}
 use Rattle.dae_machine.specs.Uses.{Takes, Pushes}
-use Rattle.dae_runs.specs.Follows.{Leaves, Quits, Follows, went, takes, pushes, sends, says, halts}
-use Rattle.dae_runs.specs.Spots.{Behind, Waiting, Spot, Arrives, Halted, point, spot, acts}
+use Rattle.dae_rounds.specs.Follows.{Leaves, Quits, Follows, went, takes, pushes, sends, says, halts}
+use Rattle.dae_rounds.specs.Spots.{Behind, Waiting, Spot, Arrives, Halted, point, spot, acts}
 use Rattle.dae_machine.specs.Walks.{ends, grants}
-use Rattle.dae_runs.proofs.Does.{Does, here, stops}
-use Rattle.dae_runs.proofs.Both.{does_both, does_one}
-use Rattle.dae_runs.proofs.Slots.{Counts, Loads, held, sending, waiting_slots}
-use Rattle.dae_runs.proofs.PartsA.{lt_true}
+use Rattle.dae_rounds.proofs.Does.{Does, here, stops}
+use Rattle.dae_rounds.proofs.Both.{does_both, does_one}
+use Rattle.dae_rounds.proofs.Slots.{Counts, Loads, held, sending, waiting_slots}
+use Rattle.dae_rounds.proofs.PartsA.{lt_true}
 
 -- a group has a message where it has a check that A decides
 pub data IsMessage (n : ℕ) (x : Action) (k : Actions) : Bool → Actions → Type 0 where

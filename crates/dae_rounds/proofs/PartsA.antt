@@ -27,13 +27,13 @@ use Rattle.dae_ir.specs.declared.stream.Part.TheVariants.{Sets, Loads as Load', 
 use Rattle.dae_ir.specs.declared.stream.Action.TheVariants.{Set, Issue, Own, Offer, Probe}
 use Rattle.dae_pair.specs.Budget.{is_own_part, is_test, any_part}
 use Rattle.dae_machine.specs.Uses.{Pushes, Reserves}
-use Rattle.dae_runs.specs.Follows.{Leaves, Quits, Follows, went, takes, pushes, reserves, halts}
-use Rattle.dae_runs.specs.Spots.{Behind, Waiting, Spot, Arrives, Halted, point, spot, acts}
+use Rattle.dae_rounds.specs.Follows.{Leaves, Quits, Follows, went, takes, pushes, reserves, halts}
+use Rattle.dae_rounds.specs.Spots.{Behind, Waiting, Spot, Arrives, Halted, point, spot, acts}
 use Rattle.dae_machine.specs.Walks.{ends, grants, owns}
-use Rattle.dae_runs.proofs.Does.{Does, here, stops}
-use Rattle.dae_runs.proofs.Both.{does_to, does_both, does_one}
-use Rattle.dae_runs.proofs.Worlds.{Like, like_itself, like_ticked, like_fetched, LoadsWords, fault_code}
-use Rattle.dae_runs.proofs.Slots.{Counts, Loads, sending, waiting_slots, waiting_count, words_for, words_for-append, reserved_is, owned, own_filled}
+use Rattle.dae_rounds.proofs.Does.{Does, here, stops}
+use Rattle.dae_rounds.proofs.Both.{does_to, does_both, does_one}
+use Rattle.dae_rounds.proofs.Worlds.{Like, like_itself, like_ticked, like_fetched, LoadsWords, fault_code}
+use Rattle.dae_rounds.proofs.Slots.{Counts, Loads, sending, waiting_slots, waiting_count, words_for, words_for-append, reserved_is, owned, own_filled}
 
 -- there is room for what the parts send, behind so many loads and copies
 pub record HasRoom (c : Classes) (d : Depths) (loads copies : ℕ) (g : List Part) : Type 0 where

@@ -14,14 +14,14 @@ use Rattle.dae_machine.proofs.LawsOfRuns.{run-on}
 use Rattle.dae_ir.specs.Form.{Program}
 use Rattle.dae_ir.specs.Streams.{Actions}
 use Rattle.dae_machine.specs.Walks.{IsExecute}
-use Rattle.dae_runs.specs.Spots.{Spot, Came}
-use Rattle.dae_runs.specs.Sides.{Agrees, Implements}
+use Rattle.dae_rounds.specs.Spots.{Spot, Came}
+use Rattle.dae_rounds.specs.Sides.{Agrees, Implements}
 use Rattle.dae_machine.specs.Walks.{IsAccess}
-use Rattle.dae_runs.specs.Order.{Round, picks_of, IsRound, IsFill}
+use Rattle.dae_rounds.specs.Order.{Round, picks_of, IsRound, IsFill}
 use Rattle.dae_machine.specs.Walks.{state_of}
 use Rattle.dae_machine.specs.Walks.{WordsWait}
-use Rattle.dae_runs.proofs.Does.{Does, did_a, did_e}
-use Rattle.dae_runs.proofs.Slots.{Counts, Loads, held, waiting_slots, filled_slots, NoneBars, fills_run}
+use Rattle.dae_rounds.proofs.Does.{Does, did_a, did_e}
+use Rattle.dae_rounds.proofs.Slots.{Counts, Loads, held, waiting_slots, filled_slots, NoneBars, fills_run}
 
 pub one_each : (most n : ℕ) → 1 ≤ most → n ≤ most * n
 one_each most zero h = omega arith

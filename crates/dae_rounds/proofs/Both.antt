@@ -7,11 +7,11 @@ use Rattle.dae_ir.specs.Form.{Program}
 use Rattle.dae_ir.specs.Streams.{Actions}
 use Rattle.dae_ir.specs.Programs.{side}
 use Rattle.dae_machine.specs.Uses.{Use}
-use Rattle.dae_runs.specs.Follows.{IsFit}
-use Rattle.dae_runs.specs.Spots.{weight, Spot, Came, Arrives, Moves}
+use Rattle.dae_rounds.specs.Follows.{IsFit}
+use Rattle.dae_rounds.specs.Spots.{weight, Spot, Came, Arrives, Moves}
 use Rattle.dae_machine.specs.Uses.{texts}
 use Rattle.dae_machine.specs.Walks.{Grants}
-use Rattle.dae_runs.proofs.Does.{Does, here, on}
+use Rattle.dae_rounds.proofs.Does.{Does, here, on}
 
 module _ {setup : Setup} {p : Program} {by_a : Bool} {body : ℕ → Actions} {m : List ℕ} where
   pub does_same : {k k' f f' l l' : ℕ} {s : Spot} {q q' : Queues} {text text' : List ℕ} {c : Came} → k ≡ k' → f ≡ f' → l ≡ l' → text ≡ text' → Does setup p by_a body m k f l s q text c q' → Does setup p by_a body m k' f' l' s q text' c q'

@@ -16,9 +16,9 @@ use Rattle.dae_ir.specs.Code.{Done}
 use Rattle.dae_ir.specs.Canonical.{Sides}
 use Rattle.dae_ir.specs.Streams.{Actions}
 use Rattle.dae_machine.proofs.LawsOfRuns.{often-append}
-use Rattle.dae_runs.specs.Spots.{Behind, Ends, Point, point, left, skipped, Waiting, Spot, spot}
-use Rattle.dae_runs.specs.Order.{picks_of, Rounds, none, more, InOrder}
-use Rattle.dae_runs.proofs.Slots.{Counts, resting}
+use Rattle.dae_rounds.specs.Spots.{Behind, Ends, Point, point, left, skipped, Waiting, Spot, spot}
+use Rattle.dae_rounds.specs.Order.{picks_of, Rounds, none, more, InOrder}
+use Rattle.dae_rounds.proofs.Slots.{Counts, resting}
 
 -- as many loads were taken as reserved
 abbrev pub level : Counts → Counts

@@ -11,8 +11,8 @@ use Rattle.dae_ir.specs.Streams.{Actions}
 use Rattle.dae_ir.specs.Programs.{side}
 use Rattle.dae_ir.specs.Deeds.{Quit, Plainly, WithStatus, WithTrap}
 use Rattle.dae_machine.specs.Uses.{Use, PushesWord}
-use Rattle.dae_runs.specs.Follows.{IsFit}
-use Rattle.dae_runs.specs.Spots.{weight, Spot, Came, Arrives, Halted, Moves}
+use Rattle.dae_rounds.specs.Follows.{IsFit}
+use Rattle.dae_rounds.specs.Spots.{weight, Spot, Came, Arrives, Halted, Moves}
 
 abbrev pub halt_of : Quit → Halt
 halt_of Plainly = Plain

@@ -18,7 +18,7 @@ use Rattle.dae_machine.specs.declared.Pick.{Pick}
 use Rattle.dae_machine.specs.declared.Pick.TheVariants.{Fill}
 use Rattle.dae_machine.specs.Memory.{fill}
 use Rattle.dae_machine.specs.Machine.{Setup, State, step, Runs}
-use Rattle.dae_runs.specs.Order.{IsFill}
+use Rattle.dae_rounds.specs.Order.{IsFill}
 use Rattle.dae_machine.specs.Walks.{state_of}
 
 -- how many slots and stores ever came and went

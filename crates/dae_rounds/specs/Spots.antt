@@ -15,7 +15,7 @@ use Rattle.dae_ir.specs.declared.stream.Action.{Action}
 use Rattle.dae_ir.specs.declared.stream.Action.TheVariants.{Break, Continue, Call, Return}
 use Rattle.dae_ir.specs.declared.stream.Branch.TheVariants.{Silent, Tells, Hears}
 use Rattle.dae_machine.specs.Uses.{Use, Takes, Pushes}
-use Rattle.dae_runs.specs.Follows.{Outcome, Leaves, Quits, Follows}
+use Rattle.dae_rounds.specs.Follows.{Outcome, Leaves, Quits, Follows}
 
 -- what comes behind a list of actions: nothing, where a function ends; the rest behind a branch; the step behind a body, or
 -- the body again behind a step, and in both k behind the loop
