@@ -1,20 +1,13 @@
 -- No queue is below the budget exactly where each depth reaches it.
-use Rattle.std.proofs.Common.{◌≡◌, ◌↔◌, ℕ, ◌≤◌, Bool, true, false, List, [], ◌∷◌, arith, refl}
-use Rattle.std.specs.Prelude.{Option, Some, None, nat_lt}
-use Rattle.std.specs.List.{find, AllByRecursion}
+use Rattle.std.proofs.Common.{◌≡◌, ◌↔◌, ℕ, ◌≤◌, false, arith, refl}
+use Rattle.std.specs.Prelude.{None, nat_lt}
+use Rattle.std.specs.List.{AllByRecursion}
 use Rattle.std.proofs.lemmas.Bool.Decides.{nat_tests}
 use Rattle.dae_base.specs.declared.Queue.{Queue}
 use Rattle.dae_base.specs.declared.Queue.TheVariants.{Ld, Al, Sa, Sd, Ab, Eb, Cq}
 use Rattle.dae_base.specs.declared.Depths.{Depths}
+use Rattle.dae_base.proofs.Lists.{none_passes}
 use Rattle.dae_base.specs.Budgets.{depth, Reaches, is_below, queues, first_below}
-
--- where none is found, each fails the test
-none_passes : {X : Type 0} (f : X → Bool) (xs : List X) → find f xs ≡ None → AllByRecursion (λ (x : X). f x ≡ false) xs
-none_passes f [] h = tt
-none_passes {X} f (x ∷ xs) h = by (f x) refl (none_passes f xs) where
-  by : (b : Bool) → f x ≡ b → (find f xs ≡ None → AllByRecursion (λ (x : X). f x ≡ false) xs) → AllByRecursion (λ (x : X). f x ≡ false) (x ∷ xs)
-  by true e later = absurd (let found : find f (x ∷ xs) ≡ Some x = rw e refl in cc)
-  by false e later = (e, later (rw e at h))
 
 not_below : (n m : ℕ) → nat_lt n m ≡ false → m ≤ n
 not_below n m h = grind (arith, nat_tests)

@@ -7,7 +7,7 @@ use Rattle.dae_io.proofs.Growth.{Appends-nothing, Appends-then}
 use Rattle.dae_base.specs.declared.Side.TheVariants.{A, E}
 use Rattle.dae_machine.specs.declared.Pick.{Pick}
 use Rattle.dae_machine.specs.declared.Pick.TheVariants.{A as MoveA, E as MoveE, Fill, Drain}
-use Rattle.dae_queues.proofs.MemoryLaws.{and_then_some, map_some_is}
+use Rattle.dae_base.proofs.Laws.{and_then_some, map_some_is}
 use Rattle.dae_machine.specs.Memory.{fill, drain}
 use Rattle.dae_machine.specs.Machine.{Setup, State, move, moved_a, moved_e, filled, drained, step, IsQuiet}
 use Rattle.dae_machine.specs.Printing.{behind}
@@ -18,7 +18,7 @@ use Rattle.dae_machine.specs.Machine.{IsFinal, IsStuck}
 use Rattle.dae_machine.specs.Rests.{TurnedTo}
 use Rattle.dae_machine.specs.declared.End.{End}
 use Rattle.dae_machine.specs.declared.Turn.TheVariants as turn
-use Rattle.dae_machine.proofs.Printing.{final_behind, pick_behind, quiet_behind, step_behind, stuck_behind}
+use Rattle.dae_machine.proofs.LawsOfRuns.{final_behind, pick_behind, quiet_behind, step_behind, stuck_behind}
 use Rattle.dae_cli.specs.declared.drive.Driven.{Driven}
 use Rattle.dae_cli.specs.declared.drive.Driven.TheVariants.{Final, Stuck, Spent, SinkFailed}
 use Rattle.dae_cli.specs.Driving.{DrivesOn, Drives, Rested, StandsLater, StopsAt, Turns, unprinted}

@@ -11,7 +11,7 @@ use Rattle.dae_ir.specs.declared.form.Item.{Item}
 use Rattle.dae_ir.specs.declared.form.Statement.{Statement}
 use Rattle.dae_ir.specs.declared.form.Statement.TheVariants as statement
 use Rattle.dae_ir.specs.declared.form.Test.{Test}
-use Rattle.dae_slice.proofs.Rows.{before_if, before_loop}
+use Rattle.dae_ir.proofs.Laws.{before_if, before_loop}
 
 both_first : (a b c : Bool) → (a && (b && c)) ≡ ((a && b) && c)
 both_first true b c = refl

@@ -1,7 +1,8 @@
 -- What runs with some depths runs so with deeper queues.
-use Rattle.std.proofs.Common.{◌≡◌, ℕ, ◌≤◌, true, List, [], ◌∷◌, ap, ◌∙◌, arith}
+use Rattle.std.proofs.Common.{◌≡◌, ℕ, ◌≤◌, true, ◌||◌, List, [], ◌∷◌, ap, ◌∙◌, arith}
 use Rattle.std.specs.Prelude.{Some, nat_lt, option_map}
 use Rattle.std.proofs.lemmas.Bool.Decides.{nat_tests}
+use Rattle.dae_base.proofs.Laws.{and_then_some, and_true, if_some_is, map_some_is}
 use Rattle.dae_base.specs.declared.Side.{Side}
 use Rattle.dae_base.specs.declared.Side.TheVariants.{A, E}
 use Rattle.dae_base.specs.declared.Queue.TheVariants.{Sa}
@@ -10,7 +11,8 @@ use Rattle.dae_encode.specs.declared.QueueUse.{QueueUse}
 use Rattle.dae_encode.specs.declared.QueueUse.TheVariants.{Nothing, Take, Push, Load, StoreAddress}
 use Rattle.dae_machine.specs.declared.Pick.{Pick}
 use Rattle.dae_machine.specs.declared.Pick.TheVariants.{A as MoveA, E as MoveE, Fill, Drain}
-use Rattle.dae_core.specs.Queues.{Queues, count, belongs, possible, ready, peek, commit}
+use Rattle.dae_encode.specs.Uses.{belongs}
+use Rattle.dae_core.specs.Queues.{Queues, count, possible, ready, peek, commit}
 use Rattle.dae_base.specs.Budgets.{depth, Reaches}
 use Rattle.dae_encode.specs.declared.Request.{Request}
 use Rattle.dae_encode.specs.declared.Request.TheVariants.{Halted, Faulty, Asks}
@@ -18,10 +20,6 @@ use Rattle.dae_encode.specs.Instructions.{form}
 use Rattle.dae_encode.specs.Processor.{Processor, After, request, finish}
 use Rattle.dae_machine.specs.Runs.{run_by}
 use Rattle.dae_machine.specs.Machine.{Setup, State, granted, move, moved_a, moved_e, step, Runs}
-use Rattle.dae_queues.proofs.MemoryLaws.{and_then_some}
-use Rattle.dae_queues.proofs.DrainLaws.{and_true}
-use Rattle.dae_machine.proofs.Diamond.{if_some_is}
-use Rattle.dae_queues.proofs.MemoryLaws.{map_some_is}
 
 room_deeper : (n d d' : ℕ) → d ≤ d' → nat_lt n d ≡ true → nat_lt n d' ≡ true
 room_deeper n d d' l h = grind (arith, nat_tests)
@@ -37,8 +35,8 @@ granted_deeper : (d d' : Depths) (side : Side) (p : Processor) (q : Queues) (ask
 granted_deeper d d' side p q Halted r l h = cc
 granted_deeper d d' side p q (Faulty fault) r l h = cc
 granted_deeper d d' side p q (Asks u w i) r l h =
-    let parts = if_some_is (ready d side u q) (option_map (λ (r : After). (r, commit u w q)) (finish side p u i (form i) (peek u q))) r h in
-    let both = and_true (belongs side u) (possible d u q) parts.0 in
+    let parts = if_some_is (ready d u q) (option_map (λ (r : After). (r, commit u w q)) (finish side p u i (form i) (peek u q))) r h in
+    let both = and_true (belongs A u || belongs E u) (possible d u q) parts.0 in
     rw (both.0, possible_deeper d d' u q l both.1) parts.1
 
 pub step_deeper : (setup : Setup) (d' : Depths) (s t : State) (p : Pick) → Reaches d' setup.depths → step setup s p ≡ Some t → step (record setup { depths = d' }) s p ≡ Some t

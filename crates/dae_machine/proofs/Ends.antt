@@ -2,6 +2,7 @@
 use Rattle.std.proofs.Common.{◌≡◌, ℕ, ◌+◌, ◌<◌, ◌≤◌, ◌⊎◌, inl, inr, Bool, true, false, List, [], ◌∷◌, ◌++◌, length, refl, ap, sym, ◌∙◌, subst, arith, append_assoc}
 use Rattle.std.specs.Prelude.{Some, None, if◌then◌else◌}
 use Rattle.std.proofs.lemmas.List.{append-nil}
+use Rattle.dae_base.proofs.Laws.{and_then_some, map_some_is}
 use Rattle.dae_base.specs.declared.Side.TheVariants.{A, E}
 use Rattle.dae_machine.specs.declared.Pick.{Pick}
 use Rattle.dae_machine.specs.declared.Pick.TheVariants.{A as MoveA, E as MoveE, Fill, Drain}
@@ -9,7 +10,6 @@ use Rattle.dae_machine.specs.Memory.{fill, drain}
 use Rattle.dae_machine.specs.Runs.{run_by, often, IsOfOne, Joined}
 use Rattle.dae_machine.specs.Machine.{Setup, State, step, move, moved_a, moved_e, filled, drained, Runs, IsQuiet, IsFinal, IsCounted}
 use Rattle.dae_machine.specs.Ends.{IsPrefixOf, is_e, is_a, AwaitsMessage, CanOnlyEnd, HasRuns, GoesOn}
-use Rattle.dae_queues.proofs.MemoryLaws.{and_then_some, map_some_is}
 use Rattle.dae_machine.proofs.Diamond.{diamond, counted_step, same_pick}
 use Rattle.dae_machine.proofs.Confluence.{join, to_quiet, quiet_stays}
 

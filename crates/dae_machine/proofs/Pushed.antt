@@ -2,6 +2,7 @@
 use Rattle.std.proofs.Common.{◌≡◌, ℕ, ◌<◌, ◌^◌, List, [], ◌∷◌, ◌++◌, subst}
 use Rattle.std.specs.List.{AllByRecursion}
 use Rattle.std.specs.Prelude.{Some}
+use Rattle.dae_base.proofs.Laws.{map_some_is}
 use Rattle.dae_base.specs.declared.Side.{Side}
 use Rattle.dae_base.specs.declared.Side.TheVariants.{A}
 use Rattle.dae_base.specs.declared.Depths.{Depths}
@@ -10,7 +11,6 @@ use Rattle.dae_base.specs.declared.Queue.{Queue}
 use Rattle.dae_base.specs.declared.Queue.TheVariants.{Ld, Al, Sa, Sd, Ab, Eb, Cq}
 use Rattle.dae_encode.specs.declared.QueueUse.TheVariants.{Load}
 use Rattle.dae_queues.specs.Lists.{rest, with_value}
-use Rattle.dae_queues.proofs.MemoryLaws.{map_some_is}
 use Rattle.dae_core.specs.Queues.{Queues, commit, taken_from, pushed_to, reserved_in, with_loads_of, loads_of}
 use Rattle.dae_machine.specs.Memory.{fill, filling}
 use Rattle.dae_machine.specs.Uses.{Use, Takes, Pushes, Reserves, Sends, Says, access_of, put_by, PushesWord}

@@ -6,14 +6,15 @@ use Rattle.dae_base.specs.declared.Side.TheVariants.{A, E}
 use Rattle.dae_base.specs.declared.Queue.TheVariants.{Al}
 use Rattle.dae_encode.specs.declared.QueueUse.TheVariants.{Load}
 use Rattle.dae_encode.specs.Processor.{Processor}
-use Rattle.dae_core.specs.Queues.{Queues, ready, peek, commit}
+use Rattle.dae_core.specs.Queues.{Queues, peek, commit}
 use Rattle.dae_machine.specs.declared.Pick.{Pick}
 use Rattle.dae_machine.specs.declared.Pick.TheVariants.{A as MoveA, E as MoveE, Fill}
 use Rattle.dae_machine.specs.Runs.{often}
 use Rattle.dae_machine.specs.Machine.{Setup, State, step, filled}
 use Rattle.dae_machine.specs.Uses.{Use, Takes, Pushes, Reserves, Sends, Says, access_of, put_by, given_by, said_by, texts, Puts}
-use Rattle.dae_machine.specs.Walks.{Goes, Walks, stays, quiet, makes, Grants, ends, grants, owns, state_of, IsAccess, nothing, moves, loads, IsExecute, RanA, RanE}
+use Rattle.dae_machine.specs.Walks.{Goes, Walks, stays, quiet, makes, Grants, ends, grants, owns, state_of, IsAccess, nothing, moves, loads, IsExecute, RanA, RanE, may_use}
 use Rattle.dae_machine.proofs.Confluence.{run-step}
+use Rattle.dae_machine.proofs.Grants.{ready_for}
 
 same_commit : (u : Use) (word : ℕ) (q : Queues) → Puts u word → commit (access_of u) word q ≡ commit (access_of u) (put_by u) q
 same_commit (Takes queue x) word q h = refl
@@ -23,13 +24,13 @@ same_commit (Sends width address) word q h = rw h refl
 same_commit (Says text) word q h = refl
 
 module _ (setup : Setup) where
-  access_step : (s : State) (next : Processor) (u : Use) → Goes setup A s.a u next → ready setup.depths A (access_of u) s.queues ≡ true → peek (access_of u) s.queues ≡ given_by u
+  access_step : (s : State) (next : Processor) (u : Use) → Goes setup A s.a u next → may_use setup.depths A (access_of u) s.queues ≡ true → peek (access_of u) s.queues ≡ given_by u
       → step setup s MoveA ≡ Some (record s { a = next; queues = commit (access_of u) (put_by u) s.queues; steps = s.steps + 1 })
-  access_step s next u g can same = rw (g.asks, can, same, g.does, same_commit u g.word s.queues g.puts) refl
+  access_step s next u g can same = rw (g.asks, ready_for setup.depths A (access_of u) s.queues can, same, g.does, same_commit u g.word s.queues g.puts) refl
 
-  execute_step : (s : State) (next : Processor) (u : Use) → Goes setup E s.e u next → ready setup.depths E (access_of u) s.queues ≡ true → peek (access_of u) s.queues ≡ given_by u
+  execute_step : (s : State) (next : Processor) (u : Use) → Goes setup E s.e u next → may_use setup.depths E (access_of u) s.queues ≡ true → peek (access_of u) s.queues ≡ given_by u
       → step setup s MoveE ≡ Some (record s { e = next; queues = commit (access_of u) (put_by u) s.queues; printed = s.printed ++ said_by u; steps = s.steps + 1 })
-  execute_step s next u g can same = rw (g.asks, can, same, g.does, same_commit u g.word s.queues g.puts) refl
+  execute_step s next u g can same = rw (g.asks, ready_for setup.depths E (access_of u) s.queues can, same, g.does, same_commit u g.word s.queues g.puts) refl
 
   pub ran_a : (s : State) {steps fills : ℕ} {uses : List Use} {p : Processor} {q : Queues} → Walks setup A s.a uses steps p → Grants setup.depths A s.memory fills s.queues uses q → RanA setup s steps fills p q
   ran_a s stays ends = record { picks = []; total = s.steps; runs = refl; access = nothing; count = omega arith; moves' = refl }

@@ -1,6 +1,6 @@
 -- A processor's own run, told by its uses of the queues; the queues that grant these uses; and the machine's run that
 -- comes of both.
-use Rattle.std.specs.Prelude.{◌≡◌, ℕ, suc, ◌+◌, ◌<◌, ◌^◌, true, List, [], ◌∷◌, ◌++◌, length, Some}
+use Rattle.std.specs.Prelude.{◌≡◌, ℕ, suc, ◌+◌, ◌<◌, ◌^◌, Bool, true, ◌&&◌, List, [], ◌∷◌, ◌++◌, length, Some}
 use Rattle.std.specs.List.{AllByRecursion}
 use Rattle.dae_base.specs.declared.Side.{Side}
 use Rattle.dae_base.specs.declared.Side.TheVariants.{A, E}
@@ -8,11 +8,13 @@ use Rattle.dae_base.specs.declared.Depths.{Depths}
 use Rattle.dae_base.specs.declared.LoadKind.{LoadKind}
 use Rattle.dae_base.specs.declared.Queue.TheVariants.{Al}
 use Rattle.dae_encode.specs.declared.Inst.{Inst}
+use Rattle.dae_encode.specs.declared.QueueUse.{QueueUse}
 use Rattle.dae_encode.specs.declared.QueueUse.TheVariants.{Load}
 use Rattle.dae_encode.specs.declared.Request.TheVariants.{Asks}
 use Rattle.dae_encode.specs.Instructions.{form}
+use Rattle.dae_encode.specs.Uses.{belongs}
 use Rattle.dae_encode.specs.Processor.{Processor, request, finish}
-use Rattle.dae_core.specs.Queues.{Queues, ready, peek, commit}
+use Rattle.dae_core.specs.Queues.{Queues, possible, peek, commit}
 use Rattle.dae_machine.specs.declared.Pick.{Pick}
 use Rattle.dae_machine.specs.declared.Pick.TheVariants.{A as MoveA, E as MoveE, Fill}
 use Rattle.dae_machine.specs.Memory.{fill}
@@ -39,12 +41,16 @@ pub data Walks (setup : Setup) (on : Side) : Processor → List Use → ℕ → 
 
 -- ---- the queues
 
+-- the access is one of this side's, and its queue allows it now
+abbrev pub may_use : Depths → Side → QueueUse → Queues → Bool
+may_use d on use' q = belongs on use' && possible d use' q
+
 -- the queues grant these uses in turn, with so many fills of A's own loads out of this memory, each right behind its
 -- reservation
 pub data Grants (d : Depths) (on : Side) (m : List ℕ) : ℕ → Queues → List Use → Queues → Type 0 where
   ends : {q : Queues} → Grants d on m 0 q [] q
-  grants : {n : ℕ} {q last : Queues} {u : Use} {uses : List Use} → ready d on (access_of u) q ≡ true → peek (access_of u) q ≡ given_by u → Grants d on m n (commit (access_of u) (put_by u) q) uses last → Grants d on m n q (u ∷ uses) last
-  owns : {n : ℕ} {q next last : Queues} {kind : LoadKind} {address : ℕ} {uses : List Use} (number : ℕ) → ready d on (Load Al kind) q ≡ true → fill A number (commit (Load Al kind) address q) m ≡ Some next → Grants d on m n next uses last
+  grants : {n : ℕ} {q last : Queues} {u : Use} {uses : List Use} → may_use d on (access_of u) q ≡ true → peek (access_of u) q ≡ given_by u → Grants d on m n (commit (access_of u) (put_by u) q) uses last → Grants d on m n q (u ∷ uses) last
+  owns : {n : ℕ} {q next last : Queues} {kind : LoadKind} {address : ℕ} {uses : List Use} (number : ℕ) → may_use d on (Load Al kind) q ≡ true → fill A number (commit (Load Al kind) address q) m ≡ Some next → Grants d on m n next uses last
       → Grants d on m (suc n) q (Reserves Al kind address ∷ uses) last
 
 abbrev pub AreWords : List ℕ → Type 0

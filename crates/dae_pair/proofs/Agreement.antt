@@ -1,6 +1,7 @@
 -- What reads a closed set alone is the same where the variables agree on it.
 use Rattle.std.proofs.Common.{◌≡◌, ℕ, ◌+◌, Bool, true, false, ◌&&◌, nat_eq, List, [], ◌∷◌, if◌then◌else◌, refl, arith}
 use Rattle.std.proofs.lemmas.Bool.Decides.{nat_tests}
+use Rattle.dae_base.proofs.Laws.{and_true}
 use Rattle.dae_meaning.specs.Worlds.{World}
 use Rattle.dae_meaning.specs.Variables.{Env, put, entered}
 use Rattle.dae_ir.specs.Form.{value, values, computed, holds, fault, Program}
@@ -14,10 +15,6 @@ use Rattle.dae_ir.specs.declared.form.Test.{Test}
 use Rattle.dae_ir.specs.declared.form.Check.{Check}
 use Rattle.dae_ir.specs.declared.form.Check.TheVariants.{Place, Zero, Room, Frame, Abort}
 
-pub both_true : (a b : Bool) → a && b ≡ true → (a ≡ true) × (b ≡ true)
-both_true true b h = (refl, h)
-both_true false b h = cc
-
 module _ (c : VariableSet) (env other : Env) (agree : AgreeOn c env other) where
   pub value_agrees : (x : Operand) → has c x ≡ true → value x other ≡ value x env
   value_agrees (Variable v) h = agree v h
@@ -25,13 +22,13 @@ module _ (c : VariableSet) (env other : Env) (agree : AgreeOn c env other) where
 
   pub holds_agrees : (t : Test) → has_test c t ≡ true → holds t other ≡ holds t env
   holds_agrees t h =
-      let b = both_true (has c t.left) (has c t.right) h in rw (value_agrees t.left b.0, value_agrees t.right b.1)
+      let b = and_true (has c t.left) (has c t.right) h in rw (value_agrees t.left b.0, value_agrees t.right b.1)
 
   pub computed_agrees : (x : Value) (frame : ℕ) → has_value c x ≡ true → computed x frame other ≡ computed x frame env
   computed_agrees (Same x) frame h = value_agrees x h
   computed_agrees (Extended kind x) frame h = rw (value_agrees x h)
   computed_agrees (Binary operator x y) frame h =
-      let b = both_true (has c x) (has c y) h in rw (value_agrees x b.0, value_agrees y b.1)
+      let b = and_true (has c x) (has c y) h in rw (value_agrees x b.0, value_agrees y b.1)
   computed_agrees (Holds t) frame h = rw (holds_agrees t h)
   computed_agrees (FrameAddress offset) frame h = refl
 

@@ -1,6 +1,7 @@
 -- No group passes the cap.
 use Rattle.std.proofs.Common.{◌≡◌, ℕ, ◌+◌, ◌<◌, ◌≤◌, Bool, true, false, ◌&&◌, ◌||◌, nat_eq, List, [], ◌∷◌, ◌++◌, Option, Some, None, if◌then◌else◌, refl, arith}
 use Rattle.std.proofs.lemmas.Bool.Decides.{nat_tests}
+use Rattle.dae_base.proofs.Laws.{or_false}
 use Rattle.dae_base.specs.declared.Place.{Place}
 use Rattle.dae_ir.specs.Code.{Done, Do, If, Loop, Each}
 use Rattle.dae_ir.specs.Form.{Form}
@@ -12,10 +13,6 @@ use Rattle.dae_ir.specs.declared.stream.Part.{Part}
 pub how_many_more : (f : Part → Bool) (g : List Part) (p : Part) → how_many f (g ++ p ∷ []) ≡ how_many f g + (if f p then 1 else 0)
 how_many_more f [] p = omega (arith)
 how_many_more f (q ∷ g) p = omega (arith, how_many_more f g p)
-
-or_false : (a b : Bool) → a || b ≡ false → (a ≡ false) × (b ≡ false)
-or_false true b h = cc
-or_false false b h = (refl, h)
 
 module _ (f : Part → Bool) (cap : ℕ) where
   one_fits : 0 < cap → (p : Part) → how_many f (p ∷ []) ≤ cap

@@ -1,6 +1,7 @@
 -- No group of a side's actions has more loads for E, nor more copies, than the cap.
 use Rattle.std.proofs.Common.{◌≡◌, ℕ, ◌+◌, ◌<◌, ◌≤◌, Bool, true, false, not, ◌&&◌, ◌||◌, nat_eq, List, [], ◌∷◌, ◌++◌, Some, None, if◌then◌else◌, refl, ap, ◌∙◌, arith}
 use Rattle.std.proofs.lemmas.Bool.Decides.{nat_tests}
+use Rattle.dae_base.proofs.Laws.{and_true}
 use Rattle.dae_base.specs.declared.Place.{Place}
 use Rattle.dae_ir.specs.Code.{Done, Do, If, Loop, Each, every}
 use Rattle.dae_ir.specs.Form.{Form}
@@ -8,7 +9,6 @@ use Rattle.dae_ir.specs.Classes.{Classes, is_by_a}
 use Rattle.dae_ir.specs.Rounds.{Jump, Breaks, Continues, Enters, Gives, Halts, Round, Group, Alone, Region, Rounds, Stand, Joins, Closes, Separates, stand, closed, is_for_e, is_copied, how_many, is_full, placed, is_a_item, is_a_region, is_e_region, region, one_sided, stays, rounds}
 use Rattle.dae_ir.specs.Streams.{Actions, mark, when, a_part, parts, message, gives_address, hears_check, a_group, jump_action, inside_of, side_of, has_loop}
 use Rattle.dae_ir.specs.Budgets.{is_load_for_e, is_copy, in_group, AllInside}
-use Rattle.dae_pair.proofs.Agreement.{both_true}
 use Rattle.dae_pair.proofs.Small.{NoneOf}
 use Rattle.dae_pair.proofs.Tails.{Bounded}
 use Rattle.dae_ir.specs.declared.form.Operand.TheVariants.{Number}
@@ -47,7 +47,7 @@ module _ (c : Classes) (cap : ℕ) (outside : Bool) where
   sided_ok : (place : Place) (code : Form) (k both : Rounds) → Regions' k → Regions' both → Regions' (one_sided (region outside c code) place code k both)
   sided_ok place code k both h b = by (outside && is_a_region c code) refl (outside && is_e_region c code) where
     by : (x : Bool) → outside && is_a_region c code ≡ x → (y : Bool) → Regions' (one_sided (if x then Some true else (if y then Some false else None)) place code k both)
-    by true e y = ((both_true (every (is_a_item c) (is_by_a c.s) code) (stays false code) (both_true outside (is_a_region c code) e).1).0, h)
+    by true e y = ((and_true (every (is_a_item c) (is_by_a c.s) code) (stays false code) (and_true outside (is_a_region c code) e).1).0, h)
     by false e true = (tt, h)
     by false e false = b
 

@@ -1,10 +1,10 @@
 -- What a group reads was set before, on each side, where the form's statements set before they read.
 use Rattle.std.proofs.Common.{◌≡◌, ℕ, Bool, true, false, not, ◌&&◌, ◌||◌, nat_eq, List, [], ◌∷◌, ◌++◌, refl, arith}
 use Rattle.std.proofs.lemmas.Bool.Decides.{nat_tests}
+use Rattle.dae_base.proofs.Laws.{and_true}
 use Rattle.dae_ir.specs.Classes.{VariableSet, Classes, has, has_value, has_test, has_check}
 use Rattle.dae_ir.specs.Streams.{Actions, mark, when, a_part, e_part, parts, message, gives_address, hears_check, e_last, group_of, set_of}
 use Rattle.dae_ir.specs.SetFirst.{assured, IsSetFirst, with_set, stream_flow}
-use Rattle.dae_pair.proofs.Agreement.{both_true}
 use Rattle.dae_pair.proofs.Groups.{PartKept, PartsKept}
 use Rattle.dae_ir.specs.declared.form.Operand.{Operand}
 use Rattle.dae_ir.specs.declared.form.Operand.TheVariants.{Variable, Number}
@@ -30,16 +30,16 @@ module _ (s d d' : VariableSet) (keeps : Keeps s d d') where
 
   pub test_both : (t : Test) → has_test d t ≡ true → has_test s t ≡ true → has_test d' t ≡ true
   test_both t h k =
-      let a = both_true (has d t.left) (has d t.right) h in
-      let b = both_true (has s t.left) (has s t.right) k in
+      let a = and_true (has d t.left) (has d t.right) h in
+      let b = and_true (has s t.left) (has s t.right) k in
       rw (has_both t.left a.0 b.0, has_both t.right a.1 b.1) refl
 
   pub value_both : (x : Value) → has_value d x ≡ true → has_value s x ≡ true → has_value d' x ≡ true
   value_both (Same x) h k = has_both x h k
   value_both (Extended kind x) h k = has_both x h k
   value_both (Binary operator x y) h k =
-      let a = both_true (has d x) (has d y) h in
-      let b = both_true (has s x) (has s y) k in
+      let a = and_true (has d x) (has d y) h in
+      let b = and_true (has s x) (has s y) k in
       rw (has_both x a.0 b.0, has_both y a.1 b.1) refl
   value_both (Holds t) h k = test_both t h k
   value_both (FrameAddress offset) h k = refl

@@ -1,5 +1,6 @@
 -- What a stream reads was set before, where the form sets before it reads.
 use Rattle.std.proofs.Common.{◌≡◌, ℕ, ◌+◌, Bool, true, false, not, ◌&&◌, ◌||◌, List, [], ◌∷◌, ◌++◌, Some, None, if◌then◌else◌, refl, ap, sym, ◌∙◌, subst}
+use Rattle.dae_base.proofs.Laws.{and_true, not_true}
 use Rattle.dae_base.specs.declared.Place.{Place}
 use Rattle.dae_ir.specs.Code.{Done, Do, If, Loop, Each, every}
 use Rattle.dae_ir.specs.Form.{Form}
@@ -7,11 +8,9 @@ use Rattle.dae_ir.specs.Classes.{VariableSet, Classes, has, has_test, has_check,
 use Rattle.dae_ir.specs.Rounds.{Jump, Breaks, Continues, Enters, Gives, Halts, Rounds, Group, Alone, Joins, Closes, Separates, stand, decision, closed, place_of, is_full, placed, rounds, is_a_item, is_e_item, is_jump, stays, is_a_region, is_e_region, region, one_sided}
 use Rattle.dae_ir.specs.Streams.{Actions, mark, when, group_of, set_of, arguments_in, jump_action, inside_of, has_loop, region_of, side_of, branch_of}
 use Rattle.dae_ir.specs.SetFirst.{assured, IsSetFirst, with_set, all_set, AllRead, ItemReads, after_item, form_flow, AllGiven, stream_flow, BranchReads}
-use Rattle.dae_pair.proofs.Agreement.{both_true}
 use Rattle.dae_pair.specs.SetFirst.{StreamsSetFirst}
 use Rattle.dae_pair.proofs.Kept.{ItemKept, ConditionKept, IsClosed, is_closed}
 use Rattle.dae_pair.proofs.Groups.{PartKept, PartsKept, parts_more}
-use Rattle.dae_pair.proofs.Regions.{not_true}
 use Rattle.dae_pair.proofs.Flow.{Keeps, has_both, test_both, keeps_with, keeps_without, Rest, after_part, after_parts, PartReads, PartsRead, after_more, read_more, LastReads, LastKept, group_rest}
 use Rattle.dae_ir.specs.declared.form.Operand.{Operand}
 use Rattle.dae_ir.specs.declared.form.Operand.TheVariants.{Number}
@@ -32,7 +31,7 @@ use Rattle.dae_ir.specs.declared.stream.Branch.TheVariants.{Silent, Tells, Hears
 -- ---- branches and loops
 
 both_so : (a b a' b' : Bool) → (a ≡ true → a' ≡ true) → (b ≡ true → b' ≡ true) → a && b ≡ true → a' && b' ≡ true
-both_so a b a' b' f g h = let x = both_true a b h in rw (f x.0, g x.1) refl
+both_so a b a' b' f g h = let x = and_true a b h in rw (f x.0, g x.1) refl
 
 if_rest : (s t d tp tq : VariableSet) (m : Mark) (b : Branch) (p q k : Actions) → ((d' : VariableSet) → Keeps s d d' → BranchReads d' b) → Rest s tp d p → Rest s tq d q → Rest s t (λ v. tp v && tq v) k → Rest s t d (If m b p q k)
 if_rest s t d tp tq m b p q k reads hp hq hk d' keeps =
@@ -197,15 +196,15 @@ module _ (by_a : Bool) (of : ℕ → Classes) (c : Classes) (cap : ℕ) where
 
 a_decides : (of : ℕ → Classes) (c : Classes) (code : Form) → IsClosed of c code → every (is_a_item c) (is_by_a c.s) code ≡ true → Each (λ (item : Item). Unit {0}) (λ t. has_test c.s t ≡ true) code
 a_decides of c Done kept is = tt
-a_decides of c (Do place item code) kept is = (tt, a_decides of c code kept.1 (both_true (is_a_item c item) (every (is_a_item c) (is_by_a c.s) code) is).1)
+a_decides of c (Do place item code) kept is = (tt, a_decides of c code kept.1 (and_true (is_a_item c item) (every (is_a_item c) (is_by_a c.s) code) is).1)
 a_decides of c (If place t p q code) kept is =
-    let b = both_true (is_by_a c.s t) (every (is_a_item c) (is_by_a c.s) p && (every (is_a_item c) (is_by_a c.s) q && every (is_a_item c) (is_by_a c.s) code)) is in
-    let b1 = both_true (every (is_a_item c) (is_by_a c.s) p) (every (is_a_item c) (is_by_a c.s) q && every (is_a_item c) (is_by_a c.s) code) b.1 in
-    let b2 = both_true (every (is_a_item c) (is_by_a c.s) q) (every (is_a_item c) (is_by_a c.s) code) b1.1 in
+    let b = and_true (is_by_a c.s t) (every (is_a_item c) (is_by_a c.s) p && (every (is_a_item c) (is_by_a c.s) q && every (is_a_item c) (is_by_a c.s) code)) is in
+    let b1 = and_true (every (is_a_item c) (is_by_a c.s) p) (every (is_a_item c) (is_by_a c.s) q && every (is_a_item c) (is_by_a c.s) code) b.1 in
+    let b2 = and_true (every (is_a_item c) (is_by_a c.s) q) (every (is_a_item c) (is_by_a c.s) code) b1.1 in
     (b.0, a_decides of c p kept.1 b1.0, a_decides of c q kept.2 b2.0, a_decides of c code kept.3 b2.1)
 a_decides of c (Loop place p q code) kept is =
-    let b1 = both_true (every (is_a_item c) (is_by_a c.s) p) (every (is_a_item c) (is_by_a c.s) q && every (is_a_item c) (is_by_a c.s) code) is in
-    let b2 = both_true (every (is_a_item c) (is_by_a c.s) q) (every (is_a_item c) (is_by_a c.s) code) b1.1 in
+    let b1 = and_true (every (is_a_item c) (is_by_a c.s) p) (every (is_a_item c) (is_by_a c.s) q && every (is_a_item c) (is_by_a c.s) code) is in
+    let b2 = and_true (every (is_a_item c) (is_by_a c.s) q) (every (is_a_item c) (is_by_a c.s) code) b1.1 in
     (a_decides of c p kept.0 b1.0, a_decides of c q kept.1 b2.0, a_decides of c code kept.2 b2.1)
 
 abbrev is_by_e : Classes → Test → Bool
@@ -213,15 +212,15 @@ is_by_e c t = not (is_by_a c.s t)
 
 e_decides : (of : ℕ → Classes) (c : Classes) (code : Form) → IsClosed of c code → every (is_e_item c) (is_by_e c) code ≡ true → Each (λ (item : Item). Unit {0}) (λ t. has_test c.needs t ≡ true) code
 e_decides of c Done kept is = tt
-e_decides of c (Do place item code) kept is = (tt, e_decides of c code kept.1 (both_true (is_e_item c item) (every (is_e_item c) (is_by_e c) code) is).1)
+e_decides of c (Do place item code) kept is = (tt, e_decides of c code kept.1 (and_true (is_e_item c item) (every (is_e_item c) (is_by_e c) code) is).1)
 e_decides of c (If place t p q code) kept is =
-    let b = both_true (is_by_e c t) (every (is_e_item c) (is_by_e c) p && (every (is_e_item c) (is_by_e c) q && every (is_e_item c) (is_by_e c) code)) is in
-    let b1 = both_true (every (is_e_item c) (is_by_e c) p) (every (is_e_item c) (is_by_e c) q && every (is_e_item c) (is_by_e c) code) b.1 in
-    let b2 = both_true (every (is_e_item c) (is_by_e c) q) (every (is_e_item c) (is_by_e c) code) b1.1 in
+    let b = and_true (is_by_e c t) (every (is_e_item c) (is_by_e c) p && (every (is_e_item c) (is_by_e c) q && every (is_e_item c) (is_by_e c) code)) is in
+    let b1 = and_true (every (is_e_item c) (is_by_e c) p) (every (is_e_item c) (is_by_e c) q && every (is_e_item c) (is_by_e c) code) b.1 in
+    let b2 = and_true (every (is_e_item c) (is_by_e c) q) (every (is_e_item c) (is_by_e c) code) b1.1 in
     (kept.0 (not_true (has_test c.s t) b.0), e_decides of c p kept.1 b1.0, e_decides of c q kept.2 b2.0, e_decides of c code kept.3 b2.1)
 e_decides of c (Loop place p q code) kept is =
-    let b1 = both_true (every (is_e_item c) (is_by_e c) p) (every (is_e_item c) (is_by_e c) q && every (is_e_item c) (is_by_e c) code) is in
-    let b2 = both_true (every (is_e_item c) (is_by_e c) q) (every (is_e_item c) (is_by_e c) code) b1.1 in
+    let b1 = and_true (every (is_e_item c) (is_by_e c) p) (every (is_e_item c) (is_by_e c) q && every (is_e_item c) (is_by_e c) code) is in
+    let b2 = and_true (every (is_e_item c) (is_by_e c) q) (every (is_e_item c) (is_by_e c) code) b1.1 in
     (e_decides of c p kept.0 b1.0, e_decides of c q kept.1 b2.0, e_decides of c code kept.2 b2.1)
 
 -- ---- a region sets nothing that the other side needs
@@ -234,22 +233,22 @@ module _ (s : VariableSet) (f : Item → Bool) (h : Test → Bool)
   nothing_set : (code : Form) → every f h code ≡ true → stays false code ≡ true → (d : VariableSet) → Keeps s (assured form_flow d code) d
   nothing_set Done is st d v e n = e
   nothing_set (Do place item code) is st d v e n =
-      let b = both_true (f item) (every f h code) is in
-      let j = both_true (false || not (is_jump item)) (stays false code) st in
+      let b = and_true (f item) (every f h code) is in
+      let j = and_true (false || not (is_jump item)) (stays false code) st in
       item_sets item b.0 (not_true (is_jump item) j.0) d v (nothing_set code b.1 j.1 (after_item d item) v e n) n
   nothing_set (If place t p q code) is st d v e n =
-      let b = both_true (h t) (every f h p && (every f h q && every f h code)) is in
-      let b1 = both_true (every f h p) (every f h q && every f h code) b.1 in
-      let b2 = both_true (every f h q) (every f h code) b1.1 in
-      let j1 = both_true (stays false p) (stays false q && stays false code) st in
-      let j2 = both_true (stays false q) (stays false code) j1.1 in
+      let b = and_true (h t) (every f h p && (every f h q && every f h code)) is in
+      let b1 = and_true (every f h p) (every f h q && every f h code) b.1 in
+      let b2 = and_true (every f h q) (every f h code) b1.1 in
+      let j1 = and_true (stays false p) (stays false q && stays false code) st in
+      let j2 = and_true (stays false q) (stays false code) j1.1 in
       let m = nothing_set code b2.1 j2.1 (λ v. assured form_flow d p v && assured form_flow d q v) v e n in
-      nothing_set p b1.0 j1.0 d v (both_true (assured form_flow d p v) (assured form_flow d q v) m).0 n
+      nothing_set p b1.0 j1.0 d v (and_true (assured form_flow d p v) (assured form_flow d q v) m).0 n
   nothing_set (Loop place p q code) is st d v e n =
-      let b1 = both_true (every f h p) (every f h q && every f h code) is in
-      let b2 = both_true (every f h q) (every f h code) b1.1 in
-      let j1 = both_true (stays true p) (stays true q && stays false code) st in
-      let j2 = both_true (stays true q) (stays false code) j1.1 in
+      let b1 = and_true (every f h p) (every f h q && every f h code) is in
+      let b2 = and_true (every f h q) (every f h code) b1.1 in
+      let j1 = and_true (stays true p) (stays true q && stays false code) st in
+      let j2 = and_true (stays true q) (stays false code) j1.1 in
       nothing_set code b2.1 j2.1 d v e n
 
 itself : (s d : VariableSet) → Keeps s d d
@@ -269,7 +268,7 @@ a_item_sets c (Halt x) is j d = no_so is
 
 e_item_sets : (c : Classes) (item : Item) → is_e_item c item ≡ true → is_jump item ≡ false → (d : VariableSet) → Keeps c.s (after_item d item) d
 e_item_sets c (Assign v x) is j d = keeps_without c.s d d v (not_true (c.s v) is) (itself c.s d)
-e_item_sets c (Load v kind x) is j d = keeps_without c.s d d v (not_true (c.s v) (both_true (not (c.s v)) (not (c.needs v)) is).0) (itself c.s d)
+e_item_sets c (Load v kind x) is j d = keeps_without c.s d d v (not_true (c.s v) (and_true (not (c.s v)) (not (c.needs v)) is).0) (itself c.s d)
 e_item_sets c Break is j d = absurd (let e : true ≡ false = j in cc)
 e_item_sets c Continue is j d = absurd (let e : true ≡ false = j in cc)
 e_item_sets c (Print spelling x) is j d = itself c.s d
@@ -307,20 +306,20 @@ module _ (of : ℕ → Classes) (c : Classes) (cap : ℕ) (code : Form) (kept : 
   -- a region of A, and one of E
   a_region_flow : every (is_a_item c) (is_by_a c.s) code && stays false code ≡ true → (by_a : Bool) (t : VariableSet) (n : ℕ) (place : Place) (k : Actions) → Rest (set_of by_a c) t (assured form_flow d code) k → Rest (set_of by_a c) t d (region_of by_a of c cap n place true code k)
   a_region_flow is true t n place k r =
-      let b = both_true (every (is_a_item c) (is_by_a c.s) code) (stays false code) is in
+      let b = and_true (every (is_a_item c) (is_by_a c.s) code) (stays false code) is in
       inside_flow true of c cap code t d d [] refl tt tt first kept (a_decides of c code kept b.0) (when (has_loop code) (mark place n) (Tell (Number 0)) k)
       (tell_rest c.s t (assured form_flow d code) (has_loop code) (mark place n) k r) n
   a_region_flow is false t n place k r =
-      let b = both_true (every (is_a_item c) (is_by_a c.s) code) (stays false code) is in
+      let b = and_true (every (is_a_item c) (is_by_a c.s) code) (stays false code) is in
       hear_rest c.needs t d (has_loop code) (mark place n) k
       (weaker c.needs t d (assured form_flow d code) k (nothing_set c.needs (is_a_item c) (is_by_a c.s) (a_item_sets c) code b.0 b.1 d) r)
 
   e_region_flow : every (is_e_item c) (is_by_e c) code && stays false code ≡ true → (by_a : Bool) (t : VariableSet) (n : ℕ) (place : Place) (k : Actions) → Rest (set_of by_a c) t (assured form_flow d code) k → Rest (set_of by_a c) t d (region_of by_a of c cap n place false code k)
   e_region_flow is true t n place k r =
-      let b = both_true (every (is_e_item c) (is_by_e c) code) (stays false code) is in
+      let b = and_true (every (is_e_item c) (is_by_e c) code) (stays false code) is in
       weaker c.s t d (assured form_flow d code) k (nothing_set c.s (is_e_item c) (is_by_e c) (e_item_sets c) code b.0 b.1 d) r
   e_region_flow is false t n place k r =
-      let b = both_true (every (is_e_item c) (is_by_e c) code) (stays false code) is in
+      let b = and_true (every (is_e_item c) (is_by_e c) code) (stays false code) is in
       inside_flow false of c cap code t d d [] refl tt tt first kept (e_decides of c code kept b.0) k r n
 
   -- code that may be a region, and then k

@@ -12,7 +12,7 @@ use Rattle.dae_ir.specs.Programs.{program_of, start}
 use Rattle.dae_ir.proofs.Laws.{fewer_loads}
 use Rattle.dae_pair.specs.Laws.{Agree}
 use Rattle.dae_pair.specs.Programs.{ProgramKept}
-use Rattle.dae_pair.proofs.Split.{split_is_right}
+use Rattle.dae_pair.proofs.Split.{pair_keeps}
 
 -- what agrees with the same variables, and a world that is the same
 agree_too : (c : Classes) (env : Env) (b : Sides) → (e : Env) × SameVariables env e × Agree c e b → Agree c env b
@@ -33,4 +33,4 @@ program_kept ir tables least cap n memory =
     alike_weaker _ _ (Agree c) (LoadsApart AtLeast) (agree_too c) apart_too all pair
     (alike_then SameVariables (LoadsApart AtLeast) (Agree c) Same all form pair
     ((fewer_loads p (issued of) all_loads (λ f v h. refl)).more' n ir.calls ir.main [] w)
-    (split_is_right p of least.closed cap n ir.calls ir.main [] w))
+    (pair_keeps p of least.closed cap n ir.calls ir.main [] w))

@@ -1,6 +1,7 @@
 -- A region's own side does what its code does, and what the other side needs stays.
 use Rattle.std.proofs.Common.{length, sym, subst, ◌≡◌, ℕ, Bool, true, false, not, ◌&&◌, nat_eq, if◌then◌else◌, refl, ap, arith}
 use Rattle.std.proofs.lemmas.Bool.Decides.{nat_tests}
+use Rattle.dae_base.proofs.Laws.{and_true, not_true}
 use Rattle.dae_base.specs.Words.{loaded, width_of}
 use Rattle.dae_meaning.specs.Operations.{misplaced}
 use Rattle.dae_meaning.specs.Worlds.{World, ticked, fetched}
@@ -14,7 +15,7 @@ use Rattle.dae_ir.specs.Rounds.{is_a_item, is_e_item}
 use Rattle.dae_ir.specs.Canonical.{Sides, is_issued, does_a, does_e, on_side, with_a, with_e, region_meaning}
 use Rattle.dae_pair.specs.Laws.{AgreeOn, Agree}
 use Rattle.dae_pair.proofs.Combine.{Ends, Goes, both, bind_alike, turns_alike, within_both, within_one}
-use Rattle.dae_pair.proofs.Agreement.{both_true, value_agrees, computed_agrees, holds_agrees, put_agrees}
+use Rattle.dae_pair.proofs.Agreement.{value_agrees, computed_agrees, holds_agrees, put_agrees}
 use Rattle.dae_pair.proofs.Kept.{ItemKept, ConditionKept, IsClosed}
 use Rattle.dae_ir.specs.declared.form.Item.{Item}
 use Rattle.dae_ir.specs.declared.form.Item.TheVariants.{Assign, Load, Store, Print, Expect, Break, Continue, Call, Return, Halt}
@@ -37,26 +38,22 @@ module _ {M L T E F : Type 0} (m : Meaning L T E) (m' : Meaning L T F) (Q : E �
   pub same_code : (code : Code M L T) → Each I J code → every f h code ≡ true → Goes Q (exec m n code) (exec m' n code)
   same_code Done kept is e x w q = both _ Next e x w q
   same_code (Do mark item k) kept is e x w q =
-      let b = both_true (f item) (every f h k) is in
+      let b = and_true (f item) (every f h k) is in
       bind_alike Q (m.does item e w) (m'.does item x w) _ _ (items item kept.0 b.0 e x w q) (same_code k kept.1 b.1)
   same_code (If mark t p r k) kept is e x w q =
-      let b = both_true (h t) (every f h p && (every f h r && every f h k)) is in
-      let b1 = both_true (every f h p) (every f h r && every f h k) b.1 in
-      let b2 = both_true (every f h r) (every f h k) b1.1 in
+      let b = and_true (h t) (every f h p && (every f h r && every f h k)) is in
+      let b1 = and_true (every f h p) (every f h r && every f h k) b.1 in
+      let b2 = and_true (every f h r) (every f h k) b1.1 in
       bind_alike Q _ _ _ _
       (rw (tests t kept.0 b.0 e x q) (choice Q (m.holds t e) _ _ _ _ (same_code p kept.1 b1.0 e x (ticked w) q) (same_code r kept.2 b2.0 e x (ticked w) q)))
       (same_code k kept.3 b2.1)
   same_code (Loop mark p r k) kept is e x w q =
-      let b = both_true (every f h p) (every f h r && every f h k) is in
-      let b1 = both_true (every f h r) (every f h k) b.1 in
+      let b = and_true (every f h p) (every f h r && every f h k) is in
+      let b1 = and_true (every f h r) (every f h k) b.1 in
       bind_alike Q _ _ _ _ (turns_alike Q _ _ _ _ (same_code p kept.0 b.0) (same_code r kept.1 b1.0) n e x w q) (same_code k kept.2 b1.1)
 
 no_true : false ≡ true → ⊥
 no_true h = cc
-
-pub not_true : (b : Bool) → not b ≡ true → b ≡ false
-not_true true h = cc
-not_true false h = refl
 
 -- what is set is in the set not
 kept_agrees : (c : VariableSet) (env other : Env) → AgreeOn c env other → (v x : ℕ) → c v ≡ false → AgreeOn c (put true v x env) other
@@ -97,7 +94,7 @@ module _ (p : Program) (of : ℕ → Classes) (c : Classes) (calls : Calls) wher
     e = put_agrees c.needs env e ag.e v _ _ (λ m. computed_agrees c.needs env e ag.e x w.frame (kept.1 (not_true (c.s v) is) m));
   })
   item_e a (Load v kind x) kept is env e w ag =
-      let b = both_true (not (c.s v)) (not (c.needs v)) is in
+      let b = and_true (not (c.s v)) (not (c.needs v)) is in
       rw (unissued v (not_true (c.s v) b.0) (not_true (c.needs v) b.1))
       (within_one _ (misplaced (width_of kind) (value x env) (length w.memory)) w _ _ (both _ Next _ _ _ (record {
         a = kept_agrees c.s env a ag.a v _ (not_true (c.s v) b.0);

@@ -1,5 +1,6 @@
 -- The rounds of a form do what the form does.
 use Rattle.std.proofs.Common.{length, ◌≡◌, ℕ, zero, suc, Bool, true, false, not, ◌&&◌, List, [], ◌∷◌, ◌++◌, Option, Some, None, if◌then◌else◌, refl, ap, subst}
+use Rattle.dae_base.proofs.Laws.{and_true}
 use Rattle.dae_base.specs.declared.Place.{Place}
 use Rattle.dae_meaning.specs.Worlds.{World, ticked, back}
 use Rattle.dae_meaning.specs.Results.{Result, Next, Leaves, Skips, Returns, Halted, Trapped, Run, ◌▷◌, turns, Astray, checked}
@@ -13,7 +14,7 @@ use Rattle.dae_ir.specs.Rounds.{Jump, Breaks, Continues, Enters, Gives, Halts, R
 use Rattle.dae_ir.specs.Canonical.{Sides, is_issued, issued, finished, put_both, PairCalls, jumped, holds_told, does_round, canonical, pair_calls_of}
 use Rattle.dae_pair.specs.Laws.{Agree, PairKeeps}
 use Rattle.dae_pair.proofs.Combine.{Ends, Goes, both, over, bind_alike, turns_alike, within_both}
-use Rattle.dae_pair.proofs.Agreement.{both_true, value_agrees, holds_agrees, fault_agrees, put_agrees, Passes, passes_same, values_pass, entered_agree}
+use Rattle.dae_pair.proofs.Agreement.{value_agrees, holds_agrees, fault_agrees, put_agrees, Passes, passes_same, values_pass, entered_agree}
 use Rattle.dae_pair.proofs.Kept.{ItemKept, ConditionKept, IsClosed, is_closed}
 use Rattle.dae_pair.proofs.Regions.{bind_done, a_region_alike, e_region_alike}
 use Rattle.dae_pair.proofs.Groups.{does_part, runs, runs_more, PartKept, PartsKept, parts_more, group_alike}
@@ -123,11 +124,11 @@ module _ (p : Program) (of : ℕ → Classes) (c : Classes) (cap n : ℕ) (calls
   region_alike outside code kept d is = by (outside && is_a_region c code) refl (outside && is_e_region c code) refl d is where
     by : (x : Bool) → outside && is_a_region c code ≡ x → (y : Bool) → outside && is_e_region c code ≡ y → (d : Bool) → (if x then Some true else (if y then Some false else None)) ≡ Some d → Goes (Agree c) (forms code) (does_round p n pcalls c (Region d code))
     by true e y k true h =
-        a_region_alike p of c calls n code kept (both_true (every (is_a_item c) (is_by_a c.s) code) (stays false code) (both_true outside (is_a_region c code) e).1).0
+        a_region_alike p of c calls n code kept (and_true (every (is_a_item c) (is_by_a c.s) code) (stays false code) (and_true outside (is_a_region c code) e).1).0
     by true e y k false h = cc
     by false e true k true h = cc
     by false e true k false h =
-        e_region_alike p of c calls n code kept (both_true (every (is_e_item c) (λ t. not (is_by_a c.s t)) code) (stays false code) (both_true outside (is_e_region c code) k).1).0
+        e_region_alike p of c calls n code kept (and_true (every (is_e_item c) (λ t. not (is_by_a c.s t)) code) (stays false code) (and_true outside (is_e_region c code) k).1).0
     by false e false k d h = cc
 
   -- code that may be a region, and then k
@@ -162,5 +163,5 @@ calls_alike p of kept cap n (suc limit) f xs ys zs w hs hn =
     code_alike p of (of f) cap n (calls_of p (issued of) n limit) (pair_calls_of p of cap n limit) (calls_alike p of kept cap n limit) true (p.body f) (is_closed p of kept f) [] tt _ _ _
     (record { a = entered_agree (of f).s 1 xs ys hs; e = entered_agree (of f).needs 1 xs zs hn })
 
-pub split_is_right : (p : Program) (of : ℕ → Classes) → AreClosed p of → PairKeeps p of
-split_is_right p of kept cap n limit f xs w = calls_alike p of kept cap n limit f xs xs xs w (passes_same (of f).s 1 xs) (passes_same (of f).needs 1 xs)
+pub pair_keeps : (p : Program) (of : ℕ → Classes) → AreClosed p of → PairKeeps p of
+pair_keeps p of kept cap n limit f xs w = calls_alike p of kept cap n limit f xs xs xs w (passes_same (of f).s 1 xs) (passes_same (of f).needs 1 xs)

@@ -6,7 +6,7 @@ use Rattle.dae_base.specs.declared.Queue.TheVariants.{Ld, Sa, Sd}
 use Rattle.dae_base.specs.declared.Depths.{Depths}
 use Rattle.dae_encode.specs.declared.Inst.{Inst}
 use Rattle.dae_encode.specs.Spelling.{encoded, InRange}
-use Rattle.dae_encode.proofs.Spelled.{decode_encoded}
+use Rattle.dae_encode.proofs.Laws.{decode_encoded}
 use Rattle.dae_image.specs.declared.Image.{Image}
 use Rattle.dae_machine.specs.declared.Pick.{Pick}
 use Rattle.dae_machine.specs.Machine.{Runs, IsCounted}

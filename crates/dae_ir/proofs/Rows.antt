@@ -1,14 +1,15 @@
--- The lists inside of a statement, and inside of a step.
-use Rattle.std.proofs.Common.{◌≡◌, List, refl, ap, ◌∙◌}
+-- Statements and steps that hold others in a vector.
+use Rattle.std.proofs.Common.{◌≡◌, ◌↔◌, List, refl, ap, ◌∙◌}
 use Rattle.std.specs.Prelude.{Vec}
 use Rattle.std.specs.declared.alloc.Global.{Global}
 use mathlib.Core.Former.{Count}
 use Rattle.dae_base.specs.declared.Place.{Place}
-use Rattle.dae_ir.specs.Code.{Done, If, Loop}
+use Rattle.dae_ir.specs.Code.{Each, Done, If, Loop}
 use Rattle.dae_ir.specs.Form.{Form, before, row, form_of}
 use Rattle.dae_ir.specs.Streams.{Actions, onto, step_onto, steps_row}
 use Rattle.dae_ir.specs.declared.form.Test.{Test}
-use Rattle.dae_ir.specs.declared.form.Statement.{Statement, If', Loop', Row_of-Statement, end_of-Statement, more_of-Statement, items-the_row-Statement, items_hidden-the_row-Statement-0}
+use Rattle.dae_ir.specs.declared.form.Item.{Item}
+use Rattle.dae_ir.specs.declared.form.Statement.{Statement, Simple, If', Loop', Row_of-Statement, end_of-Statement, more_of-Statement, items-the_row-Statement, items_hidden-the_row-Statement-0}
 use Rattle.dae_ir.specs.declared.form.Statement.TheVariants as statement
 use Rattle.dae_ir.specs.declared.stream.Branch.{Branch}
 use Rattle.dae_ir.specs.declared.stream.Mark.{Mark}
@@ -58,6 +59,12 @@ before_loop m p q k =
     let y = second (statement.Loop m p q) in
     ap (λ (u : Form). Loop m u (row y.1 Done) k) (rows x.0 x.1 ∙ ap form_of (items_hidden-the_row-Statement-0 p))
     ∙ ap (λ (u : Form). Loop m (form_of p.items) u k) (rows y.0 y.1 ∙ ap form_of (items_hidden-the_row-Statement-0 q))
+
+-- each item and test of a statement, and of what is behind it
+pub each_before : (I : Item → Type 0) (J : Test → Type 0) (s : Statement) (k : Form) → Each I J (before s k) ↔ (Each I J (before s Done) × Each I J k)
+each_before I J (Simple place item) k = (λ h. ((h.0, tt), h.1), λ h. (h.0.0, h.1))
+each_before I J (If' place t s p u q) k = (λ h. ((h.0, h.1, h.2, tt), h.3), λ h. (h.0.0, h.0.1, h.0.2, h.1))
+each_before I J (Loop' place s p u q) k = (λ h. ((h.0, h.1, tt), h.2), λ h. (h.0.0, h.0.1, h.1))
 
 abbrev onto_done : List Step → Actions
 onto_done xs = onto xs Done
