@@ -1,4 +1,4 @@
 mod Totals
 mod Found
 mod Ordered
-pub mod Laws
+pub mod LawsOfBudgets

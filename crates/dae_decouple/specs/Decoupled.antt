@@ -5,7 +5,6 @@ use Rattle.dae_ir.specs.Rounds.{rounds}
 use Rattle.dae_ir.specs.Budgets.{IsBudgetOf}
 use Rattle.dae_ir.specs.Programs.{program_of, outcome, AreClassesOf, IsPairOf}
 use Rattle.dae_ir.specs.declared.form.Ir.{Ir}
-use Rattle.dae_ir.specs.declared.stream.Class.{Class}
 use Rattle.dae_slice.specs.Links.{HasRows}
 use Rattle.dae_pair.specs.Budget.{Covers, IsWithinCap}
 use Rattle.dae_pair.specs.Programs.{pair_outcome, DoesTheSame}
