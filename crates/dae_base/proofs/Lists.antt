@@ -1,5 +1,5 @@
 -- What is found in a list, and what none of a list passes.
-use Rattle.std.proofs.Common.{◌≡◌, Bool, true, false, List, [], ◌∷◌, ◌++◌, refl, arith}
+use Rattle.std.proofs.Common.{◌≡◌, ℕ, suc, ◌+◌, ◌<◌, length, drop, get_or, drop-cons, add-one, ap, sym, Bool, true, false, List, [], ◌∷◌, ◌++◌, refl, arith}
 use Rattle.std.specs.Prelude.{Option, Some, None}
 use Rattle.std.specs.List.{find, list_any, AllByRecursion}
 use Rattle.std.proofs.lemmas.List.Folds.{list_any-append}
@@ -28,3 +28,7 @@ none_passes {X} f (x ∷ xs) h = by (f x) refl (none_passes f xs) where
 
 pub any_more : {X : Type 0} (p : X → Bool) (xs : List X) (x : X) → list_any p xs ≡ false → p x ≡ false → list_any p (xs ++ x ∷ []) ≡ false
 any_more p xs x h k = rw (list_any-append p xs (x ∷ []), h, k)
+
+-- from a place on
+pub drop_at : {X : Type 0} (list : List X) (i : ℕ) (x : X) → i < length list → x ≡ get_or list i x → drop i list ≡ x ∷ drop (i + 1) list
+drop_at {X} list i x lt is = rw add-one (rw (drop-cons list i x) (ap (λ (y : X). y ∷ drop (suc i) list) (sym is)))

@@ -1,4 +1,4 @@
-pub mod Rows
-pub mod Totals
-pub mod Found
-pub mod Ordered
+mod Totals
+mod Found
+mod Ordered
+pub mod LawsOfBudgets

@@ -14,7 +14,8 @@ use Rattle.dae_ir.specs.declared.stream.Step.TheVariants.{If as Branching, Loop 
 use Rattle.dae_budget.specs.Tallies.{most, total}
 use Rattle.dae_budget.specs.declared.kinds.Counted.{Counted}
 use Rattle.dae_budget.specs.declared.tally.Tally.{Tally}
-use Rattle.dae_budget.proofs.Rows.{onto_if, onto_loop}
+use Rattle.dae_base.proofs.Laws.{drop_at}
+use Rattle.dae_ir.proofs.Laws.{onto_if, onto_loop}
 
 widened : (l p q m : ℕ) → max (max l (max p q)) m ≡ max l (max (max p q) m)
 widened l p q m = omega arith
@@ -36,9 +37,6 @@ loop_counted kind t new s m p q x y is px qy n k =
     let all : total kind new k ≡ total kind t (Loop m (actions_of p.items) (actions_of q.items) k) =
     rw (n, px, qy) (widened t.largest (most kind 0 0 (actions_of p.items)) (most kind 0 0 (actions_of q.items)) (most kind t.group t.count k)) in
     all ∙ ap (total kind t) (sym e)
-
-pub drop_at : {X : Type 0} (list : List X) (i : ℕ) (x : X) → i < length list → x ≡ get_or list i x → drop i list ≡ x ∷ drop (i + 1) list
-drop_at {X} list i x lt is = rw add-one (rw (drop-cons list i x) (ap (λ (y : X). y ∷ drop (suc i) list) (sym is)))
 
 -- the steps up to the i-th have been counted
 abbrev pub IsCounted : Counted → List Step → ℕ → Tally → Type 0

@@ -8,8 +8,8 @@ use Rattle.dae_ir.specs.Form.{before, form_of}
 use Rattle.dae_ir.specs.declared.form.Item.{Item}
 use Rattle.dae_ir.specs.declared.form.Statement.{Statement}
 use Rattle.dae_ir.specs.declared.form.Test.{Test}
-use Rattle.dae_slice.proofs.Arguments.{drop_at}
-use Rattle.dae_slice.proofs.Rows.{each_before}
+use Rattle.dae_base.proofs.Laws.{drop_at}
+use Rattle.dae_ir.proofs.Laws.{each_before}
 
 -- of the whole W, R is still to be tested: X of the next item, and S of the items behind it
 module _ (W R X S : Type 0) (next : R ↔ (X × S)) (so_far : R ↔ W) (b : Bool) (test : IsTrue b ↔ X) where

@@ -1,8 +1,8 @@
-// Budgets of small programs, worked by hand from the definitions.
+// Budgets and classes of small programs, as an independent implementation of the same rules gives them.
 
 use crate::{decouple, forms, is_scoped};
 use dae_base::Depths;
-use dae_ir::{Ir, Step};
+use dae_ir::{Class, Ir, Step};
 use std::alloc::{AllocError, Global};
 use std::test::Fail;
 
@@ -21,11 +21,43 @@ fn depths(numbers: [u16; 7]) -> Depths {
 }
 
 fn has_budget(alloc: Global, ir: &Ir, numbers: [u16; 7]) -> Result<bool, AllocError> {
+    has_budget_with(alloc, ir, 16, numbers)
+}
+
+// With groups of at most `cap` loads for E and as many copies.
+fn has_budget_with(
+    alloc: Global,
+    ir: &Ir,
+    cap: u8,
+    numbers: [u16; 7],
+) -> Result<bool, AllocError> {
+    if !is_scoped(ir) || cap < 1 || cap > 64 {
+        return Ok(false);
+    }
+    let made = decouple(alloc, ir, cap)?;
+    Ok(made.budget == depths(numbers))
+}
+
+const NOBODY: Class = Class { a: false, e: false };
+const A: Class = Class { a: true, e: false };
+const E: Class = Class { a: false, e: true };
+const BOTH: Class = Class { a: true, e: true };
+
+// The classes of the variables of one function, by its place.
+fn has_classes(
+    alloc: Global,
+    ir: &Ir,
+    place: usize,
+    expected: &[Class],
+) -> Result<bool, AllocError> {
     if !is_scoped(ir) {
         return Ok(false);
     }
     let made = decouple(alloc, ir, 16)?;
-    Ok(made.budget == depths(numbers))
+    match made.classes.as_slice().get(place) {
+        Some(row) => Ok(row.as_slice() == expected),
+        None => Ok(false),
+    }
 }
 
 #[test]
@@ -37,6 +69,58 @@ fn arrays(rt: HostRuntime) -> Result<(), Fail> {
     assert!(rt; has_budget(alloc, &pointers, [1, 1, 0, 0, 1, 0, 0])?);
     let before = forms::each_from_the_one_before(alloc)?;
     assert!(rt; has_budget(alloc, &before, [1, 0, 1, 1, 1, 0, 0])?);
+    Ok(())
+}
+
+#[test]
+fn single_statements(rt: HostRuntime) -> Result<(), Fail> {
+    let alloc = rt.alloc();
+    let constants = forms::constants_printed(alloc)?;
+    assert!(rt; has_budget(alloc, &constants, [0, 0, 0, 0, 0, 0, 0])?);
+    let product = forms::product_stored(alloc)?;
+    assert!(rt; has_budget(alloc, &product, [1, 0, 1, 1, 0, 0, 0])?);
+    let byte = forms::byte_of_a_word(alloc)?;
+    assert!(rt; has_budget(alloc, &byte, [1, 0, 1, 1, 1, 0, 0])?);
+    let index = forms::index_from_memory(alloc)?;
+    assert!(rt; has_budget(alloc, &index, [1, 1, 0, 0, 1, 0, 0])?);
+    let halves = forms::halves_in_a_frame(alloc)?;
+    assert!(rt; has_budget(alloc, &halves, [1, 0, 1, 1, 1, 0, 0])?);
+    Ok(())
+}
+
+#[test]
+fn caps(rt: HostRuntime) -> Result<(), Fail> {
+    let alloc = rt.alloc();
+    let loads = forms::five_loads(alloc)?;
+    assert!(rt; has_budget_with(alloc, &loads, 1, [1, 0, 0, 0, 1, 0, 0])?);
+    assert!(rt; has_budget_with(alloc, &loads, 4, [4, 0, 0, 0, 1, 0, 0])?);
+    assert!(rt; has_budget_with(alloc, &loads, 16, [5, 0, 0, 0, 1, 0, 0])?);
+    let copies = forms::three_copies(alloc)?;
+    assert!(rt; has_budget_with(alloc, &copies, 1, [1, 1, 1, 1, 1, 0, 1])?);
+    assert!(rt; has_budget_with(alloc, &copies, 2, [1, 1, 1, 1, 1, 0, 2])?);
+    assert!(rt; has_budget_with(alloc, &copies, 16, [1, 1, 1, 1, 1, 0, 3])?);
+    Ok(())
+}
+
+#[test]
+fn calls(rt: HostRuntime) -> Result<(), Fail> {
+    let alloc = rt.alloc();
+    let ir = forms::call_with_result(alloc)?;
+    assert!(rt; has_budget(alloc, &ir, [1, 0, 1, 1, 1, 0, 0])?);
+    assert!(rt; has_classes(alloc, &ir, 0, &[E, E, A, E, E])?);
+    assert!(rt; has_classes(alloc, &ir, 1, &[NOBODY, E, E])?);
+    Ok(())
+}
+
+#[test]
+fn classes_of_variables(rt: HostRuntime) -> Result<(), Fail> {
+    let alloc = rt.alloc();
+    let index = forms::index_from_memory(alloc)?;
+    assert!(rt; has_classes(alloc, &index, 0, &[NOBODY, A, A, A, A, A, A, E, A])?);
+    let halves = forms::halves_in_a_frame(alloc)?;
+    assert!(rt; has_classes(alloc, &halves, 0, &[NOBODY, A, A, A, E, E, A, E])?);
+    let stored = forms::indices_stored(alloc)?;
+    assert!(rt; has_classes(alloc, &stored, 0, &[NOBODY, BOTH, A, A, A, E])?);
     Ok(())
 }
 
@@ -67,6 +151,8 @@ fn checks_of_e(rt: HostRuntime) -> Result<(), Fail> {
     let alloc = rt.alloc();
     let divisor = forms::checked_divisor(alloc)?;
     assert!(rt; has_budget(alloc, &divisor, [0, 0, 0, 0, 0, 1, 0])?);
+    let object = forms::divided_by_an_object(alloc)?;
+    assert!(rt; has_budget(alloc, &object, [2, 0, 1, 1, 0, 1, 0])?);
     Ok(())
 }
 
@@ -103,5 +189,17 @@ fn names_that_are_not_there(rt: HostRuntime) -> Result<(), Fail> {
     assert!(rt; !is_scoped(&unknown));
     let many = forms::one_argument_too_many(alloc)?;
     assert!(rt; !is_scoped(&many));
+    Ok(())
+}
+
+#[test]
+fn ends_that_are_not_there(rt: HostRuntime) -> Result<(), Fail> {
+    let alloc = rt.alloc();
+    let open = forms::open_end(alloc)?;
+    assert!(rt; !is_scoped(&open));
+    let returning = forms::returning_main(alloc)?;
+    assert!(rt; !is_scoped(&returning));
+    let assigned = forms::assigned_result(alloc)?;
+    assert!(rt; !is_scoped(&assigned));
     Ok(())
 }

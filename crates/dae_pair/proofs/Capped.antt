@@ -1,6 +1,7 @@
 -- No group of a side's actions has more loads for E, nor more copies, than the cap.
 use Rattle.std.proofs.Common.{◌≡◌, ℕ, ◌+◌, ◌<◌, ◌≤◌, Bool, true, false, not, ◌&&◌, ◌||◌, nat_eq, List, [], ◌∷◌, ◌++◌, Some, None, if◌then◌else◌, refl, ap, ◌∙◌, arith}
 use Rattle.std.proofs.lemmas.Bool.Decides.{nat_tests}
+use Rattle.dae_base.proofs.Laws.{and_true}
 use Rattle.dae_base.specs.declared.Place.{Place}
 use Rattle.dae_ir.specs.Code.{Done, Do, If, Loop, Each, every}
 use Rattle.dae_ir.specs.Form.{Form}
@@ -8,7 +9,6 @@ use Rattle.dae_ir.specs.Classes.{Classes, is_by_a}
 use Rattle.dae_ir.specs.Rounds.{Jump, Breaks, Continues, Enters, Gives, Halts, Round, Group, Alone, Region, Rounds, Stand, Joins, Closes, Separates, stand, closed, is_for_e, is_copied, how_many, is_full, placed, is_a_item, is_a_region, is_e_region, region, one_sided, stays, rounds}
 use Rattle.dae_ir.specs.Streams.{Actions, mark, when, a_part, parts, message, gives_address, hears_check, a_group, jump_action, inside_of, side_of, has_loop}
 use Rattle.dae_ir.specs.Budgets.{is_load_for_e, is_copy, in_group, AllInside}
-use Rattle.dae_pair.proofs.Agreement.{both_true}
 use Rattle.dae_pair.proofs.Small.{NoneOf}
 use Rattle.dae_pair.proofs.Tails.{Bounded}
 use Rattle.dae_ir.specs.declared.form.Operand.TheVariants.{Number}
@@ -18,7 +18,7 @@ use Rattle.dae_ir.specs.declared.stream.Last.{Last}
 use Rattle.dae_ir.specs.declared.stream.Last.TheVariants.{Nothing, Stores, Prints, Decides}
 use Rattle.dae_ir.specs.declared.stream.Mark.{Mark}
 use Rattle.dae_ir.specs.declared.stream.Action.{Action}
-use Rattle.dae_ir.specs.declared.stream.Action.TheVariants.{Set as Compute, Issue, Own, Offer, Tell, Hear, Address}
+use Rattle.dae_ir.specs.declared.stream.Action.TheVariants.{Set, Issue, Own, Offer, Tell, Hear, Address}
 
 -- ---- each region of A is one
 
@@ -47,7 +47,7 @@ module _ (c : Classes) (cap : ℕ) (outside : Bool) where
   sided_ok : (place : Place) (code : Form) (k both : Rounds) → Regions' k → Regions' both → Regions' (one_sided (region outside c code) place code k both)
   sided_ok place code k both h b = by (outside && is_a_region c code) refl (outside && is_e_region c code) where
     by : (x : Bool) → outside && is_a_region c code ≡ x → (y : Bool) → Regions' (one_sided (if x then Some true else (if y then Some false else None)) place code k both)
-    by true e y = ((both_true (every (is_a_item c) (is_by_a c.s) code) (stays false code) (both_true outside (is_a_region c code) e).1).0, h)
+    by true e y = ((and_true (every (is_a_item c) (is_by_a c.s) code) (stays false code) (and_true outside (is_a_region c code) e).1).0, h)
     by false e true = (tt, h)
     by false e false = b
 
@@ -63,7 +63,7 @@ module _ (c : Classes) (cap : ℕ) (outside : Bool) where
 
 pub loads_at : (c : Classes) (n g : ℕ) (p : Part) (k : Actions) → in_group is_load_for_e g (a_part c n p k) ≡ (if is_for_e c p && nat_eq n g then 1 else 0) + in_group is_load_for_e g k
 loads_at c n g (Sets place v x) k = by (c.s v) (c.needs v) where
-  by : (s e : Bool) → in_group is_load_for_e g (when s (mark place n) (Compute v x) (when (s && e) (mark place n) (Offer v) k)) ≡ 0 + in_group is_load_for_e g k
+  by : (s e : Bool) → in_group is_load_for_e g (when s (mark place n) (Set v x) (when (s && e) (mark place n) (Offer v) k)) ≡ 0 + in_group is_load_for_e g k
   by true true = omega (arith)
   by true false = omega (arith)
   by false e = omega (arith)
@@ -77,7 +77,7 @@ loads_at c n g (Tests place check) k = omega (arith)
 
 pub copies_at : (c : Classes) (n g : ℕ) (p : Part) (k : Actions) → in_group is_copy g (a_part c n p k) ≡ (if is_copied c p && nat_eq n g then 1 else 0) + in_group is_copy g k
 copies_at c n g (Sets place v x) k = by (c.s v) (c.needs v) where
-  by : (s e : Bool) → in_group is_copy g (when s (mark place n) (Compute v x) (when (s && e) (mark place n) (Offer v) k)) ≡ (if (s && e) && nat_eq n g then 1 else 0) + in_group is_copy g k
+  by : (s e : Bool) → in_group is_copy g (when s (mark place n) (Set v x) (when (s && e) (mark place n) (Offer v) k)) ≡ (if (s && e) && nat_eq n g then 1 else 0) + in_group is_copy g k
   by true true = omega (arith)
   by true false = omega (arith)
   by false e = omega (arith)
@@ -155,7 +155,7 @@ module _ (c : Classes) (f : Action → Bool) (kind : Part → Bool) (others : (x
 
     inside_part : (n : ℕ) (p : Part) (k : Actions) → AllInside P k → AllInside P (a_part c n p k)
     inside_part n (Sets place v x) k h =
-        inside_when (c.s v) (mark place n) (Compute v x) _ (inside_when (c.s v && c.needs v) (mark place n) (Offer v) k h)
+        inside_when (c.s v) (mark place n) (Set v x) _ (inside_when (c.s v && c.needs v) (mark place n) (Offer v) k h)
     inside_part n (Loads place v kind x) k h =
         inside_when (not (c.s v) && c.needs v) (mark place n) (Issue kind x) _
         (inside_when (c.s v) (mark place n) (Own v kind x) _ (inside_when (c.s v && c.needs v) (mark place n) (Offer v) k h))

@@ -1,13 +1,12 @@
 -- The largest numbers of loads for E and of copies in a group of a pair are at most the cap.
 use Rattle.std.proofs.Common.{◌≡◌, ℕ, Bool, true, false, ◌&&◌, List, [], ◌∷◌, ◌++◌, if◌then◌else◌, refl, ◌∙◌, arith}
+use Rattle.dae_base.proofs.Laws.{and_true, not_true}
 use Rattle.dae_base.specs.declared.Place.{Place}
 use Rattle.dae_ir.specs.Code.{Done, Do, If, Loop, Each, every}
 use Rattle.dae_ir.specs.Form.{Form}
 use Rattle.dae_ir.specs.Classes.{Classes, is_by_a}
 use Rattle.dae_ir.specs.Rounds.{Round, Group, Alone, Region, Rounds, Joins, stand, closed, how_many, is_full, placed, is_a_item, rounds}
-use Rattle.dae_pair.proofs.Agreement.{both_true}
 use Rattle.dae_pair.proofs.Budget.{how_many_more}
-use Rattle.dae_pair.proofs.Regions.{not_true}
 use Rattle.dae_ir.specs.declared.form.Item.{Item}
 use Rattle.dae_ir.specs.declared.form.Item.TheVariants.{Assign, Load, Store, Print, Expect, Break, Continue, Call, Return, Halt}
 use Rattle.dae_ir.specs.declared.stream.Part.{Part}
@@ -61,14 +60,14 @@ module _ (c : Classes) (cap : ℕ) (kind : Part → Bool)
   pub region_none : (code : Form) → every (is_a_item c) (is_by_a c.s) code ≡ true → (g : List Part) → how_many kind g ≡ 0 → None' (rounds c cap false code g)
   region_none Done is g h = closed_none g h Done tt
   region_none (Do place item code) is g h =
-      let b = both_true (is_a_item c item) (every (is_a_item c) (is_by_a c.s) code) is in
+      let b = and_true (is_a_item c item) (every (is_a_item c) (is_by_a c.s) code) is in
       item_none place item b.0 g h (rounds c cap false code) (region_none code b.1)
   region_none (If place t p q code) is g h =
-      let b = both_true (is_by_a c.s t) (every (is_a_item c) (is_by_a c.s) p && (every (is_a_item c) (is_by_a c.s) q && every (is_a_item c) (is_by_a c.s) code)) is in
-      let b1 = both_true (every (is_a_item c) (is_by_a c.s) p) (every (is_a_item c) (is_by_a c.s) q && every (is_a_item c) (is_by_a c.s) code) b.1 in
-      let b2 = both_true (every (is_a_item c) (is_by_a c.s) q) (every (is_a_item c) (is_by_a c.s) code) b1.1 in
+      let b = and_true (is_by_a c.s t) (every (is_a_item c) (is_by_a c.s) p && (every (is_a_item c) (is_by_a c.s) q && every (is_a_item c) (is_by_a c.s) code)) is in
+      let b1 = and_true (every (is_a_item c) (is_by_a c.s) p) (every (is_a_item c) (is_by_a c.s) q && every (is_a_item c) (is_by_a c.s) code) b.1 in
+      let b2 = and_true (every (is_a_item c) (is_by_a c.s) q) (every (is_a_item c) (is_by_a c.s) code) b1.1 in
       closed_none g h _ (tt, region_none p b1.0 [] refl, region_none q b2.0 [] refl, region_none code b2.1 [] refl)
   region_none (Loop place p q code) is g h =
-      let b1 = both_true (every (is_a_item c) (is_by_a c.s) p) (every (is_a_item c) (is_by_a c.s) q && every (is_a_item c) (is_by_a c.s) code) is in
-      let b2 = both_true (every (is_a_item c) (is_by_a c.s) q) (every (is_a_item c) (is_by_a c.s) code) b1.1 in
+      let b1 = and_true (every (is_a_item c) (is_by_a c.s) p) (every (is_a_item c) (is_by_a c.s) q && every (is_a_item c) (is_by_a c.s) code) is in
+      let b2 = and_true (every (is_a_item c) (is_by_a c.s) q) (every (is_a_item c) (is_by_a c.s) code) b1.1 in
       closed_none g h _ (region_none p b1.0 [] refl, region_none q b2.0 [] refl, region_none code b2.1 [] refl)

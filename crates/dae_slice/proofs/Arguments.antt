@@ -1,6 +1,7 @@
 -- The links of a call's arguments, from one on.
 use Rattle.std.proofs.Common.{◌≡◌, ◌↔◌, ℕ, suc, ◌+◌, ◌<◌, ◌≤◌, true, List, ◌∷◌, length, drop, get_or, drop-cons, add-one, ap, sym}
 use Rattle.std.proofs.lemmas.List.{drop_all}
+use Rattle.dae_base.proofs.Laws.{drop_at}
 use Rattle.dae_ir.specs.Classes.{has, ArgumentsKept, CallKept}
 use Rattle.dae_ir.specs.declared.form.Operand.{Operand}
 use Rattle.dae_slice.specs.Graphs.{Family, Keeps, IsLike, Adds}
@@ -30,9 +31,6 @@ reach_last P R a b all h = record {
   like = h.like;
   keeps = λ s. (λ x. (h.keeps s).0 (x, all s), λ x. ((h.keeps s).1 x).0);
 }
-
-pub drop_at : {X : Type 0} (list : List X) (i : ℕ) (x : X) → i < length list → x ≡ get_or list i x → drop i list ≡ x ∷ drop (i + 1) list
-drop_at {X} list i x lt is = rw add-one (rw (drop-cons list i x) (ap (λ (y : X). y ∷ drop (suc i) list) (sym is)))
 
 drop_here : {X : Type 0} (list : List X) (i : ℕ) (d : X) → i < length list → drop i list ≡ get_or list i d ∷ drop (i + 1) list
 drop_here list i d lt = rw add-one (drop-cons list i d lt)

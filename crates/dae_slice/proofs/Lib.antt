@@ -4,7 +4,6 @@ pub mod Fresh
 pub mod Adds
 pub mod Leads
 pub mod Arguments
-pub mod Rows
 pub mod Statements
 pub mod Scoped
 pub mod Marks

@@ -15,8 +15,9 @@ use Rattle.dae_slice.specs.Links.{ItemKept, ConditionKept, CodeKept, HasTargets,
 use Rattle.dae_slice.specs.declared.items.Sought.{Sought}
 use Rattle.dae_slice.specs.declared.graph.Graph.{Graph}
 use Rattle.dae_slice.proofs.Adds.{adds_both, adds_as}
-use Rattle.dae_slice.proofs.Arguments.{Reaches, reach_next, reach_last, drop_at}
-use Rattle.dae_slice.proofs.Rows.{before_if, before_loop, each_before}
+use Rattle.dae_slice.proofs.Arguments.{Reaches, reach_next, reach_last}
+use Rattle.dae_base.proofs.Laws.{drop_at}
+use Rattle.dae_ir.proofs.Laws.{before_if, before_loop, each_before}
 
 -- ---- where links may end
 

@@ -11,7 +11,7 @@ use Rattle.dae_ir.specs.declared.form.Statement.{Statement, Simple, If', Loop'}
 use Rattle.dae_ir.specs.declared.form.Statement.TheVariants as statement
 use Rattle.dae_split.specs.Making.{CallsFit}
 use Rattle.dae_split.proofs.Lists.{from_item}
-use Rattle.dae_split.proofs.Rows.{before_if, before_loop}
+use Rattle.dae_ir.proofs.Laws.{before_if, before_loop}
 
 module _ (fs : List Function) where
   pub calls_in_if : (m : Place) (t : Test) (p q : Vec Statement Global) (s : Statement) → s ≡ statement.If m t p q → CallsFit fs (before s Done) → CallsFit fs (form_of p.items) × CallsFit fs (form_of q.items)

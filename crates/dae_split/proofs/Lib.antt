@@ -3,7 +3,6 @@ pub mod Functions
 pub mod Lists
 pub mod Nested
 pub mod Onto
-pub mod Rows
 pub mod Shared
 pub mod Sizes
 pub mod Upto

@@ -12,7 +12,7 @@ use Rattle.dae_ir.specs.declared.form.Test.{Test}
 use Rattle.dae_ir.specs.declared.form.Statement.{Statement}
 use Rattle.dae_ir.specs.declared.form.Statement.TheVariants as statement
 use Rattle.dae_split.specs.Making.{item_of, test_of, fits}
-use Rattle.dae_split.proofs.Rows.{before_if, before_loop}
+use Rattle.dae_ir.proofs.Laws.{before_if, before_loop}
 
 -- ---- loops
 

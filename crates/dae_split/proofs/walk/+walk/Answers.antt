@@ -8,7 +8,7 @@ use Rattle.dae_ir.proofs.form.Statement.TheLaws.{the_size}
 use Rattle.dae_ir.specs.declared.form.Statement.{Statement}
 use Rattle.dae_split.specs.Making.{is_a, projected, stands_in, is_outside, tells_in}
 use Rattle.dae_split.proofs.Calls.{calls_in_if, calls_in_loop, calls_from, calls_at}
-use Rattle.dae_split.proofs.Rows.{before_if, before_loop}
+use Rattle.dae_ir.proofs.Laws.{before_if, before_loop}
 use Rattle.dae_split.proofs.Shared.{not_false, if_made, loop_made, at_code}
 use Rattle.dae_split.proofs.Sizes.{deepest, first_in_if, second_in_if, first_in_loop, second_in_loop, list_below, item_below}
 use Rattle.dae_split.proofs.Upto.{one_more, all_made}

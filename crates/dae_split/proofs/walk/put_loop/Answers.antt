@@ -2,7 +2,7 @@ use Rattle.std.proofs.Common.{◌∙◌, ap}
 use Rattle.dae_ir.specs.Streams.{onto}
 use Rattle.dae_ir.specs.declared.stream.Step.TheVariants as step
 use Rattle.dae_split.proofs.Onto.{pushed}
-use Rattle.dae_split.proofs.Rows.{onto_loop}
+use Rattle.dae_ir.proofs.Laws.{onto_loop}
 use Rattle.dae_split.proofs.walk.put_loop.Goals as goal
 
 pub returns : goal.returns

@@ -1,0 +1,5 @@
+pub mod Worlds
+pub mod Results
+pub mod Alike
+pub mod Variables
+pub mod Operations

@@ -1,0 +1,4 @@
+pub mod Follows
+pub mod Spots
+pub mod Sides
+pub mod Order

@@ -1,0 +1,12 @@
+mod Stretches
+mod Sided
+mod RegionsA
+mod RegionsE
+mod RegionEnds
+mod RegionRounds
+mod Regions
+mod Calls
+mod Whole
+mod Forms
+mod Example
+pub mod Laws
