@@ -1,0 +1,10 @@
+pub mod Trees
+pub mod Outcomes
+pub mod Expressions
+pub mod Printing
+pub mod Initialising
+pub mod Switches
+pub mod Statements
+pub mod Calls
+pub mod Views
+pub mod Programs

@@ -1,0 +1,12 @@
+// A typed C program, as the type checker writes it and the joiner completes it, and in specs/ what it means (C90 6.3 and
+// 6.6). Sizes, conversions, scalings and offsets are written in, and objects are resolved: to variables, to places in the
+// frame, or to numbered objects with static storage, whose addresses the joiner gives.
+#![tactic(auto)]
+
+pub use expressions::{Expression, Target};
+pub use program::{Function, Links, Program, Slot};
+pub use statements::{Arm, Piece, Setting, Statement};
+
+mod expressions;
+mod program;
+mod statements;
