@@ -1,3 +1,5 @@
+mod Order
+mod Ends
 mod Seen
 mod ExpressionsExamples
 mod ObjectsExamples

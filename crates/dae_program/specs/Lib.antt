@@ -8,3 +8,4 @@ pub mod Statements
 pub mod Calls
 pub mod Views
 pub mod Programs
+pub mod Turns
