@@ -1,15 +1,16 @@
 -- What follows for whole programs from the order of bounds on turns.
-use Rattle.std.proofs.Common.{◌≡◌, ◌≢◌, ◌⊎◌, inl, inr, ℕ, zero, suc, ◌+◌, ◌-◌, ◌≤◌, ◌<◌, Bool, true, false, List, [], refl, ap, sym, ◌∙◌, subst, arith}
+use Rattle.std.proofs.Common.{◌≡◌, ◌≢◌, ◌⊎◌, inl, inr, ℕ, zero, suc, ◌+◌, ◌-◌, ◌≤◌, ◌<◌, false, [], refl, ap, sym, ◌∙◌, subst, arith}
 use Rattle.std.proofs.lemmas.Bool.{cases_lt}
 use Rattle.dae_meaning.specs.Worlds.{World}
 use Rattle.dae_meaning.specs.Results.{End, Going}
 use Rattle.dae_meaning.specs.Alike.{IsFront}
 use Rattle.dae_program.specs.Calls.{call}
-use Rattle.dae_program.specs.Outcomes.{Outcome, Ends, last_world}
-use Rattle.dae_program.specs.Programs.{run, program_end, EndsSo, GoesOn}
+use Rattle.dae_program.specs.Outcomes.{Outcome, last_world}
+use Rattle.dae_program.specs.Programs.{run, program_end, EndsSo}
 use Rattle.dae_program.specs.Turns.{IsBelow, Same, Fewer, EndsStay, OutputGrows, GoingBefore, OneEnd}
 use Rattle.dae_program.specs.Trees.{Program}
-use Rattle.dae_program.proofs.Order.{front_same, front_on, turns_in_order}
+use Rattle.dae_program.proofs.Above.{front_same, front_on}
+use Rattle.dae_program.proofs.Order.{turns_in_order}
 
 below_on : (r q t : Outcome ℕ) → IsBelow r q → IsBelow q t → IsBelow r t
 below_on r q t (Same s) h = h

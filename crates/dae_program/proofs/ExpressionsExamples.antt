@@ -2,10 +2,9 @@
 -- tools/meaning/terms.py.
 use Rattle.std.proofs.Common.{◌≡◌, ℕ, true, false, ◌∷◌, List, [], ◌++◌, Some, None, nat_eq, if◌then◌else◌, refl}
 use Rattle.std.specs.Prelude.{slice_index, nat_le}
-use Rattle.dae_base.specs.declared.Width.TheVariants as width
 use Rattle.dae_base.specs.declared.LoadKind.TheVariants as kind
 use Rattle.dae_meaning.specs.Operations.{compared, misplaced, combined, spelled}
-use Rattle.dae_meaning.specs.Results.{Halted, Trapped, Going}
+use Rattle.dae_meaning.specs.Results.{Halted, Trapped}
 use Rattle.dae_meaning.specs.declared.Operator.TheVariants as op
 use Rattle.dae_meaning.specs.declared.Comparison.TheVariants as rel
 use Rattle.dae_meaning.specs.declared.Spelling.TheVariants as spell

@@ -1,3 +1,5 @@
+mod Above
+mod AboveExpressions
 mod Order
 mod Ends
 mod Seen

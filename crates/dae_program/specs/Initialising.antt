@@ -3,7 +3,7 @@
 use Rattle.std.specs.Prelude.{ℕ, zero, suc, List, [], ◌∷◌}
 use Rattle.dae_base.specs.Words.{plus}
 use Rattle.dae_base.specs.declared.Width.TheVariants.{B1}
-use Rattle.dae_meaning.specs.Worlds.{World, ticked}
+use Rattle.dae_meaning.specs.Worlds.{ticked}
 use Rattle.dae_meaning.specs.Results.{At, Next, Run, ◌▷◌}
 use Rattle.dae_meaning.specs.Variables.{Env}
 use Rattle.dae_program.specs.Outcomes.{◌⊳◌, store}

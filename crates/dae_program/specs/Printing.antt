@@ -4,7 +4,7 @@ use Rattle.std.specs.Prelude.{ℕ, zero, suc, ◌+◌, ◌^◌, nat_eq, if◌the
 use Rattle.dae_base.specs.Words.{plus, loaded}
 use Rattle.dae_base.specs.declared.LoadKind.TheVariants.{U8}
 use Rattle.dae_base.specs.declared.Width.TheVariants.{B1}
-use Rattle.dae_meaning.specs.Worlds.{World, ticked}
+use Rattle.dae_meaning.specs.Worlds.{ticked}
 use Rattle.dae_meaning.specs.Results.{At, Over, Next, Trapped, Run, ◌▷◌}
 use Rattle.dae_meaning.specs.Variables.{Env}
 use Rattle.dae_meaning.specs.Operations.{spelled, misplaced}

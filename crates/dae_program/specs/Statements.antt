@@ -3,7 +3,7 @@
 -- unit of work.
 use Rattle.std.specs.Prelude.{ℕ, zero, suc, Bool, true, nat_eq, if◌then◌else◌, Option, Some, None}
 use Rattle.dae_base.specs.Words.{plus}
-use Rattle.dae_meaning.specs.Worlds.{World, ticked}
+use Rattle.dae_meaning.specs.Worlds.{ticked}
 use Rattle.dae_meaning.specs.Results.{At, Over, Next, Leaves, Skips, Returns, Going, Run, ◌▷◌, ◌↻◌}
 use Rattle.dae_meaning.specs.Variables.{Env, put}
 use Rattle.dae_program.specs.Outcomes.{◌⊳◌}

@@ -1,5 +1,5 @@
 -- How what a program does hangs on the bound on turns.
-use Rattle.std.specs.Prelude.{◌≡◌, ◌≢◌, ℕ, suc, ◌≤◌, Bool, true, false, List}
+use Rattle.std.specs.Prelude.{◌≡◌, ◌≢◌, ℕ, suc, ◌≤◌, true, false, List}
 use Rattle.dae_meaning.specs.Worlds.{World}
 use Rattle.dae_meaning.specs.Results.{End, Going}
 use Rattle.dae_meaning.specs.Alike.{IsFront}
