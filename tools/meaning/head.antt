@@ -1,6 +1,6 @@
 -- Examples of GROUP: programs, and what an independent implementation of their meaning finds of them. Made by
 -- tools/meaning/terms.py.
-use Rattle.std.proofs.Common.{◌≡◌, ℕ, true, false, ◌∷◌, List, [], ◌++◌, Some, None, nat_eq, if◌then◌else◌, refl}
+use Rattle.std.proofs.Common.{◌≡◌, ℕ, true, false, ◌&&◌, ◌∷◌, List, [], ◌++◌, Some, None, nat_eq, if◌then◌else◌, refl}
 use Rattle.std.specs.Prelude.{slice_index, nat_le}
 use Rattle.dae_base.specs.declared.Width.TheVariants as width
 use Rattle.dae_base.specs.declared.LoadKind.TheVariants as kind
@@ -14,4 +14,5 @@ use Rattle.dae_program.specs.Trees as tree
 use Rattle.dae_program.specs.Trees.{Program, Function}
 use Rattle.dae_program.specs.Printing.{most_bytes}
 use Rattle.dae_program.specs.Programs.{run, start}
+use Rattle.dae_program.specs.Lawful.{is_lawful_body}
 use Rattle.dae_program.proofs.Seen.{here, seen, work_of}

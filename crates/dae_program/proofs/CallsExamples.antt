@@ -1,11 +1,11 @@
 -- Examples of calls: programs, and what an independent implementation of their meaning finds of them. Made by
 -- tools/meaning/terms.py.
-use Rattle.std.proofs.Common.{◌≡◌, ℕ, true, false, ◌∷◌, List, [], ◌++◌, Some, None, nat_eq, if◌then◌else◌, refl}
+use Rattle.std.proofs.Common.{◌≡◌, ℕ, true, false, ◌&&◌, ◌∷◌, List, [], ◌++◌, Some, None, nat_eq, if◌then◌else◌, refl}
 use Rattle.std.specs.Prelude.{slice_index, nat_le}
 use Rattle.dae_base.specs.declared.Width.TheVariants as width
 use Rattle.dae_base.specs.declared.LoadKind.TheVariants as kind
 use Rattle.dae_meaning.specs.Operations.{compared, misplaced, combined, spelled}
-use Rattle.dae_meaning.specs.Results.{Halted, Trapped}
+use Rattle.dae_meaning.specs.Results.{Halted, Trapped, Going}
 use Rattle.dae_meaning.specs.declared.Operator.TheVariants as op
 use Rattle.dae_meaning.specs.declared.Comparison.TheVariants as rel
 use Rattle.dae_meaning.specs.declared.Spelling.TheVariants as spell
@@ -14,6 +14,7 @@ use Rattle.dae_program.specs.Trees as tree
 use Rattle.dae_program.specs.Trees.{Program, Function}
 use Rattle.dae_program.specs.Printing.{most_bytes}
 use Rattle.dae_program.specs.Programs.{run, start}
+use Rattle.dae_program.specs.Lawful.{is_lawful_body}
 use Rattle.dae_program.proofs.Seen.{here, seen, work_of}
 
 -- #include <stdio.h>
@@ -47,6 +48,9 @@ deep_calls = record { limit = 20; function = function } where
 
   function : ℕ → Function
   function f = (if nat_eq f 0 then f0 else f1)
+
+deep_calls_lawful : (is_lawful_body 128 2 (let p = deep_calls in p.function 0) && (is_lawful_body 128 1 (let p = deep_calls in p.function 1) && true)) ≡ true
+deep_calls_lawful = refl
 
 abbrev deep_calls_data : List ℕ
 deep_calls_data = (37 ∷ 100 ∷ 10 ∷ 0 ∷ [])
@@ -90,6 +94,9 @@ too_deep_calls = record { limit = 20; function = function } where
   function : ℕ → Function
   function f = (if nat_eq f 0 then f0 else f1)
 
+too_deep_calls_lawful : (is_lawful_body 128 2 (let p = too_deep_calls in p.function 0) && (is_lawful_body 128 1 (let p = too_deep_calls in p.function 1) && true)) ≡ true
+too_deep_calls_lawful = refl
+
 abbrev too_deep_calls_data : List ℕ
 too_deep_calls_data = (37 ∷ 100 ∷ 10 ∷ 0 ∷ [])
 
@@ -129,6 +136,9 @@ endless_calls = record { limit = 20; function = function } where
 
   function : ℕ → Function
   function f = (if nat_eq f 0 then f0 else f1)
+
+endless_calls_lawful : (is_lawful_body 128 1 (let p = endless_calls in p.function 0) && (is_lawful_body 128 1 (let p = endless_calls in p.function 1) && true)) ≡ true
+endless_calls_lawful = refl
 
 abbrev endless_calls_data : List ℕ
 endless_calls_data = []
@@ -184,6 +194,9 @@ room_after_arguments = record { limit = 5; function = function } where
   function : ℕ → Function
   function f = (if nat_eq f 0 then f0 else (if nat_eq f 1 then f1 else f2))
 
+room_after_arguments_lawful : (is_lawful_body 128 2 (let p = room_after_arguments in p.function 0) && (is_lawful_body 128 3 (let p = room_after_arguments in p.function 1) && (is_lawful_body 128 1 (let p = room_after_arguments in p.function 2) && true))) ≡ true
+room_after_arguments_lawful = refl
+
 abbrev room_after_arguments_data : List ℕ
 room_after_arguments_data = []
 
@@ -218,6 +231,9 @@ one_call_deep = record { limit = 1; function = function } where
 
   function : ℕ → Function
   function f = f0
+
+one_call_deep_lawful : (is_lawful_body 128 1 (let p = one_call_deep in p.function 0) && true) ≡ true
+one_call_deep_lawful = refl
 
 abbrev one_call_deep_data : List ℕ
 one_call_deep_data = (37 ∷ 99 ∷ 0 ∷ [])
@@ -262,6 +278,9 @@ one_call_too_deep = record { limit = 1; function = function } where
   function : ℕ → Function
   function f = (if nat_eq f 0 then f0 else f1)
 
+one_call_too_deep_lawful : (is_lawful_body 128 1 (let p = one_call_too_deep in p.function 0) && (is_lawful_body 128 1 (let p = one_call_too_deep in p.function 1) && true)) ≡ true
+one_call_too_deep_lawful = refl
+
 abbrev one_call_too_deep_data : List ℕ
 one_call_too_deep_data = []
 
@@ -305,6 +324,9 @@ two_calls_deep = record { limit = 2; function = function } where
   function : ℕ → Function
   function f = (if nat_eq f 0 then f0 else f1)
 
+two_calls_deep_lawful : (is_lawful_body 128 1 (let p = two_calls_deep in p.function 0) && (is_lawful_body 128 1 (let p = two_calls_deep in p.function 1) && true)) ≡ true
+two_calls_deep_lawful = refl
+
 abbrev two_calls_deep_data : List ℕ
 two_calls_deep_data = []
 
@@ -338,6 +360,9 @@ main_without_room = record { limit = 100; function = function } where
   function : ℕ → Function
   function f = f0
 
+main_without_room_lawful : (is_lawful_body 128 1 (let p = main_without_room in p.function 0) && true) ≡ true
+main_without_room_lawful = refl
+
 abbrev main_without_room_data : List ℕ
 main_without_room_data = []
 
@@ -369,6 +394,9 @@ main_with_room = record { limit = 100; function = function } where
 
   function : ℕ → Function
   function f = f0
+
+main_with_room_lawful : (is_lawful_body 128 1 (let p = main_with_room in p.function 0) && true) ≡ true
+main_with_room_lawful = refl
 
 abbrev main_with_room_data : List ℕ
 main_with_room_data = []
@@ -418,6 +446,9 @@ frame_full = record { limit = 100; function = function } where
 
   function : ℕ → Function
   function f = (if nat_eq f 0 then f0 else f1)
+
+frame_full_lawful : (is_lawful_body 128 2 (let p = frame_full in p.function 0) && (is_lawful_body 128 1 (let p = frame_full in p.function 1) && true)) ≡ true
+frame_full_lawful = refl
 
 abbrev frame_full_data : List ℕ
 frame_full_data = []
@@ -481,6 +512,9 @@ frames_on_top = record { limit = 100; function = function } where
   function : ℕ → Function
   function f = (if nat_eq f 0 then f0 else (if nat_eq f 1 then f1 else f2))
 
+frames_on_top_lawful : (is_lawful_body 128 2 (let p = frames_on_top in p.function 0) && (is_lawful_body 128 3 (let p = frames_on_top in p.function 1) && (is_lawful_body 128 1 (let p = frames_on_top in p.function 2) && true))) ≡ true
+frames_on_top_lawful = refl
+
 abbrev frames_on_top_data : List ℕ
 frames_on_top_data = []
 
@@ -535,6 +569,9 @@ fall_off = record { limit = 100; function = function } where
   function : ℕ → Function
   function f = (if nat_eq f 0 then f0 else (if nat_eq f 1 then f1 else f2))
 
+fall_off_lawful : (is_lawful_body 128 2 (let p = fall_off in p.function 0) && (is_lawful_body 128 1 (let p = fall_off in p.function 1) && (is_lawful_body 128 1 (let p = fall_off in p.function 2) && true))) ≡ true
+fall_off_lawful = refl
+
 abbrev fall_off_data : List ℕ
 fall_off_data = []
 
@@ -580,6 +617,9 @@ void_calls = record { limit = 100; function = function } where
 
   function : ℕ → Function
   function f = (if nat_eq f 0 then f0 else f1)
+
+void_calls_lawful : (is_lawful_body 128 2 (let p = void_calls in p.function 0) && (is_lawful_body 128 1 (let p = void_calls in p.function 1) && true)) ≡ true
+void_calls_lawful = refl
 
 abbrev void_calls_data : List ℕ
 void_calls_data = []
@@ -642,6 +682,9 @@ nested_calls = record { limit = 100; function = function } where
   function : ℕ → Function
   function f = (if nat_eq f 0 then f0 else (if nat_eq f 1 then f1 else f2))
 
+nested_calls_lawful : (is_lawful_body 192 3 (let p = nested_calls in p.function 0) && (is_lawful_body 192 2 (let p = nested_calls in p.function 1) && (is_lawful_body 192 1 (let p = nested_calls in p.function 2) && true))) ≡ true
+nested_calls_lawful = refl
+
 abbrev nested_calls_data : List ℕ
 nested_calls_data = (37 ∷ 100 ∷ 32 ∷ 37 ∷ 100 ∷ 10 ∷ 0 ∷ [])
 
@@ -701,6 +744,9 @@ arguments_in_order = record { limit = 100; function = function } where
   function : ℕ → Function
   function f = (if nat_eq f 0 then f0 else (if nat_eq f 1 then f1 else f2))
 
+arguments_in_order_lawful : (is_lawful_body 128 4 (let p = arguments_in_order in p.function 0) && (is_lawful_body 128 2 (let p = arguments_in_order in p.function 1) && (is_lawful_body 128 2 (let p = arguments_in_order in p.function 2) && true))) ≡ true
+arguments_in_order_lawful = refl
+
 abbrev arguments_in_order_data : List ℕ
 arguments_in_order_data = []
 
@@ -759,6 +805,9 @@ addressed_parameter = record { limit = 100; function = function } where
   function : ℕ → Function
   function f = (if nat_eq f 0 then f0 else (if nat_eq f 1 then f1 else f2))
 
+addressed_parameter_lawful : (is_lawful_body 192 3 (let p = addressed_parameter in p.function 0) && (is_lawful_body 192 4 (let p = addressed_parameter in p.function 1) && (is_lawful_body 192 1 (let p = addressed_parameter in p.function 2) && true))) ≡ true
+addressed_parameter_lawful = refl
+
 abbrev addressed_parameter_data : List ℕ
 addressed_parameter_data = (0 ∷ 0 ∷ 0 ∷ 0 ∷ 0 ∷ 0 ∷ 0 ∷ 0 ∷ 0 ∷ 0 ∷ 0 ∷ 0 ∷ 0 ∷ 0 ∷ 0 ∷ 0 ∷ 0 ∷ 0 ∷ 0 ∷ 0 ∷ [])
 
@@ -810,6 +859,9 @@ parameters_in_frame = record { limit = 100; function = function } where
 
   function : ℕ → Function
   function f = (if nat_eq f 0 then f0 else f1)
+
+parameters_in_frame_lawful : (is_lawful_body 128 7 (let p = parameters_in_frame in p.function 0) && (is_lawful_body 128 1 (let p = parameters_in_frame in p.function 1) && true)) ≡ true
+parameters_in_frame_lawful = refl
 
 abbrev parameters_in_frame_data : List ℕ
 parameters_in_frame_data = []
@@ -882,6 +934,9 @@ mutual_recursion = record { limit = 100; function = function } where
   function : ℕ → Function
   function f = (if nat_eq f 0 then f0 else (if nat_eq f 1 then f1 else (if nat_eq f 2 then f2 else f3)))
 
+mutual_recursion_lawful : (is_lawful_body 128 2 (let p = mutual_recursion in p.function 0) && (is_lawful_body 128 2 (let p = mutual_recursion in p.function 1) && (is_lawful_body 128 2 (let p = mutual_recursion in p.function 2) && (is_lawful_body 128 1 (let p = mutual_recursion in p.function 3) && true)))) ≡ true
+mutual_recursion_lawful = refl
+
 abbrev mutual_recursion_data : List ℕ
 mutual_recursion_data = []
 
@@ -928,6 +983,9 @@ abort_exit = record { limit = 100; function = function } where
   function : ℕ → Function
   function f = (if nat_eq f 0 then f0 else f1)
 
+abort_exit_lawful : (is_lawful_body 128 2 (let p = abort_exit in p.function 0) && (is_lawful_body 128 1 (let p = abort_exit in p.function 1) && true)) ≡ true
+abort_exit_lawful = refl
+
 abbrev abort_exit_data : List ℕ
 abort_exit_data = []
 
@@ -962,6 +1020,9 @@ two_files = record { limit = 100; function = function } where
 
   function : ℕ → Function
   function f = f0
+
+two_files_lawful : (is_lawful_body 128 1 (let p = two_files in p.function 0) && true) ≡ true
+two_files_lawful = refl
 
 abbrev two_files_data : List ℕ
 two_files_data = (5 ∷ 0 ∷ 0 ∷ 0 ∷ 37 ∷ 100 ∷ 10 ∷ 0 ∷ [])
@@ -1145,6 +1206,9 @@ inventory = record { limit = 100; function = function } where
   function : ℕ → Function
   function f = (if nat_eq f 0 then f0 else (if nat_eq f 1 then f1 else (if nat_eq f 2 then f2 else (if nat_eq f 3 then f3 else f4))))
 
+inventory_lawful : (is_lawful_body 320 4 (let p = inventory in p.function 0) && (is_lawful_body 320 3 (let p = inventory in p.function 1) && (is_lawful_body 320 3 (let p = inventory in p.function 2) && (is_lawful_body 320 3 (let p = inventory in p.function 3) && (is_lawful_body 320 1 (let p = inventory in p.function 4) && true))))) ≡ true
+inventory_lawful = refl
+
 abbrev inventory_data : List ℕ
 inventory_data = (1 ∷ 0 ∷ 0 ∷ 0 ∷ 2 ∷ 0 ∷ 0 ∷ 0 ∷ 3 ∷ 0 ∷ 0 ∷ 0 ∷ 4 ∷ 0 ∷ 0 ∷ 0 ∷ 5 ∷ 0 ∷ 0 ∷ 0 ∷ 6 ∷ 0 ∷ 0 ∷ 0 ∷ 7 ∷ 0 ∷ 0 ∷ 0 ∷ 8 ∷ 0
     ∷ 0 ∷ 0 ∷ 9 ∷ 0 ∷ 0 ∷ 0 ∷ 10 ∷ 0 ∷ 0 ∷ 0 ∷ 11 ∷ 0 ∷ 0 ∷ 0 ∷ 12 ∷ 0 ∷ 0 ∷ 0 ∷ 0 ∷ 0 ∷ 0 ∷ 0 ∷ 0 ∷ 0 ∷ 0 ∷ 0 ∷ 0 ∷ 0 ∷ 0
@@ -1190,6 +1254,9 @@ hidden_typedef = record { limit = 100; function = function } where
 
   function : ℕ → Function
   function f = f0
+
+hidden_typedef_lawful : (is_lawful_body 128 2 (let p = hidden_typedef in p.function 0) && true) ≡ true
+hidden_typedef_lawful = refl
 
 abbrev hidden_typedef_data : List ℕ
 hidden_typedef_data = (37 ∷ 100 ∷ 10 ∷ 0 ∷ [])

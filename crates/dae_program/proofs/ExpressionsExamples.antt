@@ -1,10 +1,11 @@
 -- Examples of expressions: programs, and what an independent implementation of their meaning finds of them. Made by
 -- tools/meaning/terms.py.
-use Rattle.std.proofs.Common.{◌≡◌, ℕ, true, false, ◌∷◌, List, [], ◌++◌, Some, None, nat_eq, if◌then◌else◌, refl}
+use Rattle.std.proofs.Common.{◌≡◌, ℕ, true, false, ◌&&◌, ◌∷◌, List, [], ◌++◌, Some, None, nat_eq, if◌then◌else◌, refl}
 use Rattle.std.specs.Prelude.{slice_index, nat_le}
+use Rattle.dae_base.specs.declared.Width.TheVariants as width
 use Rattle.dae_base.specs.declared.LoadKind.TheVariants as kind
 use Rattle.dae_meaning.specs.Operations.{compared, misplaced, combined, spelled}
-use Rattle.dae_meaning.specs.Results.{Halted, Trapped}
+use Rattle.dae_meaning.specs.Results.{Halted, Trapped, Going}
 use Rattle.dae_meaning.specs.declared.Operator.TheVariants as op
 use Rattle.dae_meaning.specs.declared.Comparison.TheVariants as rel
 use Rattle.dae_meaning.specs.declared.Spelling.TheVariants as spell
@@ -13,6 +14,7 @@ use Rattle.dae_program.specs.Trees as tree
 use Rattle.dae_program.specs.Trees.{Program, Function}
 use Rattle.dae_program.specs.Printing.{most_bytes}
 use Rattle.dae_program.specs.Programs.{run, start}
+use Rattle.dae_program.specs.Lawful.{is_lawful_body}
 use Rattle.dae_program.proofs.Seen.{here, seen, work_of}
 
 -- unsigned char c=250;signed char d=127;short s=32767;int main(void){c+=10;d++;s++;return (c<<16)+(d&255)*256+(s==-32768)+(c--==4)*2+(~d>>4);}
@@ -42,6 +44,9 @@ wraps = record { limit = 100; function = function } where
 
   function : ℕ → Function
   function f = f0
+
+wraps_lawful : (is_lawful_body 128 1 (let p = wraps in p.function 0) && true) ≡ true
+wraps_lawful = refl
 
 abbrev wraps_data : List ℕ
 wraps_data = (250 ∷ 127 ∷ 255 ∷ 127 ∷ [])
@@ -79,6 +84,9 @@ sum_wraps = record { limit = 100; function = function } where
 
   function : ℕ → Function
   function f = f0
+
+sum_wraps_lawful : (is_lawful_body 128 1 (let p = sum_wraps in p.function 0) && true) ≡ true
+sum_wraps_lawful = refl
 
 abbrev sum_wraps_data : List ℕ
 sum_wraps_data = (0 ∷ 0 ∷ 0 ∷ 0 ∷ 37 ∷ 100 ∷ 10 ∷ 0 ∷ [])
@@ -118,6 +126,9 @@ sum_of_five = record { limit = 100; function = function } where
   function : ℕ → Function
   function f = f0
 
+sum_of_five_lawful : (is_lawful_body 128 1 (let p = sum_of_five in p.function 0) && true) ≡ true
+sum_of_five_lawful = refl
+
 abbrev sum_of_five_data : List ℕ
 sum_of_five_data = (0 ∷ 0 ∷ 0 ∷ 0 ∷ 0 ∷ 0 ∷ 0 ∷ 0 ∷ 0 ∷ 0 ∷ 0 ∷ 0 ∷ 0 ∷ 0 ∷ 0 ∷ 0 ∷ 0 ∷ 0 ∷ 0 ∷ 0 ∷ 37 ∷ 100 ∷ 10 ∷ 0 ∷ [])
 
@@ -148,6 +159,9 @@ signed_division = record { limit = 100; function = function } where
 
   function : ℕ → Function
   function f = f0
+
+signed_division_lawful : (is_lawful_body 128 1 (let p = signed_division in p.function 0) && true) ≡ true
+signed_division_lawful = refl
 
 abbrev signed_division_data : List ℕ
 signed_division_data = (37 ∷ 100 ∷ 32 ∷ 37 ∷ 100 ∷ 10 ∷ 0 ∷ [])
@@ -182,6 +196,9 @@ least_divided = record { limit = 100; function = function } where
 
   function : ℕ → Function
   function f = f0
+
+least_divided_lawful : (is_lawful_body 128 3 (let p = least_divided in p.function 0) && true) ≡ true
+least_divided_lawful = refl
 
 abbrev least_divided_data : List ℕ
 least_divided_data = (37 ∷ 100 ∷ 32 ∷ 37 ∷ 100 ∷ 10 ∷ 0 ∷ [])
@@ -221,6 +238,9 @@ shifts = record { limit = 100; function = function } where
 
   function : ℕ → Function
   function f = f0
+
+shifts_lawful : (is_lawful_body 128 4 (let p = shifts in p.function 0) && true) ≡ true
+shifts_lawful = refl
 
 abbrev shifts_data : List ℕ
 shifts_data = []
@@ -262,6 +282,9 @@ shifts_by_much = record { limit = 100; function = function } where
 
   function : ℕ → Function
   function f = f0
+
+shifts_by_much_lawful : (is_lawful_body 128 4 (let p = shifts_by_much in p.function 0) && true) ≡ true
+shifts_by_much_lawful = refl
 
 abbrev shifts_by_much_data : List ℕ
 shifts_by_much_data = (37 ∷ 100 ∷ 32 ∷ 37 ∷ 100 ∷ 32 ∷ 37 ∷ 117 ∷ 32 ∷ 37 ∷ 117 ∷ 0 ∷ [])
@@ -316,6 +339,9 @@ operators = record { limit = 100; function = function } where
 
   function : ℕ → Function
   function f = f0
+
+operators_lawful : (is_lawful_body 128 4 (let p = operators in p.function 0) && true) ≡ true
+operators_lawful = refl
 
 abbrev operators_data : List ℕ
 operators_data = (37 ∷ 100 ∷ 32 ∷ 37 ∷ 100 ∷ 32 ∷ 37 ∷ 100 ∷ 32 ∷ 37 ∷ 100 ∷ 32 ∷ 37 ∷ 100 ∷ 32 ∷ 0 ∷ 37 ∷ 117 ∷ 32 ∷ 37 ∷ 117 ∷ 32 ∷
@@ -386,6 +412,9 @@ comparisons = record { limit = 100; function = function } where
   function : ℕ → Function
   function f = (if nat_eq f 0 then f0 else f1)
 
+comparisons_lawful : (is_lawful_body 128 5 (let p = comparisons in p.function 0) && (is_lawful_body 128 1 (let p = comparisons in p.function 1) && true)) ≡ true
+comparisons_lawful = refl
+
 abbrev comparisons_data : List ℕ
 comparisons_data = []
 
@@ -430,6 +459,9 @@ conversions = record { limit = 100; function = function } where
   function : ℕ → Function
   function f = f0
 
+conversions_lawful : (is_lawful_body 128 6 (let p = conversions in p.function 0) && true) ≡ true
+conversions_lawful = refl
+
 abbrev conversions_data : List ℕ
 conversions_data = (37 ∷ 100 ∷ 32 ∷ 37 ∷ 100 ∷ 32 ∷ 37 ∷ 100 ∷ 32 ∷ 37 ∷ 100 ∷ 32 ∷ 0 ∷ 37 ∷ 100 ∷ 32 ∷ 37 ∷ 100 ∷ 32 ∷ 37 ∷ 100 ∷ 0 ∷
     [])
@@ -466,6 +498,9 @@ char_wraps = record { limit = 100; function = function } where
 
   function : ℕ → Function
   function f = f0
+
+char_wraps_lawful : (is_lawful_body 128 2 (let p = char_wraps in p.function 0) && true) ≡ true
+char_wraps_lawful = refl
 
 abbrev char_wraps_data : List ℕ
 char_wraps_data = (37 ∷ 100 ∷ 32 ∷ 37 ∷ 117 ∷ 10 ∷ 0 ∷ [])
@@ -521,6 +556,9 @@ logic = record { limit = 100; function = function } where
   function : ℕ → Function
   function f = (if nat_eq f 0 then f0 else f1)
 
+logic_lawful : (is_lawful_body 128 2 (let p = logic in p.function 0) && (is_lawful_body 128 4 (let p = logic in p.function 1) && true)) ≡ true
+logic_lawful = refl
+
 abbrev logic_data : List ℕ
 logic_data = (0 ∷ 0 ∷ 0 ∷ 0 ∷ [])
 
@@ -558,6 +596,9 @@ logical_values = record { limit = 100; function = function } where
 
   function : ℕ → Function
   function f = f0
+
+logical_values_lawful : (is_lawful_body 128 2 (let p = logical_values in p.function 0) && true) ≡ true
+logical_values_lawful = refl
 
 abbrev logical_values_data : List ℕ
 logical_values_data = []
@@ -617,6 +658,9 @@ conditions = record { limit = 100; function = function } where
   function : ℕ → Function
   function f = (if nat_eq f 0 then f0 else f1)
 
+conditions_lawful : (is_lawful_body 128 2 (let p = conditions in p.function 0) && (is_lawful_body 128 2 (let p = conditions in p.function 1) && true)) ≡ true
+conditions_lawful = refl
+
 abbrev conditions_data : List ℕ
 conditions_data = (0 ∷ 0 ∷ 0 ∷ 0 ∷ 37 ∷ 100 ∷ 32 ∷ 37 ∷ 100 ∷ 0 ∷ [])
 
@@ -666,6 +710,9 @@ order = record { limit = 100; function = function } where
 
   function : ℕ → Function
   function f = (if nat_eq f 0 then f0 else f1)
+
+order_lawful : (is_lawful_body 128 2 (let p = order in p.function 0) && (is_lawful_body 128 1 (let p = order in p.function 1) && true)) ≡ true
+order_lawful = refl
 
 abbrev order_data : List ℕ
 order_data = (1 ∷ 0 ∷ 0 ∷ 0 ∷ [])
@@ -723,6 +770,9 @@ left_before_right = record { limit = 100; function = function } where
   function : ℕ → Function
   function f = (if nat_eq f 0 then f0 else f1)
 
+left_before_right_lawful : (is_lawful_body 128 2 (let p = left_before_right in p.function 0) && (is_lawful_body 128 2 (let p = left_before_right in p.function 1) && true)) ≡ true
+left_before_right_lawful = refl
+
 abbrev left_before_right_data : List ℕ
 left_before_right_data = (0 ∷ 0 ∷ 0 ∷ 0 ∷ 0 ∷ 0 ∷ 0 ∷ 0 ∷ [])
 
@@ -774,6 +824,9 @@ steps = record { limit = 100; function = function } where
   function : ℕ → Function
   function f = f0
 
+steps_lawful : (is_lawful_body 128 4 (let p = steps in p.function 0) && true) ≡ true
+steps_lawful = refl
+
 abbrev steps_data : List ℕ
 steps_data = (255 ∷ 0 ∷ 0 ∷ 0 ∷ 5 ∷ 0 ∷ 0 ∷ 0 ∷ 37 ∷ 100 ∷ 32 ∷ 37 ∷ 100 ∷ 32 ∷ 37 ∷ 100 ∷ 32 ∷ 37 ∷ 100 ∷ 32 ∷ 0 ∷ 37 ∷ 100 ∷ 32 ∷
     37 ∷ 100 ∷ 32 ∷ 37 ∷ 100 ∷ 32 ∷ 0 ∷ 37 ∷ 100 ∷ 32 ∷ 37 ∷ 100 ∷ 32 ∷ 37 ∷ 100 ∷ 0 ∷ [])
@@ -815,6 +868,9 @@ variable_alias = record { limit = 100; function = function } where
 
   function : ℕ → Function
   function f = f0
+
+variable_alias_lawful : (is_lawful_body 128 3 (let p = variable_alias in p.function 0) && true) ≡ true
+variable_alias_lawful = refl
 
 abbrev variable_alias_data : List ℕ
 variable_alias_data = []
@@ -868,6 +924,9 @@ update_reads_first = record { limit = 100; function = function } where
   function : ℕ → Function
   function f = (if nat_eq f 0 then f0 else f1)
 
+update_reads_first_lawful : (is_lawful_body 128 1 (let p = update_reads_first in p.function 0) && (is_lawful_body 128 3 (let p = update_reads_first in p.function 1) && true)) ≡ true
+update_reads_first_lawful = refl
+
 abbrev update_reads_first_data : List ℕ
 update_reads_first_data = (1 ∷ 0 ∷ 0 ∷ 0 ∷ 37 ∷ 100 ∷ 32 ∷ 37 ∷ 100 ∷ 32 ∷ 0 ∷ 37 ∷ 100 ∷ 0 ∷ [])
 
@@ -899,6 +958,9 @@ update_traps = record { limit = 100; function = function } where
 
   function : ℕ → Function
   function f = f0
+
+update_traps_lawful : (is_lawful_body 128 2 (let p = update_traps in p.function 0) && true) ≡ true
+update_traps_lawful = refl
 
 abbrev update_traps_data : List ℕ
 update_traps_data = (0 ∷ 0 ∷ 0 ∷ 0 ∷ [])
@@ -933,6 +995,9 @@ unsigned_by_zero = record { limit = 100; function = function } where
   function : ℕ → Function
   function f = f0
 
+unsigned_by_zero_lawful : (is_lawful_body 128 2 (let p = unsigned_by_zero in p.function 0) && true) ≡ true
+unsigned_by_zero_lawful = refl
+
 abbrev unsigned_by_zero_data : List ℕ
 unsigned_by_zero_data = (0 ∷ 0 ∷ 0 ∷ 0 ∷ [])
 
@@ -966,6 +1031,9 @@ putchar_gives_byte = record { limit = 100; function = function } where
 
   function : ℕ → Function
   function f = f0
+
+putchar_gives_byte_lawful : (is_lawful_body 128 2 (let p = putchar_gives_byte in p.function 0) && true) ≡ true
+putchar_gives_byte_lawful = refl
 
 abbrev putchar_gives_byte_data : List ℕ
 putchar_gives_byte_data = []
@@ -1038,6 +1106,9 @@ sixteen_locals = record { limit = 100; function = function } where
   function : ℕ → Function
   function f = (if nat_eq f 0 then f0 else f1)
 
+sixteen_locals_lawful : (is_lawful_body 128 18 (let p = sixteen_locals in p.function 0) && (is_lawful_body 128 1 (let p = sixteen_locals in p.function 1) && true)) ≡ true
+sixteen_locals_lawful = refl
+
 abbrev sixteen_locals_data : List ℕ
 sixteen_locals_data = (37 ∷ 100 ∷ 10 ∷ 0 ∷ [])
 
@@ -1071,6 +1142,9 @@ self_init = record { limit = 100; function = function } where
 
   function : ℕ → Function
   function f = f0
+
+self_init_lawful : (is_lawful_body 128 4 (let p = self_init in p.function 0) && true) ≡ true
+self_init_lawful = refl
 
 abbrev self_init_data : List ℕ
 self_init_data = []
@@ -1108,6 +1182,9 @@ abort_in_middle = record { limit = 100; function = function } where
   function : ℕ → Function
   function f = f0
 
+abort_in_middle_lawful : (is_lawful_body 128 1 (let p = abort_in_middle in p.function 0) && true) ≡ true
+abort_in_middle_lawful = refl
+
 abbrev abort_in_middle_data : List ℕ
 abort_in_middle_data = (0 ∷ 0 ∷ 0 ∷ 0 ∷ [])
 
@@ -1143,6 +1220,9 @@ aborts = record { limit = 100; function = function } where
 
   function : ℕ → Function
   function f = f0
+
+aborts_lawful : (is_lawful_body 128 2 (let p = aborts in p.function 0) && true) ≡ true
+aborts_lawful = refl
 
 abbrev aborts_data : List ℕ
 aborts_data = []
@@ -1181,6 +1261,9 @@ late_division = record { limit = 100; function = function } where
 
   function : ℕ → Function
   function f = f0
+
+late_division_lawful : (is_lawful_body 128 3 (let p = late_division in p.function 0) && true) ≡ true
+late_division_lawful = refl
 
 abbrev late_division_data : List ℕ
 late_division_data = (37 ∷ 100 ∷ 10 ∷ 0 ∷ [])

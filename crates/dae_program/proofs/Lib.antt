@@ -1,3 +1,7 @@
+mod Numbers
+mod LawfulScope
+mod LawfulPlaced
+mod LawfulPrograms
 mod Above
 mod AboveExpressions
 mod Order

@@ -1,10 +1,11 @@
 -- Examples of objects: programs, and what an independent implementation of their meaning finds of them. Made by
 -- tools/meaning/terms.py.
-use Rattle.std.proofs.Common.{◌≡◌, ℕ, true, false, ◌∷◌, List, [], ◌++◌, Some, None, nat_eq, if◌then◌else◌, refl}
+use Rattle.std.proofs.Common.{◌≡◌, ℕ, true, false, ◌&&◌, ◌∷◌, List, [], ◌++◌, Some, None, nat_eq, if◌then◌else◌, refl}
 use Rattle.std.specs.Prelude.{slice_index, nat_le}
+use Rattle.dae_base.specs.declared.Width.TheVariants as width
 use Rattle.dae_base.specs.declared.LoadKind.TheVariants as kind
 use Rattle.dae_meaning.specs.Operations.{compared, misplaced, combined, spelled}
-use Rattle.dae_meaning.specs.Results.{Halted, Trapped}
+use Rattle.dae_meaning.specs.Results.{Halted, Trapped, Going}
 use Rattle.dae_meaning.specs.declared.Operator.TheVariants as op
 use Rattle.dae_meaning.specs.declared.Comparison.TheVariants as rel
 use Rattle.dae_meaning.specs.declared.Spelling.TheVariants as spell
@@ -13,6 +14,7 @@ use Rattle.dae_program.specs.Trees as tree
 use Rattle.dae_program.specs.Trees.{Program, Function}
 use Rattle.dae_program.specs.Printing.{most_bytes}
 use Rattle.dae_program.specs.Programs.{run, start}
+use Rattle.dae_program.specs.Lawful.{is_lawful_body}
 use Rattle.dae_program.proofs.Seen.{here, seen, work_of}
 
 -- #include <stdio.h>
@@ -37,6 +39,9 @@ product = record { limit = 100; function = function } where
 
   function : ℕ → Function
   function f = f0
+
+product_lawful : (is_lawful_body 128 1 (let p = product in p.function 0) && true) ≡ true
+product_lawful = refl
 
 abbrev product_data : List ℕ
 product_data = (0 ∷ 0 ∷ 0 ∷ 0 ∷ 0 ∷ 0 ∷ 0 ∷ 0 ∷ 37 ∷ 100 ∷ 10 ∷ 0 ∷ [])
@@ -71,6 +76,9 @@ square = record { limit = 100; function = function } where
 
   function : ℕ → Function
   function f = f0
+
+square_lawful : (is_lawful_body 128 1 (let p = square in p.function 0) && true) ≡ true
+square_lawful = refl
 
 abbrev square_data : List ℕ
 square_data = (0 ∷ 0 ∷ 0 ∷ 0 ∷ 0 ∷ 0 ∷ 0 ∷ 0 ∷ 37 ∷ 100 ∷ 10 ∷ 0 ∷ [])
@@ -114,6 +122,9 @@ pointers = record { limit = 100; function = function } where
 
   function : ℕ → Function
   function f = f0
+
+pointers_lawful : (is_lawful_body 192 3 (let p = pointers in p.function 0) && true) ≡ true
+pointers_lawful = refl
 
 abbrev pointers_data : List ℕ
 pointers_data = (0 ∷ 0 ∷ 0 ∷ 0 ∷ 0 ∷ 0 ∷ 0 ∷ 0 ∷ 0 ∷ 0 ∷ 0 ∷ 0 ∷ 0 ∷ 0 ∷ 0 ∷ 0 ∷ 0 ∷ 0 ∷ 0 ∷ 0 ∷ 0 ∷ 0 ∷ 0 ∷ 0 ∷ 0 ∷ 0 ∷ 0 ∷ 0 ∷ 0 ∷ 0
@@ -168,6 +179,9 @@ pointer_sums = record { limit = 100; function = function } where
   function : ℕ → Function
   function f = f0
 
+pointer_sums_lawful : (is_lawful_body 192 4 (let p = pointer_sums in p.function 0) && true) ≡ true
+pointer_sums_lawful = refl
+
 abbrev pointer_sums_data : List ℕ
 pointer_sums_data = (1 ∷ 0 ∷ 0 ∷ 0 ∷ 2 ∷ 0 ∷ 0 ∷ 0 ∷ 3 ∷ 0 ∷ 0 ∷ 0 ∷ 4 ∷ 0 ∷ 0 ∷ 0 ∷ 5 ∷ 0 ∷ 0 ∷ 0 ∷ 1 ∷ 0 ∷ 0 ∷ 0 ∷ 2 ∷ 0 ∷ 0 ∷ 0 ∷ 3 ∷ 0
     ∷ 0 ∷ 0 ∷ 4 ∷ 0 ∷ 0 ∷ 0 ∷ 5 ∷ 0 ∷ 0 ∷ 0 ∷ 6 ∷ 0 ∷ 0 ∷ 0 ∷ [])
@@ -212,6 +226,9 @@ linked_list = record { limit = 100; function = function } where
   function : ℕ → Function
   function f = f0
 
+linked_list_lawful : (is_lawful_body 128 3 (let p = linked_list in p.function 0) && true) ≡ true
+linked_list_lawful = refl
+
 abbrev linked_list_data : List ℕ
 linked_list_data = (3 ∷ 0 ∷ 0 ∷ 0 ∷ 0 ∷ 0 ∷ 0 ∷ 0 ∷ 2 ∷ 0 ∷ 0 ∷ 0 ∷ 16 ∷ 0 ∷ 0 ∷ 0 ∷ 1 ∷ 0 ∷ 0 ∷ 0 ∷ 24 ∷ 0 ∷ 0 ∷ 0 ∷ [])
 
@@ -253,6 +270,9 @@ char_index = record { limit = 100; function = function } where
   function : ℕ → Function
   function f = f0
 
+char_index_lawful : (is_lawful_body 128 3 (let p = char_index in p.function 0) && true) ≡ true
+char_index_lawful = refl
+
 abbrev char_index_data : List ℕ
 char_index_data = (104 ∷ 101 ∷ 108 ∷ 108 ∷ 111 ∷ 0 ∷ 104 ∷ 101 ∷ 108 ∷ 108 ∷ 111 ∷ 0 ∷ [])
 
@@ -292,6 +312,9 @@ comma_struct = record { limit = 100; function = function } where
   function : ℕ → Function
   function f = f0
 
+comma_struct_lawful : (is_lawful_body 128 3 (let p = comma_struct in p.function 0) && true) ≡ true
+comma_struct_lawful = refl
+
 abbrev comma_struct_data : List ℕ
 comma_struct_data = (1 ∷ 0 ∷ 0 ∷ 0 ∷ 2 ∷ 0 ∷ 0 ∷ 0 ∷ 3 ∷ 0 ∷ 0 ∷ 0 ∷ 4 ∷ 0 ∷ 0 ∷ 0 ∷ [])
 
@@ -329,6 +352,9 @@ alias_update = record { limit = 100; function = function } where
 
   function : ℕ → Function
   function f = f0
+
+alias_update_lawful : (is_lawful_body 128 2 (let p = alias_update in p.function 0) && true) ≡ true
+alias_update_lawful = refl
 
 abbrev alias_update_data : List ℕ
 alias_update_data = (1 ∷ 0 ∷ 0 ∷ 0 ∷ 0 ∷ 0 ∷ 0 ∷ 0 ∷ [])
@@ -382,6 +408,9 @@ address_once = record { limit = 100; function = function } where
   function : ℕ → Function
   function f = (if nat_eq f 0 then f0 else f1)
 
+address_once_lawful : (is_lawful_body 128 1 (let p = address_once in p.function 0) && (is_lawful_body 128 1 (let p = address_once in p.function 1) && true)) ≡ true
+address_once_lawful = refl
+
 abbrev address_once_data : List ℕ
 address_once_data = (1 ∷ 0 ∷ 0 ∷ 0 ∷ 2 ∷ 0 ∷ 0 ∷ 0 ∷ 3 ∷ 0 ∷ 0 ∷ 0 ∷ 0 ∷ 0 ∷ 0 ∷ 0 ∷ [])
 
@@ -423,6 +452,9 @@ step_of_pointer = record { limit = 100; function = function } where
 
   function : ℕ → Function
   function f = f0
+
+step_of_pointer_lawful : (is_lawful_body 128 3 (let p = step_of_pointer in p.function 0) && true) ≡ true
+step_of_pointer_lawful = refl
 
 abbrev step_of_pointer_data : List ℕ
 step_of_pointer_data = (1 ∷ 0 ∷ 0 ∷ 0 ∷ 2 ∷ 0 ∷ 0 ∷ 0 ∷ 3 ∷ 0 ∷ 0 ∷ 0 ∷ 4 ∷ 0 ∷ 0 ∷ 0 ∷ 5 ∷ 0 ∷ 0 ∷ 0 ∷ 6 ∷ 0 ∷ 0 ∷ 0 ∷ [])
@@ -470,6 +502,9 @@ kinds_in_memory = record { limit = 100; function = function } where
   function : ℕ → Function
   function f = f0
 
+kinds_in_memory_lawful : (is_lawful_body 128 1 (let p = kinds_in_memory in p.function 0) && true) ≡ true
+kinds_in_memory_lawful = refl
+
 abbrev kinds_in_memory_data : List ℕ
 kinds_in_memory_data = (255 ∷ 127 ∷ 255 ∷ 1 ∷ 254 ∷ 255 ∷ 3 ∷ 0 ∷ 254 ∷ 255 ∷ 4 ∷ 0 ∷ 37 ∷ 100 ∷ 32 ∷ 37 ∷ 100 ∷ 32 ∷ 37 ∷ 100 ∷ 32 ∷ 37 ∷
     100 ∷ 32 ∷ 0 ∷ 37 ∷ 100 ∷ 32 ∷ 37 ∷ 100 ∷ 32 ∷ 37 ∷ 100 ∷ 32 ∷ 37 ∷ 100 ∷ 0 ∷ [])
@@ -509,6 +544,9 @@ bytes_of_word = record { limit = 100; function = function } where
   function : ℕ → Function
   function f = f0
 
+bytes_of_word_lawful : (is_lawful_body 128 2 (let p = bytes_of_word in p.function 0) && true) ≡ true
+bytes_of_word_lawful = refl
+
 abbrev bytes_of_word_data : List ℕ
 bytes_of_word_data = (0 ∷ 0 ∷ 0 ∷ 0 ∷ 37 ∷ 120 ∷ 10 ∷ 0 ∷ [])
 
@@ -543,6 +581,9 @@ pointers_to_null = record { limit = 100; function = function } where
 
   function : ℕ → Function
   function f = f0
+
+pointers_to_null_lawful : (is_lawful_body 128 2 (let p = pointers_to_null in p.function 0) && true) ≡ true
+pointers_to_null_lawful = refl
 
 abbrev pointers_to_null_data : List ℕ
 pointers_to_null_data = (10 ∷ 0 ∷ 0 ∷ 0 ∷ 20 ∷ 0 ∷ 0 ∷ 0 ∷ 16 ∷ 0 ∷ 0 ∷ 0 ∷ 20 ∷ 0 ∷ 0 ∷ 0 ∷ 0 ∷ 0 ∷ 0 ∷ 0 ∷ 37 ∷ 100 ∷ 10 ∷ 0 ∷ [])
@@ -580,6 +621,9 @@ two_tables = record { limit = 100; function = function } where
 
   function : ℕ → Function
   function f = f0
+
+two_tables_lawful : (is_lawful_body 128 2 (let p = two_tables in p.function 0) && true) ≡ true
+two_tables_lawful = refl
 
 abbrev two_tables_data : List ℕ
 two_tables_data = (2 ∷ 0 ∷ 0 ∷ 0 ∷ 0 ∷ 0 ∷ 0 ∷ 0 ∷ 1 ∷ 0 ∷ 0 ∷ 0 ∷ 5 ∷ 0 ∷ 0 ∷ 0 ∷ 6 ∷ 0 ∷ 0 ∷ 0 ∷ 7 ∷ 0 ∷ 0 ∷ 0 ∷ 37 ∷ 100 ∷ 10 ∷ 0 ∷
@@ -622,6 +666,9 @@ chain_of_stores = record { limit = 100; function = function } where
   function : ℕ → Function
   function f = f0
 
+chain_of_stores_lawful : (is_lawful_body 128 2 (let p = chain_of_stores in p.function 0) && true) ≡ true
+chain_of_stores_lawful = refl
+
 abbrev chain_of_stores_data : List ℕ
 chain_of_stores_data = (0 ∷ 0 ∷ 0 ∷ 0 ∷ 0 ∷ 0 ∷ 0 ∷ 0 ∷ 0 ∷ 0 ∷ 0 ∷ 0 ∷ 0 ∷ 0 ∷ 0 ∷ 0 ∷ 0 ∷ 0 ∷ 0 ∷ 0 ∷ 0 ∷ 0 ∷ 0 ∷ 0 ∷ 0 ∷ 0 ∷ 0 ∷ 0 ∷ 0 ∷ 0
     ∷ 0 ∷ 0 ∷ 0 ∷ 0 ∷ 0 ∷ 0 ∷ 0 ∷ 0 ∷ 0 ∷ 0 ∷ 37 ∷ 100 ∷ 10 ∷ 0 ∷ [])
@@ -659,6 +706,9 @@ filled_array = record { limit = 100; function = function } where
   function : ℕ → Function
   function f = f0
 
+filled_array_lawful : (is_lawful_body 128 2 (let p = filled_array in p.function 0) && true) ≡ true
+filled_array_lawful = refl
+
 abbrev filled_array_data : List ℕ
 filled_array_data = (0 ∷ 0 ∷ 0 ∷ 0 ∷ 0 ∷ 0 ∷ 0 ∷ 0 ∷ 0 ∷ 0 ∷ 0 ∷ 0 ∷ 0 ∷ 0 ∷ 0 ∷ 0 ∷ 37 ∷ 100 ∷ 10 ∷ 0 ∷ [])
 
@@ -692,6 +742,9 @@ index_in_memory = record { limit = 100; function = function } where
   function : ℕ → Function
   function f = f0
 
+index_in_memory_lawful : (is_lawful_body 128 2 (let p = index_in_memory in p.function 0) && true) ≡ true
+index_in_memory_lawful = refl
+
 abbrev index_in_memory_data : List ℕ
 index_in_memory_data = (2 ∷ 0 ∷ 0 ∷ 0 ∷ 0 ∷ 0 ∷ 0 ∷ 0 ∷ 0 ∷ 0 ∷ 0 ∷ 0 ∷ 0 ∷ 0 ∷ 0 ∷ 0 ∷ 0 ∷ 0 ∷ 0 ∷ 0 ∷ 37 ∷ 100 ∷ 10 ∷ 0 ∷ [])
 
@@ -720,6 +773,9 @@ write_below = record { limit = 100; function = function } where
 
   function : ℕ → Function
   function f = f0
+
+write_below_lawful : (is_lawful_body 128 1 (let p = write_below in p.function 0) && true) ≡ true
+write_below_lawful = refl
 
 abbrev write_below_data : List ℕ
 write_below_data = []
@@ -752,6 +808,9 @@ write_last_word = record { limit = 100; function = function } where
 
   function : ℕ → Function
   function f = f0
+
+write_last_word_lawful : (is_lawful_body 128 1 (let p = write_last_word in p.function 0) && true) ≡ true
+write_last_word_lawful = refl
 
 abbrev write_last_word_data : List ℕ
 write_last_word_data = []
@@ -789,6 +848,9 @@ write_past_end = record { limit = 100; function = function } where
   function : ℕ → Function
   function f = f0
 
+write_past_end_lawful : (is_lawful_body 128 1 (let p = write_past_end in p.function 0) && true) ≡ true
+write_past_end_lawful = refl
+
 abbrev write_past_end_data : List ℕ
 write_past_end_data = []
 
@@ -821,6 +883,9 @@ write_misaligned = record { limit = 100; function = function } where
   function : ℕ → Function
   function f = f0
 
+write_misaligned_lawful : (is_lawful_body 128 1 (let p = write_misaligned in p.function 0) && true) ≡ true
+write_misaligned_lawful = refl
+
 abbrev write_misaligned_data : List ℕ
 write_misaligned_data = []
 
@@ -851,6 +916,9 @@ read_below = record { limit = 100; function = function } where
 
   function : ℕ → Function
   function f = f0
+
+read_below_lawful : (is_lawful_body 128 1 (let p = read_below in p.function 0) && true) ≡ true
+read_below_lawful = refl
 
 abbrev read_below_data : List ℕ
 read_below_data = []
@@ -883,6 +951,9 @@ read_first = record { limit = 100; function = function } where
   function : ℕ → Function
   function f = f0
 
+read_first_lawful : (is_lawful_body 128 1 (let p = read_first in p.function 0) && true) ≡ true
+read_first_lawful = refl
+
 abbrev read_first_data : List ℕ
 read_first_data = []
 
@@ -913,6 +984,9 @@ read_past_end = record { limit = 100; function = function } where
 
   function : ℕ → Function
   function f = f0
+
+read_past_end_lawful : (is_lawful_body 128 1 (let p = read_past_end in p.function 0) && true) ≡ true
+read_past_end_lawful = refl
 
 abbrev read_past_end_data : List ℕ
 read_past_end_data = []
@@ -946,6 +1020,9 @@ read_last = record { limit = 100; function = function } where
   function : ℕ → Function
   function f = f0
 
+read_last_lawful : (is_lawful_body 128 1 (let p = read_last in p.function 0) && true) ≡ true
+read_last_lawful = refl
+
 abbrev read_last_data : List ℕ
 read_last_data = []
 
@@ -976,6 +1053,9 @@ read_misaligned = record { limit = 100; function = function } where
 
   function : ℕ → Function
   function f = f0
+
+read_misaligned_lawful : (is_lawful_body 128 1 (let p = read_misaligned in p.function 0) && true) ≡ true
+read_misaligned_lawful = refl
 
 abbrev read_misaligned_data : List ℕ
 read_misaligned_data = []
@@ -1009,6 +1089,9 @@ misaligned_first = record { limit = 100; function = function } where
   function : ℕ → Function
   function f = f0
 
+misaligned_first_lawful : (is_lawful_body 128 2 (let p = misaligned_first in p.function 0) && true) ≡ true
+misaligned_first_lawful = refl
+
 abbrev misaligned_first_data : List ℕ
 misaligned_first_data = []
 
@@ -1040,6 +1123,9 @@ misaligned_past_end = record { limit = 100; function = function } where
   function : ℕ → Function
   function f = f0
 
+misaligned_past_end_lawful : (is_lawful_body 128 1 (let p = misaligned_past_end in p.function 0) && true) ≡ true
+misaligned_past_end_lawful = refl
+
 abbrev misaligned_past_end_data : List ℕ
 misaligned_past_end_data = []
 
@@ -1070,6 +1156,9 @@ byte_past_end = record { limit = 100; function = function } where
 
   function : ℕ → Function
   function f = f0
+
+byte_past_end_lawful : (is_lawful_body 128 1 (let p = byte_past_end in p.function 0) && true) ≡ true
+byte_past_end_lawful = refl
 
 abbrev byte_past_end_data : List ℕ
 byte_past_end_data = []
@@ -1107,6 +1196,9 @@ division_traps = record { limit = 100; function = function } where
   function : ℕ → Function
   function f = f0
 
+division_traps_lawful : (is_lawful_body 128 1 (let p = division_traps in p.function 0) && true) ≡ true
+division_traps_lawful = refl
+
 abbrev division_traps_data : List ℕ
 division_traps_data = (0 ∷ 0 ∷ 0 ∷ 0 ∷ 0 ∷ 0 ∷ 0 ∷ 0 ∷ 37 ∷ 100 ∷ 10 ∷ 0 ∷ [])
 
@@ -1138,6 +1230,9 @@ traps_order = record { limit = 100; function = function } where
 
   function : ℕ → Function
   function f = f0
+
+traps_order_lawful : (is_lawful_body 128 2 (let p = traps_order in p.function 0) && true) ≡ true
+traps_order_lawful = refl
 
 abbrev traps_order_data : List ℕ
 traps_order_data = (0 ∷ 0 ∷ 0 ∷ 0 ∷ 0 ∷ 0 ∷ 0 ∷ 0 ∷ 0 ∷ 0 ∷ 0 ∷ 0 ∷ [])
@@ -1172,6 +1267,9 @@ access_traps_last = record { limit = 100; function = function } where
 
   function : ℕ → Function
   function f = f0
+
+access_traps_last_lawful : (is_lawful_body 128 2 (let p = access_traps_last in p.function 0) && true) ≡ true
+access_traps_last_lawful = refl
 
 abbrev access_traps_last_data : List ℕ
 access_traps_last_data = (0 ∷ 0 ∷ 0 ∷ 0 ∷ [])
@@ -1208,6 +1306,9 @@ update_access_first = record { limit = 100; function = function } where
   function : ℕ → Function
   function f = f0
 
+update_access_first_lawful : (is_lawful_body 128 2 (let p = update_access_first in p.function 0) && true) ≡ true
+update_access_first_lawful = refl
+
 abbrev update_access_first_data : List ℕ
 update_access_first_data = []
 
@@ -1241,6 +1342,9 @@ unused_read = record { limit = 100; function = function } where
 
   function : ℕ → Function
   function f = f0
+
+unused_read_lawful : (is_lawful_body 128 1 (let p = unused_read in p.function 0) && true) ≡ true
+unused_read_lawful = refl
 
 abbrev unused_read_data : List ℕ
 unused_read_data = (0 ∷ 0 ∷ 0 ∷ 0 ∷ [])

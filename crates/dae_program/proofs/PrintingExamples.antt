@@ -1,11 +1,11 @@
 -- Examples of printing: programs, and what an independent implementation of their meaning finds of them. Made by
 -- tools/meaning/terms.py.
-use Rattle.std.proofs.Common.{◌≡◌, ℕ, true, false, ◌∷◌, List, [], ◌++◌, Some, None, nat_eq, if◌then◌else◌, refl}
+use Rattle.std.proofs.Common.{◌≡◌, ℕ, true, false, ◌&&◌, ◌∷◌, List, [], ◌++◌, Some, None, nat_eq, if◌then◌else◌, refl}
 use Rattle.std.specs.Prelude.{slice_index, nat_le}
 use Rattle.dae_base.specs.declared.Width.TheVariants as width
 use Rattle.dae_base.specs.declared.LoadKind.TheVariants as kind
 use Rattle.dae_meaning.specs.Operations.{compared, misplaced, combined, spelled}
-use Rattle.dae_meaning.specs.Results.{Halted, Trapped}
+use Rattle.dae_meaning.specs.Results.{Halted, Trapped, Going}
 use Rattle.dae_meaning.specs.declared.Operator.TheVariants as op
 use Rattle.dae_meaning.specs.declared.Comparison.TheVariants as rel
 use Rattle.dae_meaning.specs.declared.Spelling.TheVariants as spell
@@ -14,6 +14,7 @@ use Rattle.dae_program.specs.Trees as tree
 use Rattle.dae_program.specs.Trees.{Program, Function}
 use Rattle.dae_program.specs.Printing.{most_bytes}
 use Rattle.dae_program.specs.Programs.{run, start}
+use Rattle.dae_program.specs.Lawful.{is_lawful_body}
 use Rattle.dae_program.proofs.Seen.{here, seen, work_of}
 
 -- #include <stdio.h>
@@ -41,6 +42,9 @@ spellings = record { limit = 100; function = function } where
 
   function : ℕ → Function
   function f = f0
+
+spellings_lawful : (is_lawful_body 128 1 (let p = spellings in p.function 0) && true) ≡ true
+spellings_lawful = refl
 
 abbrev spellings_data : List ℕ
 spellings_data = (37 ∷ 100 ∷ 124 ∷ 37 ∷ 105 ∷ 124 ∷ 37 ∷ 117 ∷ 124 ∷ 37 ∷ 120 ∷ 124 ∷ 37 ∷ 99 ∷ 124 ∷ 37 ∷ 37 ∷ 124 ∷ 37 ∷ 115 ∷ 0 ∷
@@ -89,6 +93,9 @@ printf_evaluates_first = record { limit = 100; function = function } where
   function : ℕ → Function
   function f = (if nat_eq f 0 then f0 else f1)
 
+printf_evaluates_first_lawful : (is_lawful_body 128 2 (let p = printf_evaluates_first in p.function 0) && (is_lawful_body 128 1 (let p = printf_evaluates_first in p.function 1) && true)) ≡ true
+printf_evaluates_first_lawful = refl
+
 abbrev printf_evaluates_first_data : List ℕ
 printf_evaluates_first_data = (97 ∷ 37 ∷ 100 ∷ 98 ∷ 37 ∷ 100 ∷ 99 ∷ 0 ∷ [])
 
@@ -120,6 +127,9 @@ printf_trap_before = record { limit = 100; function = function } where
 
   function : ℕ → Function
   function f = f0
+
+printf_trap_before_lawful : (is_lawful_body 128 1 (let p = printf_trap_before in p.function 0) && true) ≡ true
+printf_trap_before_lawful = refl
 
 abbrev printf_trap_before_data : List ℕ
 printf_trap_before_data = (0 ∷ 0 ∷ 0 ∷ 0 ∷ 97 ∷ 37 ∷ 100 ∷ 0 ∷ [])
@@ -160,6 +170,9 @@ strings = record { limit = 100; function = function } where
   function : ℕ → Function
   function f = f0
 
+strings_lawful : (is_lawful_body 192 1 (let p = strings in p.function 0) && true) ≡ true
+strings_lawful = refl
+
 abbrev strings_data : List ℕ
 strings_data = (97 ∷ 98 ∷ 0 ∷ 0 ∷ 97 ∷ 98 ∷ 0 ∷ 91 ∷ 37 ∷ 115 ∷ 124 ∷ 37 ∷ 115 ∷ 37 ∷ 37 ∷ 124 ∷ 37 ∷ 99 ∷ 93 ∷ 0 ∷ 120 ∷ 121 ∷ 122 ∷
     0 ∷ 37 ∷ 115 ∷ 0 ∷ [])
@@ -199,6 +212,9 @@ string_null = record { limit = 100; function = function } where
   function : ℕ → Function
   function f = f0
 
+string_null_lawful : (is_lawful_body 128 1 (let p = string_null in p.function 0) && true) ≡ true
+string_null_lawful = refl
+
 abbrev string_null_data : List ℕ
 string_null_data = (97 ∷ 37 ∷ 115 ∷ 98 ∷ 0 ∷ [])
 
@@ -237,6 +253,9 @@ string_trap = record { limit = 100; function = function } where
 
   function : ℕ → Function
   function f = f0
+
+string_trap_lawful : (is_lawful_body 128 2 (let p = string_trap in p.function 0) && true) ≡ true
+string_trap_lawful = refl
 
 abbrev string_trap_data : List ℕ
 string_trap_data = (37 ∷ 115 ∷ 0 ∷ 111 ∷ 107 ∷ 0 ∷ 37 ∷ 115 ∷ 0 ∷ [])
@@ -279,6 +298,9 @@ text_reads = record { limit = 100; function = function } where
 
   function : ℕ → Function
   function f = f0
+
+text_reads_lawful : (is_lawful_body 128 2 (let p = text_reads in p.function 0) && true) ≡ true
+text_reads_lawful = refl
 
 abbrev text_reads_data : List ℕ
 text_reads_data = (97 ∷ 98 ∷ 99 ∷ 0 ∷ 0 ∷ 0 ∷ 0 ∷ 0 ∷ 97 ∷ 98 ∷ 99 ∷ 0 ∷ 37 ∷ 115 ∷ 0 ∷ 60 ∷ 37 ∷ 115 ∷ 37 ∷ 115 ∷ 62 ∷ 0 ∷ 0 ∷ [])
@@ -323,6 +345,9 @@ shared_texts = record { limit = 100; function = function } where
 
   function : ℕ → Function
   function f = f0
+
+shared_texts_lawful : (is_lawful_body 128 1 (let p = shared_texts in p.function 0) && true) ≡ true
+shared_texts_lawful = refl
 
 abbrev shared_texts_data : List ℕ
 shared_texts_data = (27 ∷ 0 ∷ 0 ∷ 0 ∷ 30 ∷ 0 ∷ 0 ∷ 0 ∷ 97 ∷ 98 ∷ 0 ∷ 97 ∷ 98 ∷ 0 ∷ 97 ∷ 98 ∷ 0 ∷ 97 ∷ 98 ∷ 0 ∷ 37 ∷ 100 ∷ 37 ∷ 115 ∷ 37 ∷
@@ -385,6 +410,9 @@ aggregates = record { limit = 100; function = function } where
 
   function : ℕ → Function
   function f = (if nat_eq f 0 then f0 else f1)
+
+aggregates_lawful : (is_lawful_body 192 3 (let p = aggregates in p.function 0) && (is_lawful_body 192 1 (let p = aggregates in p.function 1) && true)) ≡ true
+aggregates_lawful = refl
 
 abbrev aggregates_data : List ℕ
 aggregates_data = (0 ∷ 0 ∷ 0 ∷ 0 ∷ 104 ∷ 105 ∷ 0 ∷ [])
@@ -454,6 +482,9 @@ local_arrays = record { limit = 100; function = function } where
   function : ℕ → Function
   function f = (if nat_eq f 0 then f0 else (if nat_eq f 1 then f1 else f2))
 
+local_arrays_lawful : (is_lawful_body 128 3 (let p = local_arrays in p.function 0) && (is_lawful_body 128 1 (let p = local_arrays in p.function 1) && (is_lawful_body 128 2 (let p = local_arrays in p.function 2) && true))) ≡ true
+local_arrays_lawful = refl
+
 abbrev local_arrays_data : List ℕ
 local_arrays_data = []
 
@@ -506,6 +537,9 @@ nested_initialisers = record { limit = 100; function = function } where
 
   function : ℕ → Function
   function f = f0
+
+nested_initialisers_lawful : (is_lawful_body 320 1 (let p = nested_initialisers in p.function 0) && true) ≡ true
+nested_initialisers_lawful = refl
 
 abbrev nested_initialisers_data : List ℕ
 nested_initialisers_data = (1 ∷ 0 ∷ 2 ∷ 0 ∷ 0 ∷ 0 ∷ 0 ∷ 0 ∷ 3 ∷ 0 ∷ 0 ∷ 0 ∷ 32 ∷ 0 ∷ 0 ∷ 0 ∷ 120 ∷ 121 ∷ 0 ∷ 122 ∷ 0 ∷ 37 ∷ 100 ∷ 37 ∷ 100 ∷ 37 ∷

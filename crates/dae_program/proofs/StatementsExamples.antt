@@ -1,10 +1,11 @@
 -- Examples of statements: programs, and what an independent implementation of their meaning finds of them. Made by
 -- tools/meaning/terms.py.
-use Rattle.std.proofs.Common.{◌≡◌, ℕ, true, false, ◌∷◌, List, [], ◌++◌, Some, None, nat_eq, if◌then◌else◌, refl}
+use Rattle.std.proofs.Common.{◌≡◌, ℕ, true, false, ◌&&◌, ◌∷◌, List, [], ◌++◌, Some, None, nat_eq, if◌then◌else◌, refl}
 use Rattle.std.specs.Prelude.{slice_index, nat_le}
+use Rattle.dae_base.specs.declared.Width.TheVariants as width
 use Rattle.dae_base.specs.declared.LoadKind.TheVariants as kind
 use Rattle.dae_meaning.specs.Operations.{compared, misplaced, combined, spelled}
-use Rattle.dae_meaning.specs.Results.{Halted, Going}
+use Rattle.dae_meaning.specs.Results.{Halted, Trapped, Going}
 use Rattle.dae_meaning.specs.declared.Operator.TheVariants as op
 use Rattle.dae_meaning.specs.declared.Comparison.TheVariants as rel
 use Rattle.dae_meaning.specs.declared.Spelling.TheVariants as spell
@@ -13,6 +14,7 @@ use Rattle.dae_program.specs.Trees as tree
 use Rattle.dae_program.specs.Trees.{Program, Function}
 use Rattle.dae_program.specs.Printing.{most_bytes}
 use Rattle.dae_program.specs.Programs.{run, start}
+use Rattle.dae_program.specs.Lawful.{is_lawful_body}
 use Rattle.dae_program.proofs.Seen.{here, seen, work_of}
 
 -- int main(void){return 0;}
@@ -32,6 +34,9 @@ nothing = record { limit = 100; function = function } where
 
   function : ℕ → Function
   function f = f0
+
+nothing_lawful : (is_lawful_body 128 1 (let p = nothing in p.function 0) && true) ≡ true
+nothing_lawful = refl
 
 abbrev nothing_data : List ℕ
 nothing_data = []
@@ -64,6 +69,9 @@ returns_one = record { limit = 100; function = function } where
 
   function : ℕ → Function
   function f = f0
+
+returns_one_lawful : (is_lawful_body 128 1 (let p = returns_one in p.function 0) && true) ≡ true
+returns_one_lawful = refl
 
 abbrev returns_one_data : List ℕ
 returns_one_data = (0 ∷ 0 ∷ 0 ∷ 0 ∷ [])
@@ -116,6 +124,9 @@ loops = record { limit = 100; function = function } where
   function : ℕ → Function
   function f = f0
 
+loops_lawful : (is_lawful_body 128 4 (let p = loops in p.function 0) && true) ≡ true
+loops_lawful = refl
+
 abbrev loops_data : List ℕ
 loops_data = (37 ∷ 100 ∷ 10 ∷ 0 ∷ [])
 
@@ -153,6 +164,9 @@ collatz = record { limit = 100; function = function } where
 
   function : ℕ → Function
   function f = f0
+
+collatz_lawful : (is_lawful_body 128 3 (let p = collatz in p.function 0) && true) ≡ true
+collatz_lawful = refl
 
 abbrev collatz_data : List ℕ
 collatz_data = (37 ∷ 100 ∷ 10 ∷ 0 ∷ [])
@@ -196,6 +210,9 @@ sum_of_arrays = record { limit = 100; function = function } where
   function : ℕ → Function
   function f = f0
 
+sum_of_arrays_lawful : (is_lawful_body 128 2 (let p = sum_of_arrays in p.function 0) && true) ≡ true
+sum_of_arrays_lawful = refl
+
 abbrev sum_of_arrays_data : List ℕ
 sum_of_arrays_data = (1 ∷ 0 ∷ 0 ∷ 0 ∷ 2 ∷ 0 ∷ 0 ∷ 0 ∷ 3 ∷ 0 ∷ 0 ∷ 0 ∷ 4 ∷ 0 ∷ 0 ∷ 0 ∷ 10 ∷ 0 ∷ 0 ∷ 0 ∷ 20 ∷ 0 ∷ 0 ∷ 0 ∷ 30 ∷ 0 ∷ 0 ∷ 0 ∷ 40
     ∷ 0 ∷ 0 ∷ 0 ∷ 0 ∷ 0 ∷ 0 ∷ 0 ∷ 0 ∷ 0 ∷ 0 ∷ 0 ∷ 0 ∷ 0 ∷ 0 ∷ 0 ∷ 0 ∷ 0 ∷ 0 ∷ 0 ∷ 37 ∷ 100 ∷ 10 ∷ 0 ∷ [])
@@ -235,6 +252,9 @@ empty_loop = record { limit = 100; function = function } where
 
   function : ℕ → Function
   function f = f0
+
+empty_loop_lawful : (is_lawful_body 128 2 (let p = empty_loop in p.function 0) && true) ≡ true
+empty_loop_lawful = refl
 
 abbrev empty_loop_data : List ℕ
 empty_loop_data = (0 ∷ 0 ∷ 0 ∷ 0 ∷ 0 ∷ 0 ∷ 0 ∷ 0 ∷ 0 ∷ 0 ∷ 0 ∷ 0 ∷ 0 ∷ 0 ∷ 0 ∷ 0 ∷ 0 ∷ 0 ∷ 0 ∷ 0 ∷ 37 ∷ 100 ∷ 10 ∷ 0 ∷ [])
@@ -276,6 +296,9 @@ switch_falls = record { limit = 100; function = function } where
   function : ℕ → Function
   function f = f0
 
+switch_falls_lawful : (is_lawful_body 128 3 (let p = switch_falls in p.function 0) && true) ≡ true
+switch_falls_lawful = refl
+
 abbrev switch_falls_data : List ℕ
 switch_falls_data = (37 ∷ 100 ∷ 10 ∷ 0 ∷ [])
 
@@ -313,6 +336,9 @@ switch_continues = record { limit = 100; function = function } where
   function : ℕ → Function
   function f = f0
 
+switch_continues_lawful : (is_lawful_body 128 3 (let p = switch_continues in p.function 0) && true) ≡ true
+switch_continues_lawful = refl
+
 abbrev switch_continues_data : List ℕ
 switch_continues_data = (37 ∷ 100 ∷ 10 ∷ 0 ∷ [])
 
@@ -344,6 +370,9 @@ switch_empty = record { limit = 100; function = function } where
 
   function : ℕ → Function
   function f = f0
+
+switch_empty_lawful : (is_lawful_body 128 2 (let p = switch_empty in p.function 0) && true) ≡ true
+switch_empty_lawful = refl
 
 abbrev switch_empty_data : List ℕ
 switch_empty_data = []
@@ -394,6 +423,9 @@ switch_nested = record { limit = 100; function = function } where
 
   function : ℕ → Function
   function f = f0
+
+switch_nested_lawful : (is_lawful_body 128 3 (let p = switch_nested in p.function 0) && true) ≡ true
+switch_nested_lawful = refl
 
 abbrev switch_nested_data : List ℕ
 switch_nested_data = []
@@ -449,6 +481,9 @@ switch_default_middle = record { limit = 100; function = function } where
   function : ℕ → Function
   function f = (if nat_eq f 0 then f0 else f1)
 
+switch_default_middle_lawful : (is_lawful_body 128 3 (let p = switch_default_middle in p.function 0) && (is_lawful_body 128 1 (let p = switch_default_middle in p.function 1) && true)) ≡ true
+switch_default_middle_lawful = refl
+
 abbrev switch_default_middle_data : List ℕ
 switch_default_middle_data = (37 ∷ 100 ∷ 37 ∷ 100 ∷ 37 ∷ 100 ∷ 37 ∷ 100 ∷ 0 ∷ [])
 
@@ -500,6 +535,9 @@ switch_signed = record { limit = 100; function = function } where
   function : ℕ → Function
   function f = (if nat_eq f 0 then f0 else f1)
 
+switch_signed_lawful : (is_lawful_body 128 3 (let p = switch_signed in p.function 0) && (is_lawful_body 128 2 (let p = switch_signed in p.function 1) && true)) ≡ true
+switch_signed_lawful = refl
+
 abbrev switch_signed_data : List ℕ
 switch_signed_data = (37 ∷ 100 ∷ 37 ∷ 100 ∷ 37 ∷ 100 ∷ 37 ∷ 100 ∷ 0 ∷ [])
 
@@ -535,6 +573,9 @@ do_continues = record { limit = 100; function = function } where
 
   function : ℕ → Function
   function f = f0
+
+do_continues_lawful : (is_lawful_body 128 2 (let p = do_continues in p.function 0) && true) ≡ true
+do_continues_lawful = refl
 
 abbrev do_continues_data : List ℕ
 do_continues_data = []
@@ -581,6 +622,9 @@ for_continues = record { limit = 100; function = function } where
 
   function : ℕ → Function
   function f = f0
+
+for_continues_lawful : (is_lawful_body 128 3 (let p = for_continues in p.function 0) && true) ≡ true
+for_continues_lawful = refl
 
 abbrev for_continues_data : List ℕ
 for_continues_data = []
@@ -642,6 +686,9 @@ returns_from_loops = record { limit = 100; function = function } where
   function : ℕ → Function
   function f = (if nat_eq f 0 then f0 else (if nat_eq f 1 then f1 else f2))
 
+returns_from_loops_lawful : (is_lawful_body 128 3 (let p = returns_from_loops in p.function 0) && (is_lawful_body 128 2 (let p = returns_from_loops in p.function 1) && (is_lawful_body 128 1 (let p = returns_from_loops in p.function 2) && true))) ≡ true
+returns_from_loops_lawful = refl
+
 abbrev returns_from_loops_data : List ℕ
 returns_from_loops_data = []
 
@@ -690,6 +737,9 @@ scalars_begin_zero = record { limit = 100; function = function } where
   function : ℕ → Function
   function f = (if nat_eq f 0 then f0 else f1)
 
+scalars_begin_zero_lawful : (is_lawful_body 128 5 (let p = scalars_begin_zero in p.function 0) && (is_lawful_body 128 2 (let p = scalars_begin_zero in p.function 1) && true)) ≡ true
+scalars_begin_zero_lawful = refl
+
 abbrev scalars_begin_zero_data : List ℕ
 scalars_begin_zero_data = []
 
@@ -723,6 +773,9 @@ endless_print = record { limit = 100; function = function } where
   function : ℕ → Function
   function f = f0
 
+endless_print_lawful : (is_lawful_body 128 1 (let p = endless_print in p.function 0) && true) ≡ true
+endless_print_lawful = refl
+
 abbrev endless_print_data : List ℕ
 endless_print_data = []
 
@@ -754,6 +807,9 @@ endless_quiet = record { limit = 100; function = function } where
 
   function : ℕ → Function
   function f = f0
+
+endless_quiet_lawful : (is_lawful_body 128 1 (let p = endless_quiet in p.function 0) && true) ≡ true
+endless_quiet_lawful = refl
 
 abbrev endless_quiet_data : List ℕ
 endless_quiet_data = []
@@ -792,6 +848,9 @@ endless_inner = record { limit = 100; function = function } where
 
   function : ℕ → Function
   function f = f0
+
+endless_inner_lawful : (is_lawful_body 128 2 (let p = endless_inner in p.function 0) && true) ≡ true
+endless_inner_lawful = refl
 
 abbrev endless_inner_data : List ℕ
 endless_inner_data = []
@@ -832,6 +891,9 @@ turns_run_out = record { limit = 100; function = function } where
   function : ℕ → Function
   function f = f0
 
+turns_run_out_lawful : (is_lawful_body 128 2 (let p = turns_run_out in p.function 0) && true) ≡ true
+turns_run_out_lawful = refl
+
 abbrev turns_run_out_data : List ℕ
 turns_run_out_data = []
 
@@ -866,6 +928,9 @@ tests_of_last_turn = record { limit = 100; function = function } where
 
   function : ℕ → Function
   function f = f0
+
+tests_of_last_turn_lawful : (is_lawful_body 128 1 (let p = tests_of_last_turn in p.function 0) && true) ≡ true
+tests_of_last_turn_lawful = refl
 
 abbrev tests_of_last_turn_data : List ℕ
 tests_of_last_turn_data = []
@@ -904,6 +969,9 @@ test_ends_program = record { limit = 100; function = function } where
 
   function : ℕ → Function
   function f = f0
+
+test_ends_program_lawful : (is_lawful_body 128 2 (let p = test_ends_program in p.function 0) && true) ≡ true
+test_ends_program_lawful = refl
 
 abbrev test_ends_program_data : List ℕ
 test_ends_program_data = []

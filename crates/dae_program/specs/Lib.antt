@@ -7,5 +7,10 @@ pub mod Switches
 pub mod Statements
 pub mod Calls
 pub mod Views
+pub mod Resolved
 pub mod Programs
 pub mod Turns
+pub mod Scope
+pub mod Placed
+pub mod Lawful
+pub mod Promise

@@ -1,15 +1,13 @@
 -- What programs mean (C90 5.1.2.2.3): main is called in a memory that holds the data. A bound n on the turns of loops makes
 -- the meaning a function, M(n); a program ends or traps where M(n) does so for some n, and goes on where it does for no n.
-use Rattle.std.specs.Prelude.{◌≡◌, ◌≢◌, ℕ, ◌+◌, ◌-◌, true, List, [], ◌++◌, length, replicate, slice_get, slice_index, Option, Some, None}
+use Rattle.std.specs.Prelude.{◌≡◌, ◌≢◌, ℕ, ◌+◌, ◌-◌, true, List, [], ◌++◌, length, replicate, slice_get}
 use Rattle.dae_meaning.specs.Worlds.{World}
 use Rattle.dae_meaning.specs.Results.{End, Halted, Going}
-use Rattle.dae_program.specs.declared.program.Function.{Function}
-use Rattle.dae_program.specs.declared.program.Links.{Links}
 use Rattle.dae_program.specs.declared.program.Program.{Program}
 use Rattle.dae_program.specs.Calls.{call}
 use Rattle.dae_program.specs.Outcomes.{Outcome, Gives, Ends}
 use Rattle.dae_program.specs.Trees as tree
-use Rattle.dae_program.specs.Views.{view_statements}
+use Rattle.dae_program.specs.Resolved.{function_in, variables_in}
 
 -- ---- runs of main
 
@@ -47,35 +45,6 @@ GoesOn meaning = (n : ℕ) → program_end (meaning n) ≡ Going
 
 -- ---- programs in memory
 
-abbrev pub address_in : Option Links → ℕ → ℕ
-address_in None object = 0
-address_in (Some links) object = slice_index links.addresses object
-
-abbrev pub number_or : ℕ → Option ℕ → ℕ
-number_or other None = other
-number_or other (Some k) = k
-
--- the program's number of a function of a file, or that of none
-abbrev pub callee_in : ℕ → Option Links → ℕ → ℕ
-callee_in none None f = none
-callee_in none (Some links) f = number_or none (slice_get links.functions f)
-
-abbrev pub function_in : ℕ → List Links → Option Function → tree.Function
-function_in none links None = record {
-  address = λ object. 0;
-  callee = λ f. none;
-  parameters = [];
-  frame = 0;
-  body = tree.Done;
-}
-function_in none links (Some f) = record {
-  address = address_in (slice_get links f.file);
-  callee = callee_in none (slice_get links f.file);
-  parameters = f.parameters;
-  frame = f.frame;
-  body = view_statements f.body;
-}
-
 -- with a limit on calls inside one another
 abbrev pub program_of : Program → ℕ → tree.Program
 program_of p limit = record {
@@ -85,4 +54,7 @@ program_of p limit = record {
 
 -- M(n) of a program
 abbrev pub meaning_of : Program → (limit n : ℕ) → Outcome ℕ
-meaning_of p limit n = run (program_of p limit) n p.main (start p.memory p.frames p.data)
+meaning_of p limit n = run (program_of p limit) n p.main (start p.memory p.frames p.content)
+
+abbrev pub variables_of : Program → ℕ → ℕ
+variables_of p f = variables_in (slice_get p.functions f)

@@ -5,10 +5,12 @@
 
 pub use expressions::{Expression, Target};
 pub use program::{Function, Links, Program, Slot};
+pub use rules::lawful_keep_rules;
 pub use statements::{Arm, Piece, Setting, Statement};
 pub use turns::{ends_stay, going_before, one_end, output_grows, turns_in_order};
 
 mod expressions;
 mod program;
+mod rules;
 mod statements;
 mod turns;

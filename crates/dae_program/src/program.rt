@@ -32,14 +32,19 @@ pub struct Links {
     pub functions: Items<u32>,
 }
 
-/// A whole program: the size of common memory, its bytes from address 16 on, where frames begin, the links of each file,
-/// the functions, and the number of main among them.
+ghost use Rattle.std.specs.Prelude.{◌≡◌, true};
+ghost use Rattle.dae_program.specs.Lawful.{is_lawful};
+
+/// A whole program: the size of common memory, its content from address 16 on, where frames begin, the links of each file,
+/// the functions, and the number of main among them. What lowers it may rely on its ghost field: variables are below their
+/// number, nobody calls main, which has no parameters, and objects and frames are well placed.
 #[derive(Drop)]
 pub struct Program {
     pub memory: u32,
-    pub data: Items<u8>,
+    pub content: Items<u8>,
     pub frames: u32,
     pub links: Items<Links>,
     pub functions: Items<Function>,
     pub main: u32,
+    pub ghost lawful: { is_lawful memory frames content links functions main ≡ true },
 }
