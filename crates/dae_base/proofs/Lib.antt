@@ -1,1 +1,3 @@
 mod Hex
+mod Budgets
+pub mod Laws

@@ -13,7 +13,7 @@ use Rattle.dae_ir.specs.declared.form.Function.{Function}
 use Rattle.dae_ir.specs.declared.form.Ir.{Ir}
 use Rattle.dae_ir.specs.declared.stream.Class.{Class}
 use Rattle.dae_ir.specs.declared.stream.Action.{Action}
-use Rattle.dae_ir.specs.declared.stream.Action.TheVariants.{Set as Compute, Issue, Own, Offer, Tell}
+use Rattle.dae_ir.specs.declared.stream.Action.TheVariants.{Set, Issue, Own, Offer, Tell}
 use Rattle.dae_ir.specs.declared.form.Operand.TheVariants.{Number}
 use Rattle.dae_ir.specs.declared.stream.Part.{Part}
 use Rattle.dae_ir.specs.declared.stream.Part.TheVariants.{Sets, Loads, Tests}
@@ -49,7 +49,7 @@ module _ (c : Classes) (n : ℕ) where
   good_a_part : (p : Part) (k : Actions) → Good n k → Good n (a_part c n p k)
   good_a_part (Sets place v x) k h =
       let copy = c.s v && c.needs v in
-      good_when (c.s v) place n (Compute v x) (when copy (mark place n) (Offer v) k) (good_when copy place n (Offer v) k h)
+      good_when (c.s v) place n (Set v x) (when copy (mark place n) (Offer v) k) (good_when copy place n (Offer v) k h)
   good_a_part (Loads place v kind x) k h =
       let copy = c.s v && c.needs v in
       good_when (not (c.s v) && c.needs v) place n (Issue kind x) (when (c.s v) (mark place n) (Own v kind x) (when copy (mark place n) (Offer v) k))

@@ -5,6 +5,7 @@ use Rattle.dae_io.specs.Taken.{AppendsPrefix}
 use Rattle.dae_io.proofs.Growth.{AppendsPrefix-of_more, AppendsPrefix-then}
 use Rattle.dae_base.specs.declared.Queue.{Queue}
 use Rattle.dae_base.specs.Budgets.{first_below}
+use Rattle.dae_base.proofs.Laws.{none_below}
 use Rattle.dae_image.specs.declared.Image.{Image}
 use Rattle.dae_image.specs.declared.fault.ImageError.{ImageError}
 use Rattle.dae_image.specs.declared.fault.ImageError.TheVariants as errors
@@ -77,7 +78,7 @@ module _ (setup : Setup) (s now : State) (o : RunOptions) (words words_now : Sta
 pub some_due : (image : Image) (o : RunOptions) → (due : Answer) × DueAfterBudget image o due
 some_due image o = by_queue (first_below o.depths image.budget) refl where
   by_queue : (q : Option Queue) → first_below o.depths image.budget ≡ q → (due : Answer) × DueAfterBudget image o due
-  by_queue None e = (_, due_memory_for_machine e)
+  by_queue None e = (_, due_memory_for_machine ((none_below o.depths image.budget).0 e))
   by_queue (Some queue) e = (_, due_depth queue e)
 
 -- ---- bytes that are no image

@@ -3,7 +3,7 @@ use Rattle.std.specs.Prelude.{◌≡◌, ◌≢◌, ℕ, ◌<◌, ◌≤◌, Lis
 use Rattle.std.specs.Io.KnownBytes.{Appends}
 use Rattle.dae_io.specs.Taken.{AppendsPrefix}
 use Rattle.dae_base.specs.declared.Queue.{Queue}
-use Rattle.dae_base.specs.Budgets.{depth, first_below}
+use Rattle.dae_base.specs.Budgets.{depth, first_below, Reaches}
 use Rattle.dae_image.specs.declared.Image.{Image}
 use Rattle.dae_image.specs.declared.fault.ImageError.{ImageError}
 use Rattle.dae_image.specs.declared.fault.ImageError.TheVariants as errors
@@ -113,9 +113,9 @@ pub data DueOfRun (setup : Setup) (start : State) (o : RunOptions) : Answer → 
 -- what is due after the line with an image's budget: no depth is below the budget, and its machine runs; or one is, the
 -- first of which is told; or memory was wanting, before the machine was opened
 pub data DueAfterBudget (image : Image) (o : RunOptions) : Answer → Type 0 where
-  due_turns : {a : Answer} → first_below o.depths image.budget ≡ None → DueOfRun (setup_of image o.depths) (opened image) o a → DueAfterBudget image o a
+  due_turns : {a : Answer} → Reaches o.depths image.budget → DueOfRun (setup_of image o.depths) (opened image) o a → DueAfterBudget image o a
   due_depth : (queue : Queue) → first_below o.depths image.budget ≡ Some queue → DueAfterBudget image o (answer 4 [] (depth_line queue (depth queue image.budget) (depth queue o.depths)))
-  due_memory_for_machine : first_below o.depths image.budget ≡ None → DueAfterBudget image o (answer 7 [] memory_line)
+  due_memory_for_machine : Reaches o.depths image.budget → DueAfterBudget image o (answer 7 [] memory_line)
 
 -- what is due for an image: the line with its budget comes first; or memory was wanting before
 pub data DueOfImage (image : Image) (o : RunOptions) : Answer → Type 0 where

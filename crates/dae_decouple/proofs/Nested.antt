@@ -6,6 +6,7 @@ use Rattle.dae_base.specs.declared.Place.{Place}
 use Rattle.dae_ir.specs.Code.{Each, Done, If, Loop}
 use Rattle.dae_ir.specs.Form.{Form, before, form_of}
 use Rattle.dae_ir.specs.Rounds.{stays}
+use Rattle.dae_ir.specs.Scope.{closes, never_returns}
 use Rattle.dae_ir.specs.declared.form.Item.{Item}
 use Rattle.dae_ir.specs.declared.form.Statement.{Statement}
 use Rattle.dae_ir.specs.declared.form.Statement.TheVariants as statement
@@ -55,3 +56,21 @@ module _ (W X Y : Type 0) (parts : W ↔ (X × Y)) where
 
 pub then_both : (W X Y Z : Type 0) → W ↔ (X × (Y × Z)) → X → W ↔ (Y × Z)
 then_both W X Y Z parts x = (λ w. (parts.0 w).1, λ h. parts.1 (x, h))
+
+pub returns_in_if : (m : Place) (t : Test) (p q : Vec Statement Global) (s : Statement) (k : Form) → s ≡ statement.If m t p q
+    → never_returns (before s k) ≡ ((never_returns (form_of p.items) && never_returns (form_of q.items)) && never_returns k)
+returns_in_if m t p q s k e =
+    ap (λ (x : Statement). never_returns (before x k)) e ∙ ap never_returns (before_if m t p q k)
+    ∙ both_first (never_returns (form_of p.items)) (never_returns (form_of q.items)) (never_returns k)
+
+pub returns_in_loop : (m : Place) (p q : Vec Statement Global) (s : Statement) (k : Form) → s ≡ statement.Loop m p q
+    → never_returns (before s k) ≡ ((never_returns (form_of p.items) && never_returns (form_of q.items)) && never_returns k)
+returns_in_loop m p q s k e =
+    ap (λ (x : Statement). never_returns (before x k)) e ∙ ap never_returns (before_loop m p q k)
+    ∙ both_first (never_returns (form_of p.items)) (never_returns (form_of q.items)) (never_returns k)
+
+pub closes_in_if : (m : Place) (t : Test) (p q : Vec Statement Global) (s : Statement) (k : Form) → s ≡ statement.If m t p q → closes (before s k) ≡ closes k
+closes_in_if m t p q s k e = ap (λ (x : Statement). closes (before x k)) e ∙ ap closes (before_if m t p q k)
+
+pub closes_in_loop : (m : Place) (p q : Vec Statement Global) (s : Statement) (k : Form) → s ≡ statement.Loop m p q → closes (before s k) ≡ closes k
+closes_in_loop m p q s k e = ap (λ (x : Statement). closes (before x k)) e ∙ ap closes (before_loop m p q k)

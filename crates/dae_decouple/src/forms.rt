@@ -2,9 +2,8 @@
 // each value that an expression takes has a variable behind them.
 
 use dae_base::{Items, LoadKind, Place, Text, Width};
-use dae_ir::{
-    Check, Function, Ir, Item, Operand, Operator, Relation, Spelling, Statement, Test, Value,
-};
+use dae_ir::{Check, Function, Ir, Item, Operand, Statement, Test, Value};
+use dae_meaning::{Comparison, Operator, Spelling};
 use std::alloc::{AllocError, Global};
 
 const PLACE: Place = Place {
@@ -66,9 +65,9 @@ fn halt() -> Statement {
     Statement::Simple(PLACE, Item::Halt(Operand::Number(0)))
 }
 
-fn test(left: Operand, relation: Relation, right: Operand) -> Test {
+fn test(left: Operand, comparison: Comparison, right: Operand) -> Test {
     Test {
-        relation,
+        comparison,
         left,
         right,
     }
@@ -83,7 +82,7 @@ fn go_on(alloc: Global, test: Test) -> Result<Statement, AllocError> {
 fn go_on_below(alloc: Global, index: u32, limit: u32) -> Result<Statement, AllocError> {
     go_on(
         alloc,
-        test(variable(index), Relation::LessSigned, number(limit)),
+        test(variable(index), Comparison::LessSigned, number(limit)),
     )
 }
 
@@ -187,9 +186,9 @@ pub fn steps_to_one(alloc: Global) -> Result<Ir, AllocError> {
     let odd = Vec::from_array(alloc, odd)?;
     let half = binary(6, Operator::DivideSigned, variable(1), number(2));
     let even = Vec::from_array(alloc, [half, copy(1, variable(6))])?;
-    let is_odd = test(variable(3), Relation::NotEqual, number(0));
+    let is_odd = test(variable(3), Comparison::NotEqual, number(0));
     let turn = [
-        go_on(alloc, test(variable(1), Relation::NotEqual, number(1)))?,
+        go_on(alloc, test(variable(1), Comparison::NotEqual, number(1)))?,
         binary(3, Operator::RemainderSigned, variable(1), number(2)),
         Statement::If(PLACE, is_odd, odd, even),
         add(7, variable(2), number(1)),
@@ -314,7 +313,7 @@ pub fn checked_divisor(alloc: Global) -> Result<Ir, AllocError> {
         copy(1, variable(3)),
     ];
     let divided = Vec::from_array(alloc, divided)?;
-    let is_large = test(number(5), Relation::LessSigned, variable(1));
+    let is_large = test(number(5), Comparison::LessSigned, variable(1));
     let body = [
         copy(1, number(10)),
         copy(2, number(0)),

@@ -4,7 +4,7 @@ ghost use Rattle.std.specs.Prelude.{◌↔◌, length, slice_get, IsTrue};
 ghost use Rattle.std.specs.List.{AllByRecursion};
 ghost use Rattle.dae_ir.specs.Code.{Each, Done};
 ghost use Rattle.dae_ir.specs.Form.{before, form_of};
-ghost use Rattle.dae_ir.specs.Scope.{IsIn, TestIn, ValueIn, CheckIn, TakesArguments, ItemIn};
+ghost use Rattle.dae_ir.specs.Scope.{IsIn, IsTarget, TestIn, ValueIn, CheckIn, TakesArguments, ItemIn};
 
 use dae_ir::{Check, Function, Item, Operand, Statement, Value};
 
@@ -15,6 +15,13 @@ fn is_in(variables: u32, operand: Operand) -> bool
         Operand::Variable(variable) => variable < variables,
         Operand::Number(_) => true,
     }
+}
+
+// The variable is there, and isn't that of the result.
+fn is_target(variables: u32, variable: u32) -> bool
+    ensures { IsTrue result ↔ IsTarget variables variable }
+{
+    0 < variable && variable < variables
 }
 
 fn are_in(variables: u32, first: Operand, second: Operand) -> bool
@@ -78,15 +85,15 @@ fn item_in(functions: &[Function], variables: u32, item: &Item) -> bool
     ensures { IsTrue result ↔ ItemIn functions.now variables item.now }
 {
     match item {
-        Item::Assign(v, x) => *v < variables && value_in(variables, *x),
-        Item::Load(v, _, x) => *v < variables && is_in(variables, *x),
+        Item::Assign(v, x) => is_target(variables, *v) && value_in(variables, *x),
+        Item::Load(v, _, x) => is_target(variables, *v) && is_in(variables, *x),
         Item::Store(_, x, y) => are_in(variables, *x, *y),
         Item::Print(_, x) => is_in(variables, *x),
         Item::Expect(check) => check_in(functions, variables, *check),
         Item::Break => true,
         Item::Continue => true,
         Item::Call(v, callee, arguments) => {
-            *v < variables && call_in(functions, variables, *callee, arguments.as_slice())
+            is_target(variables, *v) && call_in(functions, variables, *callee, arguments.as_slice())
         }
         Item::Return(x) => is_in(variables, *x),
         Item::Halt(x) => is_in(variables, *x),
@@ -109,8 +116,8 @@ fn statement_in(functions: &[Function], variables: u32, statement: &Statement) -
     }
 }
 
-/// Whether each variable that statements name is below the number of variables, each function is there, and each call
-/// gives as many arguments as its function has parameters.
+/// Whether each variable that statements name is below the number of variables, none but a return sets variable 0, each
+/// function is there, and each call gives as many arguments as its function has parameters.
 #[cycle(names)]
 pub fn names_in(functions: &[Function], variables: u32, statements: &[Statement]) -> bool
     ensures { IsTrue result ↔ Each (ItemIn functions.now variables) (TestIn variables) (form_of statements.now) }

@@ -4,16 +4,18 @@ ghost use Rattle.std.specs.Prelude.{◌≤◌, IfOk};
 ghost use Rattle.dae_ir.specs.Scope.{IsScoped};
 ghost use Rattle.dae_decouple.specs.Decoupled.{IsDecoupled};
 
-use dae_base::Depths;
+use dae_base::{Depths, Items};
 use dae_budget::budget;
-use dae_ir::{Ir, Pair};
+use dae_ir::{Class, Ir, Pair};
 use dae_slice::classes;
 use dae_split::split;
 use std::alloc::{AllocError, Global};
 
-/// The two streams of a form, and how many items each queue between them must hold.
+/// The classes of a form's variables, per function and variable, its two streams, and how many items each queue between
+/// them must hold.
 #[derive(Drop)]
 pub struct Decoupled {
+    pub classes: Items<Items<Class>>,
     pub pair: Pair,
     pub budget: Depths,
 }
@@ -26,8 +28,12 @@ pub fn decouple(alloc: Global, ir: &Ir, cap: u8) -> Result<Decoupled, AllocError
     requires few { cap ≤ 64 }
     ensures { IfOk result (λ d. IsDecoupled ir.now cap d) }
 {
-    let tables = classes(alloc, ir)?;
-    let pair = split(alloc, ir, tables.as_slice(), cap)?;
+    let classes = classes(alloc, ir)?;
+    let pair = split(alloc, ir, classes.as_slice(), cap)?;
     let budget = budget(&pair);
-    Ok(Decoupled { pair, budget })
+    Ok(Decoupled {
+        classes,
+        pair,
+        budget,
+    })
 }

@@ -1,23 +1,24 @@
 -- The definitions, tried on small programs.
 use Rattle.std.proofs.Common.{◌≡◌, ℕ, Bool, true, false, ◌||◌, nat_eq, [], ◌++◌, refl}
 use Rattle.std.specs.Prelude.{replicate}
-use Rattle.dae_ir.specs.Operations.{compared, misplaced, combined, spelled}
+use Rattle.dae_meaning.specs.Operations.{compared, misplaced, combined, spelled}
 use Rattle.dae_base.specs.declared.Place.{Place}
 use Rattle.dae_base.specs.declared.Width.TheVariants.{B4}
 use Rattle.dae_base.specs.declared.LoadKind.TheVariants.{I32}
-use Rattle.dae_ir.specs.Results.{World, world_of}
+use Rattle.dae_meaning.specs.Worlds.{World}
+use Rattle.dae_meaning.specs.Results.{world_of}
 use Rattle.dae_ir.specs.Code.{Done, Do, If, Loop}
 use Rattle.dae_ir.specs.Form.{Form, Program, calls_of, all_loads}
 use Rattle.dae_ir.specs.Classes.{Classes}
 use Rattle.dae_ir.specs.Canonical.{pair_calls_of}
-use Rattle.dae_ir.specs.Sizes.{loads_a, loads_e, stores, conditions_a, conditions_e}
+use Rattle.dae_ir.specs.Sizes.{own_loads, loads_for_e, stores, conditions_a, conditions_e}
 use Rattle.dae_ir.specs.Streams.{Actions, stream_of}
 use Rattle.dae_ir.specs.Budgets.{some, in_group, never, is_told, is_message, is_own_load, is_address, is_datum, is_load_for_e, is_copy}
 use Rattle.dae_ir.specs.declared.form.Operand.TheVariants.{Variable, Number}
-use Rattle.dae_ir.specs.declared.form.Operator.TheVariants.{Add, Multiply, DivideSigned}
-use Rattle.dae_ir.specs.declared.form.Relation.TheVariants.{NotEqual, LessSigned}
+use Rattle.dae_meaning.specs.declared.Operator.TheVariants.{Add, Multiply, DivideSigned}
+use Rattle.dae_meaning.specs.declared.Comparison.TheVariants.{NotEqual, LessSigned}
 use Rattle.dae_ir.specs.declared.form.Value.TheVariants.{Same, Binary}
-use Rattle.dae_ir.specs.declared.form.Spelling.TheVariants.{Byte, Signed}
+use Rattle.dae_meaning.specs.declared.Spelling.TheVariants.{Byte, Signed}
 use Rattle.dae_ir.specs.declared.form.Check.TheVariants.{Place as Good, Zero}
 use Rattle.dae_ir.specs.declared.form.Item.TheVariants.{Assign, Load, Store, Print, Expect, Break, Halt}
 
@@ -32,7 +33,7 @@ abbrev filled : Form
 filled =
     Do here (Assign 1 (Same (Number 0))) (
     Loop here
-    (If here (record { relation = LessSigned; left = Variable 1; right = Number 4 }) Done (Do here Break Done) (
+    (If here (record { comparison = LessSigned; left = Variable 1; right = Number 4 }) Done (Do here Break Done) (
     Do here (Assign 2 (Binary Multiply (Variable 1) (Number 4))) (
     Do here (Assign 3 (Binary Add (Number 16) (Variable 2))) (
     Do here (Expect (Good B4 (Variable 3))) (
@@ -112,7 +113,7 @@ abbrev divided : Form
 divided =
     Do here (Assign 1 (Same (Number 10))) (
     Do here (Assign 2 (Same (Number 0))) (
-    If here (record { relation = LessSigned; left = Number 5; right = Variable 1 })
+    If here (record { comparison = LessSigned; left = Number 5; right = Variable 1 })
     (Do here (Expect (Zero (Variable 2))) (
     Do here (Assign 3 (Binary DivideSigned (Variable 1) (Variable 2))) (
     Do here (Assign 1 (Same (Variable 3))) Done)))
@@ -135,7 +136,7 @@ abbrev counted_down : Form
 counted_down =
     Do here (Assign 1 (Same (Number 3))) (
     Loop here
-    (If here (record { relation = NotEqual; left = Variable 1; right = Number 1 }) Done (Do here Break Done) (
+    (If here (record { comparison = NotEqual; left = Variable 1; right = Number 1 }) Done (Do here Break Done) (
     Do here (Assign 2 (Binary Add (Variable 1) (Number 4294967295))) (
     Do here (Assign 1 (Same (Variable 2))) Done)))
     Done (
@@ -153,10 +154,10 @@ unfolding compared misplaced combined
 counted_down_pair = refl
 
 -- what a report counts
-filled_loads_e : loads_e (filled_classes 0) filled ≡ 1
+filled_loads_e : loads_for_e (filled_classes 0) filled ≡ 1
 filled_loads_e = refl
 
-filled_loads_a : loads_a (filled_classes 0) filled ≡ 0
+filled_loads_a : own_loads (filled_classes 0) filled ≡ 0
 filled_loads_a = refl
 
 filled_stores_counted : stores filled ≡ 1

@@ -18,30 +18,30 @@ use Rattle.dae_ir.specs.declared.form.Item.TheVariants.{Assign, Load, Store, Pri
 use Rattle.dae_ir.specs.declared.stream.Class.{Class}
 
 -- a set of variables
-abbrev pub Set : Type 0
-Set = ℕ → Bool
+abbrev pub VariableSet : Type 0
+VariableSet = ℕ → Bool
 
 -- of one function: s is what A needs, and needs what E does
 pub record Classes : Type 0 where
-  pub s : Set
-  pub needs : Set
+  pub s : VariableSet
+  pub needs : VariableSet
 
 -- all variables of an operand, a value, a condition or a check are in the set
-abbrev pub has : Set → Operand → Bool
+abbrev pub has : VariableSet → Operand → Bool
 has c (Variable v) = c v
 has c (Number k) = true
 
-abbrev pub has_test : Set → Test → Bool
+abbrev pub has_test : VariableSet → Test → Bool
 has_test c t = has c t.left && has c t.right
 
-abbrev pub has_value : Set → Value → Bool
+abbrev pub has_value : VariableSet → Value → Bool
 has_value c (Same x) = has c x
 has_value c (Extended kind x) = has c x
 has_value c (Binary operator x y) = has c x && has c y
 has_value c (Holds t) = has_test c t
 has_value c (FrameAddress offset) = true
 
-abbrev pub has_check : Set → Check → Bool
+abbrev pub has_check : VariableSet → Check → Bool
 has_check c (Place width x) = has c x
 has_check c (Zero x) = has c x
 has_check c (Room f) = true
@@ -49,21 +49,21 @@ has_check c Frame = true
 has_check c Abort = true
 
 -- A decides what it has all variables of. It has those of each address, so only a condition or a check for 0 can be E's
-abbrev pub is_by_a : Set → Test → Bool
+abbrev pub is_by_a : VariableSet → Test → Bool
 is_by_a s t = has_test s t
 
 -- the arguments for the parameters from k on, at a call of a function with the set callee
-abbrev pub ArgumentsKept : Set → Set → ℕ → List Operand → Type 0
+abbrev pub ArgumentsKept : VariableSet → VariableSet → ℕ → List Operand → Type 0
 ArgumentsKept callee c k [] = Unit {0}
 ArgumentsKept callee c k (x ∷ xs) = (callee k ≡ true → has c x ≡ true) × ArgumentsKept callee c (k + 1) xs
 
 -- what a set that is closed under leads-to keeps at a call
-pub record CallKept (callee c : Set) (v : ℕ) (xs : List Operand) : Type 0 where
+pub record CallKept (callee c : VariableSet) (v : ℕ) (xs : List Operand) : Type 0 where
   pub arguments : ArgumentsKept callee c 1 xs
   pub result : c v ≡ true → callee 0 ≡ true
 
 -- what A's sets keep at an item of a function with the set s
-abbrev pub AddressesKept : (ℕ → Set) → Set → Item → Type 0
+abbrev pub AddressesKept : (ℕ → VariableSet) → VariableSet → Item → Type 0
 AddressesKept of s (Assign v x) = s v ≡ true → has_value s x ≡ true
 AddressesKept of s (Load v kind x) = has s x ≡ true
 AddressesKept of s (Store width x y) = has s x ≡ true
@@ -80,7 +80,7 @@ AddressesKept of s (Return x) = s 0 ≡ true → has s x ≡ true
 AddressesKept of s (Halt x) = Unit {0}
 
 -- what E's sets keep at an item, where A's set is s and E's is needs
-abbrev pub NeedsKept : (ℕ → Set) → Set → Set → Item → Type 0
+abbrev pub NeedsKept : (ℕ → VariableSet) → VariableSet → VariableSet → Item → Type 0
 NeedsKept of s needs (Assign v x) = s v ≡ false → needs v ≡ true → has_value needs x ≡ true
 NeedsKept of s needs (Load v kind x) = Unit {0}
 NeedsKept of s needs (Store width x y) = has needs y ≡ true
@@ -97,18 +97,18 @@ NeedsKept of s needs (Return x) = needs 0 ≡ true → has needs x ≡ true
 NeedsKept of s needs (Halt x) = has needs x ≡ true
 
 -- and at a condition
-abbrev pub TestKept : Set → Set → Test → Type 0
+abbrev pub TestKept : VariableSet → VariableSet → Test → Type 0
 TestKept s needs t = has_test s t ≡ false → has_test needs t ≡ true
 
 -- A's sets of a whole program are closed
-abbrev pub AreAddressesClosed : Program → (ℕ → Set) → Type 0
+abbrev pub AreAddressesClosed : Program → (ℕ → VariableSet) → Type 0
 AreAddressesClosed p s = (f : ℕ) → Each (AddressesKept s (s f)) (λ t. Unit {0}) (p.body f)
 
 -- E's sets are, where A's are s
-abbrev pub AreNeedsClosed : Program → (ℕ → Set) → (ℕ → Set) → Type 0
+abbrev pub AreNeedsClosed : Program → (ℕ → VariableSet) → (ℕ → VariableSet) → Type 0
 AreNeedsClosed p s needs = (f : ℕ) → Each (NeedsKept needs (s f) (needs f)) (TestKept (s f) (needs f)) (p.body f)
 
-abbrev pub IsWithin : Set → Set → Type 0
+abbrev pub IsWithin : VariableSet → VariableSet → Type 0
 IsWithin c d = (v : ℕ) → c v ≡ true → d v ≡ true
 
 -- the classes of a whole program: closed
@@ -119,8 +119,8 @@ pub record AreClosed (p : Program) (of : ℕ → Classes) : Type 0 where
 -- closed, and each set within every other that is
 pub record AreLeast (p : Program) (of : ℕ → Classes) : Type 0 where
   pub closed : AreClosed p of
-  pub addresses : (others : ℕ → Set) → AreAddressesClosed p others → (f : ℕ) → IsWithin (of f).s (others f)
-  pub needs : (others : ℕ → Set) → AreNeedsClosed p (λ f. (of f).s) others → (f : ℕ) → IsWithin (of f).needs (others f)
+  pub addresses : (others : ℕ → VariableSet) → AreAddressesClosed p others → (f : ℕ) → IsWithin (of f).s (others f)
+  pub needs : (others : ℕ → VariableSet) → AreNeedsClosed p (λ f. (of f).s) others → (f : ℕ) → IsWithin (of f).needs (others f)
 
 -- ---- classes as tables, per function and variable
 

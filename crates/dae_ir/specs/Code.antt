@@ -1,6 +1,7 @@
 -- Structured code over items and tests of any kind, each with a mark, as the place that it comes from.
 use Rattle.std.specs.Prelude.{ℕ, Bool, true, ◌&&◌, if◌then◌else◌}
-use Rattle.dae_ir.specs.Results.{At, Next, Run, ticked, ◌▷◌, turns}
+use Rattle.dae_meaning.specs.Worlds.{ticked}
+use Rattle.dae_meaning.specs.Results.{At, Next, Run, ◌▷◌, turns}
 
 -- each constructor holds what comes behind it
 pub data Code (M L T : Type 0) : Type 0 where

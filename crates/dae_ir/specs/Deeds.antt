@@ -5,9 +5,10 @@ use Rattle.dae_base.specs.declared.Width.{Width}
 use Rattle.dae_base.specs.declared.LoadKind.{LoadKind}
 use Rattle.dae_base.specs.declared.Queue.{Queue}
 use Rattle.dae_base.specs.declared.Queue.TheVariants.{Ld, Al, Sd, Ab, Eb, Cq}
-use Rattle.dae_ir.specs.Results.{World}
-use Rattle.dae_ir.specs.Operations.{spelled}
-use Rattle.dae_ir.specs.Form.{Env, Program, put, value, computed, fault}
+use Rattle.dae_meaning.specs.Worlds.{World}
+use Rattle.dae_meaning.specs.Operations.{spelled}
+use Rattle.dae_meaning.specs.Variables.{Env, put}
+use Rattle.dae_ir.specs.Form.{Program, value, computed, fault}
 use Rattle.dae_ir.specs.declared.form.Operand.{Operand}
 use Rattle.dae_ir.specs.declared.stream.Action.{Action}
 use Rattle.dae_ir.specs.declared.stream.Action.TheVariants.{Set, Issue, Own, Receive, Address, Datum, Offer, Accept, Emit, Probe, Tell, Hear, Stop, Break, Continue, Call, Return}

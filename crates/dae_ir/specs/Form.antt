@@ -1,16 +1,18 @@
 -- What the structured form does.
-use Rattle.std.specs.Prelude.{ℕ, zero, suc, ◌+◌, Bool, true, ◌&&◌, ◌||◌, nat_eq, nat_lt, List, [], ◌∷◌, ◌++◌, length, Option, Some, None, if◌then◌else◌}
-use Rattle.dae_base.specs.Words.{plus, extended, loaded, stored}
+use Rattle.std.specs.Prelude.{ℕ, zero, suc, ◌+◌, Bool, true, ◌||◌, nat_eq, nat_lt, List, [], ◌∷◌, ◌++◌, length, Option, Some, None, if◌then◌else◌}
+use Rattle.dae_base.specs.Words.{plus, extended, loaded, stored, width_of}
 use Rattle.dae_base.specs.declared.Place.{Place}
 use Rattle.dae_base.specs.declared.Width.{Width}
-use Rattle.dae_ir.specs.Results.{Result, At, Over, Next, Leaves, Skips, Returns, Halted, Trapped, Run, World, ticked, fetched}
+use Rattle.dae_meaning.specs.Worlds.{World, ticked, fetched, back}
+use Rattle.dae_meaning.specs.Variables.{Env, put, entered}
+use Rattle.dae_meaning.specs.Results.{Result, At, Over, Next, Leaves, Skips, Returns, Halted, Astray, Run, within, checked}
 use Rattle.dae_ir.specs.Code.{Code, Done, Do, If, Loop, Meaning, exec}
-use Rattle.dae_ir.specs.Operations.{combined, compared, spelled, misplaced, passed}
+use Rattle.dae_meaning.specs.Operations.{combined, compared, spelled, misplaced, passed}
 use Rattle.dae_ir.specs.declared.form.Operand.{Operand}
 use Rattle.dae_ir.specs.declared.form.Operand.TheVariants.{Variable, Number}
 use Rattle.dae_ir.specs.declared.form.Value.{Value}
 use Rattle.dae_ir.specs.declared.form.Value.TheVariants.{Same, Extended, Binary, Holds, FrameAddress}
-use Rattle.dae_ir.specs.declared.form.Spelling.{Spelling}
+use Rattle.dae_meaning.specs.declared.Spelling.{Spelling}
 use Rattle.dae_ir.specs.declared.form.Test.{Test}
 use Rattle.dae_ir.specs.declared.form.Check.{Check}
 use Rattle.dae_ir.specs.declared.form.Check.TheVariants.{Place as Good, Zero, Room, Frame, Abort}
@@ -45,14 +47,6 @@ pub record Program : Type 0 where
 
 -- ---- variables and values
 
--- what the variables hold
-abbrev pub Env : Type 0
-Env = ℕ → ℕ
-
--- v is set to x where the flag says so
-abbrev pub put : Bool → ℕ → ℕ → Env → Env
-put b v x env u = if (b && nat_eq u v) then x else env u
-
 abbrev pub value : Operand → Env → ℕ
 value (Variable v) env = env v
 value (Number k) env = k
@@ -62,7 +56,7 @@ values [] env = []
 values (x ∷ xs) env = value x env ∷ values xs env
 
 abbrev pub holds : Test → Env → Bool
-holds t env = compared t.relation (value t.left env) (value t.right env)
+holds t env = compared t.comparison (value t.left env) (value t.right env)
 
 abbrev pub computed : Value → ℕ → Env → ℕ
 computed (Same x) frame env = value x env
@@ -80,11 +74,6 @@ fault p (Zero x) w env = if nat_eq (value x env) 0 then Some 1 else None
 fault p (Room f) w env = passed (nat_lt p.limit (w.depth + 1) || nat_lt (length w.memory) (w.top + p.frame f))
 fault p Frame w env = passed (nat_lt (length w.memory) w.top)
 fault p Abort w env = Some 5
-
--- E is what the variables are kept in
-abbrev pub checked : {E : Type 0} → Option ℕ → Run E
-checked None e w = At Next e w
-checked (Some code) e w = Over (Trapped code) w
 
 -- ---- memory and output
 
@@ -105,19 +94,14 @@ Calls = ℕ → List ℕ → World → Result Env
 abbrev pub deeper : Program → ℕ → World → World
 deeper p f w = record w { frame = w.top; top = w.top + p.frame f; depth = w.depth + 1 }
 
--- behind a call the caller's frame is the running one
-abbrev pub back : World → World → World
-back old w = record w { frame = old.frame; top = old.top; depth = old.depth }
+-- a call counts as two items, and one for each argument
+abbrev pub called : {X : Type 0} → List X → World → World
+called xs w = record w { items = w.items + (2 + length xs) }
 
 -- a call has ended: the caller's variables get its result, or the whole ends
 abbrev pub ended : {E F : Type 0} → (F → E) → World → Result F → Result E
 ended got old (At way e w) = At Next (got e) (back old w)
 ended got old (Over end w) = Over end w
-
--- the variables at a function's entry: the parameters from k on, where the flags say so, and else 0
-abbrev pub entered : (ℕ → Bool) → ℕ → List ℕ → Env
-entered c k [] = λ _. 0
-entered c k (x ∷ xs) = put (c k) k x (entered c (k + 1) xs)
 
 -- ---- what items and functions do
 
@@ -125,14 +109,16 @@ entered c k (x ∷ xs) = put (c k) k x (entered c (k + 1) xs)
 abbrev pub does : Program → (ℕ → Bool) → Calls → Item → Run Env
 does p counted calls (Assign v x) env w = At Next (put true v (computed x w.frame env) env) (ticked w)
 does p counted calls (Load v kind x) env w =
-    At Next (put true v (loaded kind (value x env) w.memory) env) (fetched (counted v) w)
-does p counted calls (Store width x y) env w = At Next env (with_stored width (value x env) (value y env) w)
+    within (misplaced (width_of kind) (value x env) (length w.memory)) w
+    (At Next (put true v (loaded kind (value x env) w.memory) env) (fetched (counted v) w))
+does p counted calls (Store width x y) env w =
+    within (misplaced width (value x env) (length w.memory)) w (At Next env (with_stored width (value x env) (value y env) w))
 does p counted calls (Print spelling x) env w = At Next env (with_printed spelling (value x env) w)
 does p counted calls (Expect check) env w = checked (fault p check w env) env (ticked w)
 does p counted calls Break env w = At Leaves env (ticked w)
 does p counted calls Continue env w = At Skips env (ticked w)
 does p counted calls (Call v f xs) env w =
-    ended (λ (e : Env). put true v (e 0) env) w (calls f (values xs env) (ticked w))
+    within (fault p (Room f) w env) w (ended (λ (e : Env). put true v (e 0) env) w (calls f (values xs env) (called xs w)))
 does p counted calls (Return x) env w = At Returns (put true 0 (value x env) env) (ticked w)
 does p counted calls (Halt x) env w = Over (Halted (value x env)) (ticked w)
 
@@ -141,7 +127,7 @@ meaning p counted calls = record { does = does p counted calls; holds = holds }
 
 -- at most n turns of each loop, and at most limit calls inside one another
 abbrev pub calls_of : Program → (ℕ → ℕ → Bool) → ℕ → ℕ → Calls
-calls_of p counted n zero f xs w = Over (Trapped 4) w
+calls_of p counted n zero f xs w = Over Astray w
 calls_of p counted n (suc limit) f xs w =
     exec (meaning p (counted f) (calls_of p counted n limit)) n (p.body f) (entered (λ _. true) 1 xs) (deeper p f w)
 

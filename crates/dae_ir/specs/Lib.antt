@@ -1,6 +1,4 @@
-pub mod Results
 pub mod Code
-pub mod Operations
 pub mod Form
 pub mod Classes
 pub mod Rounds
@@ -12,3 +10,4 @@ pub mod Scope
 pub mod Sizes
 pub mod SetFirst
 pub mod Deeds
+pub mod Laws

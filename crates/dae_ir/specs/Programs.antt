@@ -2,9 +2,11 @@
 use Rattle.std.specs.Prelude.{◌≡◌, ℕ, ◌+◌, Bool, true, false, List, [], ◌∷◌, slice_get, Option, Some, None}
 use Rattle.dae_base.specs.declared.Side.{Side}
 use Rattle.dae_base.specs.declared.Side.TheVariants.{A, E}
-use Rattle.dae_ir.specs.Results.{Result, At, Over, End, Halted, World}
+use Rattle.dae_meaning.specs.Worlds.{World}
+use Rattle.dae_meaning.specs.Results.{Result, At, Over, End, Halted}
 use Rattle.dae_ir.specs.Code.{Done}
-use Rattle.dae_ir.specs.Form.{Form, form_of, Env, Program, calls_of, all_loads}
+use Rattle.dae_meaning.specs.Variables.{Env}
+use Rattle.dae_ir.specs.Form.{Form, form_of, Program, calls_of, all_loads}
 use Rattle.dae_ir.specs.Classes.{Classes, classes_of, AreLeast}
 use Rattle.dae_ir.specs.Streams.{stream_of, actions_of}
 use Rattle.dae_ir.specs.declared.form.Function.{Function}

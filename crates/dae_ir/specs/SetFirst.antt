@@ -3,7 +3,7 @@
 use Rattle.std.specs.Prelude.{◌≡◌, ℕ, true, ◌&&◌, ◌||◌, nat_eq, nat_lt, nat_le, List, [], ◌∷◌, Option, Some, None}
 use Rattle.dae_ir.specs.Code.{Code, Done, Do, If, Loop}
 use Rattle.dae_ir.specs.Form.{form_of}
-use Rattle.dae_ir.specs.Classes.{Set, has, has_value, has_test, has_check}
+use Rattle.dae_ir.specs.Classes.{VariableSet, has, has_value, has_test, has_check}
 use Rattle.dae_ir.specs.declared.form.Operand.{Operand}
 use Rattle.dae_ir.specs.declared.form.Test.{Test}
 use Rattle.dae_ir.specs.declared.form.Item.{Item}
@@ -11,44 +11,44 @@ use Rattle.dae_ir.specs.declared.form.Item.TheVariants.{Assign, Load, Store, Pri
 use Rattle.dae_ir.specs.declared.form.Function.{Function}
 use Rattle.dae_ir.specs.declared.stream.Argument.{Argument}
 use Rattle.dae_ir.specs.declared.stream.Action.{Action}
-use Rattle.dae_ir.specs.declared.stream.Action.TheVariants.{Set as Compute, Issue, Own, Receive, Address, Datum, Offer, Accept, Emit, Probe, Tell, Hear, Stop, Break as Leave, Continue as Skip, Call as Enter, Return as Give}
+use Rattle.dae_ir.specs.declared.stream.Action.TheVariants.{Set, Issue, Own, Receive, Address, Datum, Offer, Accept, Emit, Probe, Tell, Hear, Stop, Break as Leave, Continue as Skip, Call as Enter, Return as Give}
 use Rattle.dae_ir.specs.declared.stream.Branch.{Branch}
 use Rattle.dae_ir.specs.declared.stream.Branch.TheVariants.{Silent, Tells, Hears}
 
 -- which sets hold what an item or a test reads, and what is set behind an item, where the set was set before it
 pub record Flow (L T : Type 0) : Type 1 where
-  pub Reads : Set → L → Type 0
-  pub Tests : Set → T → Type 0
-  pub after : Set → L → Set
+  pub Reads : VariableSet → L → Type 0
+  pub Tests : VariableSet → T → Type 0
+  pub after : VariableSet → L → VariableSet
 
 -- what is set behind code in any case; behind what goes elsewhere anything may be said
-abbrev pub assured : {M L T : Type 0} → Flow L T → Set → Code M L T → Set
+abbrev pub assured : {M L T : Type 0} → Flow L T → VariableSet → Code M L T → VariableSet
 assured u d Done = d
 assured u d (Do mark item k) = assured u (u.after d item) k
 assured u d (If mark test p q k) = assured u (λ v. assured u d p v && assured u d q v) k
 assured u d (Loop mark body step k) = assured u d k
 
 -- what is read was set before
-abbrev pub IsSetFirst : {M L T : Type 0} → Flow L T → Set → Code M L T → Type 0
+abbrev pub IsSetFirst : {M L T : Type 0} → Flow L T → VariableSet → Code M L T → Type 0
 IsSetFirst u d Done = Unit {0}
 IsSetFirst u d (Do mark item k) = u.Reads d item × IsSetFirst u (u.after d item) k
 IsSetFirst u d (If mark test p q k) =
     u.Tests d test × IsSetFirst u d p × IsSetFirst u d q × IsSetFirst u (λ v. assured u d p v && assured u d q v) k
 IsSetFirst u d (Loop mark body step k) = IsSetFirst u d body × IsSetFirst u d step × IsSetFirst u d k
 
-abbrev pub with_set : ℕ → Set → Set
+abbrev pub with_set : ℕ → VariableSet → VariableSet
 with_set v d u = nat_eq u v || d u
 
-abbrev pub all_set : Set
+abbrev pub all_set : VariableSet
 all_set v = true
 
 -- ---- forms
 
-abbrev pub AllRead : Set → List Operand → Type 0
+abbrev pub AllRead : VariableSet → List Operand → Type 0
 AllRead d [] = Unit {0}
 AllRead d (x ∷ xs) = (has d x ≡ true) × AllRead d xs
 
-abbrev pub ItemReads : Set → Item → Type 0
+abbrev pub ItemReads : VariableSet → Item → Type 0
 ItemReads d (Assign v x) = has_value d x ≡ true
 ItemReads d (Load v kind x) = has d x ≡ true
 ItemReads d (Store width x y) = (has d x ≡ true) × (has d y ≡ true)
@@ -60,7 +60,7 @@ ItemReads d (Call v f xs) = AllRead d xs
 ItemReads d (Return x) = has d x ≡ true
 ItemReads d (Halt x) = has d x ≡ true
 
-abbrev pub after_item : Set → Item → Set
+abbrev pub after_item : VariableSet → Item → VariableSet
 after_item d (Assign v x) = with_set v d
 after_item d (Load v kind x) = with_set v d
 after_item d (Store width x y) = d
@@ -76,7 +76,7 @@ abbrev pub form_flow : Flow Item Test
 form_flow = record { Reads = ItemReads; Tests = λ d t. has_test d t ≡ true; after = after_item }
 
 -- the parameters are set at a function's entry
-abbrev pub parameters_set : ℕ → Set
+abbrev pub parameters_set : ℕ → VariableSet
 parameters_set count v = nat_lt 0 v && nat_le v count
 
 abbrev pub IsFunctionSetFirst : Function → Type 0
@@ -84,16 +84,16 @@ IsFunctionSetFirst function = IsSetFirst form_flow (parameters_set function.para
 
 -- ---- streams
 
-abbrev pub AllGiven : Set → List Argument → Type 0
+abbrev pub AllGiven : VariableSet → List Argument → Type 0
 AllGiven d [] = Unit {0}
 AllGiven d (x ∷ xs) = (has d x.operand ≡ true) × AllGiven d xs
 
-abbrev pub SomeRead : Set → Option Operand → Type 0
+abbrev pub SomeRead : VariableSet → Option Operand → Type 0
 SomeRead d None = Unit {0}
 SomeRead d (Some x) = has d x ≡ true
 
-abbrev pub ActionReads : Set → Action → Type 0
-ActionReads d (Compute v x) = has_value d x ≡ true
+abbrev pub ActionReads : VariableSet → Action → Type 0
+ActionReads d (Set v x) = has_value d x ≡ true
 ActionReads d (Issue kind x) = has d x ≡ true
 ActionReads d (Own v kind x) = has d x ≡ true
 ActionReads d (Receive v) = Unit {0}
@@ -111,12 +111,12 @@ ActionReads d Skip = Unit {0}
 ActionReads d (Enter v f xs) = AllGiven d xs
 ActionReads d (Give x) = SomeRead d x
 
-abbrev pub with_some : Option ℕ → Set → Set
+abbrev pub with_some : Option ℕ → VariableSet → VariableSet
 with_some None d = d
 with_some (Some v) d = with_set v d
 
-abbrev pub after_action : Set → Action → Set
-after_action d (Compute v x) = with_set v d
+abbrev pub after_action : VariableSet → Action → VariableSet
+after_action d (Set v x) = with_set v d
 after_action d (Issue kind x) = d
 after_action d (Own v kind x) = with_set v d
 after_action d (Receive v) = with_set v d
@@ -134,7 +134,7 @@ after_action d Skip = all_set
 after_action d (Enter v f xs) = with_some v d
 after_action d (Give x) = all_set
 
-abbrev pub BranchReads : Set → Branch → Type 0
+abbrev pub BranchReads : VariableSet → Branch → Type 0
 BranchReads d (Silent t) = has_test d t ≡ true
 BranchReads d (Tells t) = has_test d t ≡ true
 BranchReads d Hears = Unit {0}

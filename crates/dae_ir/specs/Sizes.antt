@@ -2,7 +2,7 @@
 use Rattle.std.specs.Prelude.{ℕ, ◌+◌, Bool, true, false, not, ◌&&◌, length, if◌then◌else◌}
 use Rattle.dae_ir.specs.Code.{Code, Done, Do, If, Loop}
 use Rattle.dae_ir.specs.Form.{Form}
-use Rattle.dae_ir.specs.Classes.{Set, Classes, is_by_a}
+use Rattle.dae_ir.specs.Classes.{VariableSet, Classes, is_by_a}
 use Rattle.dae_ir.specs.Streams.{Actions}
 use Rattle.dae_ir.specs.declared.form.Item.{Item}
 use Rattle.dae_ir.specs.declared.form.Item.TheVariants.{Load, Store, Call}
@@ -45,23 +45,23 @@ actions_size code = size action_weight code
 abbrev pub bit : Bool → ℕ
 bit b = if b then 1 else 0
 
-abbrev pub is_load_into : Set → Item → Bool
+abbrev pub is_load_into : VariableSet → Item → Bool
 is_load_into c (Load v kind x) = c v
 is_load_into c item = false
 
-abbrev pub is_store : Item → Bool
-is_store (Store width x y) = true
-is_store item = false
+abbrev pub is_store_item : Item → Bool
+is_store_item (Store width x y) = true
+is_store_item item = false
 
 -- A's own loads, and the loads that E alone needs
-abbrev pub loads_a : Classes → Form → ℕ
-loads_a c code = tally (λ item. bit (is_load_into c.s item)) (λ t. 0) code
+abbrev pub own_loads : Classes → Form → ℕ
+own_loads c code = tally (λ item. bit (is_load_into c.s item)) (λ t. 0) code
 
-abbrev pub loads_e : Classes → Form → ℕ
-loads_e c code = tally (λ item. bit (is_load_into (λ v. not (c.s v) && c.needs v) item)) (λ t. 0) code
+abbrev pub loads_for_e : Classes → Form → ℕ
+loads_for_e c code = tally (λ item. bit (is_load_into (λ v. not (c.s v) && c.needs v) item)) (λ t. 0) code
 
 abbrev pub stores : Form → ℕ
-stores code = tally (λ item. bit (is_store item)) (λ t. 0) code
+stores code = tally (λ item. bit (is_store_item item)) (λ t. 0) code
 
 -- the conditions that A decides, and those that E does
 abbrev pub conditions_a : Classes → Form → ℕ

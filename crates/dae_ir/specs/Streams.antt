@@ -6,7 +6,7 @@ use Rattle.std.specs.Prelude.{ℕ, ◌+◌, Bool, true, false, not, ◌&&◌, �
 use Rattle.dae_base.specs.declared.Place.{Place}
 use Rattle.dae_ir.specs.Code.{Code, Done, Do, If, Loop}
 use Rattle.dae_ir.specs.Form.{Form}
-use Rattle.dae_ir.specs.Classes.{Set, Classes}
+use Rattle.dae_ir.specs.Classes.{VariableSet, Classes}
 use Rattle.dae_ir.specs.Rounds.{Jump, Breaks, Continues, Enters, Gives, Halts, Group, Alone, Region, Decision, Rounds, rounds}
 use Rattle.dae_ir.specs.declared.form.Operand.{Operand}
 use Rattle.dae_ir.specs.declared.form.Operand.TheVariants.{Number}
@@ -17,7 +17,7 @@ use Rattle.dae_ir.specs.declared.stream.Last.TheVariants.{Nothing, Stores, Print
 use Rattle.dae_ir.specs.declared.stream.Mark.{Mark}
 use Rattle.dae_ir.specs.declared.stream.Argument.{Argument}
 use Rattle.dae_ir.specs.declared.stream.Action.{Action}
-use Rattle.dae_ir.specs.declared.stream.Action.TheVariants.{Set as Compute, Issue, Own, Receive, Address, Datum, Offer, Accept, Emit, Probe, Tell, Hear, Stop, Break, Continue, Call, Return}
+use Rattle.dae_ir.specs.declared.stream.Action.TheVariants.{Set, Issue, Own, Receive, Address, Datum, Offer, Accept, Emit, Probe, Tell, Hear, Stop, Break, Continue, Call, Return}
 use Rattle.dae_ir.specs.declared.stream.Branch.{Branch}
 use Rattle.dae_ir.specs.declared.stream.Branch.TheVariants.{Silent, Tells, Hears}
 use Rattle.dae_ir.specs.declared.stream.Step.{Step, Act, If', Loop', Row_of-Step, end_of-Step, more_of-Step}
@@ -38,7 +38,7 @@ when false m x k = k
 
 abbrev pub a_part : Classes → ℕ → Part → Actions → Actions
 a_part c n (Sets place v x) k =
-    when (c.s v) (mark place n) (Compute v x) (when (c.s v && c.needs v) (mark place n) (Offer v) k)
+    when (c.s v) (mark place n) (Set v x) (when (c.s v && c.needs v) (mark place n) (Offer v) k)
 a_part c n (Loads place v kind x) k =
     when (not (c.s v) && c.needs v) (mark place n) (Issue kind x)
     (when (c.s v) (mark place n) (Own v kind x) (when (c.s v && c.needs v) (mark place n) (Offer v) k))
@@ -46,7 +46,7 @@ a_part c n (Tests place check) k = Do (mark place n) (Probe check) k
 
 abbrev pub e_part : Classes → ℕ → Part → Actions → Actions
 e_part c n (Sets place v x) k =
-    when (c.s v && c.needs v) (mark place n) (Accept v) (when (not (c.s v) && c.needs v) (mark place n) (Compute v x) k)
+    when (c.s v && c.needs v) (mark place n) (Accept v) (when (not (c.s v) && c.needs v) (mark place n) (Set v x) k)
 e_part c n (Loads place v kind x) k =
     when (c.s v && c.needs v) (mark place n) (Accept v) (when (not (c.s v) && c.needs v) (mark place n) (Receive v) k)
 e_part c n (Tests place check) k = k
@@ -92,11 +92,11 @@ group_of by_a c n g last k = if by_a then a_group c n g last k else e_group c n 
 -- ---- what stands between groups
 
 -- the set of a side
-abbrev pub set_of : Bool → Classes → Set
+abbrev pub set_of : Bool → Classes → VariableSet
 set_of by_a c = if by_a then c.s else c.needs
 
 -- the arguments for the parameters from k on that are in the set
-abbrev pub arguments_in : Set → ℕ → List Operand → List Argument
+abbrev pub arguments_in : VariableSet → ℕ → List Operand → List Argument
 arguments_in callee k [] = []
 arguments_in callee k (x ∷ xs) =
     if callee k then record { parameter = k; operand = x } ∷ arguments_in callee (k + 1) xs

@@ -1,6 +1,7 @@
 // The structured form.
 
 use dae_base::{Items, LoadKind, Place, Text, Width};
+use dae_meaning::{Comparison, Operator, Spelling};
 
 /// A variable of the function, or a number.
 #[derive(Clone, Copy, PartialEq, Eq, Debug)]
@@ -9,40 +10,10 @@ pub enum Operand {
     Number(u32),
 }
 
-/// An operation of C on two words (C90 6.3.5 to 6.3.12). Sums, differences and products wrap. A shift counts by the low
-/// five bits of its amount, and the right shift of a signed word copies the sign.
-#[derive(Clone, Copy, PartialEq, Eq, Debug)]
-pub enum Operator {
-    Add,
-    Subtract,
-    Multiply,
-    DivideSigned,
-    DivideUnsigned,
-    RemainderSigned,
-    RemainderUnsigned,
-    And,
-    Or,
-    Xor,
-    ShiftLeft,
-    ShiftRightSigned,
-    ShiftRightUnsigned,
-}
-
-/// A comparison of two words.
-#[derive(Clone, Copy, PartialEq, Eq, Debug)]
-pub enum Relation {
-    Equal,
-    NotEqual,
-    LessSigned,
-    AtLeastSigned,
-    LessUnsigned,
-    AtLeastUnsigned,
-}
-
 /// A condition.
 #[derive(Clone, Copy, PartialEq, Eq, Debug)]
 pub struct Test {
-    pub relation: Relation,
+    pub comparison: Comparison,
     pub left: Operand,
     pub right: Operand,
 }
@@ -56,15 +27,6 @@ pub enum Value {
     Binary(Operator, Operand, Operand),
     Holds(Test),
     FrameAddress(u32),
-}
-
-/// How a printed word is spelled: its low byte, in decimal as a signed or an unsigned number, or in hexadecimal.
-#[derive(Clone, Copy, PartialEq, Eq, Debug)]
-pub enum Spelling {
-    Byte,
-    Signed,
-    Unsigned,
-    Hexadecimal,
 }
 
 /// What must hold where it stands, or the program traps: an address is good for an access of this width (3 where it is

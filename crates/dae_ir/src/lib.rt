@@ -4,12 +4,12 @@
 // pair, what an action does, sizes, and a pair's budget.
 #![tactic(auto)]
 
-pub use form::{
-    Check, Function, Ir, Item, Operand, Operator, Relation, Spelling, Statement, Test, Value,
-};
+pub use form::{Check, Function, Ir, Item, Operand, Statement, Test, Value};
 pub use stream::{
     Action, Argument, Branch, Class, Last, Mark, Pair, Part, Step, Stream, StreamFunction,
 };
+pub use theorems::{fewer_loads, going_takes_turns, memory_kept, more_turns};
 
 mod form;
 mod stream;
+mod theorems;

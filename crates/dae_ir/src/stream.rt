@@ -1,7 +1,8 @@
 // Classes of variables, groups, and the two streams of actions.
 
-use crate::form::{Check, Operand, Spelling, Test, Value};
+use crate::form::{Check, Operand, Test, Value};
 use dae_base::{Items, LoadKind, Place, Side, Text, Width};
+use dae_meaning::Spelling;
 
 /// Which processors need a variable: A, since it leads to an address, and E, since it leads to what is stored, printed
 /// or decided there.

@@ -13,3 +13,6 @@ pub mod Generator
 pub mod Turns
 pub mod Printing
 pub mod Scheduled
+pub mod Walks
+pub mod Pushed
+pub mod LawsOfRuns

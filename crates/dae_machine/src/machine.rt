@@ -1,5 +1,5 @@
 ghost use Rattle.std.specs.Prelude.{◌≡◌, ◌<◌, [], Some, IsSome, is_some, IfOk, IfErr, None};
-ghost use Rattle.dae_base.specs.Budgets.{first_below};
+ghost use Rattle.dae_base.specs.Budgets.{Reaches};
 ghost use Rattle.dae_core.specs.Held.{CanHold};
 ghost use Rattle.dae_machine.specs.Answers.{Refuses, is_done};
 ghost use Rattle.dae_machine.specs.Held.{DataFit};
@@ -47,7 +47,7 @@ impl Machine {
     pub fn open(alloc: Global, image: &Image, depths: Depths) -> Result<Machine, OpenError>
         requires { CanHold depths }
         ensures ok { IfOk result (λ machine. machine ≡ record { setup = setup_of image.now depths; state = opened image.now }) }
-        ensures reaches { IfOk result (λ machine. first_below depths image.now.budget ≡ None) }
+        ensures reaches { IfOk result (λ machine. Reaches depths image.now.budget) }
         ensures err { IfErr result (λ e. Refuses e image.now.budget depths) }
     {
         reaches(&depths, &image.budget)?;

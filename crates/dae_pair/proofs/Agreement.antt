@@ -1,9 +1,10 @@
 -- What reads a closed set alone is the same where the variables agree on it.
 use Rattle.std.proofs.Common.{◌≡◌, ℕ, ◌+◌, Bool, true, false, ◌&&◌, nat_eq, List, [], ◌∷◌, if◌then◌else◌, refl, arith}
 use Rattle.std.proofs.lemmas.Bool.Decides.{nat_tests}
-use Rattle.dae_ir.specs.Results.{World}
-use Rattle.dae_ir.specs.Form.{Env, put, value, values, computed, holds, fault, entered, Program}
-use Rattle.dae_ir.specs.Classes.{Set, has, has_value, has_test, has_check, ArgumentsKept}
+use Rattle.dae_meaning.specs.Worlds.{World}
+use Rattle.dae_meaning.specs.Variables.{Env, put, entered}
+use Rattle.dae_ir.specs.Form.{value, values, computed, holds, fault, Program}
+use Rattle.dae_ir.specs.Classes.{VariableSet, has, has_value, has_test, has_check, ArgumentsKept}
 use Rattle.dae_pair.specs.Laws.{AgreeOn}
 use Rattle.dae_ir.specs.declared.form.Operand.{Operand}
 use Rattle.dae_ir.specs.declared.form.Operand.TheVariants.{Variable, Number}
@@ -17,7 +18,7 @@ pub both_true : (a b : Bool) → a && b ≡ true → (a ≡ true) × (b ≡ true
 both_true true b h = (refl, h)
 both_true false b h = cc
 
-module _ (c : Set) (env other : Env) (agree : AgreeOn c env other) where
+module _ (c : VariableSet) (env other : Env) (agree : AgreeOn c env other) where
   pub value_agrees : (x : Operand) → has c x ≡ true → value x other ≡ value x env
   value_agrees (Variable v) h = agree v h
   value_agrees (Number k) h = refl
@@ -50,21 +51,21 @@ module _ (c : Set) (env other : Env) (agree : AgreeOn c env other) where
     by false e false k = agree u m
 
 -- what is passed agrees with what the form passes, for the parameters of the set from k on
-abbrev pub Passes : Set → ℕ → List ℕ → List ℕ → Type 0
+abbrev pub Passes : VariableSet → ℕ → List ℕ → List ℕ → Type 0
 Passes c k [] [] = Unit {0}
 Passes c k [] (y ∷ ys) = ⊥
 Passes c k (x ∷ xs) [] = ⊥
 Passes c k (x ∷ xs) (y ∷ ys) = (c k ≡ true → y ≡ x) × Passes c (k + 1) xs ys
 
-pub passes_same : (c : Set) (k : ℕ) (xs : List ℕ) → Passes c k xs xs
+pub passes_same : (c : VariableSet) (k : ℕ) (xs : List ℕ) → Passes c k xs xs
 passes_same c k [] = tt
 passes_same c k (x ∷ xs) = (λ _. refl, passes_same c (k + 1) xs)
 
-pub values_pass : (callee c : Set) (env other : Env) → AgreeOn c env other → (k : ℕ) (xs : List Operand) → ArgumentsKept callee c k xs → Passes callee k (values xs env) (values xs other)
+pub values_pass : (callee c : VariableSet) (env other : Env) → AgreeOn c env other → (k : ℕ) (xs : List Operand) → ArgumentsKept callee c k xs → Passes callee k (values xs env) (values xs other)
 values_pass callee c env other agree k [] h = tt
 values_pass callee c env other agree k (x ∷ xs) h = (λ m. value_agrees c env other agree x (h.0 m), values_pass callee c env other agree (k + 1) xs h.1)
 
-pub entered_agree : (c : Set) (k : ℕ) (xs ys : List ℕ) → Passes c k xs ys → AgreeOn c (entered (λ _. true) k xs) (entered c k ys)
+pub entered_agree : (c : VariableSet) (k : ℕ) (xs ys : List ℕ) → Passes c k xs ys → AgreeOn c (entered (λ _. true) k xs) (entered c k ys)
 entered_agree c k [] [] h = λ v m. refl
 entered_agree c k [] (y ∷ ys) h = absurd h
 entered_agree c k (x ∷ xs) [] h = absurd h

@@ -1,16 +1,13 @@
--- No group passes the cap, and A sends as many words and copies as a group has loads and copies for E.
-use Rattle.std.proofs.Common.{◌≡◌, ℕ, ◌+◌, ◌<◌, ◌≤◌, Bool, true, false, not, ◌&&◌, ◌||◌, nat_eq, List, [], ◌∷◌, ◌++◌, Option, Some, None, if◌then◌else◌, refl, ◌∙◌, arith}
+-- No group passes the cap.
+use Rattle.std.proofs.Common.{◌≡◌, ℕ, ◌+◌, ◌<◌, ◌≤◌, Bool, true, false, ◌&&◌, ◌||◌, nat_eq, List, [], ◌∷◌, ◌++◌, Option, Some, None, if◌then◌else◌, refl, arith}
 use Rattle.std.proofs.lemmas.Bool.Decides.{nat_tests}
 use Rattle.dae_base.specs.declared.Place.{Place}
-use Rattle.dae_ir.specs.Results.{World}
 use Rattle.dae_ir.specs.Code.{Done, Do, If, Loop, Each}
-use Rattle.dae_ir.specs.Form.{Form, Program, fault}
+use Rattle.dae_ir.specs.Form.{Form}
 use Rattle.dae_ir.specs.Classes.{Classes}
 use Rattle.dae_ir.specs.Rounds.{Rounds, Stand, Joins, Closes, Separates, stand, closed, is_for_e, is_copied, how_many, is_full, placed, region, one_sided, rounds}
-use Rattle.dae_ir.specs.Canonical.{Access, Passed, Failed, with_word, with_copy, unless}
-use Rattle.dae_pair.specs.Budget.{RoundFits, GroupsFit, Sends, GroupSends}
+use Rattle.dae_pair.specs.Budget.{RoundFits}
 use Rattle.dae_ir.specs.declared.stream.Part.{Part}
-use Rattle.dae_ir.specs.declared.stream.Part.TheVariants.{Sets, Loads, Tests}
 
 pub how_many_more : (f : Part → Bool) (g : List Part) (p : Part) → how_many f (g ++ p ∷ []) ≡ how_many f g + (if f p then 1 else 0)
 how_many_more f [] p = omega (arith)
@@ -71,36 +68,3 @@ module _ (c : Classes) (cap : ℕ) (some : 0 < cap) where
   rounds_fit outside (Loop place p q k) g h =
       closed_fit g h _ (sided_fit (region outside c (Loop place p q Done)) place _ _ _ (rounds_fit outside k [] no_parts)
       (rounds_fit outside p [] no_parts, rounds_fit outside q [] no_parts, rounds_fit outside k [] no_parts))
-
-pub groups_fit : (p : Program) (of : ℕ → Classes) → GroupsFit p of
-groups_fit p of cap some f = rounds_fit (of f) cap some true (p.body f) [] (no_parts (of f) cap some)
-
-sends_copy : (b : Bool) (x n m : ℕ) (r : Access) → Sends n m r → Sends n ((if b then 1 else 0) + m) (with_copy b x r)
-sends_copy true x n m (Passed env words copies w) h = (h.0, omega (arith, h.1))
-sends_copy false x n m (Passed env words copies w) h = (h.0, omega (arith, h.1))
-sends_copy true x n m (Failed code w) h = tt
-sends_copy false x n m (Failed code w) h = tt
-
-sends_word : (b : Bool) (x n m : ℕ) (r : Access) → Sends n m r → Sends ((if b then 1 else 0) + n) m (with_word b x r)
-sends_word true x n m (Passed env words copies w) h = (omega (arith, h.0), h.1)
-sends_word false x n m (Passed env words copies w) h = (omega (arith, h.0), h.1)
-sends_word true x n m (Failed code w) h = tt
-sends_word false x n m (Failed code w) h = tt
-
--- the same numbers, written otherwise
-sends_as : (n m n' m' : ℕ) (r : Access) → n ≡ n' → m ≡ m' → Sends n m r → Sends n' m' r
-sends_as n m n' m' (Passed env words copies w) e d h = (h.0 ∙ e, h.1 ∙ d)
-sends_as n m n' m' (Failed code w) e d h = tt
-
-sends_unless : (o : Option ℕ) (w : World) (n m : ℕ) (r : Access) → Sends n m r → Sends n m (unless o w r)
-sends_unless None w n m r h = h
-sends_unless (Some code) w n m r h = tt
-
-pub group_sends : GroupSends
-group_sends p c [] w env = (refl, refl)
-group_sends p c (Sets place v x ∷ g) w env =
-    sends_copy (c.s v && c.needs v) _ _ _ _ (sends_as _ _ (0 + how_many (is_for_e c) g) _ _ (omega (arith)) refl (group_sends p c g _ _))
-group_sends p c (Loads place v kind x ∷ g) w env =
-    sends_word (not (c.s v) && c.needs v) _ _ _ _ (sends_copy (c.s v && c.needs v) _ _ _ _ (group_sends p c g _ _))
-group_sends p c (Tests place check ∷ g) w env =
-    sends_unless (fault p check w env) _ _ _ _ (sends_as _ _ (0 + how_many (is_for_e c) g) (0 + how_many (is_copied c) g) _ (omega (arith)) (omega (arith)) (group_sends p c g _ _))

@@ -18,7 +18,7 @@ use Rattle.dae_ir.specs.declared.stream.Last.{Last}
 use Rattle.dae_ir.specs.declared.stream.Last.TheVariants.{Nothing, Stores, Prints, Decides}
 use Rattle.dae_ir.specs.declared.stream.Mark.{Mark}
 use Rattle.dae_ir.specs.declared.stream.Action.{Action}
-use Rattle.dae_ir.specs.declared.stream.Action.TheVariants.{Set as Compute, Issue, Own, Offer, Tell, Hear, Address}
+use Rattle.dae_ir.specs.declared.stream.Action.TheVariants.{Set, Issue, Own, Offer, Tell, Hear, Address}
 
 -- ---- each region of A is one
 
@@ -63,7 +63,7 @@ module _ (c : Classes) (cap : ℕ) (outside : Bool) where
 
 pub loads_at : (c : Classes) (n g : ℕ) (p : Part) (k : Actions) → in_group is_load_for_e g (a_part c n p k) ≡ (if is_for_e c p && nat_eq n g then 1 else 0) + in_group is_load_for_e g k
 loads_at c n g (Sets place v x) k = by (c.s v) (c.needs v) where
-  by : (s e : Bool) → in_group is_load_for_e g (when s (mark place n) (Compute v x) (when (s && e) (mark place n) (Offer v) k)) ≡ 0 + in_group is_load_for_e g k
+  by : (s e : Bool) → in_group is_load_for_e g (when s (mark place n) (Set v x) (when (s && e) (mark place n) (Offer v) k)) ≡ 0 + in_group is_load_for_e g k
   by true true = omega (arith)
   by true false = omega (arith)
   by false e = omega (arith)
@@ -77,7 +77,7 @@ loads_at c n g (Tests place check) k = omega (arith)
 
 pub copies_at : (c : Classes) (n g : ℕ) (p : Part) (k : Actions) → in_group is_copy g (a_part c n p k) ≡ (if is_copied c p && nat_eq n g then 1 else 0) + in_group is_copy g k
 copies_at c n g (Sets place v x) k = by (c.s v) (c.needs v) where
-  by : (s e : Bool) → in_group is_copy g (when s (mark place n) (Compute v x) (when (s && e) (mark place n) (Offer v) k)) ≡ (if (s && e) && nat_eq n g then 1 else 0) + in_group is_copy g k
+  by : (s e : Bool) → in_group is_copy g (when s (mark place n) (Set v x) (when (s && e) (mark place n) (Offer v) k)) ≡ (if (s && e) && nat_eq n g then 1 else 0) + in_group is_copy g k
   by true true = omega (arith)
   by true false = omega (arith)
   by false e = omega (arith)
@@ -155,7 +155,7 @@ module _ (c : Classes) (f : Action → Bool) (kind : Part → Bool) (others : (x
 
     inside_part : (n : ℕ) (p : Part) (k : Actions) → AllInside P k → AllInside P (a_part c n p k)
     inside_part n (Sets place v x) k h =
-        inside_when (c.s v) (mark place n) (Compute v x) _ (inside_when (c.s v && c.needs v) (mark place n) (Offer v) k h)
+        inside_when (c.s v) (mark place n) (Set v x) _ (inside_when (c.s v && c.needs v) (mark place n) (Offer v) k h)
     inside_part n (Loads place v kind x) k h =
         inside_when (not (c.s v) && c.needs v) (mark place n) (Issue kind x) _
         (inside_when (c.s v) (mark place n) (Own v kind x) _ (inside_when (c.s v && c.needs v) (mark place n) (Offer v) k h))

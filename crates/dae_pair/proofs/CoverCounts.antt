@@ -12,7 +12,7 @@ use Rattle.dae_ir.specs.declared.form.Operand.TheVariants.{Number}
 use Rattle.dae_ir.specs.declared.stream.Part.{Part}
 use Rattle.dae_ir.specs.declared.stream.Part.TheVariants.{Sets, Loads, Tests}
 use Rattle.dae_ir.specs.declared.stream.Action.{Action}
-use Rattle.dae_ir.specs.declared.stream.Action.TheVariants.{Set as Compute, Issue, Own, Offer, Tell}
+use Rattle.dae_ir.specs.declared.stream.Action.TheVariants.{Set, Issue, Own, Offer, Tell}
 
 same : (n : ℕ) → nat_eq n n ≡ true
 same n = by (nat_eq n n) refl where
@@ -23,7 +23,7 @@ same n = by (nat_eq n n) refl where
 -- each part counts as its actions do
 loads_in : (c : Classes) (n : ℕ) (p : Part) (k : Actions) → in_group is_load_for_e n (a_part c n p k) ≡ (if is_for_e c p then 1 else 0) + in_group is_load_for_e n k
 loads_in c n (Sets place v x) k = by (c.s v) (c.needs v) where
-  by : (s e : Bool) → in_group is_load_for_e n (when s (mark place n) (Compute v x) (when (s && e) (mark place n) (Offer v) k)) ≡ 0 + in_group is_load_for_e n k
+  by : (s e : Bool) → in_group is_load_for_e n (when s (mark place n) (Set v x) (when (s && e) (mark place n) (Offer v) k)) ≡ 0 + in_group is_load_for_e n k
   by true true = omega (arith)
   by true false = omega (arith)
   by false e = omega (arith)
@@ -37,7 +37,7 @@ loads_in c n (Tests place check) k = omega (arith)
 
 copies_in : (c : Classes) (n : ℕ) (p : Part) (k : Actions) → in_group is_copy n (a_part c n p k) ≡ (if is_copied c p then 1 else 0) + in_group is_copy n k
 copies_in c n (Sets place v x) k = by (c.s v) (c.needs v) where
-  by : (s e : Bool) → in_group is_copy n (when s (mark place n) (Compute v x) (when (s && e) (mark place n) (Offer v) k)) ≡ (if s && e then 1 else 0) + in_group is_copy n k
+  by : (s e : Bool) → in_group is_copy n (when s (mark place n) (Set v x) (when (s && e) (mark place n) (Offer v) k)) ≡ (if s && e then 1 else 0) + in_group is_copy n k
   by true true = rw (same n) (omega (arith))
   by true false = omega (arith)
   by false e = omega (arith)

@@ -3,7 +3,7 @@ use Rattle.std.proofs.Common.{◌≡◌, ℕ, ◌+◌, Bool, true, false, not, �
 use Rattle.dae_base.specs.declared.Place.{Place}
 use Rattle.dae_ir.specs.Code.{Done, Do, If, Loop, Each, every}
 use Rattle.dae_ir.specs.Form.{Form}
-use Rattle.dae_ir.specs.Classes.{Set, Classes, has, has_test, has_check, is_by_a, ArgumentsKept, CallKept}
+use Rattle.dae_ir.specs.Classes.{VariableSet, Classes, has, has_test, has_check, is_by_a, ArgumentsKept, CallKept}
 use Rattle.dae_ir.specs.Rounds.{Jump, Breaks, Continues, Enters, Gives, Halts, Rounds, Group, Alone, Joins, Closes, Separates, stand, decision, closed, place_of, is_full, placed, rounds, is_a_item, is_e_item, is_jump, stays, is_a_region, is_e_region, region, one_sided}
 use Rattle.dae_ir.specs.Streams.{Actions, mark, when, group_of, set_of, arguments_in, jump_action, inside_of, has_loop, region_of, side_of, branch_of}
 use Rattle.dae_ir.specs.SetFirst.{assured, IsSetFirst, with_set, all_set, AllRead, ItemReads, after_item, form_flow, AllGiven, stream_flow, BranchReads}
@@ -34,23 +34,23 @@ use Rattle.dae_ir.specs.declared.stream.Branch.TheVariants.{Silent, Tells, Hears
 both_so : (a b a' b' : Bool) → (a ≡ true → a' ≡ true) → (b ≡ true → b' ≡ true) → a && b ≡ true → a' && b' ≡ true
 both_so a b a' b' f g h = let x = both_true a b h in rw (f x.0, g x.1) refl
 
-if_rest : (s t d tp tq : Set) (m : Mark) (b : Branch) (p q k : Actions) → ((d' : Set) → Keeps s d d' → BranchReads d' b) → Rest s tp d p → Rest s tq d q → Rest s t (λ v. tp v && tq v) k → Rest s t d (If m b p q k)
+if_rest : (s t d tp tq : VariableSet) (m : Mark) (b : Branch) (p q k : Actions) → ((d' : VariableSet) → Keeps s d d' → BranchReads d' b) → Rest s tp d p → Rest s tq d q → Rest s t (λ v. tp v && tq v) k → Rest s t d (If m b p q k)
 if_rest s t d tp tq m b p q k reads hp hq hk d' keeps =
     let x = hp d' keeps in
     let y = hq d' keeps in
     let z = hk (λ v. assured stream_flow d' p v && assured stream_flow d' q v) (λ v h n. both_so (tp v) (tq v) (assured stream_flow d' p v) (assured stream_flow d' q v) (λ e. x.1 v e n) (λ e. y.1 v e n) h) in
     ((reads d' keeps, x.0, y.0, z.0), z.1)
 
-loop_rest : (s t d tp tq : Set) (m : Mark) (p q k : Actions) → Rest s tp d p → Rest s tq d q → Rest s t d k → Rest s t d (Loop m p q k)
+loop_rest : (s t d tp tq : VariableSet) (m : Mark) (p q k : Actions) → Rest s tp d p → Rest s tq d q → Rest s t d k → Rest s t d (Loop m p q k)
 loop_rest s t d tp tq m p q k hp hq hk d' keeps =
     let z = hk d' keeps in (((hp d' keeps).0, (hq d' keeps).0, z.0), z.1)
 
-done_rest : (s t : Set) → Rest s t t Done
+done_rest : (s t : VariableSet) → Rest s t t Done
 done_rest s t d' keeps = (tt, keeps)
 
 -- ---- what stands between groups
 
-abbrev JumpReads : Set → Jump → Type 0
+abbrev JumpReads : VariableSet → Jump → Type 0
 JumpReads d Breaks = Unit {0}
 JumpReads d Continues = Unit {0}
 JumpReads d (Enters v f xs) = AllRead d xs
@@ -64,21 +64,21 @@ JumpKept by_a of c (Enters v f xs) = CallKept (set_of by_a (of f)) (set_of by_a 
 JumpKept by_a of c (Gives x) = set_of by_a c 0 ≡ true → has (set_of by_a c) x ≡ true
 JumpKept by_a of c (Halts x) = has c.needs x ≡ true
 
-abbrev after_jump : Set → Jump → Set
+abbrev after_jump : VariableSet → Jump → VariableSet
 after_jump d Breaks = all_set
 after_jump d Continues = all_set
 after_jump d (Enters v f xs) = with_set v d
 after_jump d (Gives x) = all_set
 after_jump d (Halts x) = all_set
 
-arguments_given : (s d d' : Set) → Keeps s d d' → (callee : Set) (k : ℕ) (xs : List Operand) → ArgumentsKept callee s k xs → AllRead d xs → AllGiven d' (arguments_in callee k xs)
+arguments_given : (s d d' : VariableSet) → Keeps s d d' → (callee : VariableSet) (k : ℕ) (xs : List Operand) → ArgumentsKept callee s k xs → AllRead d xs → AllGiven d' (arguments_in callee k xs)
 arguments_given s d d' keeps callee k [] kept reads = tt
 arguments_given s d d' keeps callee k (x ∷ xs) kept reads = by (callee k) refl (arguments_given s d d' keeps callee (k + 1) xs kept.1 reads.1) where
   by : (b : Bool) → callee k ≡ b → AllGiven d' (arguments_in callee (k + 1) xs) → AllGiven d' (if b then record { parameter = k; operand = x } ∷ arguments_in callee (k + 1) xs else arguments_in callee (k + 1) xs)
   by true e h = (has_both s d d' keeps x reads.0 (kept.0 e), h)
   by false e h = h
 
-jump_rest : (by_a : Bool) (of : ℕ → Classes) (c : Classes) (t d : Set) (m : Mark) (jump : Jump) (k : Actions) → JumpKept by_a of c jump → JumpReads d jump → Rest (set_of by_a c) t (after_jump d jump) k → Rest (set_of by_a c) t d (Do m (jump_action by_a of c jump) k)
+jump_rest : (by_a : Bool) (of : ℕ → Classes) (c : Classes) (t d : VariableSet) (m : Mark) (jump : Jump) (k : Actions) → JumpKept by_a of c jump → JumpReads d jump → Rest (set_of by_a c) t (after_jump d jump) k → Rest (set_of by_a c) t d (Do m (jump_action by_a of c jump) k)
 jump_rest by_a of c t d m Breaks k kept reads r d' keeps = let z = r all_set (λ v h n. refl) in ((tt, z.0), z.1)
 jump_rest by_a of c t d m Continues k kept reads r d' keeps = let z = r all_set (λ v h n. refl) in ((tt, z.0), z.1)
 jump_rest by_a of c t d m (Enters v f xs) k kept reads r d' keeps = by (set_of by_a c v) refl where
@@ -102,21 +102,21 @@ jump_rest false of c t d m (Halts x) k kept reads r d' keeps =
 module _ (by_a : Bool) (of : ℕ → Classes) (c : Classes) (cap : ℕ) (walk : ℕ → Rounds → Actions → Actions)
     (group : (n : ℕ) (place : Place) (g : List Part) (last : Last) (r : Rounds) (k : Actions) → walk n (Do place (Group g last) r) k ≡ group_of by_a c n g last (walk (n + 1) r k))
     (alone : (n : ℕ) (place : Place) (jump : Jump) (r : Rounds) (k : Actions) → walk n (Do place (Alone jump) r) k ≡ Do (mark place n) (jump_action by_a of c jump) (walk n r k))
-    (t : Set) (k : Actions) where
-  abbrev From : Set → Actions → Type 0
+    (t : VariableSet) (k : Actions) where
+  abbrev From : VariableSet → Actions → Type 0
   From d code = Rest (set_of by_a c) t d code
 
   -- rounds behind which, and behind a group so far, all is set
-  abbrev Behind : Set → (List Part → Rounds) → Type 0
-  Behind d r = (d0 : Set) (g : List Part) → after_parts d0 g ≡ d → PartsKept c g → PartsRead d0 g → (n : ℕ) → From d0 (walk n (r g) k)
+  abbrev Behind : VariableSet → (List Part → Rounds) → Type 0
+  Behind d r = (d0 : VariableSet) (g : List Part) → after_parts d0 g ≡ d → PartsKept c g → PartsRead d0 g → (n : ℕ) → From d0 (walk n (r g) k)
 
-  closed_flow : (d0 d : Set) (g : List Part) → after_parts d0 g ≡ d → PartsKept c g → PartsRead d0 g → (r : Rounds) → ((n : ℕ) → From d (walk n r k)) → (n : ℕ) → From d0 (walk n (closed g r) k)
+  closed_flow : (d0 d : VariableSet) (g : List Part) → after_parts d0 g ≡ d → PartsKept c g → PartsRead d0 g → (r : Rounds) → ((n : ℕ) → From d (walk n r k)) → (n : ℕ) → From d0 (walk n (closed g r) k)
   closed_flow d0 d [] e kept reads r h n = subst (λ z. From z (walk n r k)) (sym e) (h n)
   closed_flow d0 d (p ∷ g) e kept reads r h n =
       subst (λ z. From d0 z) (sym (group n (place_of p) (p ∷ g) Nothing r k))
       (group_rest c t by_a n (p ∷ g) Nothing d0 (walk (n + 1) r k) kept reads tt tt (subst (λ z. From z (walk (n + 1) r k)) (sym e) (h (n + 1))))
 
-  module _ (d0 d : Set) (g : List Part) (e : after_parts d0 g ≡ d) (kept : PartsKept c g) (reads : PartsRead d0 g) (r : List Part → Rounds) where
+  module _ (d0 d : VariableSet) (g : List Part) (e : after_parts d0 g ≡ d) (kept : PartsKept c g) (reads : PartsRead d0 g) (r : List Part → Rounds) where
     join_flow : (place : Place) (p : Part) → PartKept c p → PartReads d p → Behind (after_part d p) r → (n : ℕ) → From d0 (walk n (placed c cap g place (Joins p) r) k)
     join_flow place p pk pr behind n = by (is_full c cap g p) where
       by : (b : Bool) → From d0 (walk n (if b then closed g (r (p ∷ [])) else r (g ++ p ∷ [])) k)
@@ -174,7 +174,7 @@ module _ (by_a : Bool) (of : ℕ → Classes) (c : Classes) (cap : ℕ) where
   abbrev pub Decides' : Form → Type 0
   Decides' code = Each (λ (item : Item). Unit {0}) (λ t. has_test (set_of by_a c) t ≡ true) code
 
-  pub inside_flow : (code : Form) (t d0 d : Set) (g : List Part) → after_parts d0 g ≡ d → PartsKept c g → PartsRead d0 g → IsSetFirst form_flow d code → IsClosed of c code → Decides' code
+  pub inside_flow : (code : Form) (t d0 d : VariableSet) (g : List Part) → after_parts d0 g ≡ d → PartsKept c g → PartsRead d0 g → IsSetFirst form_flow d code → IsClosed of c code → Decides' code
       → (k : Actions) → Rest (set_of by_a c) t (assured form_flow d code) k → (n : ℕ) → Rest (set_of by_a c) t d0 (inside_of by_a of c n (rounds c cap false code g) k)
   inside_flow Done t d0 d g e kept reads first closed' ok k r n =
       closed_flow by_a of c cap (inside_of by_a of c) (λ n place g last r k. refl) (λ n place jump r k. refl) t k d0 d g e kept reads Done (λ n. r) n
@@ -229,9 +229,9 @@ e_decides of c (Loop place p q code) kept is =
 no_so : {X : Type 0} → false ≡ true → X
 no_so h = absurd (let e : false ≡ true = h in cc)
 
-module _ (s : Set) (f : Item → Bool) (h : Test → Bool)
-    (item_sets : (item : Item) → f item ≡ true → is_jump item ≡ false → (d : Set) → Keeps s (after_item d item) d) where
-  nothing_set : (code : Form) → every f h code ≡ true → stays false code ≡ true → (d : Set) → Keeps s (assured form_flow d code) d
+module _ (s : VariableSet) (f : Item → Bool) (h : Test → Bool)
+    (item_sets : (item : Item) → f item ≡ true → is_jump item ≡ false → (d : VariableSet) → Keeps s (after_item d item) d) where
+  nothing_set : (code : Form) → every f h code ≡ true → stays false code ≡ true → (d : VariableSet) → Keeps s (assured form_flow d code) d
   nothing_set Done is st d v e n = e
   nothing_set (Do place item code) is st d v e n =
       let b = both_true (f item) (every f h code) is in
@@ -252,10 +252,10 @@ module _ (s : Set) (f : Item → Bool) (h : Test → Bool)
       let j2 = both_true (stays true q) (stays false code) j1.1 in
       nothing_set code b2.1 j2.1 d v e n
 
-itself : (s d : Set) → Keeps s d d
+itself : (s d : VariableSet) → Keeps s d d
 itself s d v e n = e
 
-a_item_sets : (c : Classes) (item : Item) → is_a_item c item ≡ true → is_jump item ≡ false → (d : Set) → Keeps c.needs (after_item d item) d
+a_item_sets : (c : Classes) (item : Item) → is_a_item c item ≡ true → is_jump item ≡ false → (d : VariableSet) → Keeps c.needs (after_item d item) d
 a_item_sets c (Assign v x) is j d = keeps_without c.needs d d v (not_true (c.needs v) is) (itself c.needs d)
 a_item_sets c (Load v kind x) is j d = keeps_without c.needs d d v (not_true (c.needs v) is) (itself c.needs d)
 a_item_sets c Break is j d = absurd (let e : true ≡ false = j in cc)
@@ -267,7 +267,7 @@ a_item_sets c (Call v f xs) is j d = no_so is
 a_item_sets c (Return x) is j d = no_so is
 a_item_sets c (Halt x) is j d = no_so is
 
-e_item_sets : (c : Classes) (item : Item) → is_e_item c item ≡ true → is_jump item ≡ false → (d : Set) → Keeps c.s (after_item d item) d
+e_item_sets : (c : Classes) (item : Item) → is_e_item c item ≡ true → is_jump item ≡ false → (d : VariableSet) → Keeps c.s (after_item d item) d
 e_item_sets c (Assign v x) is j d = keeps_without c.s d d v (not_true (c.s v) is) (itself c.s d)
 e_item_sets c (Load v kind x) is j d = keeps_without c.s d d v (not_true (c.s v) (both_true (not (c.s v)) (not (c.needs v)) is).0) (itself c.s d)
 e_item_sets c Break is j d = absurd (let e : true ≡ false = j in cc)
@@ -281,19 +281,19 @@ e_item_sets c (Halt x) is j d = no_so is
 
 -- ---- outside of regions
 
-tell_rest : (s t d : Set) (b : Bool) (m : Mark) (k : Actions) → Rest s t d k → Rest s t d (when b m (Tell (Number 0)) k)
+tell_rest : (s t d : VariableSet) (b : Bool) (m : Mark) (k : Actions) → Rest s t d k → Rest s t d (when b m (Tell (Number 0)) k)
 tell_rest s t d true m k r d' keeps = let z = r d' keeps in ((refl, z.0), z.1)
 tell_rest s t d false m k r d' keeps = r d' keeps
 
-hear_rest : (s t d : Set) (b : Bool) (m : Mark) (k : Actions) → Rest s t d k → Rest s t d (when b m Hear k)
+hear_rest : (s t d : VariableSet) (b : Bool) (m : Mark) (k : Actions) → Rest s t d k → Rest s t d (when b m Hear k)
 hear_rest s t d true m k r d' keeps = let z = r d' keeps in ((tt, z.0), z.1)
 hear_rest s t d false m k r d' keeps = r d' keeps
 
 -- what was set stays so
-weaker : (s t d e : Set) (k : Actions) → Keeps s e d → Rest s t e k → Rest s t d k
+weaker : (s t d e : VariableSet) (k : Actions) → Keeps s e d → Rest s t e k → Rest s t d k
 weaker s t d e k w r d' keeps = r d' (λ v h n. keeps v (w v h n) n)
 
-told_reads : (by_a : Bool) (of : ℕ → Classes) (c : Classes) (t : Test) → ConditionKept c t → (d d' : Set) → Keeps (set_of by_a c) d d' → has_test d t ≡ true → BranchReads d' (branch_of by_a (decision c t))
+told_reads : (by_a : Bool) (of : ℕ → Classes) (c : Classes) (t : Test) → ConditionKept c t → (d d' : VariableSet) → Keeps (set_of by_a c) d d' → has_test d t ≡ true → BranchReads d' (branch_of by_a (decision c t))
 told_reads true of c t kept d d' keeps reads = by (has_test c.s t) refl where
   by : (b : Bool) → has_test c.s t ≡ b → BranchReads d' (if b then Tells t else Hears)
   by true e = test_both c.s d d' keeps t reads e
@@ -303,9 +303,9 @@ told_reads false of c t kept d d' keeps reads = by (has_test c.s t) refl where
   by true e = tt
   by false e = test_both c.needs d d' keeps t reads (kept e)
 
-module _ (of : ℕ → Classes) (c : Classes) (cap : ℕ) (code : Form) (kept : IsClosed of c code) (d : Set) (first : IsSetFirst form_flow d code) where
+module _ (of : ℕ → Classes) (c : Classes) (cap : ℕ) (code : Form) (kept : IsClosed of c code) (d : VariableSet) (first : IsSetFirst form_flow d code) where
   -- a region of A, and one of E
-  a_region_flow : every (is_a_item c) (is_by_a c.s) code && stays false code ≡ true → (by_a : Bool) (t : Set) (n : ℕ) (place : Place) (k : Actions) → Rest (set_of by_a c) t (assured form_flow d code) k → Rest (set_of by_a c) t d (region_of by_a of c cap n place true code k)
+  a_region_flow : every (is_a_item c) (is_by_a c.s) code && stays false code ≡ true → (by_a : Bool) (t : VariableSet) (n : ℕ) (place : Place) (k : Actions) → Rest (set_of by_a c) t (assured form_flow d code) k → Rest (set_of by_a c) t d (region_of by_a of c cap n place true code k)
   a_region_flow is true t n place k r =
       let b = both_true (every (is_a_item c) (is_by_a c.s) code) (stays false code) is in
       inside_flow true of c cap code t d d [] refl tt tt first kept (a_decides of c code kept b.0) (when (has_loop code) (mark place n) (Tell (Number 0)) k)
@@ -315,7 +315,7 @@ module _ (of : ℕ → Classes) (c : Classes) (cap : ℕ) (code : Form) (kept : 
       hear_rest c.needs t d (has_loop code) (mark place n) k
       (weaker c.needs t d (assured form_flow d code) k (nothing_set c.needs (is_a_item c) (is_by_a c.s) (a_item_sets c) code b.0 b.1 d) r)
 
-  e_region_flow : every (is_e_item c) (is_by_e c) code && stays false code ≡ true → (by_a : Bool) (t : Set) (n : ℕ) (place : Place) (k : Actions) → Rest (set_of by_a c) t (assured form_flow d code) k → Rest (set_of by_a c) t d (region_of by_a of c cap n place false code k)
+  e_region_flow : every (is_e_item c) (is_by_e c) code && stays false code ≡ true → (by_a : Bool) (t : VariableSet) (n : ℕ) (place : Place) (k : Actions) → Rest (set_of by_a c) t (assured form_flow d code) k → Rest (set_of by_a c) t d (region_of by_a of c cap n place false code k)
   e_region_flow is true t n place k r =
       let b = both_true (every (is_e_item c) (is_by_e c) code) (stays false code) is in
       weaker c.s t d (assured form_flow d code) k (nothing_set c.s (is_e_item c) (is_by_e c) (e_item_sets c) code b.0 b.1 d) r
@@ -324,7 +324,7 @@ module _ (of : ℕ → Classes) (c : Classes) (cap : ℕ) (code : Form) (kept : 
       inside_flow false of c cap code t d d [] refl tt tt first kept (e_decides of c code kept b.0) k r n
 
   -- code that may be a region, and then k
-  sided_flow : (by_a : Bool) (t : Set) (place : Place) (r both : Rounds) (k : Actions) → ((n : ℕ) → Rest (set_of by_a c) t (assured form_flow d code) (side_of by_a of c cap n r k)) → ((n : ℕ) → Rest (set_of by_a c) t d (side_of by_a of c cap n both k))
+  sided_flow : (by_a : Bool) (t : VariableSet) (place : Place) (r both : Rounds) (k : Actions) → ((n : ℕ) → Rest (set_of by_a c) t (assured form_flow d code) (side_of by_a of c cap n r k)) → ((n : ℕ) → Rest (set_of by_a c) t d (side_of by_a of c cap n both k))
       → (n : ℕ) → Rest (set_of by_a c) t d (side_of by_a of c cap n (one_sided (region true c code) place code r both) k)
   sided_flow by_a t place r both k h b n = by (is_a_region c code) refl (is_e_region c code) refl where
     by : (x : Bool) → is_a_region c code ≡ x → (y : Bool) → is_e_region c code ≡ y → Rest (set_of by_a c) t d (side_of by_a of c cap n (one_sided (if x then Some true else (if y then Some false else None)) place code r both) k)
@@ -333,7 +333,7 @@ module _ (of : ℕ → Classes) (c : Classes) (cap : ℕ) (code : Form) (kept : 
     by false e false f = b n
 
 module _ (by_a : Bool) (of : ℕ → Classes) (c : Classes) (cap : ℕ) where
-  side_flow : (code : Form) (t d0 d : Set) (g : List Part) → after_parts d0 g ≡ d → PartsKept c g → PartsRead d0 g → IsSetFirst form_flow d code → IsClosed of c code
+  side_flow : (code : Form) (t d0 d : VariableSet) (g : List Part) → after_parts d0 g ≡ d → PartsKept c g → PartsRead d0 g → IsSetFirst form_flow d code → IsClosed of c code
       → (k : Actions) → Rest (set_of by_a c) t (assured form_flow d code) k → (n : ℕ) → Rest (set_of by_a c) t d0 (side_of by_a of c cap n (rounds c cap true code g) k)
   side_flow Done t d0 d g e kept reads first closed' k r n =
       closed_flow by_a of c cap (side_of by_a of c cap) (λ n place g last r k. refl) (λ n place jump r k. refl) t k d0 d g e kept reads Done (λ n. r) n

@@ -1,26 +1,20 @@
-pub mod Combine
-pub mod Agreement
-pub mod Kept
-pub mod Groups
-pub mod Regions
-pub mod Split
-pub mod Under
-pub mod Turns
-pub mod Advance
-pub mod Budget
-pub mod Tails
-pub mod CoverA
-pub mod CoverE
-pub mod CoverCounts
-pub mod Cover
-pub mod Small
-pub mod Capped
-pub mod SmallBudget
-pub mod Counted
-pub mod Sizes
-pub mod Executed
-pub mod Flow
-pub mod FlowRounds
-pub mod Programs
-pub mod DeedsA
-pub mod DeedsE
+mod Combine
+mod Agreement
+mod Kept
+mod Groups
+mod Regions
+mod Split
+mod Budget
+mod Tails
+mod CoverA
+mod CoverE
+mod CoverCounts
+mod Cover
+mod Small
+mod Capped
+mod SmallBudget
+mod Sizes
+mod Flow
+mod FlowRounds
+mod Programs
+pub mod Laws

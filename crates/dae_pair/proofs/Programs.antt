@@ -1,34 +1,36 @@
 -- The pair of a whole program does what the program does.
-use Rattle.std.proofs.Common.{◌≡◌, [], refl}
-use Rattle.dae_ir.specs.Results.{Result, At, Over, Alike, Both as Alikely, Ended as AlikeEnded}
-use Rattle.dae_ir.specs.Form.{Env, calls_of, all_loads}
-use Rattle.dae_ir.specs.Classes.{classes_of}
+use Rattle.std.proofs.Common.{[], refl, subst}
+use Rattle.dae_meaning.specs.Worlds.{World}
+use Rattle.dae_meaning.specs.Alike.{Same, LoadsApart, AtLeast}
+use Rattle.dae_meaning.specs.Variables.{Env}
+use Rattle.dae_meaning.proofs.Laws.{alike_weaker, alike_then}
+use Rattle.dae_ir.specs.Form.{calls_of, all_loads}
+use Rattle.dae_ir.specs.Classes.{Classes, classes_of}
 use Rattle.dae_ir.specs.Canonical.{Sides, issued, pair_calls_of}
+use Rattle.dae_ir.specs.Laws.{SameVariables}
 use Rattle.dae_ir.specs.Programs.{program_of, start}
-use Rattle.dae_pair.specs.Laws.{Agree, Fewer, Both, Ended}
-use Rattle.dae_pair.specs.Programs.{DoesTheSame, Returned, Stopped, ProgramKept}
+use Rattle.dae_ir.proofs.Laws.{fewer_loads}
+use Rattle.dae_pair.specs.Laws.{Agree}
+use Rattle.dae_pair.specs.Programs.{ProgramKept}
 use Rattle.dae_pair.proofs.Split.{split_is_right}
-use Rattle.dae_pair.proofs.Counted.{fewer_loads}
 
--- the pair's result is that of a form's, but for the variables
-abbrev Pairs : Result Env → Result Sides → Type 0
-Pairs (At way e w) s = (f : Sides) × (s ≡ At way f w)
-Pairs (Over end w) s = s ≡ Over end w
+-- what agrees with the same variables, and a world that is the same
+agree_too : (c : Classes) (env : Env) (b : Sides) → (e : Env) × SameVariables env e × Agree c e b → Agree c env b
+agree_too c env b h = rw h.1 h.2
 
-pairs : (Q : Env → Sides → Type 0) (r : Result Env) (s : Result Sides) → Alike Q r s → Pairs r s
-pairs Q r s (Alikely way e f w x) = (f, refl)
-pairs Q r s (AlikeEnded end w) = refl
-
-joined : (r q : Result Env) (s : Result Sides) → Fewer r q → Pairs r s → DoesTheSame q s
-joined r q s (Both way e w a b l) h = rw (h.1) (Returned way e h.0 w a b l)
-joined r q s (Ended end w a b l) h = rw (h) (Stopped end w a b l)
+apart_too : (w v : World) → (u : World) × LoadsApart AtLeast w u × Same u v → LoadsApart AtLeast w v
+apart_too w v h = subst (λ x. LoadsApart AtLeast w x) h.2 h.1
 
 pub program_kept : ProgramKept
 program_kept ir tables least cap n memory =
     let p = program_of ir in
     let of = classes_of tables in
-    let form = calls_of p (issued of) n ir.calls ir.main [] (start ir memory) in
-    let pair = pair_calls_of p of cap n ir.calls ir.main [] [] (start ir memory) in
-    joined form _ pair
-    (fewer_loads p (issued of) all_loads (λ f v h. refl) n ir.calls ir.main [] (start ir memory))
-    (pairs (Agree (of ir.main)) form pair (split_is_right p of least.closed cap n ir.calls ir.main [] (start ir memory)))
+    let c = of ir.main in
+    let w = start ir memory in
+    let all = calls_of p all_loads n ir.calls ir.main [] w in
+    let form = calls_of p (issued of) n ir.calls ir.main [] w in
+    let pair = pair_calls_of p of cap n ir.calls ir.main [] [] w in
+    alike_weaker _ _ (Agree c) (LoadsApart AtLeast) (agree_too c) apart_too all pair
+    (alike_then SameVariables (LoadsApart AtLeast) (Agree c) Same all form pair
+    ((fewer_loads p (issued of) all_loads (λ f v h. refl)).more' n ir.calls ir.main [] w)
+    (split_is_right p of least.closed cap n ir.calls ir.main [] w))

@@ -3,12 +3,12 @@ use Rattle.std.proofs.Common.{◌≡◌, ℕ, ◌+◌, ◌*◌, ◌≤◌, Bool,
 use Rattle.dae_base.specs.declared.Place.{Place}
 use Rattle.dae_ir.specs.Code.{Done, Do, If, Loop}
 use Rattle.dae_ir.specs.Form.{Form}
-use Rattle.dae_ir.specs.Classes.{Set, Classes, has_check}
+use Rattle.dae_ir.specs.Classes.{VariableSet, Classes, has_check}
 use Rattle.dae_ir.specs.Rounds.{Jump, Breaks, Continues, Enters, Gives, Halts, Rounds, Group, Alone, Joins, Closes, Separates, stand, decision, closed, place_of, is_full, placed, region, one_sided, rounds}
 use Rattle.dae_ir.specs.Streams.{Actions, mark, when, a_part, e_part, parts, message, gives_address, hears_check, e_last, group_of, set_of, arguments_in, jump_action, inside_of, has_loop, region_of, side_of}
 use Rattle.dae_ir.specs.Sizes.{bit, item_weight, action_weight, form_size, actions_size}
 use Rattle.dae_pair.specs.Budget.{is_test, any_part}
-use Rattle.dae_pair.specs.Sizes.{StreamsAreSmall, last_items, GroupsAreSmall}
+use Rattle.dae_pair.specs.Sizes.{StreamsAreSmall}
 use Rattle.dae_ir.specs.declared.form.Operand.{Operand}
 use Rattle.dae_ir.specs.declared.form.Operand.TheVariants.{Number}
 use Rattle.dae_ir.specs.declared.form.Item.{Item}
@@ -18,13 +18,13 @@ use Rattle.dae_ir.specs.declared.stream.Part.TheVariants.{Sets, Loads, Tests}
 use Rattle.dae_ir.specs.declared.stream.Last.{Last}
 use Rattle.dae_ir.specs.declared.stream.Last.TheVariants.{Nothing, Stores, Prints, Decides}
 use Rattle.dae_ir.specs.declared.stream.Action.{Action}
-use Rattle.dae_ir.specs.declared.stream.Action.TheVariants.{Set as Compute, Issue, Own, Receive, Offer, Accept, Tell, Hear}
+use Rattle.dae_ir.specs.declared.stream.Action.TheVariants.{Set, Issue, Own, Receive, Offer, Accept, Tell, Hear}
 
 -- ---- groups
 
 a_part_size : (c : Classes) (n : ℕ) (p : Part) (k : Actions) → actions_size (a_part c n p k) + bit (is_test p) ≤ 2 + actions_size k
 a_part_size c n (Sets place v x) k = by (c.s v) (c.needs v) where
-  by : (s e : Bool) → actions_size (when s (mark place n) (Compute v x) (when (s && e) (mark place n) (Offer v) k)) + 0 ≤ 2 + actions_size k
+  by : (s e : Bool) → actions_size (when s (mark place n) (Set v x) (when (s && e) (mark place n) (Offer v) k)) + 0 ≤ 2 + actions_size k
   by true true = omega (arith)
   by true false = omega (arith)
   by false e = omega (arith)
@@ -38,7 +38,7 @@ a_part_size c n (Tests place check) k = omega (arith)
 
 e_part_size : (c : Classes) (n : ℕ) (p : Part) (k : Actions) → actions_size (e_part c n p k) + bit (is_test p) ≤ 2 + actions_size k
 e_part_size c n (Sets place v x) k = by (c.s v) (c.needs v) where
-  by : (s e : Bool) → actions_size (when (s && e) (mark place n) (Accept v) (when (not s && e) (mark place n) (Compute v x) k)) + 0 ≤ 2 + actions_size k
+  by : (s e : Bool) → actions_size (when (s && e) (mark place n) (Accept v) (when (not s && e) (mark place n) (Set v x) k)) + 0 ≤ 2 + actions_size k
   by true true = omega (arith)
   by true false = omega (arith)
   by false true = omega (arith)
@@ -65,6 +65,13 @@ message_size n x (Sets place v y ∷ g) k e = message_size n x g k e
 message_size n x (Loads place v kind y ∷ g) k e = message_size n x g k e
 message_size n x (Tests place check ∷ g) k e = omega (arith, e)
 
+-- the items that a group ends with
+abbrev last_items : Last → ℕ
+last_items Nothing = 0
+last_items (Stores place width x y) = 1
+last_items (Prints place spelling x) = 1
+last_items (Decides place check) = 1
+
 address_size : (n : ℕ) (last : Last) (k : Actions) → actions_size (gives_address n last k) ≤ last_items last + actions_size k
 address_size n Nothing k = omega (arith)
 address_size n (Stores place width x y) k = omega (arith)
@@ -83,7 +90,8 @@ e_last_size n (Stores place width x y) k = omega (arith)
 e_last_size n (Prints place spelling x) k = omega (arith)
 e_last_size n (Decides place check) k = omega (arith)
 
-pub groups_are_small : GroupsAreSmall
+-- of a group a side has at most twice as many actions as the group has items
+groups_are_small : (by_a : Bool) (c : Classes) (n : ℕ) (g : List Part) (last : Last) (k : Actions) → actions_size (group_of by_a c n g last k) ≤ 2 * (length g + last_items last) + actions_size k
 groups_are_small true c n g last k =
     let h = hears_check n last k in
     let m = message n (Tell (Number 0)) g h in
@@ -96,7 +104,7 @@ groups_are_small false c n g last k =
 
 -- ---- what stands between groups
 
-arguments_size : (s : Set) (k : ℕ) (xs : List Operand) → length (arguments_in s k xs) ≤ length xs
+arguments_size : (s : VariableSet) (k : ℕ) (xs : List Operand) → length (arguments_in s k xs) ≤ length xs
 arguments_size s k [] = omega (arith)
 arguments_size s k (x ∷ xs) = by (s k) (arguments_size s (k + 1) xs) where
   by : (b : Bool) → length (arguments_in s (k + 1) xs) ≤ length xs → length (if b then record { parameter = k; operand = x } ∷ arguments_in s (k + 1) xs else arguments_in s (k + 1) xs) ≤ length (x ∷ xs)

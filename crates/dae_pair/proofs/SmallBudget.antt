@@ -7,7 +7,7 @@ use Rattle.dae_ir.specs.Rounds.{Group, Alone, Region, Rounds, is_for_e, is_copie
 use Rattle.dae_ir.specs.Streams.{Actions, stream_of, actions_of}
 use Rattle.dae_ir.specs.Programs.{AreFunctionsOf}
 use Rattle.dae_ir.specs.Budgets.{is_load_for_e, is_copy, in_group, AllInside, AnyInside, AllLists, AnyList}
-use Rattle.dae_pair.specs.Budget.{RoundFits, BudgetIsSmall}
+use Rattle.dae_pair.specs.Budget.{RoundFits, BudgetIsWithinCap}
 use Rattle.dae_pair.proofs.Budget.{rounds_fit, no_parts}
 use Rattle.dae_pair.proofs.Small.{region_none}
 use Rattle.dae_pair.proofs.Capped.{RegionOk, regions_ok, Capped, bounded, loads_at, copies_at, is_sent}
@@ -137,8 +137,8 @@ at_most_one : (n : ℕ) (b : Bool) → n ≡ (if b then 1 else 0) → n ≤ 1
 at_most_one n true h = omega (arith, h)
 at_most_one n false h = omega (arith, h)
 
-pub budget_is_small : BudgetIsSmall
-budget_is_small ir tables cap pair d some is budget =
+pub budget_is_within_cap : BudgetIsWithinCap
+budget_is_within_cap ir tables cap pair d some is budget =
     let of = classes_of tables in
     record {
       ld = largest_few is_load_for_e d.ld cap pair.a.functions (lists_bounded of cap some is_load_for_e (loads_bounded of cap some) 0 ir.functions pair.a.functions is.a.functions) budget.ld.met;

@@ -11,7 +11,7 @@ use Rattle.dae_ir.specs.declared.stream.Last.{Last}
 use Rattle.dae_ir.specs.declared.stream.Last.TheVariants.{Nothing, Stores, Prints, Decides}
 use Rattle.dae_ir.specs.declared.stream.Mark.{Mark}
 use Rattle.dae_ir.specs.declared.stream.Action.{Action}
-use Rattle.dae_ir.specs.declared.stream.Action.TheVariants.{Set as Compute, Issue, Own, Receive, Offer, Accept}
+use Rattle.dae_ir.specs.declared.stream.Action.TheVariants.{Set, Issue, Own, Receive, Offer, Accept}
 use Rattle.dae_ir.specs.declared.stream.Branch.{Branch}
 
 pub data IsTail (k : Actions) : Actions → Type 0 where
@@ -51,14 +51,14 @@ tail_two : (a b : Bool) (m : Mark) (x y : Action) (k : Actions) → IsTail k (wh
 tail_two a b m x y k = tail_on k (when b m y k) _ (tail_when b m y k) (tail_when a m x (when b m y k))
 
 tail_a_part : (c : Classes) (n : ℕ) (p : Part) (k : Actions) → IsTail k (a_part c n p k)
-tail_a_part c n (Sets place v x) k = tail_two (c.s v) (c.s v && c.needs v) (mark place n) (Compute v x) (Offer v) k
+tail_a_part c n (Sets place v x) k = tail_two (c.s v) (c.s v && c.needs v) (mark place n) (Set v x) (Offer v) k
 tail_a_part c n (Loads place v kind x) k =
     tail_on k _ _ (tail_two (c.s v) (c.s v && c.needs v) (mark place n) (Own v kind x) (Offer v) k)
     (tail_when (not (c.s v) && c.needs v) (mark place n) (Issue kind x) _)
 tail_a_part c n (Tests place check) k = BehindDo _ _ k Here
 
 tail_e_part : (c : Classes) (n : ℕ) (p : Part) (k : Actions) → IsTail k (e_part c n p k)
-tail_e_part c n (Sets place v x) k = tail_two (c.s v && c.needs v) (not (c.s v) && c.needs v) (mark place n) (Accept v) (Compute v x) k
+tail_e_part c n (Sets place v x) k = tail_two (c.s v && c.needs v) (not (c.s v) && c.needs v) (mark place n) (Accept v) (Set v x) k
 tail_e_part c n (Loads place v kind x) k = tail_two (c.s v && c.needs v) (not (c.s v) && c.needs v) (mark place n) (Accept v) (Receive v) k
 tail_e_part c n (Tests place check) k = Here
 

@@ -1,12 +1,9 @@
--- What groups send, and what a budget covers.
-use Rattle.std.specs.Prelude.{◌≡◌, ℕ, ◌<◌, ◌≤◌, Bool, true, false, ◌||◌, List, [], ◌∷◌, length}
+-- How large groups are, and what a budget covers.
+use Rattle.std.specs.Prelude.{◌≡◌, ℕ, ◌<◌, ◌≤◌, Bool, true, false, ◌||◌, List, [], ◌∷◌}
 use Rattle.dae_base.specs.declared.Depths.{Depths}
-use Rattle.dae_ir.specs.Results.{World}
 use Rattle.dae_ir.specs.Code.{Each}
-use Rattle.dae_ir.specs.Form.{Env, Program}
 use Rattle.dae_ir.specs.Classes.{Classes, classes_of}
 use Rattle.dae_ir.specs.Rounds.{Round, Group, Alone, Region, Rounds, is_for_e, is_copied, how_many, rounds}
-use Rattle.dae_ir.specs.Canonical.{Access, Passed, Failed, access}
 use Rattle.dae_ir.specs.Streams.{has_loop}
 use Rattle.dae_ir.specs.Programs.{program_of, IsPairOf}
 use Rattle.dae_ir.specs.Budgets.{IsBudgetOf}
@@ -25,19 +22,6 @@ abbrev pub RoundFits : Classes → ℕ → Round → Type 0
 RoundFits c cap (Group g last) = (how_many (is_for_e c) g ≤ cap) × (how_many (is_copied c) g ≤ cap)
 RoundFits c cap (Alone jump) = Unit {0}
 RoundFits c cap (Region by_a code) = Unit {0}
-
-abbrev pub GroupsFit : Program → (ℕ → Classes) → Type 0
-GroupsFit p of = (cap : ℕ) → 0 < cap → (f : ℕ) → Each (RoundFits (of f) cap) (λ d. Unit {0}) (rounds (of f) cap true (p.body f) [])
-
--- A's part of a group ends with so many words and copies for E
-abbrev pub Sends : ℕ → ℕ → Access → Type 0
-Sends n m (Passed env words copies w) = (length words ≡ n) × (length copies ≡ m)
-Sends n m (Failed code w) = Unit {0}
-
-abbrev pub GroupSends : Type 0
-GroupSends =
-    (p : Program) (c : Classes) (g : List Part) (w : World) (env : Env)
-    → Sends (how_many (is_for_e c) g) (how_many (is_copied c) g) (access p c g w env)
 
 -- ---- what a budget covers
 
@@ -107,7 +91,7 @@ BudgetCovers =
 
 -- ---- how large a budget is
 
-pub record IsSmall (cap : ℕ) (d : Depths) : Type 0 where
+pub record IsWithinCap (cap : ℕ) (d : Depths) : Type 0 where
   pub ld : d.ld ≤ cap
   pub al : d.al ≤ 1
   pub sa : d.sa ≤ 1
@@ -116,6 +100,6 @@ pub record IsSmall (cap : ℕ) (d : Depths) : Type 0 where
   pub eb : d.eb ≤ 1
   pub cq : d.cq ≤ cap
 
-abbrev pub BudgetIsSmall : Type 0
-BudgetIsSmall =
-    (ir : Ir) (tables : List (List Class)) (cap : ℕ) (pair : Pair) (d : Depths) → 0 < cap → IsPairOf ir tables cap pair → IsBudgetOf pair d → IsSmall cap d
+abbrev pub BudgetIsWithinCap : Type 0
+BudgetIsWithinCap =
+    (ir : Ir) (tables : List (List Class)) (cap : ℕ) (pair : Pair) (d : Depths) → 0 < cap → IsPairOf ir tables cap pair → IsBudgetOf pair d → IsWithinCap cap d

@@ -3,4 +3,3 @@ pub mod Budget
 pub mod Sizes
 pub mod SetFirst
 pub mod Programs
-pub mod Deeds

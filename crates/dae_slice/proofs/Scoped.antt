@@ -6,7 +6,7 @@ use Rattle.std.proofs.lemmas.Bool.Decides.{nat_tests}
 use Rattle.dae_ir.specs.Code.{Each, Done, Do, If, Loop}
 use Rattle.dae_ir.specs.Form.{Form, form_of}
 use Rattle.dae_ir.specs.Programs.{body_in}
-use Rattle.dae_ir.specs.Classes.{Set, has, has_test, has_value, ArgumentsKept, CallKept, AddressesKept, NeedsKept}
+use Rattle.dae_ir.specs.Classes.{VariableSet, has, has_test, has_value, ArgumentsKept, CallKept, AddressesKept, NeedsKept}
 use Rattle.dae_ir.specs.Scope.{IsIn, TestIn, ValueIn, TakesArguments, ItemIn, FunctionIn}
 use Rattle.dae_ir.specs.declared.form.Operand.{Operand}
 use Rattle.dae_ir.specs.declared.form.Operand.TheVariants.{Variable, Number}
@@ -35,7 +35,7 @@ below v n lt = grind (arith, nat_tests)
 
 -- ---- in one function of n variables
 
-module _ (c : Set) (n : ℕ) (all : (v : ℕ) → v < n → c v ≡ true) where
+module _ (c : VariableSet) (n : ℕ) (all : (v : ℕ) → v < n → c v ≡ true) where
   operand_in : (x : Operand) → IsIn n x → has c x ≡ true
   operand_in (Variable v) h = all v h
   operand_in (Number k) h = refl
@@ -50,7 +50,7 @@ module _ (c : Set) (n : ℕ) (all : (v : ℕ) → v < n → c v ≡ true) where
   value_in (Holds t) h = test_in t h
   value_in (FrameAddress offset) h = refl
 
-  arguments_in : (callee : Set) (k : ℕ) (xs : List Operand) → AllByRecursion (IsIn n) xs → ArgumentsKept callee c k xs
+  arguments_in : (callee : VariableSet) (k : ℕ) (xs : List Operand) → AllByRecursion (IsIn n) xs → ArgumentsKept callee c k xs
   arguments_in callee k [] h = tt
   arguments_in callee k (x ∷ xs) h = (λ e. operand_in x h.0, arguments_in callee (k + 1) xs h.1)
 
@@ -80,14 +80,14 @@ module _ (functions : List Function) (scoped : AllByRecursion (FunctionIn functi
     }
 
     item_targets : (x : Item) → ItemIn functions n x → HasTargets (in_range functions) f x
-    item_targets (Assign v x) h = all v h.0
+    item_targets (Assign v x) h = all v h.0.1
     item_targets (Load v kind x) h = tt
     item_targets (Store width x y) h = tt
     item_targets (Print spelling x) h = tt
     item_targets (Expect check) h = tt
     item_targets Break h = tt
     item_targets Continue h = tt
-    item_targets (Call v g xs) h = record { target = all v h.0; parameters = λ k pos le. parameter_there g (length xs) k h.1 le }
+    item_targets (Call v g xs) h = record { target = all v h.0.1; parameters = λ k pos le. parameter_there g (length xs) k h.1 le }
     item_targets (Return x) h = all 0 some
     item_targets (Halt x) h = tt
 
@@ -107,7 +107,7 @@ module _ (functions : List Function) (scoped : AllByRecursion (FunctionIn functi
     item_addresses (Return x) h = λ e. operand_in (in_range functions f) n all x h
     item_addresses (Halt x) h = tt
 
-    item_needs : (s : Set) (x : Item) → ItemIn functions n x → NeedsKept (in_range functions) s (in_range functions f) x
+    item_needs : (s : VariableSet) (x : Item) → ItemIn functions n x → NeedsKept (in_range functions) s (in_range functions f) x
     item_needs s (Assign v x) h = λ a e. value_in (in_range functions f) n all x h.1
     item_needs s (Load v kind x) h = tt
     item_needs s (Store width x y) h = operand_in (in_range functions f) n all y h.1

@@ -4,7 +4,7 @@ use Rattle.std.specs.Prelude.{◌≡◌, ◌↔◌, ℕ, Bool, true, false, ◌+
 use Rattle.std.specs.List.{AllByRecursion}
 use Rattle.std.specs.Prelude.{Vec}
 use Rattle.std.specs.declared.alloc.Global.{Global}
-use Rattle.dae_ir.specs.Classes.{Set, IsWithin}
+use Rattle.dae_ir.specs.Classes.{VariableSet, IsWithin}
 use Rattle.dae_ir.specs.declared.form.Function.{Function}
 use Rattle.dae_slice.specs.declared.graph.Node.{Node}
 use Rattle.dae_slice.specs.declared.graph.Vertex.{Vertex}
@@ -12,7 +12,7 @@ use Rattle.dae_slice.specs.declared.graph.Graph.{Graph}
 
 -- a set of variables for each function
 abbrev pub Family : Type 0
-Family = ℕ → Set
+Family = ℕ → VariableSet
 
 -- the vertex of a variable of a function
 abbrev pub vertex_in : Option (Vec Vertex Global) → ℕ → Option Vertex

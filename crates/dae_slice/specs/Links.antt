@@ -2,7 +2,7 @@
 use Rattle.std.specs.Prelude.{◌≡◌, ℕ, ◌<◌, ◌≤◌, true, List, length, slice_get, Some}
 use Rattle.dae_ir.specs.Code.{Each}
 use Rattle.dae_ir.specs.Form.{Form}
-use Rattle.dae_ir.specs.Classes.{Set, IsWithin, AddressesKept, NeedsKept, TestKept, row_of}
+use Rattle.dae_ir.specs.Classes.{VariableSet, IsWithin, AddressesKept, NeedsKept, TestKept, row_of}
 use Rattle.dae_ir.specs.Programs.{body_in}
 use Rattle.dae_ir.specs.declared.form.Operand.{Operand}
 use Rattle.dae_ir.specs.declared.form.Test.{Test}
@@ -56,7 +56,7 @@ pub record IsLeastFor (sought : Sought) (functions : List Function) (s : Family)
 -- ---- tables of classes
 
 -- the classes of the first variables, by A's set and E's
-pub record IsRow (variables : ℕ) (a e : Set) (row : List Class) : Type 0 where
+pub record IsRow (variables : ℕ) (a e : VariableSet) (row : List Class) : Type 0 where
   pub count : length row ≡ variables
   pub classes : (v : ℕ) → v < variables → slice_get row v ≡ Some (record { a = a v; e = e v })
 

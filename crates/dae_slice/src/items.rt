@@ -2,7 +2,7 @@
 
 ghost use Rattle.std.specs.Prelude.{◌≡◌, ◌+◌, ◌<◌, ◌≤◌, ℕ, true, false, OnOk, length, slice_get};
 ghost use Rattle.std.specs.List.{AllByRecursion};
-ghost use Rattle.dae_ir.specs.Classes.{Set, has, has_test, has_value, ArgumentsKept, CallKept, AddressesKept, NeedsKept, TestKept};
+ghost use Rattle.dae_ir.specs.Classes.{VariableSet, has, has_test, has_value, ArgumentsKept, CallKept, AddressesKept, NeedsKept, TestKept};
 ghost use Rattle.dae_ir.specs.declared.form.Function.{Function};
 ghost use Rattle.dae_ir.specs.declared.form.Item.TheVariants.{Expect};
 ghost use Rattle.dae_slice.specs.Graphs.{Family, exists, marked, Adds};

@@ -2,14 +2,15 @@ ghost use Rattle.std.specs.Prelude.{◌≡◌};
 
 use super::*;
 use dae_base::Side;
-use dae_ir::{Class, Operand, Relation, Test};
+use dae_ir::{Class, Operand, Test};
+use dae_meaning::Comparison;
 
 fn equal(left: Operand, right: Operand) -> Test
     ensures same { result.left ≡ left }
     ensures other { result.right ≡ right }
 {
     Test {
-        relation: Relation::Equal,
+        comparison: Comparison::Equal,
         left,
         right,
     }

@@ -5,7 +5,8 @@ ghost use Rattle.dae_ir.specs.Scope.{IsScoped};
 
 use crate::split;
 use dae_base::{Items, Place, Text};
-use dae_ir::{Action, Class, Function, Ir, Item, Operand, Spelling, Statement, Step};
+use dae_ir::{Action, Class, Function, Ir, Item, Operand, Statement, Step};
+use dae_meaning::Spelling;
 use std::alloc::{AllocError, Global};
 
 const PLACE: Place = Place {

@@ -1,7 +1,5 @@
 use Rattle.std.proofs.Common.{◌<◌, arith}
-use Rattle.dae_pair.proofs.Cover.{budget_covers}
-use Rattle.dae_pair.proofs.Programs.{program_kept}
-use Rattle.dae_pair.proofs.SmallBudget.{budget_is_small}
+use Rattle.dae_pair.proofs.Laws.{budget_covers, budget_is_within_cap, program_kept}
 use Rattle.dae_budget.proofs.Found.{small_groups}
 use Rattle.dae_budget.proofs.Ordered.{pair_ordered}
 use Rattle.dae_decouple.proofs.program.decouple.Goals as goal
@@ -10,30 +8,30 @@ pub budget-budget-requires : goal.budget-budget-requires
 budget-budget-requires c =
     let ir = c.args.ir.now in
     let cap = c.args.cap in
-    let tables = c.in_ok-tables.tables in
+    let tables = c.in_ok-classes.classes in
     let made = c.in_ok-pair.pair in
     let pair = rw c.as_slice.ensures at c.in_ok-pair.ensures in
     let some : 0 < cap = omega (arith, c.requires.some) in
     let few = c.requires.few in
     small_groups made (pair_ordered ir tables cap made pair)
-    (λ budget due. let small = budget_is_small ir tables cap made budget some pair due in let ld = small.ld in let cq = small.cq in (omega arith, omega arith))
+    (λ budget due. let small = budget_is_within_cap ir tables cap made budget some pair due in let ld = small.ld in let cq = small.cq in (omega arith, omega arith))
 
 pub returns : goal.returns
 returns c =
     let ir = c.args.ir.now in
     let cap = c.args.cap in
-    let tables = c.in_ok-tables.tables in
+    let tables = c.in_ok-classes.classes in
     let made = c.in_ok-pair.pair in
     let pair = rw c.as_slice.ensures at c.in_ok-pair.ensures in
     let some : 0 < cap = omega (arith, c.requires.some) in
     let due = c.budget-budget.ensures in
     let budget = c.budget-budget.result in
     record {
-      tables = tables;
-      classes = c.in_ok-tables.ensures.least;
+      classes = c.in_ok-classes.ensures.least;
+      rows = c.in_ok-classes.ensures.rows;
       pair = pair;
       budget = due;
-      small = budget_is_small ir tables cap made budget some pair due;
+      within_cap = budget_is_within_cap ir tables cap made budget some pair due;
       covers = budget_covers ir tables cap made budget pair due;
-      same = program_kept ir tables c.in_ok-tables.ensures.least cap;
+      same = program_kept ir tables c.in_ok-classes.ensures.least cap;
     }
