@@ -9,12 +9,13 @@ use Rattle.dae_program.specs.declared.program.Function.{Function}
 use Rattle.dae_program.specs.declared.program.Links.{Links}
 use Rattle.dae_program.specs.declared.program.Program.{Program}
 use Rattle.dae_program.specs.Lawful.{Bounds, is_lawful, is_lawful_memory, is_lawful_function, is_lawful_body, has_no_parameters, spares, is_sound_slot, are_sound_statements}
-use Rattle.dae_program.specs.Placed.{KeepsFrame, IsBegin}
+use Rattle.dae_program.specs.Placed.{KeepsFrame, KeepsFrames, IsBegin}
 use Rattle.dae_program.specs.Programs.{program_of, variables_of, start}
-use Rattle.dae_program.specs.Promise.{KeepsRules, LawfulKeepRules}
+use Rattle.dae_program.specs.Promise.{KeepsRules, LawfulKeepRules, NeverStrays}
 use Rattle.dae_program.specs.Resolved.{function_in, address_in, callee_in, number_or, variables_in}
 use Rattle.dae_program.specs.Scope.{KeepsScope, AreStatementsIn, AreSlotsIn}
 use Rattle.dae_program.specs.Trees as tree
+use Rattle.dae_program.proofs.Straying.{named_never_stray}
 use Rattle.dae_program.proofs.Numbers.{first, second, within, equal}
 use Rattle.dae_program.proofs.LawfulScope.{statements_in, slots_in}
 use Rattle.dae_program.proofs.LawfulPlaced.{statements_placed, slots_placed}
@@ -160,3 +161,8 @@ module _ (p : Program) (limit : ℕ) (h : is_lawful p.memory p.frames p.content 
 
 pub lawful_keep_rules : LawfulKeepRules
 lawful_keep_rules p limit h = rules p limit h
+
+pub never_strays : NeverStrays
+never_strays p limit n h =
+    let kept = rules p limit h in
+    named_never_stray (program_of p limit) true n p.main (start p.memory p.frames p.content) (subst (λ (m : ℕ). KeepsFrames m (program_of p limit)) (sym kept.memory) kept.frames) kept.begins

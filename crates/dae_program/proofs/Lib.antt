@@ -6,6 +6,7 @@ mod Above
 mod AboveExpressions
 mod Order
 mod Ends
+mod Straying
 mod Seen
 mod ExpressionsExamples
 mod ObjectsExamples

@@ -5,7 +5,7 @@
 
 pub use expressions::{Expression, Target};
 pub use program::{Function, Links, Program, Slot};
-pub use rules::lawful_keep_rules;
+pub use rules::{lawful_keep_rules, named_never_stray, never_strays};
 pub use statements::{Arm, Piece, Setting, Statement};
 pub use turns::{ends_stay, going_before, one_end, output_grows, turns_in_order};
 
