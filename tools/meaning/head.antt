@@ -1,7 +1,7 @@
 -- Examples of GROUP: programs, and what an independent implementation of their meaning finds of them. Made by
 -- tools/meaning/terms.py.
 use Rattle.std.proofs.Common.{◌≡◌, ℕ, true, false, ◌&&◌, ◌∷◌, List, [], ◌++◌, Some, None, nat_eq, if◌then◌else◌, refl}
-use Rattle.std.specs.Prelude.{slice_index, nat_le}
+use Rattle.std.specs.Prelude.{slice_index, slice_get, nat_le}
 use Rattle.dae_base.specs.declared.Width.TheVariants as width
 use Rattle.dae_base.specs.declared.LoadKind.TheVariants as kind
 use Rattle.dae_meaning.specs.Operations.{compared, misplaced, combined, spelled}

@@ -197,10 +197,11 @@ def example(name, sources, turns, limit, memory):
                 "    parameters = %s;" % listing(slots), "    frame = %d;" % f["frame"],
                 "    body = %s;" % wrapped(statements(f["body"]), 8), "  }"]
     out += ["", "  function : ℕ → Function", "  function f = " + chosen(["f%d" % k for k in range(len(trees.functions))]), ""]
+    counts = "(slice_get %s)" % listing([str(len(f["parameters"])) for f in trees.functions])
     lawful = "true"
     for k in reversed(range(len(trees.functions))):
-        lawful = "(is_lawful_body %d %d (let p = %s in p.function %d) && %s)" % (
-            memory, trees.functions[k]["variables"], name, k, lawful)
+        lawful = "(is_lawful_body %d %d %s %s (let p = %s in p.function %d) && %s)" % (
+            memory, trees.functions[k]["variables"], counts, flag(k != trees.main), name, k, lawful)
     out += ["%s_lawful : %s ≡ true" % (name, lawful), "%s_lawful = refl" % name, ""]
     out += ["abbrev %s_data : List ℕ" % name, "%s_data = %s" % (name, wrapped(listing([str(x) for x in program.data]), 4)), ""]
     run = "run %s %d %d (start %d %d %s_data)" % (

@@ -1,11 +1,11 @@
 -- Examples of calls: programs, and what an independent implementation of their meaning finds of them. Made by
 -- tools/meaning/terms.py.
 use Rattle.std.proofs.Common.{◌≡◌, ℕ, true, false, ◌&&◌, ◌∷◌, List, [], ◌++◌, Some, None, nat_eq, if◌then◌else◌, refl}
-use Rattle.std.specs.Prelude.{slice_index, nat_le}
+use Rattle.std.specs.Prelude.{slice_index, slice_get, nat_le}
 use Rattle.dae_base.specs.declared.Width.TheVariants as width
 use Rattle.dae_base.specs.declared.LoadKind.TheVariants as kind
 use Rattle.dae_meaning.specs.Operations.{compared, misplaced, combined, spelled}
-use Rattle.dae_meaning.specs.Results.{Halted, Trapped, Going}
+use Rattle.dae_meaning.specs.Results.{Halted, Trapped}
 use Rattle.dae_meaning.specs.declared.Operator.TheVariants as op
 use Rattle.dae_meaning.specs.declared.Comparison.TheVariants as rel
 use Rattle.dae_meaning.specs.declared.Spelling.TheVariants as spell
@@ -49,7 +49,7 @@ deep_calls = record { limit = 20; function = function } where
   function : ℕ → Function
   function f = (if nat_eq f 0 then f0 else f1)
 
-deep_calls_lawful : (is_lawful_body 128 2 (let p = deep_calls in p.function 0) && (is_lawful_body 128 1 (let p = deep_calls in p.function 1) && true)) ≡ true
+deep_calls_lawful : (is_lawful_body 128 2 (slice_get (1 ∷ 0 ∷ [])) true (let p = deep_calls in p.function 0) && (is_lawful_body 128 1 (slice_get (1 ∷ 0 ∷ [])) false (let p = deep_calls in p.function 1) && true)) ≡ true
 deep_calls_lawful = refl
 
 abbrev deep_calls_data : List ℕ
@@ -94,7 +94,7 @@ too_deep_calls = record { limit = 20; function = function } where
   function : ℕ → Function
   function f = (if nat_eq f 0 then f0 else f1)
 
-too_deep_calls_lawful : (is_lawful_body 128 2 (let p = too_deep_calls in p.function 0) && (is_lawful_body 128 1 (let p = too_deep_calls in p.function 1) && true)) ≡ true
+too_deep_calls_lawful : (is_lawful_body 128 2 (slice_get (1 ∷ 0 ∷ [])) true (let p = too_deep_calls in p.function 0) && (is_lawful_body 128 1 (slice_get (1 ∷ 0 ∷ [])) false (let p = too_deep_calls in p.function 1) && true)) ≡ true
 too_deep_calls_lawful = refl
 
 abbrev too_deep_calls_data : List ℕ
@@ -137,7 +137,7 @@ endless_calls = record { limit = 20; function = function } where
   function : ℕ → Function
   function f = (if nat_eq f 0 then f0 else f1)
 
-endless_calls_lawful : (is_lawful_body 128 1 (let p = endless_calls in p.function 0) && (is_lawful_body 128 1 (let p = endless_calls in p.function 1) && true)) ≡ true
+endless_calls_lawful : (is_lawful_body 128 1 (slice_get (0 ∷ 0 ∷ [])) true (let p = endless_calls in p.function 0) && (is_lawful_body 128 1 (slice_get (0 ∷ 0 ∷ [])) false (let p = endless_calls in p.function 1) && true)) ≡ true
 endless_calls_lawful = refl
 
 abbrev endless_calls_data : List ℕ
@@ -194,7 +194,7 @@ room_after_arguments = record { limit = 5; function = function } where
   function : ℕ → Function
   function f = (if nat_eq f 0 then f0 else (if nat_eq f 1 then f1 else f2))
 
-room_after_arguments_lawful : (is_lawful_body 128 2 (let p = room_after_arguments in p.function 0) && (is_lawful_body 128 3 (let p = room_after_arguments in p.function 1) && (is_lawful_body 128 1 (let p = room_after_arguments in p.function 2) && true))) ≡ true
+room_after_arguments_lawful : (is_lawful_body 128 2 (slice_get (1 ∷ 2 ∷ 0 ∷ [])) true (let p = room_after_arguments in p.function 0) && (is_lawful_body 128 3 (slice_get (1 ∷ 2 ∷ 0 ∷ [])) true (let p = room_after_arguments in p.function 1) && (is_lawful_body 128 1 (slice_get (1 ∷ 2 ∷ 0 ∷ [])) false (let p = room_after_arguments in p.function 2) && true))) ≡ true
 room_after_arguments_lawful = refl
 
 abbrev room_after_arguments_data : List ℕ
@@ -232,7 +232,7 @@ one_call_deep = record { limit = 1; function = function } where
   function : ℕ → Function
   function f = f0
 
-one_call_deep_lawful : (is_lawful_body 128 1 (let p = one_call_deep in p.function 0) && true) ≡ true
+one_call_deep_lawful : (is_lawful_body 128 1 (slice_get (0 ∷ [])) false (let p = one_call_deep in p.function 0) && true) ≡ true
 one_call_deep_lawful = refl
 
 abbrev one_call_deep_data : List ℕ
@@ -278,7 +278,7 @@ one_call_too_deep = record { limit = 1; function = function } where
   function : ℕ → Function
   function f = (if nat_eq f 0 then f0 else f1)
 
-one_call_too_deep_lawful : (is_lawful_body 128 1 (let p = one_call_too_deep in p.function 0) && (is_lawful_body 128 1 (let p = one_call_too_deep in p.function 1) && true)) ≡ true
+one_call_too_deep_lawful : (is_lawful_body 128 1 (slice_get (0 ∷ 0 ∷ [])) true (let p = one_call_too_deep in p.function 0) && (is_lawful_body 128 1 (slice_get (0 ∷ 0 ∷ [])) false (let p = one_call_too_deep in p.function 1) && true)) ≡ true
 one_call_too_deep_lawful = refl
 
 abbrev one_call_too_deep_data : List ℕ
@@ -324,7 +324,7 @@ two_calls_deep = record { limit = 2; function = function } where
   function : ℕ → Function
   function f = (if nat_eq f 0 then f0 else f1)
 
-two_calls_deep_lawful : (is_lawful_body 128 1 (let p = two_calls_deep in p.function 0) && (is_lawful_body 128 1 (let p = two_calls_deep in p.function 1) && true)) ≡ true
+two_calls_deep_lawful : (is_lawful_body 128 1 (slice_get (0 ∷ 0 ∷ [])) true (let p = two_calls_deep in p.function 0) && (is_lawful_body 128 1 (slice_get (0 ∷ 0 ∷ [])) false (let p = two_calls_deep in p.function 1) && true)) ≡ true
 two_calls_deep_lawful = refl
 
 abbrev two_calls_deep_data : List ℕ
@@ -360,7 +360,7 @@ main_without_room = record { limit = 100; function = function } where
   function : ℕ → Function
   function f = f0
 
-main_without_room_lawful : (is_lawful_body 128 1 (let p = main_without_room in p.function 0) && true) ≡ true
+main_without_room_lawful : (is_lawful_body 128 1 (slice_get (0 ∷ [])) false (let p = main_without_room in p.function 0) && true) ≡ true
 main_without_room_lawful = refl
 
 abbrev main_without_room_data : List ℕ
@@ -395,7 +395,7 @@ main_with_room = record { limit = 100; function = function } where
   function : ℕ → Function
   function f = f0
 
-main_with_room_lawful : (is_lawful_body 128 1 (let p = main_with_room in p.function 0) && true) ≡ true
+main_with_room_lawful : (is_lawful_body 128 1 (slice_get (0 ∷ [])) false (let p = main_with_room in p.function 0) && true) ≡ true
 main_with_room_lawful = refl
 
 abbrev main_with_room_data : List ℕ
@@ -447,7 +447,7 @@ frame_full = record { limit = 100; function = function } where
   function : ℕ → Function
   function f = (if nat_eq f 0 then f0 else f1)
 
-frame_full_lawful : (is_lawful_body 128 2 (let p = frame_full in p.function 0) && (is_lawful_body 128 1 (let p = frame_full in p.function 1) && true)) ≡ true
+frame_full_lawful : (is_lawful_body 128 2 (slice_get (1 ∷ 0 ∷ [])) true (let p = frame_full in p.function 0) && (is_lawful_body 128 1 (slice_get (1 ∷ 0 ∷ [])) false (let p = frame_full in p.function 1) && true)) ≡ true
 frame_full_lawful = refl
 
 abbrev frame_full_data : List ℕ
@@ -512,7 +512,7 @@ frames_on_top = record { limit = 100; function = function } where
   function : ℕ → Function
   function f = (if nat_eq f 0 then f0 else (if nat_eq f 1 then f1 else f2))
 
-frames_on_top_lawful : (is_lawful_body 128 2 (let p = frames_on_top in p.function 0) && (is_lawful_body 128 3 (let p = frames_on_top in p.function 1) && (is_lawful_body 128 1 (let p = frames_on_top in p.function 2) && true))) ≡ true
+frames_on_top_lawful : (is_lawful_body 128 2 (slice_get (1 ∷ 1 ∷ 0 ∷ [])) true (let p = frames_on_top in p.function 0) && (is_lawful_body 128 3 (slice_get (1 ∷ 1 ∷ 0 ∷ [])) true (let p = frames_on_top in p.function 1) && (is_lawful_body 128 1 (slice_get (1 ∷ 1 ∷ 0 ∷ [])) false (let p = frames_on_top in p.function 2) && true))) ≡ true
 frames_on_top_lawful = refl
 
 abbrev frames_on_top_data : List ℕ
@@ -569,7 +569,7 @@ fall_off = record { limit = 100; function = function } where
   function : ℕ → Function
   function f = (if nat_eq f 0 then f0 else (if nat_eq f 1 then f1 else f2))
 
-fall_off_lawful : (is_lawful_body 128 2 (let p = fall_off in p.function 0) && (is_lawful_body 128 1 (let p = fall_off in p.function 1) && (is_lawful_body 128 1 (let p = fall_off in p.function 2) && true))) ≡ true
+fall_off_lawful : (is_lawful_body 128 2 (slice_get (1 ∷ 0 ∷ 0 ∷ [])) true (let p = fall_off in p.function 0) && (is_lawful_body 128 1 (slice_get (1 ∷ 0 ∷ 0 ∷ [])) true (let p = fall_off in p.function 1) && (is_lawful_body 128 1 (slice_get (1 ∷ 0 ∷ 0 ∷ [])) false (let p = fall_off in p.function 2) && true))) ≡ true
 fall_off_lawful = refl
 
 abbrev fall_off_data : List ℕ
@@ -618,7 +618,7 @@ void_calls = record { limit = 100; function = function } where
   function : ℕ → Function
   function f = (if nat_eq f 0 then f0 else f1)
 
-void_calls_lawful : (is_lawful_body 128 2 (let p = void_calls in p.function 0) && (is_lawful_body 128 1 (let p = void_calls in p.function 1) && true)) ≡ true
+void_calls_lawful : (is_lawful_body 128 2 (slice_get (1 ∷ 0 ∷ [])) true (let p = void_calls in p.function 0) && (is_lawful_body 128 1 (slice_get (1 ∷ 0 ∷ [])) false (let p = void_calls in p.function 1) && true)) ≡ true
 void_calls_lawful = refl
 
 abbrev void_calls_data : List ℕ
@@ -682,7 +682,7 @@ nested_calls = record { limit = 100; function = function } where
   function : ℕ → Function
   function f = (if nat_eq f 0 then f0 else (if nat_eq f 1 then f1 else f2))
 
-nested_calls_lawful : (is_lawful_body 192 3 (let p = nested_calls in p.function 0) && (is_lawful_body 192 2 (let p = nested_calls in p.function 1) && (is_lawful_body 192 1 (let p = nested_calls in p.function 2) && true))) ≡ true
+nested_calls_lawful : (is_lawful_body 192 3 (slice_get (2 ∷ 1 ∷ 0 ∷ [])) true (let p = nested_calls in p.function 0) && (is_lawful_body 192 2 (slice_get (2 ∷ 1 ∷ 0 ∷ [])) true (let p = nested_calls in p.function 1) && (is_lawful_body 192 1 (slice_get (2 ∷ 1 ∷ 0 ∷ [])) false (let p = nested_calls in p.function 2) && true))) ≡ true
 nested_calls_lawful = refl
 
 abbrev nested_calls_data : List ℕ
@@ -744,7 +744,7 @@ arguments_in_order = record { limit = 100; function = function } where
   function : ℕ → Function
   function f = (if nat_eq f 0 then f0 else (if nat_eq f 1 then f1 else f2))
 
-arguments_in_order_lawful : (is_lawful_body 128 4 (let p = arguments_in_order in p.function 0) && (is_lawful_body 128 2 (let p = arguments_in_order in p.function 1) && (is_lawful_body 128 2 (let p = arguments_in_order in p.function 2) && true))) ≡ true
+arguments_in_order_lawful : (is_lawful_body 128 4 (slice_get (3 ∷ 1 ∷ 0 ∷ [])) true (let p = arguments_in_order in p.function 0) && (is_lawful_body 128 2 (slice_get (3 ∷ 1 ∷ 0 ∷ [])) true (let p = arguments_in_order in p.function 1) && (is_lawful_body 128 2 (slice_get (3 ∷ 1 ∷ 0 ∷ [])) false (let p = arguments_in_order in p.function 2) && true))) ≡ true
 arguments_in_order_lawful = refl
 
 abbrev arguments_in_order_data : List ℕ
@@ -805,7 +805,7 @@ addressed_parameter = record { limit = 100; function = function } where
   function : ℕ → Function
   function f = (if nat_eq f 0 then f0 else (if nat_eq f 1 then f1 else f2))
 
-addressed_parameter_lawful : (is_lawful_body 192 3 (let p = addressed_parameter in p.function 0) && (is_lawful_body 192 4 (let p = addressed_parameter in p.function 1) && (is_lawful_body 192 1 (let p = addressed_parameter in p.function 2) && true))) ≡ true
+addressed_parameter_lawful : (is_lawful_body 192 3 (slice_get (2 ∷ 2 ∷ 0 ∷ [])) true (let p = addressed_parameter in p.function 0) && (is_lawful_body 192 4 (slice_get (2 ∷ 2 ∷ 0 ∷ [])) true (let p = addressed_parameter in p.function 1) && (is_lawful_body 192 1 (slice_get (2 ∷ 2 ∷ 0 ∷ [])) false (let p = addressed_parameter in p.function 2) && true))) ≡ true
 addressed_parameter_lawful = refl
 
 abbrev addressed_parameter_data : List ℕ
@@ -860,7 +860,7 @@ parameters_in_frame = record { limit = 100; function = function } where
   function : ℕ → Function
   function f = (if nat_eq f 0 then f0 else f1)
 
-parameters_in_frame_lawful : (is_lawful_body 128 7 (let p = parameters_in_frame in p.function 0) && (is_lawful_body 128 1 (let p = parameters_in_frame in p.function 1) && true)) ≡ true
+parameters_in_frame_lawful : (is_lawful_body 128 7 (slice_get (3 ∷ 0 ∷ [])) true (let p = parameters_in_frame in p.function 0) && (is_lawful_body 128 1 (slice_get (3 ∷ 0 ∷ [])) false (let p = parameters_in_frame in p.function 1) && true)) ≡ true
 parameters_in_frame_lawful = refl
 
 abbrev parameters_in_frame_data : List ℕ
@@ -934,7 +934,7 @@ mutual_recursion = record { limit = 100; function = function } where
   function : ℕ → Function
   function f = (if nat_eq f 0 then f0 else (if nat_eq f 1 then f1 else (if nat_eq f 2 then f2 else f3)))
 
-mutual_recursion_lawful : (is_lawful_body 128 2 (let p = mutual_recursion in p.function 0) && (is_lawful_body 128 2 (let p = mutual_recursion in p.function 1) && (is_lawful_body 128 2 (let p = mutual_recursion in p.function 2) && (is_lawful_body 128 1 (let p = mutual_recursion in p.function 3) && true)))) ≡ true
+mutual_recursion_lawful : (is_lawful_body 128 2 (slice_get (1 ∷ 1 ∷ 1 ∷ 0 ∷ [])) true (let p = mutual_recursion in p.function 0) && (is_lawful_body 128 2 (slice_get (1 ∷ 1 ∷ 1 ∷ 0 ∷ [])) true (let p = mutual_recursion in p.function 1) && (is_lawful_body 128 2 (slice_get (1 ∷ 1 ∷ 1 ∷ 0 ∷ [])) true (let p = mutual_recursion in p.function 2) && (is_lawful_body 128 1 (slice_get (1 ∷ 1 ∷ 1 ∷ 0 ∷ [])) false (let p = mutual_recursion in p.function 3) && true)))) ≡ true
 mutual_recursion_lawful = refl
 
 abbrev mutual_recursion_data : List ℕ
@@ -983,7 +983,7 @@ abort_exit = record { limit = 100; function = function } where
   function : ℕ → Function
   function f = (if nat_eq f 0 then f0 else f1)
 
-abort_exit_lawful : (is_lawful_body 128 2 (let p = abort_exit in p.function 0) && (is_lawful_body 128 1 (let p = abort_exit in p.function 1) && true)) ≡ true
+abort_exit_lawful : (is_lawful_body 128 2 (slice_get (1 ∷ 0 ∷ [])) true (let p = abort_exit in p.function 0) && (is_lawful_body 128 1 (slice_get (1 ∷ 0 ∷ [])) false (let p = abort_exit in p.function 1) && true)) ≡ true
 abort_exit_lawful = refl
 
 abbrev abort_exit_data : List ℕ
@@ -1021,7 +1021,7 @@ two_files = record { limit = 100; function = function } where
   function : ℕ → Function
   function f = f0
 
-two_files_lawful : (is_lawful_body 128 1 (let p = two_files in p.function 0) && true) ≡ true
+two_files_lawful : (is_lawful_body 128 1 (slice_get (0 ∷ [])) false (let p = two_files in p.function 0) && true) ≡ true
 two_files_lawful = refl
 
 abbrev two_files_data : List ℕ
@@ -1206,7 +1206,7 @@ inventory = record { limit = 100; function = function } where
   function : ℕ → Function
   function f = (if nat_eq f 0 then f0 else (if nat_eq f 1 then f1 else (if nat_eq f 2 then f2 else (if nat_eq f 3 then f3 else f4))))
 
-inventory_lawful : (is_lawful_body 320 4 (let p = inventory in p.function 0) && (is_lawful_body 320 3 (let p = inventory in p.function 1) && (is_lawful_body 320 3 (let p = inventory in p.function 2) && (is_lawful_body 320 3 (let p = inventory in p.function 3) && (is_lawful_body 320 1 (let p = inventory in p.function 4) && true))))) ≡ true
+inventory_lawful : (is_lawful_body 320 4 (slice_get (0 ∷ 1 ∷ 1 ∷ 2 ∷ 0 ∷ [])) true (let p = inventory in p.function 0) && (is_lawful_body 320 3 (slice_get (0 ∷ 1 ∷ 1 ∷ 2 ∷ 0 ∷ [])) true (let p = inventory in p.function 1) && (is_lawful_body 320 3 (slice_get (0 ∷ 1 ∷ 1 ∷ 2 ∷ 0 ∷ [])) true (let p = inventory in p.function 2) && (is_lawful_body 320 3 (slice_get (0 ∷ 1 ∷ 1 ∷ 2 ∷ 0 ∷ [])) true (let p = inventory in p.function 3) && (is_lawful_body 320 1 (slice_get (0 ∷ 1 ∷ 1 ∷ 2 ∷ 0 ∷ [])) false (let p = inventory in p.function 4) && true))))) ≡ true
 inventory_lawful = refl
 
 abbrev inventory_data : List ℕ
@@ -1255,7 +1255,7 @@ hidden_typedef = record { limit = 100; function = function } where
   function : ℕ → Function
   function f = f0
 
-hidden_typedef_lawful : (is_lawful_body 128 2 (let p = hidden_typedef in p.function 0) && true) ≡ true
+hidden_typedef_lawful : (is_lawful_body 128 2 (slice_get (0 ∷ [])) false (let p = hidden_typedef in p.function 0) && true) ≡ true
 hidden_typedef_lawful = refl
 
 abbrev hidden_typedef_data : List ℕ

@@ -1,11 +1,10 @@
 -- Examples of expressions: programs, and what an independent implementation of their meaning finds of them. Made by
 -- tools/meaning/terms.py.
 use Rattle.std.proofs.Common.{◌≡◌, ℕ, true, false, ◌&&◌, ◌∷◌, List, [], ◌++◌, Some, None, nat_eq, if◌then◌else◌, refl}
-use Rattle.std.specs.Prelude.{slice_index, nat_le}
-use Rattle.dae_base.specs.declared.Width.TheVariants as width
+use Rattle.std.specs.Prelude.{slice_index, slice_get, nat_le}
 use Rattle.dae_base.specs.declared.LoadKind.TheVariants as kind
 use Rattle.dae_meaning.specs.Operations.{compared, misplaced, combined, spelled}
-use Rattle.dae_meaning.specs.Results.{Halted, Trapped, Going}
+use Rattle.dae_meaning.specs.Results.{Halted, Trapped}
 use Rattle.dae_meaning.specs.declared.Operator.TheVariants as op
 use Rattle.dae_meaning.specs.declared.Comparison.TheVariants as rel
 use Rattle.dae_meaning.specs.declared.Spelling.TheVariants as spell
@@ -45,7 +44,7 @@ wraps = record { limit = 100; function = function } where
   function : ℕ → Function
   function f = f0
 
-wraps_lawful : (is_lawful_body 128 1 (let p = wraps in p.function 0) && true) ≡ true
+wraps_lawful : (is_lawful_body 128 1 (slice_get (0 ∷ [])) false (let p = wraps in p.function 0) && true) ≡ true
 wraps_lawful = refl
 
 abbrev wraps_data : List ℕ
@@ -85,7 +84,7 @@ sum_wraps = record { limit = 100; function = function } where
   function : ℕ → Function
   function f = f0
 
-sum_wraps_lawful : (is_lawful_body 128 1 (let p = sum_wraps in p.function 0) && true) ≡ true
+sum_wraps_lawful : (is_lawful_body 128 1 (slice_get (0 ∷ [])) false (let p = sum_wraps in p.function 0) && true) ≡ true
 sum_wraps_lawful = refl
 
 abbrev sum_wraps_data : List ℕ
@@ -126,7 +125,7 @@ sum_of_five = record { limit = 100; function = function } where
   function : ℕ → Function
   function f = f0
 
-sum_of_five_lawful : (is_lawful_body 128 1 (let p = sum_of_five in p.function 0) && true) ≡ true
+sum_of_five_lawful : (is_lawful_body 128 1 (slice_get (0 ∷ [])) false (let p = sum_of_five in p.function 0) && true) ≡ true
 sum_of_five_lawful = refl
 
 abbrev sum_of_five_data : List ℕ
@@ -160,7 +159,7 @@ signed_division = record { limit = 100; function = function } where
   function : ℕ → Function
   function f = f0
 
-signed_division_lawful : (is_lawful_body 128 1 (let p = signed_division in p.function 0) && true) ≡ true
+signed_division_lawful : (is_lawful_body 128 1 (slice_get (0 ∷ [])) false (let p = signed_division in p.function 0) && true) ≡ true
 signed_division_lawful = refl
 
 abbrev signed_division_data : List ℕ
@@ -197,7 +196,7 @@ least_divided = record { limit = 100; function = function } where
   function : ℕ → Function
   function f = f0
 
-least_divided_lawful : (is_lawful_body 128 3 (let p = least_divided in p.function 0) && true) ≡ true
+least_divided_lawful : (is_lawful_body 128 3 (slice_get (0 ∷ [])) false (let p = least_divided in p.function 0) && true) ≡ true
 least_divided_lawful = refl
 
 abbrev least_divided_data : List ℕ
@@ -239,7 +238,7 @@ shifts = record { limit = 100; function = function } where
   function : ℕ → Function
   function f = f0
 
-shifts_lawful : (is_lawful_body 128 4 (let p = shifts in p.function 0) && true) ≡ true
+shifts_lawful : (is_lawful_body 128 4 (slice_get (0 ∷ [])) false (let p = shifts in p.function 0) && true) ≡ true
 shifts_lawful = refl
 
 abbrev shifts_data : List ℕ
@@ -283,7 +282,7 @@ shifts_by_much = record { limit = 100; function = function } where
   function : ℕ → Function
   function f = f0
 
-shifts_by_much_lawful : (is_lawful_body 128 4 (let p = shifts_by_much in p.function 0) && true) ≡ true
+shifts_by_much_lawful : (is_lawful_body 128 4 (slice_get (0 ∷ [])) false (let p = shifts_by_much in p.function 0) && true) ≡ true
 shifts_by_much_lawful = refl
 
 abbrev shifts_by_much_data : List ℕ
@@ -340,7 +339,7 @@ operators = record { limit = 100; function = function } where
   function : ℕ → Function
   function f = f0
 
-operators_lawful : (is_lawful_body 128 4 (let p = operators in p.function 0) && true) ≡ true
+operators_lawful : (is_lawful_body 128 4 (slice_get (0 ∷ [])) false (let p = operators in p.function 0) && true) ≡ true
 operators_lawful = refl
 
 abbrev operators_data : List ℕ
@@ -412,7 +411,7 @@ comparisons = record { limit = 100; function = function } where
   function : ℕ → Function
   function f = (if nat_eq f 0 then f0 else f1)
 
-comparisons_lawful : (is_lawful_body 128 5 (let p = comparisons in p.function 0) && (is_lawful_body 128 1 (let p = comparisons in p.function 1) && true)) ≡ true
+comparisons_lawful : (is_lawful_body 128 5 (slice_get (4 ∷ 0 ∷ [])) true (let p = comparisons in p.function 0) && (is_lawful_body 128 1 (slice_get (4 ∷ 0 ∷ [])) false (let p = comparisons in p.function 1) && true)) ≡ true
 comparisons_lawful = refl
 
 abbrev comparisons_data : List ℕ
@@ -459,7 +458,7 @@ conversions = record { limit = 100; function = function } where
   function : ℕ → Function
   function f = f0
 
-conversions_lawful : (is_lawful_body 128 6 (let p = conversions in p.function 0) && true) ≡ true
+conversions_lawful : (is_lawful_body 128 6 (slice_get (0 ∷ [])) false (let p = conversions in p.function 0) && true) ≡ true
 conversions_lawful = refl
 
 abbrev conversions_data : List ℕ
@@ -499,7 +498,7 @@ char_wraps = record { limit = 100; function = function } where
   function : ℕ → Function
   function f = f0
 
-char_wraps_lawful : (is_lawful_body 128 2 (let p = char_wraps in p.function 0) && true) ≡ true
+char_wraps_lawful : (is_lawful_body 128 2 (slice_get (0 ∷ [])) false (let p = char_wraps in p.function 0) && true) ≡ true
 char_wraps_lawful = refl
 
 abbrev char_wraps_data : List ℕ
@@ -556,7 +555,7 @@ logic = record { limit = 100; function = function } where
   function : ℕ → Function
   function f = (if nat_eq f 0 then f0 else f1)
 
-logic_lawful : (is_lawful_body 128 2 (let p = logic in p.function 0) && (is_lawful_body 128 4 (let p = logic in p.function 1) && true)) ≡ true
+logic_lawful : (is_lawful_body 128 2 (slice_get (1 ∷ 0 ∷ [])) true (let p = logic in p.function 0) && (is_lawful_body 128 4 (slice_get (1 ∷ 0 ∷ [])) false (let p = logic in p.function 1) && true)) ≡ true
 logic_lawful = refl
 
 abbrev logic_data : List ℕ
@@ -597,7 +596,7 @@ logical_values = record { limit = 100; function = function } where
   function : ℕ → Function
   function f = f0
 
-logical_values_lawful : (is_lawful_body 128 2 (let p = logical_values in p.function 0) && true) ≡ true
+logical_values_lawful : (is_lawful_body 128 2 (slice_get (0 ∷ [])) false (let p = logical_values in p.function 0) && true) ≡ true
 logical_values_lawful = refl
 
 abbrev logical_values_data : List ℕ
@@ -658,7 +657,7 @@ conditions = record { limit = 100; function = function } where
   function : ℕ → Function
   function f = (if nat_eq f 0 then f0 else f1)
 
-conditions_lawful : (is_lawful_body 128 2 (let p = conditions in p.function 0) && (is_lawful_body 128 2 (let p = conditions in p.function 1) && true)) ≡ true
+conditions_lawful : (is_lawful_body 128 2 (slice_get (1 ∷ 0 ∷ [])) true (let p = conditions in p.function 0) && (is_lawful_body 128 2 (slice_get (1 ∷ 0 ∷ [])) false (let p = conditions in p.function 1) && true)) ≡ true
 conditions_lawful = refl
 
 abbrev conditions_data : List ℕ
@@ -711,7 +710,7 @@ order = record { limit = 100; function = function } where
   function : ℕ → Function
   function f = (if nat_eq f 0 then f0 else f1)
 
-order_lawful : (is_lawful_body 128 2 (let p = order in p.function 0) && (is_lawful_body 128 1 (let p = order in p.function 1) && true)) ≡ true
+order_lawful : (is_lawful_body 128 2 (slice_get (1 ∷ 0 ∷ [])) true (let p = order in p.function 0) && (is_lawful_body 128 1 (slice_get (1 ∷ 0 ∷ [])) false (let p = order in p.function 1) && true)) ≡ true
 order_lawful = refl
 
 abbrev order_data : List ℕ
@@ -770,7 +769,7 @@ left_before_right = record { limit = 100; function = function } where
   function : ℕ → Function
   function f = (if nat_eq f 0 then f0 else f1)
 
-left_before_right_lawful : (is_lawful_body 128 2 (let p = left_before_right in p.function 0) && (is_lawful_body 128 2 (let p = left_before_right in p.function 1) && true)) ≡ true
+left_before_right_lawful : (is_lawful_body 128 2 (slice_get (1 ∷ 0 ∷ [])) true (let p = left_before_right in p.function 0) && (is_lawful_body 128 2 (slice_get (1 ∷ 0 ∷ [])) false (let p = left_before_right in p.function 1) && true)) ≡ true
 left_before_right_lawful = refl
 
 abbrev left_before_right_data : List ℕ
@@ -824,7 +823,7 @@ steps = record { limit = 100; function = function } where
   function : ℕ → Function
   function f = f0
 
-steps_lawful : (is_lawful_body 128 4 (let p = steps in p.function 0) && true) ≡ true
+steps_lawful : (is_lawful_body 128 4 (slice_get (0 ∷ [])) false (let p = steps in p.function 0) && true) ≡ true
 steps_lawful = refl
 
 abbrev steps_data : List ℕ
@@ -869,7 +868,7 @@ variable_alias = record { limit = 100; function = function } where
   function : ℕ → Function
   function f = f0
 
-variable_alias_lawful : (is_lawful_body 128 3 (let p = variable_alias in p.function 0) && true) ≡ true
+variable_alias_lawful : (is_lawful_body 128 3 (slice_get (0 ∷ [])) false (let p = variable_alias in p.function 0) && true) ≡ true
 variable_alias_lawful = refl
 
 abbrev variable_alias_data : List ℕ
@@ -924,7 +923,7 @@ update_reads_first = record { limit = 100; function = function } where
   function : ℕ → Function
   function f = (if nat_eq f 0 then f0 else f1)
 
-update_reads_first_lawful : (is_lawful_body 128 1 (let p = update_reads_first in p.function 0) && (is_lawful_body 128 3 (let p = update_reads_first in p.function 1) && true)) ≡ true
+update_reads_first_lawful : (is_lawful_body 128 1 (slice_get (0 ∷ 0 ∷ [])) true (let p = update_reads_first in p.function 0) && (is_lawful_body 128 3 (slice_get (0 ∷ 0 ∷ [])) false (let p = update_reads_first in p.function 1) && true)) ≡ true
 update_reads_first_lawful = refl
 
 abbrev update_reads_first_data : List ℕ
@@ -959,7 +958,7 @@ update_traps = record { limit = 100; function = function } where
   function : ℕ → Function
   function f = f0
 
-update_traps_lawful : (is_lawful_body 128 2 (let p = update_traps in p.function 0) && true) ≡ true
+update_traps_lawful : (is_lawful_body 128 2 (slice_get (0 ∷ [])) false (let p = update_traps in p.function 0) && true) ≡ true
 update_traps_lawful = refl
 
 abbrev update_traps_data : List ℕ
@@ -995,7 +994,7 @@ unsigned_by_zero = record { limit = 100; function = function } where
   function : ℕ → Function
   function f = f0
 
-unsigned_by_zero_lawful : (is_lawful_body 128 2 (let p = unsigned_by_zero in p.function 0) && true) ≡ true
+unsigned_by_zero_lawful : (is_lawful_body 128 2 (slice_get (0 ∷ [])) false (let p = unsigned_by_zero in p.function 0) && true) ≡ true
 unsigned_by_zero_lawful = refl
 
 abbrev unsigned_by_zero_data : List ℕ
@@ -1032,7 +1031,7 @@ putchar_gives_byte = record { limit = 100; function = function } where
   function : ℕ → Function
   function f = f0
 
-putchar_gives_byte_lawful : (is_lawful_body 128 2 (let p = putchar_gives_byte in p.function 0) && true) ≡ true
+putchar_gives_byte_lawful : (is_lawful_body 128 2 (slice_get (0 ∷ [])) false (let p = putchar_gives_byte in p.function 0) && true) ≡ true
 putchar_gives_byte_lawful = refl
 
 abbrev putchar_gives_byte_data : List ℕ
@@ -1106,7 +1105,7 @@ sixteen_locals = record { limit = 100; function = function } where
   function : ℕ → Function
   function f = (if nat_eq f 0 then f0 else f1)
 
-sixteen_locals_lawful : (is_lawful_body 128 18 (let p = sixteen_locals in p.function 0) && (is_lawful_body 128 1 (let p = sixteen_locals in p.function 1) && true)) ≡ true
+sixteen_locals_lawful : (is_lawful_body 128 18 (slice_get (1 ∷ 0 ∷ [])) true (let p = sixteen_locals in p.function 0) && (is_lawful_body 128 1 (slice_get (1 ∷ 0 ∷ [])) false (let p = sixteen_locals in p.function 1) && true)) ≡ true
 sixteen_locals_lawful = refl
 
 abbrev sixteen_locals_data : List ℕ
@@ -1143,7 +1142,7 @@ self_init = record { limit = 100; function = function } where
   function : ℕ → Function
   function f = f0
 
-self_init_lawful : (is_lawful_body 128 4 (let p = self_init in p.function 0) && true) ≡ true
+self_init_lawful : (is_lawful_body 128 4 (slice_get (0 ∷ [])) false (let p = self_init in p.function 0) && true) ≡ true
 self_init_lawful = refl
 
 abbrev self_init_data : List ℕ
@@ -1182,7 +1181,7 @@ abort_in_middle = record { limit = 100; function = function } where
   function : ℕ → Function
   function f = f0
 
-abort_in_middle_lawful : (is_lawful_body 128 1 (let p = abort_in_middle in p.function 0) && true) ≡ true
+abort_in_middle_lawful : (is_lawful_body 128 1 (slice_get (0 ∷ [])) false (let p = abort_in_middle in p.function 0) && true) ≡ true
 abort_in_middle_lawful = refl
 
 abbrev abort_in_middle_data : List ℕ
@@ -1221,7 +1220,7 @@ aborts = record { limit = 100; function = function } where
   function : ℕ → Function
   function f = f0
 
-aborts_lawful : (is_lawful_body 128 2 (let p = aborts in p.function 0) && true) ≡ true
+aborts_lawful : (is_lawful_body 128 2 (slice_get (0 ∷ [])) false (let p = aborts in p.function 0) && true) ≡ true
 aborts_lawful = refl
 
 abbrev aborts_data : List ℕ
@@ -1262,7 +1261,7 @@ late_division = record { limit = 100; function = function } where
   function : ℕ → Function
   function f = f0
 
-late_division_lawful : (is_lawful_body 128 3 (let p = late_division in p.function 0) && true) ≡ true
+late_division_lawful : (is_lawful_body 128 3 (slice_get (0 ∷ [])) false (let p = late_division in p.function 0) && true) ≡ true
 late_division_lawful = refl
 
 abbrev late_division_data : List ℕ

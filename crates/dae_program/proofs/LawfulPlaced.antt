@@ -1,6 +1,5 @@
 -- The objects of lawful trees lie in memory.
-use Rattle.std.proofs.Common.{◌≡◌, ℕ, ◌+◌, ◌%◌, ◌≤◌, Bool, true, false, ◌&&◌, nat_eq, List, [], ◌∷◌, Option, Some, None, refl, ap, sym, ◌∙◌, subst}
-use Rattle.std.specs.Prelude.{nat_le}
+use Rattle.std.proofs.Common.{◌≡◌, ℕ, ◌≤◌, Bool, true, false, ◌&&◌, List, [], ◌∷◌, Option, Some, None, refl, ap, sym, ◌∙◌, subst}
 use Rattle.std.specs.List.{list_all}
 use Rattle.dae_base.specs.declared.Width.{Width}
 use Rattle.dae_base.specs.Words.{plus, size, width_of}
@@ -120,7 +119,7 @@ module _ (b : Bounds) (small : b.memory ≤ 4294967296) where
     placed (tree.Assign p kind t x) h = (target_placed (width_of kind) t (first _ _ h), placed x (second _ _ h))
     placed (tree.Update p kind t operator x) h = (target_placed (width_of kind) t (first _ _ h), placed x (second _ _ h))
     placed (tree.Step p kind t change new) h = target_placed (width_of kind) t (first _ _ h)
-    placed (tree.Call p f xs) h = all_placed xs h
+    placed (tree.Call p f xs) h = all_placed xs (second _ _ h)
     placed (tree.Putchar p x) h = placed x h
     placed (tree.Exit p x) h = placed x h
     placed (tree.Abort p) h = tt

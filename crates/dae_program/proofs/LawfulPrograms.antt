@@ -1,19 +1,18 @@
 -- Programs in memory that are lawful keep the rules.
-use Rattle.std.proofs.Common.{◌≡◌, ◌≢◌, ℕ, zero, suc, ◌+◌, ◌-◌, ◌*◌, ◌%◌, ◌^◌, ◌<◌, ◌≤◌, Bool, true, false, not, ◌&&◌, nat_eq, List, [], ◌∷◌, ◌++◌, length, replicate, Option, Some, None, refl, ap, sym, ◌∙◌, subst, arith, length-append}
+use Rattle.std.proofs.Common.{◌≡◌, ◌≢◌, ℕ, zero, suc, ◌+◌, ◌-◌, ◌%◌, ◌^◌, ◌<◌, ◌≤◌, Bool, true, false, not, ◌&&◌, nat_eq, List, [], ◌∷◌, ◌++◌, length, replicate, Option, Some, None, refl, ap, sym, subst, arith, length-append}
 use Rattle.std.proofs.lemmas.List.{length-replicate}
 use Rattle.std.proofs.lemmas.Bool.Decides.{nat_tests}
-use Rattle.std.specs.Prelude.{nat_le, nat_lt, slice_get}
+use Rattle.std.specs.Prelude.{nat_le, slice_get}
 use Rattle.std.specs.List.{list_all}
-use Rattle.dae_meaning.specs.Worlds.{World}
 use Rattle.dae_program.specs.declared.program.Function.{Function}
 use Rattle.dae_program.specs.declared.program.Links.{Links}
 use Rattle.dae_program.specs.declared.program.Program.{Program}
-use Rattle.dae_program.specs.Lawful.{Bounds, is_lawful, is_lawful_memory, is_lawful_function, is_lawful_body, has_no_parameters, spares, is_sound_slot, are_sound_statements}
-use Rattle.dae_program.specs.Placed.{KeepsFrame, KeepsFrames, IsBegin}
-use Rattle.dae_program.specs.Programs.{program_of, variables_of, start}
+use Rattle.dae_program.specs.Lawful.{Bounds, is_lawful, is_lawful_memory, is_lawful_body, is_lawful_in, is_main, parameter_count, are_inside, spares, is_sound_slot, are_sound_statements}
+use Rattle.dae_program.specs.Placed.{KeepsFrame, KeepsFrames}
+use Rattle.dae_program.specs.Programs.{program_of, start}
 use Rattle.dae_program.specs.Promise.{KeepsRules, LawfulKeepRules, NeverStrays}
-use Rattle.dae_program.specs.Resolved.{function_in, address_in, callee_in, number_or, variables_in}
-use Rattle.dae_program.specs.Scope.{KeepsScope, AreStatementsIn, AreSlotsIn}
+use Rattle.dae_program.specs.Resolved.{function_in, callee_in, number_or, variables_in}
+use Rattle.dae_program.specs.Scope.{AreStatementsIn, AreSlotsIn}
 use Rattle.dae_program.specs.Trees as tree
 use Rattle.dae_program.proofs.Straying.{named_never_stray}
 use Rattle.dae_program.proofs.Numbers.{first, second, within, equal}
@@ -45,15 +44,15 @@ different a b h e = absurd (grind (arith, nat_tests))
 
 -- ---- functions
 
-module _ (memory variables : ℕ) (f : tree.Function) (h : is_lawful_body memory variables f ≡ true) where
+module _ (memory variables : ℕ) (counts : ℕ → Option ℕ) (returns : Bool) (f : tree.Function) (h : is_lawful_body memory variables counts returns f ≡ true) where
   abbrev bounds : Bounds
-  bounds = record { variables = variables; address = f.address; memory = memory; frame = f.frame }
+  bounds = record { variables = variables; parameters = counts; address = f.address; memory = memory; frame = f.frame }
 
   numbers : (nat_eq (f.frame % 4) 0 && nat_le (1 + length f.parameters) variables) ≡ true
-  numbers = first _ _ h
+  numbers = first _ _ (first _ _ h)
 
   parts : (list_all (is_sound_slot f.frame) f.parameters && are_sound_statements bounds f.body) ≡ true
-  parts = second (nat_eq (f.frame % 4) 0 && nat_le (1 + length f.parameters) variables) _ h
+  parts = second (nat_eq (f.frame % 4) 0 && nat_le (1 + length f.parameters) variables) _ (first _ (are_inside false false returns f.body) h)
 
   body_in : AreStatementsIn variables f.body
   body_in = statements_in bounds f.body (second _ _ parts)
@@ -74,36 +73,39 @@ module _ (memory variables : ℕ) (f : tree.Function) (h : is_lawful_body memory
 -- ---- programs
 
 module _ (p : Program) (limit : ℕ) (h : is_lawful p.memory p.frames p.content p.links p.functions p.main ≡ true) where
-  beginning : (is_lawful_memory p.memory p.frames (length p.content) && has_no_parameters (slice_get p.functions p.main)) ≡ true
+  beginning : (is_lawful_memory p.memory p.frames (length p.content) && is_main p.memory p.links p.functions (slice_get p.functions p.main)) ≡ true
   beginning = first _ _ h
 
-  lists : (list_all (spares p.main) p.links && list_all (is_lawful_function p.memory (length p.functions) p.links) p.functions) ≡ true
-  lists = second (is_lawful_memory p.memory p.frames (length p.content) && has_no_parameters (slice_get p.functions p.main)) _ h
+  lists : (list_all (spares p.main) p.links && list_all (is_lawful_in p.memory p.links p.functions true) p.functions) ≡ true
+  lists = second (is_lawful_memory p.memory p.frames (length p.content) && is_main p.memory p.links p.functions (slice_get p.functions p.main)) _ h
 
   abbrev function : Option Function → tree.Function
   function f = function_in (length p.functions) p.links f
 
-  lawful_at : (k : ℕ) (f : Function) → slice_get p.functions k ≡ Some f → is_lawful_body p.memory f.variables (function (Some f)) ≡ true
-  lawful_at k f e = at (is_lawful_function p.memory (length p.functions) p.links) p.functions k f (second _ _ lists) e
+  abbrev counts : Function → ℕ → Option ℕ
+  counts f k = parameter_count (slice_get p.functions (let g = function (Some f) in g.callee k))
+
+  lawful_at : (k : ℕ) (f : Function) → slice_get p.functions k ≡ Some f → is_lawful_body p.memory f.variables (counts f) true (function (Some f)) ≡ true
+  lawful_at k f e = at (is_lawful_in p.memory p.links p.functions true) p.functions k f (second _ _ lists) e
 
   module _ (k : ℕ) where
     scope_at : (f : Option Function) → slice_get p.functions k ≡ f → AreStatementsIn (variables_in f) (let g = function f in g.body)
     scope_at None e = tt
-    scope_at (Some f) e = body_in p.memory f.variables (function (Some f)) (lawful_at k f e)
+    scope_at (Some f) e = body_in p.memory f.variables (counts f) true (function (Some f)) (lawful_at k f e)
 
     parameters_at : (f : Option Function) → slice_get p.functions k ≡ f → 1 + length (let g = function f in g.parameters) ≤ variables_in f
     parameters_at None e = omega arith
-    parameters_at (Some f) e = parameters_below p.memory f.variables (function (Some f)) (lawful_at k f e)
+    parameters_at (Some f) e = parameters_below p.memory f.variables (counts f) true (function (Some f)) (lawful_at k f e)
 
     slots_at : (f : Option Function) → slice_get p.functions k ≡ f → AreSlotsIn (let g = function f in g.parameters)
     slots_at None e = tt
-    slots_at (Some f) e = parameters_in p.memory f.variables (function (Some f)) (lawful_at k f e)
+    slots_at (Some f) e = parameters_in p.memory f.variables (counts f) true (function (Some f)) (lawful_at k f e)
 
     frame_at : p.memory ≤ 4294967296 → (f : Option Function) → slice_get p.functions k ≡ f → KeepsFrame p.memory (function f)
     frame_at small None e = record { aligned = refl; parameters = tt; statements = tt }
-    frame_at small (Some f) e = body_placed p.memory f.variables (function (Some f)) (lawful_at k f e) small
+    frame_at small (Some f) e = body_placed p.memory f.variables (counts f) true (function (Some f)) (lawful_at k f e) small
 
-  main_there : (f : Option Function) → slice_get p.functions p.main ≡ f → has_no_parameters f ≡ true → p.main < length p.functions
+  main_there : (f : Option Function) → slice_get p.functions p.main ≡ f → is_main p.memory p.links p.functions f ≡ true → p.main < length p.functions
   main_there None e i = absurd (let c : false ≡ true = i in cc)
   main_there (Some f) e i = there p.functions p.main f e
 
@@ -121,9 +123,9 @@ module _ (p : Program) (limit : ℕ) (h : is_lawful p.memory p.frames p.content 
   alone_in None g = none_else
   alone_in (Some f) g = callee_else (slice_get p.links f.file) f.file g refl
 
-  plain_in : (f : Option Function) → has_no_parameters f ≡ true → (let g = function f in g.parameters) ≡ []
+  plain_in : (f : Option Function) → is_main p.memory p.links p.functions f ≡ true → (let g = function f in g.parameters) ≡ []
   plain_in None i = refl
-  plain_in (Some f) i = no_items f.parameters i
+  plain_in (Some f) i = no_items f.parameters (first _ _ i)
 
   sizes : is_lawful_memory p.memory p.frames (length p.content) ≡ true
   sizes = first _ _ beginning

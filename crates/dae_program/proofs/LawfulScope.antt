@@ -1,5 +1,5 @@
 -- Lawful trees keep to their variables, and their numbers are words.
-use Rattle.std.proofs.Common.{◌≡◌, ℕ, ◌^◌, Bool, true, ◌&&◌, List, [], ◌∷◌, Option, Some, None}
+use Rattle.std.proofs.Common.{◌≡◌, ℕ, ◌^◌, true, ◌&&◌, List, [], ◌∷◌, Option, Some, None}
 use Rattle.std.specs.List.{list_all, AllByRecursion}
 use Rattle.dae_base.specs.declared.Width.{Width}
 use Rattle.dae_base.specs.Words.{width_of}
@@ -40,13 +40,13 @@ module _ (b : Bounds) where
     in_scope (tree.Assign p kind t x) h = (target_in (width_of kind) t (first _ _ h), in_scope x (second _ _ h))
     in_scope (tree.Update p kind t operator x) h = (target_in (width_of kind) t (first _ _ h), in_scope x (second _ _ h))
     in_scope (tree.Step p kind t change new) h = (target_in (width_of kind) t (first _ _ h), below change (2 ^ 32) (second _ _ h))
-    in_scope (tree.Call p f xs) h = all_in xs h
+    in_scope (tree.Call p f xs) h = all_in xs (second _ _ h)
     in_scope (tree.Putchar p x) h = in_scope x h
     in_scope (tree.Exit p x) h = in_scope x h
     in_scope (tree.Abort p) h = tt
 
     target_in : (width : Width) (t : Target) → is_sound_target b width t ≡ true → IsTargetIn b.variables t
-    target_in width (tree.InVariable v) h = below v b.variables h
+    target_in width (tree.InVariable v) h = (below 0 v (first _ _ h), below v b.variables (second _ _ h))
     target_in width (tree.AtAddress checked x) h = in_scope x (second _ _ h)
 
     all_in : (xs : Expressions) → are_sound b xs ≡ true → AreIn b.variables xs

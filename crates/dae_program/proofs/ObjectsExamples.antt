@@ -1,11 +1,10 @@
 -- Examples of objects: programs, and what an independent implementation of their meaning finds of them. Made by
 -- tools/meaning/terms.py.
 use Rattle.std.proofs.Common.{◌≡◌, ℕ, true, false, ◌&&◌, ◌∷◌, List, [], ◌++◌, Some, None, nat_eq, if◌then◌else◌, refl}
-use Rattle.std.specs.Prelude.{slice_index, nat_le}
-use Rattle.dae_base.specs.declared.Width.TheVariants as width
+use Rattle.std.specs.Prelude.{slice_index, slice_get, nat_le}
 use Rattle.dae_base.specs.declared.LoadKind.TheVariants as kind
 use Rattle.dae_meaning.specs.Operations.{compared, misplaced, combined, spelled}
-use Rattle.dae_meaning.specs.Results.{Halted, Trapped, Going}
+use Rattle.dae_meaning.specs.Results.{Halted, Trapped}
 use Rattle.dae_meaning.specs.declared.Operator.TheVariants as op
 use Rattle.dae_meaning.specs.declared.Comparison.TheVariants as rel
 use Rattle.dae_meaning.specs.declared.Spelling.TheVariants as spell
@@ -40,7 +39,7 @@ product = record { limit = 100; function = function } where
   function : ℕ → Function
   function f = f0
 
-product_lawful : (is_lawful_body 128 1 (let p = product in p.function 0) && true) ≡ true
+product_lawful : (is_lawful_body 128 1 (slice_get (0 ∷ [])) false (let p = product in p.function 0) && true) ≡ true
 product_lawful = refl
 
 abbrev product_data : List ℕ
@@ -77,7 +76,7 @@ square = record { limit = 100; function = function } where
   function : ℕ → Function
   function f = f0
 
-square_lawful : (is_lawful_body 128 1 (let p = square in p.function 0) && true) ≡ true
+square_lawful : (is_lawful_body 128 1 (slice_get (0 ∷ [])) false (let p = square in p.function 0) && true) ≡ true
 square_lawful = refl
 
 abbrev square_data : List ℕ
@@ -123,7 +122,7 @@ pointers = record { limit = 100; function = function } where
   function : ℕ → Function
   function f = f0
 
-pointers_lawful : (is_lawful_body 192 3 (let p = pointers in p.function 0) && true) ≡ true
+pointers_lawful : (is_lawful_body 192 3 (slice_get (0 ∷ [])) false (let p = pointers in p.function 0) && true) ≡ true
 pointers_lawful = refl
 
 abbrev pointers_data : List ℕ
@@ -179,7 +178,7 @@ pointer_sums = record { limit = 100; function = function } where
   function : ℕ → Function
   function f = f0
 
-pointer_sums_lawful : (is_lawful_body 192 4 (let p = pointer_sums in p.function 0) && true) ≡ true
+pointer_sums_lawful : (is_lawful_body 192 4 (slice_get (0 ∷ [])) false (let p = pointer_sums in p.function 0) && true) ≡ true
 pointer_sums_lawful = refl
 
 abbrev pointer_sums_data : List ℕ
@@ -226,7 +225,7 @@ linked_list = record { limit = 100; function = function } where
   function : ℕ → Function
   function f = f0
 
-linked_list_lawful : (is_lawful_body 128 3 (let p = linked_list in p.function 0) && true) ≡ true
+linked_list_lawful : (is_lawful_body 128 3 (slice_get (0 ∷ [])) false (let p = linked_list in p.function 0) && true) ≡ true
 linked_list_lawful = refl
 
 abbrev linked_list_data : List ℕ
@@ -270,7 +269,7 @@ char_index = record { limit = 100; function = function } where
   function : ℕ → Function
   function f = f0
 
-char_index_lawful : (is_lawful_body 128 3 (let p = char_index in p.function 0) && true) ≡ true
+char_index_lawful : (is_lawful_body 128 3 (slice_get (0 ∷ [])) false (let p = char_index in p.function 0) && true) ≡ true
 char_index_lawful = refl
 
 abbrev char_index_data : List ℕ
@@ -312,7 +311,7 @@ comma_struct = record { limit = 100; function = function } where
   function : ℕ → Function
   function f = f0
 
-comma_struct_lawful : (is_lawful_body 128 3 (let p = comma_struct in p.function 0) && true) ≡ true
+comma_struct_lawful : (is_lawful_body 128 3 (slice_get (0 ∷ [])) false (let p = comma_struct in p.function 0) && true) ≡ true
 comma_struct_lawful = refl
 
 abbrev comma_struct_data : List ℕ
@@ -353,7 +352,7 @@ alias_update = record { limit = 100; function = function } where
   function : ℕ → Function
   function f = f0
 
-alias_update_lawful : (is_lawful_body 128 2 (let p = alias_update in p.function 0) && true) ≡ true
+alias_update_lawful : (is_lawful_body 128 2 (slice_get (0 ∷ [])) false (let p = alias_update in p.function 0) && true) ≡ true
 alias_update_lawful = refl
 
 abbrev alias_update_data : List ℕ
@@ -408,7 +407,7 @@ address_once = record { limit = 100; function = function } where
   function : ℕ → Function
   function f = (if nat_eq f 0 then f0 else f1)
 
-address_once_lawful : (is_lawful_body 128 1 (let p = address_once in p.function 0) && (is_lawful_body 128 1 (let p = address_once in p.function 1) && true)) ≡ true
+address_once_lawful : (is_lawful_body 128 1 (slice_get (0 ∷ 0 ∷ [])) true (let p = address_once in p.function 0) && (is_lawful_body 128 1 (slice_get (0 ∷ 0 ∷ [])) false (let p = address_once in p.function 1) && true)) ≡ true
 address_once_lawful = refl
 
 abbrev address_once_data : List ℕ
@@ -453,7 +452,7 @@ step_of_pointer = record { limit = 100; function = function } where
   function : ℕ → Function
   function f = f0
 
-step_of_pointer_lawful : (is_lawful_body 128 3 (let p = step_of_pointer in p.function 0) && true) ≡ true
+step_of_pointer_lawful : (is_lawful_body 128 3 (slice_get (0 ∷ [])) false (let p = step_of_pointer in p.function 0) && true) ≡ true
 step_of_pointer_lawful = refl
 
 abbrev step_of_pointer_data : List ℕ
@@ -502,7 +501,7 @@ kinds_in_memory = record { limit = 100; function = function } where
   function : ℕ → Function
   function f = f0
 
-kinds_in_memory_lawful : (is_lawful_body 128 1 (let p = kinds_in_memory in p.function 0) && true) ≡ true
+kinds_in_memory_lawful : (is_lawful_body 128 1 (slice_get (0 ∷ [])) false (let p = kinds_in_memory in p.function 0) && true) ≡ true
 kinds_in_memory_lawful = refl
 
 abbrev kinds_in_memory_data : List ℕ
@@ -544,7 +543,7 @@ bytes_of_word = record { limit = 100; function = function } where
   function : ℕ → Function
   function f = f0
 
-bytes_of_word_lawful : (is_lawful_body 128 2 (let p = bytes_of_word in p.function 0) && true) ≡ true
+bytes_of_word_lawful : (is_lawful_body 128 2 (slice_get (0 ∷ [])) false (let p = bytes_of_word in p.function 0) && true) ≡ true
 bytes_of_word_lawful = refl
 
 abbrev bytes_of_word_data : List ℕ
@@ -582,7 +581,7 @@ pointers_to_null = record { limit = 100; function = function } where
   function : ℕ → Function
   function f = f0
 
-pointers_to_null_lawful : (is_lawful_body 128 2 (let p = pointers_to_null in p.function 0) && true) ≡ true
+pointers_to_null_lawful : (is_lawful_body 128 2 (slice_get (0 ∷ [])) false (let p = pointers_to_null in p.function 0) && true) ≡ true
 pointers_to_null_lawful = refl
 
 abbrev pointers_to_null_data : List ℕ
@@ -622,7 +621,7 @@ two_tables = record { limit = 100; function = function } where
   function : ℕ → Function
   function f = f0
 
-two_tables_lawful : (is_lawful_body 128 2 (let p = two_tables in p.function 0) && true) ≡ true
+two_tables_lawful : (is_lawful_body 128 2 (slice_get (0 ∷ [])) false (let p = two_tables in p.function 0) && true) ≡ true
 two_tables_lawful = refl
 
 abbrev two_tables_data : List ℕ
@@ -666,7 +665,7 @@ chain_of_stores = record { limit = 100; function = function } where
   function : ℕ → Function
   function f = f0
 
-chain_of_stores_lawful : (is_lawful_body 128 2 (let p = chain_of_stores in p.function 0) && true) ≡ true
+chain_of_stores_lawful : (is_lawful_body 128 2 (slice_get (0 ∷ [])) false (let p = chain_of_stores in p.function 0) && true) ≡ true
 chain_of_stores_lawful = refl
 
 abbrev chain_of_stores_data : List ℕ
@@ -706,7 +705,7 @@ filled_array = record { limit = 100; function = function } where
   function : ℕ → Function
   function f = f0
 
-filled_array_lawful : (is_lawful_body 128 2 (let p = filled_array in p.function 0) && true) ≡ true
+filled_array_lawful : (is_lawful_body 128 2 (slice_get (0 ∷ [])) false (let p = filled_array in p.function 0) && true) ≡ true
 filled_array_lawful = refl
 
 abbrev filled_array_data : List ℕ
@@ -742,7 +741,7 @@ index_in_memory = record { limit = 100; function = function } where
   function : ℕ → Function
   function f = f0
 
-index_in_memory_lawful : (is_lawful_body 128 2 (let p = index_in_memory in p.function 0) && true) ≡ true
+index_in_memory_lawful : (is_lawful_body 128 2 (slice_get (0 ∷ [])) false (let p = index_in_memory in p.function 0) && true) ≡ true
 index_in_memory_lawful = refl
 
 abbrev index_in_memory_data : List ℕ
@@ -774,7 +773,7 @@ write_below = record { limit = 100; function = function } where
   function : ℕ → Function
   function f = f0
 
-write_below_lawful : (is_lawful_body 128 1 (let p = write_below in p.function 0) && true) ≡ true
+write_below_lawful : (is_lawful_body 128 1 (slice_get (0 ∷ [])) false (let p = write_below in p.function 0) && true) ≡ true
 write_below_lawful = refl
 
 abbrev write_below_data : List ℕ
@@ -809,7 +808,7 @@ write_last_word = record { limit = 100; function = function } where
   function : ℕ → Function
   function f = f0
 
-write_last_word_lawful : (is_lawful_body 128 1 (let p = write_last_word in p.function 0) && true) ≡ true
+write_last_word_lawful : (is_lawful_body 128 1 (slice_get (0 ∷ [])) false (let p = write_last_word in p.function 0) && true) ≡ true
 write_last_word_lawful = refl
 
 abbrev write_last_word_data : List ℕ
@@ -848,7 +847,7 @@ write_past_end = record { limit = 100; function = function } where
   function : ℕ → Function
   function f = f0
 
-write_past_end_lawful : (is_lawful_body 128 1 (let p = write_past_end in p.function 0) && true) ≡ true
+write_past_end_lawful : (is_lawful_body 128 1 (slice_get (0 ∷ [])) false (let p = write_past_end in p.function 0) && true) ≡ true
 write_past_end_lawful = refl
 
 abbrev write_past_end_data : List ℕ
@@ -883,7 +882,7 @@ write_misaligned = record { limit = 100; function = function } where
   function : ℕ → Function
   function f = f0
 
-write_misaligned_lawful : (is_lawful_body 128 1 (let p = write_misaligned in p.function 0) && true) ≡ true
+write_misaligned_lawful : (is_lawful_body 128 1 (slice_get (0 ∷ [])) false (let p = write_misaligned in p.function 0) && true) ≡ true
 write_misaligned_lawful = refl
 
 abbrev write_misaligned_data : List ℕ
@@ -917,7 +916,7 @@ read_below = record { limit = 100; function = function } where
   function : ℕ → Function
   function f = f0
 
-read_below_lawful : (is_lawful_body 128 1 (let p = read_below in p.function 0) && true) ≡ true
+read_below_lawful : (is_lawful_body 128 1 (slice_get (0 ∷ [])) false (let p = read_below in p.function 0) && true) ≡ true
 read_below_lawful = refl
 
 abbrev read_below_data : List ℕ
@@ -951,7 +950,7 @@ read_first = record { limit = 100; function = function } where
   function : ℕ → Function
   function f = f0
 
-read_first_lawful : (is_lawful_body 128 1 (let p = read_first in p.function 0) && true) ≡ true
+read_first_lawful : (is_lawful_body 128 1 (slice_get (0 ∷ [])) false (let p = read_first in p.function 0) && true) ≡ true
 read_first_lawful = refl
 
 abbrev read_first_data : List ℕ
@@ -985,7 +984,7 @@ read_past_end = record { limit = 100; function = function } where
   function : ℕ → Function
   function f = f0
 
-read_past_end_lawful : (is_lawful_body 128 1 (let p = read_past_end in p.function 0) && true) ≡ true
+read_past_end_lawful : (is_lawful_body 128 1 (slice_get (0 ∷ [])) false (let p = read_past_end in p.function 0) && true) ≡ true
 read_past_end_lawful = refl
 
 abbrev read_past_end_data : List ℕ
@@ -1020,7 +1019,7 @@ read_last = record { limit = 100; function = function } where
   function : ℕ → Function
   function f = f0
 
-read_last_lawful : (is_lawful_body 128 1 (let p = read_last in p.function 0) && true) ≡ true
+read_last_lawful : (is_lawful_body 128 1 (slice_get (0 ∷ [])) false (let p = read_last in p.function 0) && true) ≡ true
 read_last_lawful = refl
 
 abbrev read_last_data : List ℕ
@@ -1054,7 +1053,7 @@ read_misaligned = record { limit = 100; function = function } where
   function : ℕ → Function
   function f = f0
 
-read_misaligned_lawful : (is_lawful_body 128 1 (let p = read_misaligned in p.function 0) && true) ≡ true
+read_misaligned_lawful : (is_lawful_body 128 1 (slice_get (0 ∷ [])) false (let p = read_misaligned in p.function 0) && true) ≡ true
 read_misaligned_lawful = refl
 
 abbrev read_misaligned_data : List ℕ
@@ -1089,7 +1088,7 @@ misaligned_first = record { limit = 100; function = function } where
   function : ℕ → Function
   function f = f0
 
-misaligned_first_lawful : (is_lawful_body 128 2 (let p = misaligned_first in p.function 0) && true) ≡ true
+misaligned_first_lawful : (is_lawful_body 128 2 (slice_get (0 ∷ [])) false (let p = misaligned_first in p.function 0) && true) ≡ true
 misaligned_first_lawful = refl
 
 abbrev misaligned_first_data : List ℕ
@@ -1123,7 +1122,7 @@ misaligned_past_end = record { limit = 100; function = function } where
   function : ℕ → Function
   function f = f0
 
-misaligned_past_end_lawful : (is_lawful_body 128 1 (let p = misaligned_past_end in p.function 0) && true) ≡ true
+misaligned_past_end_lawful : (is_lawful_body 128 1 (slice_get (0 ∷ [])) false (let p = misaligned_past_end in p.function 0) && true) ≡ true
 misaligned_past_end_lawful = refl
 
 abbrev misaligned_past_end_data : List ℕ
@@ -1157,7 +1156,7 @@ byte_past_end = record { limit = 100; function = function } where
   function : ℕ → Function
   function f = f0
 
-byte_past_end_lawful : (is_lawful_body 128 1 (let p = byte_past_end in p.function 0) && true) ≡ true
+byte_past_end_lawful : (is_lawful_body 128 1 (slice_get (0 ∷ [])) false (let p = byte_past_end in p.function 0) && true) ≡ true
 byte_past_end_lawful = refl
 
 abbrev byte_past_end_data : List ℕ
@@ -1196,7 +1195,7 @@ division_traps = record { limit = 100; function = function } where
   function : ℕ → Function
   function f = f0
 
-division_traps_lawful : (is_lawful_body 128 1 (let p = division_traps in p.function 0) && true) ≡ true
+division_traps_lawful : (is_lawful_body 128 1 (slice_get (0 ∷ [])) false (let p = division_traps in p.function 0) && true) ≡ true
 division_traps_lawful = refl
 
 abbrev division_traps_data : List ℕ
@@ -1231,7 +1230,7 @@ traps_order = record { limit = 100; function = function } where
   function : ℕ → Function
   function f = f0
 
-traps_order_lawful : (is_lawful_body 128 2 (let p = traps_order in p.function 0) && true) ≡ true
+traps_order_lawful : (is_lawful_body 128 2 (slice_get (0 ∷ [])) false (let p = traps_order in p.function 0) && true) ≡ true
 traps_order_lawful = refl
 
 abbrev traps_order_data : List ℕ
@@ -1268,7 +1267,7 @@ access_traps_last = record { limit = 100; function = function } where
   function : ℕ → Function
   function f = f0
 
-access_traps_last_lawful : (is_lawful_body 128 2 (let p = access_traps_last in p.function 0) && true) ≡ true
+access_traps_last_lawful : (is_lawful_body 128 2 (slice_get (0 ∷ [])) false (let p = access_traps_last in p.function 0) && true) ≡ true
 access_traps_last_lawful = refl
 
 abbrev access_traps_last_data : List ℕ
@@ -1306,7 +1305,7 @@ update_access_first = record { limit = 100; function = function } where
   function : ℕ → Function
   function f = f0
 
-update_access_first_lawful : (is_lawful_body 128 2 (let p = update_access_first in p.function 0) && true) ≡ true
+update_access_first_lawful : (is_lawful_body 128 2 (slice_get (0 ∷ [])) false (let p = update_access_first in p.function 0) && true) ≡ true
 update_access_first_lawful = refl
 
 abbrev update_access_first_data : List ℕ
@@ -1343,7 +1342,7 @@ unused_read = record { limit = 100; function = function } where
   function : ℕ → Function
   function f = f0
 
-unused_read_lawful : (is_lawful_body 128 1 (let p = unused_read in p.function 0) && true) ≡ true
+unused_read_lawful : (is_lawful_body 128 1 (slice_get (0 ∷ [])) false (let p = unused_read in p.function 0) && true) ≡ true
 unused_read_lawful = refl
 
 abbrev unused_read_data : List ℕ

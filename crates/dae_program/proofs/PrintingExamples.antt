@@ -1,11 +1,11 @@
 -- Examples of printing: programs, and what an independent implementation of their meaning finds of them. Made by
 -- tools/meaning/terms.py.
 use Rattle.std.proofs.Common.{◌≡◌, ℕ, true, false, ◌&&◌, ◌∷◌, List, [], ◌++◌, Some, None, nat_eq, if◌then◌else◌, refl}
-use Rattle.std.specs.Prelude.{slice_index, nat_le}
+use Rattle.std.specs.Prelude.{slice_index, slice_get, nat_le}
 use Rattle.dae_base.specs.declared.Width.TheVariants as width
 use Rattle.dae_base.specs.declared.LoadKind.TheVariants as kind
 use Rattle.dae_meaning.specs.Operations.{compared, misplaced, combined, spelled}
-use Rattle.dae_meaning.specs.Results.{Halted, Trapped, Going}
+use Rattle.dae_meaning.specs.Results.{Halted, Trapped}
 use Rattle.dae_meaning.specs.declared.Operator.TheVariants as op
 use Rattle.dae_meaning.specs.declared.Comparison.TheVariants as rel
 use Rattle.dae_meaning.specs.declared.Spelling.TheVariants as spell
@@ -43,7 +43,7 @@ spellings = record { limit = 100; function = function } where
   function : ℕ → Function
   function f = f0
 
-spellings_lawful : (is_lawful_body 128 1 (let p = spellings in p.function 0) && true) ≡ true
+spellings_lawful : (is_lawful_body 128 1 (slice_get (0 ∷ [])) false (let p = spellings in p.function 0) && true) ≡ true
 spellings_lawful = refl
 
 abbrev spellings_data : List ℕ
@@ -93,7 +93,7 @@ printf_evaluates_first = record { limit = 100; function = function } where
   function : ℕ → Function
   function f = (if nat_eq f 0 then f0 else f1)
 
-printf_evaluates_first_lawful : (is_lawful_body 128 2 (let p = printf_evaluates_first in p.function 0) && (is_lawful_body 128 1 (let p = printf_evaluates_first in p.function 1) && true)) ≡ true
+printf_evaluates_first_lawful : (is_lawful_body 128 2 (slice_get (1 ∷ 0 ∷ [])) true (let p = printf_evaluates_first in p.function 0) && (is_lawful_body 128 1 (slice_get (1 ∷ 0 ∷ [])) false (let p = printf_evaluates_first in p.function 1) && true)) ≡ true
 printf_evaluates_first_lawful = refl
 
 abbrev printf_evaluates_first_data : List ℕ
@@ -128,7 +128,7 @@ printf_trap_before = record { limit = 100; function = function } where
   function : ℕ → Function
   function f = f0
 
-printf_trap_before_lawful : (is_lawful_body 128 1 (let p = printf_trap_before in p.function 0) && true) ≡ true
+printf_trap_before_lawful : (is_lawful_body 128 1 (slice_get (0 ∷ [])) false (let p = printf_trap_before in p.function 0) && true) ≡ true
 printf_trap_before_lawful = refl
 
 abbrev printf_trap_before_data : List ℕ
@@ -170,7 +170,7 @@ strings = record { limit = 100; function = function } where
   function : ℕ → Function
   function f = f0
 
-strings_lawful : (is_lawful_body 192 1 (let p = strings in p.function 0) && true) ≡ true
+strings_lawful : (is_lawful_body 192 1 (slice_get (0 ∷ [])) false (let p = strings in p.function 0) && true) ≡ true
 strings_lawful = refl
 
 abbrev strings_data : List ℕ
@@ -212,7 +212,7 @@ string_null = record { limit = 100; function = function } where
   function : ℕ → Function
   function f = f0
 
-string_null_lawful : (is_lawful_body 128 1 (let p = string_null in p.function 0) && true) ≡ true
+string_null_lawful : (is_lawful_body 128 1 (slice_get (0 ∷ [])) false (let p = string_null in p.function 0) && true) ≡ true
 string_null_lawful = refl
 
 abbrev string_null_data : List ℕ
@@ -254,7 +254,7 @@ string_trap = record { limit = 100; function = function } where
   function : ℕ → Function
   function f = f0
 
-string_trap_lawful : (is_lawful_body 128 2 (let p = string_trap in p.function 0) && true) ≡ true
+string_trap_lawful : (is_lawful_body 128 2 (slice_get (0 ∷ [])) false (let p = string_trap in p.function 0) && true) ≡ true
 string_trap_lawful = refl
 
 abbrev string_trap_data : List ℕ
@@ -299,7 +299,7 @@ text_reads = record { limit = 100; function = function } where
   function : ℕ → Function
   function f = f0
 
-text_reads_lawful : (is_lawful_body 128 2 (let p = text_reads in p.function 0) && true) ≡ true
+text_reads_lawful : (is_lawful_body 128 2 (slice_get (0 ∷ [])) false (let p = text_reads in p.function 0) && true) ≡ true
 text_reads_lawful = refl
 
 abbrev text_reads_data : List ℕ
@@ -346,7 +346,7 @@ shared_texts = record { limit = 100; function = function } where
   function : ℕ → Function
   function f = f0
 
-shared_texts_lawful : (is_lawful_body 128 1 (let p = shared_texts in p.function 0) && true) ≡ true
+shared_texts_lawful : (is_lawful_body 128 1 (slice_get (0 ∷ [])) false (let p = shared_texts in p.function 0) && true) ≡ true
 shared_texts_lawful = refl
 
 abbrev shared_texts_data : List ℕ
@@ -411,7 +411,7 @@ aggregates = record { limit = 100; function = function } where
   function : ℕ → Function
   function f = (if nat_eq f 0 then f0 else f1)
 
-aggregates_lawful : (is_lawful_body 192 3 (let p = aggregates in p.function 0) && (is_lawful_body 192 1 (let p = aggregates in p.function 1) && true)) ≡ true
+aggregates_lawful : (is_lawful_body 192 3 (slice_get (1 ∷ 0 ∷ [])) true (let p = aggregates in p.function 0) && (is_lawful_body 192 1 (slice_get (1 ∷ 0 ∷ [])) false (let p = aggregates in p.function 1) && true)) ≡ true
 aggregates_lawful = refl
 
 abbrev aggregates_data : List ℕ
@@ -482,7 +482,7 @@ local_arrays = record { limit = 100; function = function } where
   function : ℕ → Function
   function f = (if nat_eq f 0 then f0 else (if nat_eq f 1 then f1 else f2))
 
-local_arrays_lawful : (is_lawful_body 128 3 (let p = local_arrays in p.function 0) && (is_lawful_body 128 1 (let p = local_arrays in p.function 1) && (is_lawful_body 128 2 (let p = local_arrays in p.function 2) && true))) ≡ true
+local_arrays_lawful : (is_lawful_body 128 3 (slice_get (1 ∷ 0 ∷ 0 ∷ [])) true (let p = local_arrays in p.function 0) && (is_lawful_body 128 1 (slice_get (1 ∷ 0 ∷ 0 ∷ [])) true (let p = local_arrays in p.function 1) && (is_lawful_body 128 2 (slice_get (1 ∷ 0 ∷ 0 ∷ [])) false (let p = local_arrays in p.function 2) && true))) ≡ true
 local_arrays_lawful = refl
 
 abbrev local_arrays_data : List ℕ
@@ -538,7 +538,7 @@ nested_initialisers = record { limit = 100; function = function } where
   function : ℕ → Function
   function f = f0
 
-nested_initialisers_lawful : (is_lawful_body 320 1 (let p = nested_initialisers in p.function 0) && true) ≡ true
+nested_initialisers_lawful : (is_lawful_body 320 1 (slice_get (0 ∷ [])) false (let p = nested_initialisers in p.function 0) && true) ≡ true
 nested_initialisers_lawful = refl
 
 abbrev nested_initialisers_data : List ℕ

@@ -1,11 +1,10 @@
 -- Examples of statements: programs, and what an independent implementation of their meaning finds of them. Made by
 -- tools/meaning/terms.py.
 use Rattle.std.proofs.Common.{◌≡◌, ℕ, true, false, ◌&&◌, ◌∷◌, List, [], ◌++◌, Some, None, nat_eq, if◌then◌else◌, refl}
-use Rattle.std.specs.Prelude.{slice_index, nat_le}
-use Rattle.dae_base.specs.declared.Width.TheVariants as width
+use Rattle.std.specs.Prelude.{slice_index, slice_get, nat_le}
 use Rattle.dae_base.specs.declared.LoadKind.TheVariants as kind
 use Rattle.dae_meaning.specs.Operations.{compared, misplaced, combined, spelled}
-use Rattle.dae_meaning.specs.Results.{Halted, Trapped, Going}
+use Rattle.dae_meaning.specs.Results.{Halted, Going}
 use Rattle.dae_meaning.specs.declared.Operator.TheVariants as op
 use Rattle.dae_meaning.specs.declared.Comparison.TheVariants as rel
 use Rattle.dae_meaning.specs.declared.Spelling.TheVariants as spell
@@ -35,7 +34,7 @@ nothing = record { limit = 100; function = function } where
   function : ℕ → Function
   function f = f0
 
-nothing_lawful : (is_lawful_body 128 1 (let p = nothing in p.function 0) && true) ≡ true
+nothing_lawful : (is_lawful_body 128 1 (slice_get (0 ∷ [])) false (let p = nothing in p.function 0) && true) ≡ true
 nothing_lawful = refl
 
 abbrev nothing_data : List ℕ
@@ -70,7 +69,7 @@ returns_one = record { limit = 100; function = function } where
   function : ℕ → Function
   function f = f0
 
-returns_one_lawful : (is_lawful_body 128 1 (let p = returns_one in p.function 0) && true) ≡ true
+returns_one_lawful : (is_lawful_body 128 1 (slice_get (0 ∷ [])) false (let p = returns_one in p.function 0) && true) ≡ true
 returns_one_lawful = refl
 
 abbrev returns_one_data : List ℕ
@@ -124,7 +123,7 @@ loops = record { limit = 100; function = function } where
   function : ℕ → Function
   function f = f0
 
-loops_lawful : (is_lawful_body 128 4 (let p = loops in p.function 0) && true) ≡ true
+loops_lawful : (is_lawful_body 128 4 (slice_get (0 ∷ [])) false (let p = loops in p.function 0) && true) ≡ true
 loops_lawful = refl
 
 abbrev loops_data : List ℕ
@@ -165,7 +164,7 @@ collatz = record { limit = 100; function = function } where
   function : ℕ → Function
   function f = f0
 
-collatz_lawful : (is_lawful_body 128 3 (let p = collatz in p.function 0) && true) ≡ true
+collatz_lawful : (is_lawful_body 128 3 (slice_get (0 ∷ [])) false (let p = collatz in p.function 0) && true) ≡ true
 collatz_lawful = refl
 
 abbrev collatz_data : List ℕ
@@ -210,7 +209,7 @@ sum_of_arrays = record { limit = 100; function = function } where
   function : ℕ → Function
   function f = f0
 
-sum_of_arrays_lawful : (is_lawful_body 128 2 (let p = sum_of_arrays in p.function 0) && true) ≡ true
+sum_of_arrays_lawful : (is_lawful_body 128 2 (slice_get (0 ∷ [])) false (let p = sum_of_arrays in p.function 0) && true) ≡ true
 sum_of_arrays_lawful = refl
 
 abbrev sum_of_arrays_data : List ℕ
@@ -253,7 +252,7 @@ empty_loop = record { limit = 100; function = function } where
   function : ℕ → Function
   function f = f0
 
-empty_loop_lawful : (is_lawful_body 128 2 (let p = empty_loop in p.function 0) && true) ≡ true
+empty_loop_lawful : (is_lawful_body 128 2 (slice_get (0 ∷ [])) false (let p = empty_loop in p.function 0) && true) ≡ true
 empty_loop_lawful = refl
 
 abbrev empty_loop_data : List ℕ
@@ -296,7 +295,7 @@ switch_falls = record { limit = 100; function = function } where
   function : ℕ → Function
   function f = f0
 
-switch_falls_lawful : (is_lawful_body 128 3 (let p = switch_falls in p.function 0) && true) ≡ true
+switch_falls_lawful : (is_lawful_body 128 3 (slice_get (0 ∷ [])) false (let p = switch_falls in p.function 0) && true) ≡ true
 switch_falls_lawful = refl
 
 abbrev switch_falls_data : List ℕ
@@ -336,7 +335,7 @@ switch_continues = record { limit = 100; function = function } where
   function : ℕ → Function
   function f = f0
 
-switch_continues_lawful : (is_lawful_body 128 3 (let p = switch_continues in p.function 0) && true) ≡ true
+switch_continues_lawful : (is_lawful_body 128 3 (slice_get (0 ∷ [])) false (let p = switch_continues in p.function 0) && true) ≡ true
 switch_continues_lawful = refl
 
 abbrev switch_continues_data : List ℕ
@@ -371,7 +370,7 @@ switch_empty = record { limit = 100; function = function } where
   function : ℕ → Function
   function f = f0
 
-switch_empty_lawful : (is_lawful_body 128 2 (let p = switch_empty in p.function 0) && true) ≡ true
+switch_empty_lawful : (is_lawful_body 128 2 (slice_get (0 ∷ [])) false (let p = switch_empty in p.function 0) && true) ≡ true
 switch_empty_lawful = refl
 
 abbrev switch_empty_data : List ℕ
@@ -424,7 +423,7 @@ switch_nested = record { limit = 100; function = function } where
   function : ℕ → Function
   function f = f0
 
-switch_nested_lawful : (is_lawful_body 128 3 (let p = switch_nested in p.function 0) && true) ≡ true
+switch_nested_lawful : (is_lawful_body 128 3 (slice_get (0 ∷ [])) false (let p = switch_nested in p.function 0) && true) ≡ true
 switch_nested_lawful = refl
 
 abbrev switch_nested_data : List ℕ
@@ -481,7 +480,7 @@ switch_default_middle = record { limit = 100; function = function } where
   function : ℕ → Function
   function f = (if nat_eq f 0 then f0 else f1)
 
-switch_default_middle_lawful : (is_lawful_body 128 3 (let p = switch_default_middle in p.function 0) && (is_lawful_body 128 1 (let p = switch_default_middle in p.function 1) && true)) ≡ true
+switch_default_middle_lawful : (is_lawful_body 128 3 (slice_get (1 ∷ 0 ∷ [])) true (let p = switch_default_middle in p.function 0) && (is_lawful_body 128 1 (slice_get (1 ∷ 0 ∷ [])) false (let p = switch_default_middle in p.function 1) && true)) ≡ true
 switch_default_middle_lawful = refl
 
 abbrev switch_default_middle_data : List ℕ
@@ -535,7 +534,7 @@ switch_signed = record { limit = 100; function = function } where
   function : ℕ → Function
   function f = (if nat_eq f 0 then f0 else f1)
 
-switch_signed_lawful : (is_lawful_body 128 3 (let p = switch_signed in p.function 0) && (is_lawful_body 128 2 (let p = switch_signed in p.function 1) && true)) ≡ true
+switch_signed_lawful : (is_lawful_body 128 3 (slice_get (1 ∷ 0 ∷ [])) true (let p = switch_signed in p.function 0) && (is_lawful_body 128 2 (slice_get (1 ∷ 0 ∷ [])) false (let p = switch_signed in p.function 1) && true)) ≡ true
 switch_signed_lawful = refl
 
 abbrev switch_signed_data : List ℕ
@@ -574,7 +573,7 @@ do_continues = record { limit = 100; function = function } where
   function : ℕ → Function
   function f = f0
 
-do_continues_lawful : (is_lawful_body 128 2 (let p = do_continues in p.function 0) && true) ≡ true
+do_continues_lawful : (is_lawful_body 128 2 (slice_get (0 ∷ [])) false (let p = do_continues in p.function 0) && true) ≡ true
 do_continues_lawful = refl
 
 abbrev do_continues_data : List ℕ
@@ -623,7 +622,7 @@ for_continues = record { limit = 100; function = function } where
   function : ℕ → Function
   function f = f0
 
-for_continues_lawful : (is_lawful_body 128 3 (let p = for_continues in p.function 0) && true) ≡ true
+for_continues_lawful : (is_lawful_body 128 3 (slice_get (0 ∷ [])) false (let p = for_continues in p.function 0) && true) ≡ true
 for_continues_lawful = refl
 
 abbrev for_continues_data : List ℕ
@@ -686,7 +685,7 @@ returns_from_loops = record { limit = 100; function = function } where
   function : ℕ → Function
   function f = (if nat_eq f 0 then f0 else (if nat_eq f 1 then f1 else f2))
 
-returns_from_loops_lawful : (is_lawful_body 128 3 (let p = returns_from_loops in p.function 0) && (is_lawful_body 128 2 (let p = returns_from_loops in p.function 1) && (is_lawful_body 128 1 (let p = returns_from_loops in p.function 2) && true))) ≡ true
+returns_from_loops_lawful : (is_lawful_body 128 3 (slice_get (1 ∷ 1 ∷ 0 ∷ [])) true (let p = returns_from_loops in p.function 0) && (is_lawful_body 128 2 (slice_get (1 ∷ 1 ∷ 0 ∷ [])) true (let p = returns_from_loops in p.function 1) && (is_lawful_body 128 1 (slice_get (1 ∷ 1 ∷ 0 ∷ [])) false (let p = returns_from_loops in p.function 2) && true))) ≡ true
 returns_from_loops_lawful = refl
 
 abbrev returns_from_loops_data : List ℕ
@@ -737,7 +736,7 @@ scalars_begin_zero = record { limit = 100; function = function } where
   function : ℕ → Function
   function f = (if nat_eq f 0 then f0 else f1)
 
-scalars_begin_zero_lawful : (is_lawful_body 128 5 (let p = scalars_begin_zero in p.function 0) && (is_lawful_body 128 2 (let p = scalars_begin_zero in p.function 1) && true)) ≡ true
+scalars_begin_zero_lawful : (is_lawful_body 128 5 (slice_get (1 ∷ 0 ∷ [])) true (let p = scalars_begin_zero in p.function 0) && (is_lawful_body 128 2 (slice_get (1 ∷ 0 ∷ [])) false (let p = scalars_begin_zero in p.function 1) && true)) ≡ true
 scalars_begin_zero_lawful = refl
 
 abbrev scalars_begin_zero_data : List ℕ
@@ -773,7 +772,7 @@ endless_print = record { limit = 100; function = function } where
   function : ℕ → Function
   function f = f0
 
-endless_print_lawful : (is_lawful_body 128 1 (let p = endless_print in p.function 0) && true) ≡ true
+endless_print_lawful : (is_lawful_body 128 1 (slice_get (0 ∷ [])) false (let p = endless_print in p.function 0) && true) ≡ true
 endless_print_lawful = refl
 
 abbrev endless_print_data : List ℕ
@@ -808,7 +807,7 @@ endless_quiet = record { limit = 100; function = function } where
   function : ℕ → Function
   function f = f0
 
-endless_quiet_lawful : (is_lawful_body 128 1 (let p = endless_quiet in p.function 0) && true) ≡ true
+endless_quiet_lawful : (is_lawful_body 128 1 (slice_get (0 ∷ [])) false (let p = endless_quiet in p.function 0) && true) ≡ true
 endless_quiet_lawful = refl
 
 abbrev endless_quiet_data : List ℕ
@@ -849,7 +848,7 @@ endless_inner = record { limit = 100; function = function } where
   function : ℕ → Function
   function f = f0
 
-endless_inner_lawful : (is_lawful_body 128 2 (let p = endless_inner in p.function 0) && true) ≡ true
+endless_inner_lawful : (is_lawful_body 128 2 (slice_get (0 ∷ [])) false (let p = endless_inner in p.function 0) && true) ≡ true
 endless_inner_lawful = refl
 
 abbrev endless_inner_data : List ℕ
@@ -891,7 +890,7 @@ turns_run_out = record { limit = 100; function = function } where
   function : ℕ → Function
   function f = f0
 
-turns_run_out_lawful : (is_lawful_body 128 2 (let p = turns_run_out in p.function 0) && true) ≡ true
+turns_run_out_lawful : (is_lawful_body 128 2 (slice_get (0 ∷ [])) false (let p = turns_run_out in p.function 0) && true) ≡ true
 turns_run_out_lawful = refl
 
 abbrev turns_run_out_data : List ℕ
@@ -929,7 +928,7 @@ tests_of_last_turn = record { limit = 100; function = function } where
   function : ℕ → Function
   function f = f0
 
-tests_of_last_turn_lawful : (is_lawful_body 128 1 (let p = tests_of_last_turn in p.function 0) && true) ≡ true
+tests_of_last_turn_lawful : (is_lawful_body 128 1 (slice_get (0 ∷ [])) false (let p = tests_of_last_turn in p.function 0) && true) ≡ true
 tests_of_last_turn_lawful = refl
 
 abbrev tests_of_last_turn_data : List ℕ
@@ -970,7 +969,7 @@ test_ends_program = record { limit = 100; function = function } where
   function : ℕ → Function
   function f = f0
 
-test_ends_program_lawful : (is_lawful_body 128 2 (let p = test_ends_program in p.function 0) && true) ≡ true
+test_ends_program_lawful : (is_lawful_body 128 2 (slice_get (0 ∷ [])) false (let p = test_ends_program in p.function 0) && true) ≡ true
 test_ends_program_lawful = refl
 
 abbrev test_ends_program_data : List ℕ

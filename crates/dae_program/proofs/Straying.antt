@@ -19,7 +19,7 @@ use Rattle.dae_program.specs.declared.program.Slot.{Slot}
 use Rattle.dae_program.specs.Trees as tree
 use Rattle.dae_program.specs.Trees.{Expression, Target, Expressions, Setting, Statements, Arms, Program, Function}
 use Rattle.dae_program.specs.Programs.{program_end as end_of}
-use Rattle.dae_program.specs.Placed.{IsGood, IsFrame, AreGood, IsInFrame, IsNamed, IsPlaced, IsTargetPlaced, ArePlaced, IsSomePlaced, AreSettingsPlaced, AreSlotsPlaced, AreStatementsPlaced, AreArmsPlaced, KeepsFrame, KeepsFrames, IsBegin}
+use Rattle.dae_program.specs.Placed.{IsGood, IsFrame, AreGood, IsInFrame, IsNamed, IsPlaced, IsTargetPlaced, ArePlaced, IsSomePlaced, AreSettingsPlaced, AreSlotsPlaced, AreStatementsPlaced, AreArmsPlaced, KeepsFrame, KeepsFrames}
 use Rattle.dae_program.specs.Outcomes.{Outcome, Gives, Ends, ◌⟫◌, ◌⊳◌, Object, Local, Placed, unless, access, store, read, write, with_read, with_written}
 use Rattle.dae_program.specs.Expressions.{Setup, operate as operated, divides, decide as decided, bit, evaluate as value, object as target, arguments as values, return_to as returned, with_printed}
 use Rattle.dae_program.specs.Printing.{print_text as text, argument, print_pieces as shown, most_bytes}

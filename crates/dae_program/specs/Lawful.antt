@@ -1,7 +1,9 @@
 -- The test that each program in memory passes, so that what lowers it has no condition: its variables are below their number,
--- nobody calls main, main has no parameters, and each access that isn't checked is one of an object by name, which lies in
--- memory, at a multiple of its width. All numbers are words.
-use Rattle.std.specs.Prelude.{ℕ, ◌+◌, ◌%◌, ◌^◌, Bool, true, false, not, ◌&&◌, nat_eq, nat_lt, nat_le, List, [], ◌∷◌, length, slice_get, Option, Some, None}
+-- and variable 0 is set by a return alone; a call names a function that is there, with as many arguments as that has
+-- parameters; nobody calls main, which has no parameters and no return; a break stands in a loop or a switch, and a continue
+-- in a loop; each access that isn't checked is one of an object by name, which lies in memory, at a multiple of its width; and
+-- all numbers are words.
+use Rattle.std.specs.Prelude.{ℕ, suc, ◌+◌, ◌%◌, ◌^◌, Bool, true, false, not, ◌&&◌, nat_eq, nat_lt, nat_le, List, [], ◌∷◌, length, slice_get, Option, Some, None}
 use Rattle.std.specs.List.{list_all}
 use Rattle.dae_base.specs.Words.{plus, size, width_of}
 use Rattle.dae_base.specs.declared.Width.{Width}
@@ -18,10 +20,11 @@ use Rattle.dae_program.specs.Resolved.{function_in}
 abbrev pub is_word : ℕ → Bool
 is_word k = nat_lt k (2 ^ 32)
 
--- where a function stands: how many variables it has, the addresses of its file's objects, how many bytes the memory and its
--- frame have
+-- where a function stands: how many variables it has, how many parameters the functions of its file have that are there, the
+-- addresses of its file's objects, and how many bytes the memory and its frame have
 pub record Bounds : Type 0 where
   pub variables : ℕ
+  pub parameters : ℕ → Option ℕ
   pub address : ℕ → ℕ
   pub memory : ℕ
   pub frame : ℕ
@@ -75,6 +78,15 @@ is_checked_or_named b false width x = is_named b width 0 x
 
 -- ---- expressions
 
+abbrev pub count : Expressions → ℕ
+count no_expressions = 0
+count (expression_then x xs) = suc (count xs)
+
+-- so many arguments for a function with so many parameters, if it is there
+abbrev pub takes : Option ℕ → ℕ → Bool
+takes None arguments = false
+takes (Some parameters) arguments = nat_eq arguments parameters
+
 abbrev mutual
   pub is_sound : Bounds → Expression → Bool
   is_sound b (Number k) = is_word k
@@ -93,13 +105,13 @@ abbrev mutual
   is_sound b (Assign p kind t x) = is_sound_target b (width_of kind) t && is_sound b x
   is_sound b (Update p kind t operator x) = is_sound_target b (width_of kind) t && is_sound b x
   is_sound b (Step p kind t change new) = is_sound_target b (width_of kind) t && is_word change
-  is_sound b (Call p f xs) = are_sound b xs
+  is_sound b (Call p f xs) = takes (b.parameters f) (count xs) && are_sound b xs
   is_sound b (Putchar p x) = is_sound b x
   is_sound b (Exit p x) = is_sound b x
   is_sound b (Abort p) = true
 
   pub is_sound_target : Bounds → Width → Target → Bool
-  is_sound_target b width (InVariable v) = nat_lt v b.variables
+  is_sound_target b width (InVariable v) = nat_lt 0 v && nat_lt v b.variables
   is_sound_target b width (AtAddress checked x) = is_checked_or_named b checked width x && is_sound b x
 
   pub are_sound : Bounds → Expressions → Bool
@@ -143,27 +155,56 @@ abbrev mutual
   are_sound_arms b no_arms = true
   are_sound_arms b (arm_then labels t rest) = list_all is_label_word labels && (are_sound_statements b t && are_sound_arms b rest)
 
+-- whether a break, a continue or a return may stand here
+abbrev mutual
+  pub are_inside : (breaks continues returns : Bool) → Statements → Bool
+  are_inside breaks continues returns Done = true
+  are_inside breaks continues returns (Evaluate p x k) = are_inside breaks continues returns k
+  are_inside breaks continues returns (Initialise p offset size items k) = are_inside breaks continues returns k
+  are_inside breaks continues returns (Print p xs pieces k) = are_inside breaks continues returns k
+  are_inside breaks continues returns (If p x t u k) =
+      are_inside breaks continues returns t && (are_inside breaks continues returns u && are_inside breaks continues returns k)
+  are_inside breaks continues returns (Loop p test body step k) = are_inside true true returns body && are_inside breaks continues returns k
+  are_inside breaks continues returns (Do p body test k) = are_inside true true returns body && are_inside breaks continues returns k
+  are_inside breaks continues returns (Switch p x arms k) = are_arms_inside continues returns arms && are_inside breaks continues returns k
+  are_inside breaks continues returns (Break p k) = breaks && are_inside breaks continues returns k
+  are_inside breaks continues returns (Continue p k) = continues && are_inside breaks continues returns k
+  are_inside breaks continues returns (Return p x k) = returns && are_inside breaks continues returns k
+
+  pub are_arms_inside : (continues returns : Bool) → Arms → Bool
+  are_arms_inside continues returns no_arms = true
+  are_arms_inside continues returns (arm_then labels t rest) = are_inside true continues returns t && are_arms_inside continues returns rest
+
 -- ---- functions and programs
 
 abbrev pub is_sound_slot : ℕ → Option Slot → Bool
 is_sound_slot frame None = true
 is_sound_slot frame (Some slot) = is_word slot.offset && fits_frame slot.width slot.offset frame
 
-abbrev pub is_lawful_body : (memory variables : ℕ) → tree.Function → Bool
-is_lawful_body memory variables f =
-    (nat_eq (f.frame % 4) 0 && nat_le (1 + length f.parameters) variables) && (list_all (is_sound_slot f.frame) f.parameters
-    && are_sound_statements (record { variables = variables; address = f.address; memory = memory; frame = f.frame }) f.body)
+-- of a function that may return or not
+abbrev pub is_lawful_body : (memory variables : ℕ) → (ℕ → Option ℕ) → (returns : Bool) → tree.Function → Bool
+is_lawful_body memory variables parameters returns f =
+    ((nat_eq (f.frame % 4) 0 && nat_le (1 + length f.parameters) variables) && (list_all (is_sound_slot f.frame) f.parameters
+    && are_sound_statements (record { variables = variables; parameters = parameters; address = f.address; memory = memory; frame = f.frame }) f.body))
+    && are_inside false false returns f.body
 
-abbrev pub is_lawful_function : (memory none : ℕ) → List Links → Function → Bool
-is_lawful_function memory none links f = is_lawful_body memory f.variables (function_in none links (Some f))
+abbrev pub parameter_count : Option Function → Option ℕ
+parameter_count None = None
+parameter_count (Some f) = Some (length f.parameters)
+
+abbrev pub is_lawful_in : (memory : ℕ) → List Links → List Function → (returns : Bool) → Function → Bool
+is_lawful_in memory links functions returns f =
+    let g = function_in (length functions) links (Some f) in
+    is_lawful_body memory f.variables (λ k. parameter_count (slice_get functions (g.callee k))) returns g
 
 -- no function of a file is main
 abbrev pub spares : ℕ → Links → Bool
 spares main links = list_all (λ (f : ℕ). not (nat_eq f main)) links.functions
 
-abbrev pub has_no_parameters : Option Function → Bool
-has_no_parameters None = false
-has_no_parameters (Some f) = nat_eq (length f.parameters) 0
+-- main is there, without parameters, and without a return
+abbrev pub is_main : (memory : ℕ) → List Links → List Function → Option Function → Bool
+is_main memory links functions None = false
+is_main memory links functions (Some f) = nat_eq (length f.parameters) 0 && is_lawful_in memory links functions false f
 
 -- the data end before frames begin, which end before the memory does, of at most 2 ^ 26 bytes
 abbrev pub is_lawful_memory : (size frames bytes : ℕ) → Bool
@@ -172,5 +213,5 @@ is_lawful_memory size frames bytes =
 
 abbrev pub is_lawful : (size frames : ℕ) → List ℕ → List Links → List Function → (main : ℕ) → Bool
 is_lawful size frames bytes links functions main =
-    (is_lawful_memory size frames (length bytes) && has_no_parameters (slice_get functions main)) && (list_all (spares main) links
-    && list_all (is_lawful_function size (length functions) links) functions)
+    (is_lawful_memory size frames (length bytes) && is_main size links functions (slice_get functions main)) && (list_all (spares main) links
+    && list_all (is_lawful_in size links functions true) functions)

@@ -1,5 +1,5 @@
--- What a typed program keeps to: each variable that it names is below the number of its function's variables, its numbers are
--- words, and nobody calls main, which has no parameters.
+-- What a typed program keeps to: each variable that it names is below the number of its function's variables, variable 0 is set
+-- by a return alone, its numbers are words, and nobody calls main, which has no parameters.
 use Rattle.std.specs.Prelude.{◌≡◌, ◌≢◌, ℕ, ◌+◌, ◌^◌, ◌<◌, ◌≤◌, List, [], ◌∷◌, length, Option, Some, None}
 use Rattle.std.specs.List.{AllByRecursion}
 use Rattle.dae_program.specs.declared.program.Slot.{Slot}
@@ -31,7 +31,7 @@ abbrev mutual
   IsIn m (Abort p) = Unit {0}
 
   pub IsTargetIn : ℕ → Target → Type 0
-  IsTargetIn m (InVariable v) = v < m
+  IsTargetIn m (InVariable v) = (0 < v) × (v < m)
   IsTargetIn m (AtAddress checked a) = IsIn m a
 
   pub AreIn : ℕ → Expressions → Type 0

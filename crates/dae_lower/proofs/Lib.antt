@@ -1,0 +1,17 @@
+mod Branches
+mod Chains
+mod Closing
+mod Doing
+mod Expressions
+mod Functions
+mod Initialising
+mod Leaves
+mod Meaning
+mod Printing
+mod Relation
+mod Skipping
+mod Statements
+mod Straying
+mod Switching
+mod Whole
+mod Forms
