@@ -937,6 +937,51 @@ update_reads_first_runs :
 unfolding compared misplaced combined spelled most_bytes
 update_reads_first_runs = refl
 
+-- unsigned char g=250;int main(void){char c=200;short s=32767;signed char d=100;int r=(c+=100);s+=2;d*=2;r=r*1000+(g+=10);return r+(s<0)+(d==-56)*2+c;}
+abbrev narrow_updates : Program
+narrow_updates = record { limit = 100; function = function } where
+  addresses : ℕ → ℕ
+  addresses k = slice_index (16 ∷ []) k
+
+  f0 : Function
+  f0 = record {
+    address = addresses;
+    callee = λ g. g;
+    parameters = [];
+    frame = 0;
+    body = (tree.Evaluate here (tree.Assign here kind.U8 (tree.InVariable 1) (tree.Number 200)) (tree.Evaluate here
+        (tree.Assign here kind.I16 (tree.InVariable 2) (tree.Number 32767)) (tree.Evaluate here (tree.Assign here kind.I8
+        (tree.InVariable 3) (tree.Number 100)) (tree.Evaluate here (tree.Assign here kind.I32 (tree.InVariable 4)
+        (tree.Update here kind.U8 (tree.InVariable 1) op.Add (tree.Number 100))) (tree.Evaluate here (tree.Update here
+        kind.I16 (tree.InVariable 2) op.Add (tree.Number 2)) (tree.Evaluate here (tree.Update here kind.I8
+        (tree.InVariable 3) op.Multiply (tree.Number 2)) (tree.Evaluate here (tree.Assign here kind.I32 (tree.InVariable
+        4) (tree.Binary here op.Add (tree.Binary here op.Multiply (tree.Variable here 4) (tree.Number 1000)) (tree.Update
+        here kind.U8 (tree.AtAddress false (tree.Address 0 0)) op.Add (tree.Number 10)))) (tree.Evaluate here (tree.Exit
+        here (tree.Binary here op.Add (tree.Binary here op.Add (tree.Binary here op.Add (tree.Variable here 4)
+        (tree.Compare here rel.LessSigned false (tree.Variable here 2) (tree.Number 0))) (tree.Binary here op.Multiply
+        (tree.Compare here rel.Equal false (tree.Variable here 3) (tree.Number 4294967240)) (tree.Number 2)))
+        (tree.Variable here 1))) tree.Done))))))));
+  }
+
+  function : ℕ → Function
+  function f = f0
+
+narrow_updates_lawful : (is_lawful_body 128 5 (slice_get (0 ∷ [])) false (let p = narrow_updates in p.function 0) && true) ≡ true
+narrow_updates_lawful = refl
+
+abbrev narrow_updates_data : List ℕ
+narrow_updates_data = (250 ∷ [])
+
+narrow_updates_runs :
+    seen 1 (run narrow_updates 100000 0 (start 128 20 narrow_updates_data)) ≡
+    record { end = Halted 44051; printed = []; reads = 1; writes = 1; bytes = (4 ∷ []); rest_is_zero = true }
+unfolding compared misplaced combined spelled most_bytes
+narrow_updates_runs = refl
+
+narrow_updates_works : nat_le (work_of (run narrow_updates 100000 0 (start 128 20 narrow_updates_data))) 135 ≡ true
+unfolding compared misplaced combined spelled most_bytes
+narrow_updates_works = refl
+
 -- int z;int main(void){int x=5;x%=3;x/=z;return x;}
 abbrev update_traps : Program
 update_traps = record { limit = 100; function = function } where
