@@ -14,3 +14,4 @@ pub mod Scope
 pub mod Placed
 pub mod Lawful
 pub mod Promise
+pub mod Wanted
