@@ -15,4 +15,5 @@ use Rattle.dae_program.specs.Trees.{Program, Function}
 use Rattle.dae_program.specs.Printing.{most_bytes}
 use Rattle.dae_program.specs.Programs.{run, start}
 use Rattle.dae_program.specs.Lawful.{is_lawful_body}
-use Rattle.dae_program.proofs.Seen.{here, seen, work_of}
+use Rattle.dae_program.specs.Wanted.{wanted_reads, open_tests}
+use Rattle.dae_program.proofs.Seen.{here, seen, work_of, among}

@@ -5,6 +5,7 @@ implementation finds of each: the end, the output, the counts of reads and write
 most three times that one's and one more, where no number is printed. OTHER is the folder of that implementation, which is
 in Python. Nothing that is compared is computed by the definitions, or from the trees."""
 
+import json
 import os
 import sys
 import textwrap
@@ -12,9 +13,10 @@ import textwrap
 HERE = os.path.dirname(os.path.realpath(__file__))
 sys.path.insert(0, sys.argv[1])
 
-from dae import deep, meaning                                    # noqa: E402
+from dae import deep, lower, meaning, middle                     # noqa: E402
 import listed                                                    # noqa: E402
 import typed                                                     # noqa: E402
+import wanted                                                    # noqa: E402
 
 MASK = 0xFFFFFFFF
 HEAD = open(os.path.join(HERE, "head.antt")).read()
@@ -181,6 +183,25 @@ class Logged(meaning.Interpreter):
             at += 1
 
 
+def bounds(name, program, trees, limit):
+    """What the access side may load and decide, where the other implementation has one number for it."""
+    report = json.loads(middle.middle(program, 20, limit, 4).report_line())["functions"]
+    found = wanted.Wanted(trees)
+    table = listing([listing([str(v) for g, v in sorted(found.wants) if g == f]) for f in range(len(trees.functions))])
+    reads, tests = [], []
+    for f, (r, (most_reads, most_tests)) in enumerate(zip(report, lower.bounds(program))):
+        if r["loads_a"] == most_reads:
+            reads.append("nat_eq (wanted_reads %s (among %s) %d) %d" % (name, table, f, most_reads))
+        if r["conditions_a"] == most_tests:
+            tests.append("nat_eq (open_tests %s (among %s) %d) %d" % (name, table, f, most_tests))
+    out = []
+    for what, lines in (("reads", reads), ("tests", tests)):
+        if lines:
+            out += ["", "%s_%s : %s ≡ true" % (name, what, wrapped("(" + " && (".join(lines) + " && true" + ")" * len(lines), 4)),
+                    "%s_%s = refl" % (name, what)]
+    return out
+
+
 def example(name, sources, turns, limit, memory):
     program, trees = typed.load(sources, memory)
     checked = meaning.run(program, limit, turns=turns)
@@ -219,6 +240,7 @@ def example(name, sources, turns, limit, memory):
     if not logged.numbers:
         out += ["", "%s_works : nat_le (work_of (%s)) %d ≡ true" % (name, run, 3 * (checked.work + 1)), unfolding,
                 "%s_works = refl" % name]
+    out += bounds(name, program, trees, limit)
     return "\n".join(out) + "\n"
 
 

@@ -15,7 +15,8 @@ use Rattle.dae_program.specs.Trees.{Program, Function}
 use Rattle.dae_program.specs.Printing.{most_bytes}
 use Rattle.dae_program.specs.Programs.{run, start}
 use Rattle.dae_program.specs.Lawful.{is_lawful_body}
-use Rattle.dae_program.proofs.Seen.{here, seen, work_of}
+use Rattle.dae_program.specs.Wanted.{wanted_reads, open_tests}
+use Rattle.dae_program.proofs.Seen.{here, seen, work_of, among}
 
 -- #include <stdio.h>
 -- int f(int n){return n?1+f(n-1):0;}int main(void){printf("%d\n",f(18));return 0;}
@@ -61,6 +62,14 @@ deep_calls_runs :
     ∷ 100 ∷ 10 ∷ []); rest_is_zero = true }
 unfolding compared misplaced combined spelled most_bytes
 deep_calls_runs = refl
+
+deep_calls_reads : (nat_eq (wanted_reads deep_calls (among ([] ∷ [] ∷ [])) 0) 0 && (nat_eq (wanted_reads deep_calls (among ([] ∷ [] ∷
+    [])) 1) 0 && true)) ≡ true
+deep_calls_reads = refl
+
+deep_calls_tests : (nat_eq (open_tests deep_calls (among ([] ∷ [] ∷ [])) 0) 0 && (nat_eq (open_tests deep_calls (among ([] ∷ [] ∷ [])) 1)
+    0 && true)) ≡ true
+deep_calls_tests = refl
 
 -- #include <stdio.h>
 -- int f(int n){return n?1+f(n-1):0;}int main(void){printf("%d\n",f(19));return 0;}
@@ -110,6 +119,14 @@ too_deep_calls_works : nat_le (work_of (run too_deep_calls 100000 1 (start 128 2
 unfolding compared misplaced combined spelled most_bytes
 too_deep_calls_works = refl
 
+too_deep_calls_reads : (nat_eq (wanted_reads too_deep_calls (among ([] ∷ [] ∷ [])) 0) 0 && (nat_eq (wanted_reads too_deep_calls (among ([] ∷
+    [] ∷ [])) 1) 0 && true)) ≡ true
+too_deep_calls_reads = refl
+
+too_deep_calls_tests : (nat_eq (open_tests too_deep_calls (among ([] ∷ [] ∷ [])) 0) 0 && (nat_eq (open_tests too_deep_calls (among ([] ∷ [] ∷
+    [])) 1) 0 && true)) ≡ true
+too_deep_calls_tests = refl
+
 -- int f(void){return f();}int main(void){return f();}
 abbrev endless_calls : Program
 endless_calls = record { limit = 20; function = function } where
@@ -152,6 +169,14 @@ endless_calls_runs = refl
 endless_calls_works : nat_le (work_of (run endless_calls 100000 1 (start 128 16 endless_calls_data))) 183 ≡ true
 unfolding compared misplaced combined spelled most_bytes
 endless_calls_works = refl
+
+endless_calls_reads : (nat_eq (wanted_reads endless_calls (among ([] ∷ [] ∷ [])) 0) 0 && (nat_eq (wanted_reads endless_calls (among ([] ∷ []
+    ∷ [])) 1) 0 && true)) ≡ true
+endless_calls_reads = refl
+
+endless_calls_tests : (nat_eq (open_tests endless_calls (among ([] ∷ [] ∷ [])) 0) 0 && (nat_eq (open_tests endless_calls (among ([] ∷ [] ∷
+    [])) 1) 0 && true)) ≡ true
+endless_calls_tests = refl
 
 -- #include <stdio.h>
 -- int p(int x){putchar(48+x);return x;}int f(int n,int x){return f(p(n),x+n);}int main(void){return f(3,4);}
@@ -211,6 +236,16 @@ room_after_arguments_works : nat_le (work_of (run room_after_arguments 100000 2 
 unfolding compared misplaced combined spelled most_bytes
 room_after_arguments_works = refl
 
+room_after_arguments_reads : (nat_eq (wanted_reads room_after_arguments (among ([] ∷ [] ∷ [] ∷ [])) 0) 0 && (nat_eq (wanted_reads
+    room_after_arguments (among ([] ∷ [] ∷ [] ∷ [])) 1) 0 && (nat_eq (wanted_reads room_after_arguments (among ([] ∷ [] ∷
+    [] ∷ [])) 2) 0 && true))) ≡ true
+room_after_arguments_reads = refl
+
+room_after_arguments_tests : (nat_eq (open_tests room_after_arguments (among ([] ∷ [] ∷ [] ∷ [])) 0) 0 && (nat_eq (open_tests room_after_arguments
+    (among ([] ∷ [] ∷ [] ∷ [])) 1) 0 && (nat_eq (open_tests room_after_arguments (among ([] ∷ [] ∷ [] ∷ [])) 2) 0 &&
+    true))) ≡ true
+room_after_arguments_tests = refl
+
 -- #include <stdio.h>
 -- int main(void){printf("%c",65);putchar(66);return 7;}
 abbrev one_call_deep : Program
@@ -248,6 +283,12 @@ one_call_deep_runs = refl
 one_call_deep_works : nat_le (work_of (run one_call_deep 100000 0 (start 128 20 one_call_deep_data))) 42 ≡ true
 unfolding compared misplaced combined spelled most_bytes
 one_call_deep_works = refl
+
+one_call_deep_reads : (nat_eq (wanted_reads one_call_deep (among ([] ∷ [])) 0) 0 && true) ≡ true
+one_call_deep_reads = refl
+
+one_call_deep_tests : (nat_eq (open_tests one_call_deep (among ([] ∷ [])) 0) 0 && true) ≡ true
+one_call_deep_tests = refl
 
 -- #include <stdio.h>
 -- int f(void){return 1;}int main(void){putchar(65);return f();}
@@ -295,6 +336,14 @@ one_call_too_deep_works : nat_le (work_of (run one_call_too_deep 100000 1 (start
 unfolding compared misplaced combined spelled most_bytes
 one_call_too_deep_works = refl
 
+one_call_too_deep_reads : (nat_eq (wanted_reads one_call_too_deep (among ([] ∷ [] ∷ [])) 0) 0 && (nat_eq (wanted_reads one_call_too_deep (among
+    ([] ∷ [] ∷ [])) 1) 0 && true)) ≡ true
+one_call_too_deep_reads = refl
+
+one_call_too_deep_tests : (nat_eq (open_tests one_call_too_deep (among ([] ∷ [] ∷ [])) 0) 0 && (nat_eq (open_tests one_call_too_deep (among ([]
+    ∷ [] ∷ [])) 1) 0 && true)) ≡ true
+one_call_too_deep_tests = refl
+
 -- #include <stdio.h>
 -- int f(void){return 1;}int main(void){putchar(65);return f()+f();}
 abbrev two_calls_deep : Program
@@ -341,6 +390,14 @@ two_calls_deep_works : nat_le (work_of (run two_calls_deep 100000 1 (start 128 1
 unfolding compared misplaced combined spelled most_bytes
 two_calls_deep_works = refl
 
+two_calls_deep_reads : (nat_eq (wanted_reads two_calls_deep (among ([] ∷ [] ∷ [])) 0) 0 && (nat_eq (wanted_reads two_calls_deep (among ([] ∷
+    [] ∷ [])) 1) 0 && true)) ≡ true
+two_calls_deep_reads = refl
+
+two_calls_deep_tests : (nat_eq (open_tests two_calls_deep (among ([] ∷ [] ∷ [])) 0) 0 && (nat_eq (open_tests two_calls_deep (among ([] ∷ [] ∷
+    [])) 1) 0 && true)) ≡ true
+two_calls_deep_tests = refl
+
 -- int main(void){int a[40];a[0]=1;return a[0];}
 abbrev main_without_room : Program
 main_without_room = record { limit = 100; function = function } where
@@ -375,6 +432,12 @@ main_without_room_runs = refl
 main_without_room_works : nat_le (work_of (run main_without_room 100000 0 (start 128 16 main_without_room_data))) 3 ≡ true
 unfolding compared misplaced combined spelled most_bytes
 main_without_room_works = refl
+
+main_without_room_reads : (nat_eq (wanted_reads main_without_room (among ([] ∷ [])) 0) 0 && true) ≡ true
+main_without_room_reads = refl
+
+main_without_room_tests : (nat_eq (open_tests main_without_room (among ([] ∷ [])) 0) 0 && true) ≡ true
+main_without_room_tests = refl
 
 -- int main(void){int a[28];a[27]=1;return a[27];}
 abbrev main_with_room : Program
@@ -414,6 +477,12 @@ main_with_room_runs = refl
 main_with_room_works : nat_le (work_of (run main_with_room 100000 0 (start 128 16 main_with_room_data))) 36 ≡ true
 unfolding compared misplaced combined spelled most_bytes
 main_with_room_works = refl
+
+main_with_room_reads : (nat_eq (wanted_reads main_with_room (among ([] ∷ [])) 0) 0 && true) ≡ true
+main_with_room_reads = refl
+
+main_with_room_tests : (nat_eq (open_tests main_with_room (among ([] ∷ [])) 0) 0 && true) ≡ true
+main_with_room_tests = refl
 
 -- int f(int n){int a[4];a[0]=n;return n?f(n-1)+a[0]:0;}int main(void){return f(3)+f(9);}
 abbrev frame_full : Program
@@ -466,6 +535,14 @@ frame_full_runs = refl
 frame_full_works : nat_le (work_of (run frame_full 100000 1 (start 128 16 frame_full_data))) 633 ≡ true
 unfolding compared misplaced combined spelled most_bytes
 frame_full_works = refl
+
+frame_full_reads : (nat_eq (wanted_reads frame_full (among ([] ∷ [] ∷ [])) 0) 0 && (nat_eq (wanted_reads frame_full (among ([] ∷ [] ∷
+    [])) 1) 0 && true)) ≡ true
+frame_full_reads = refl
+
+frame_full_tests : (nat_eq (open_tests frame_full (among ([] ∷ [] ∷ [])) 0) 0 && (nat_eq (open_tests frame_full (among ([] ∷ [] ∷ [])) 1)
+    0 && true)) ≡ true
+frame_full_tests = refl
 
 -- int*f(int n){int a[2];a[0]=n;a[1]=n+1;return a;}int h(int n){int b[2];int*p;b[0]=n;p=f(n*2);return p[0]+b[0]+(p-b);}int main(void){return h(5);}
 abbrev frames_on_top : Program
@@ -529,6 +606,16 @@ frames_on_top_works : nat_le (work_of (run frames_on_top 100000 2 (start 128 16 
 unfolding compared misplaced combined spelled most_bytes
 frames_on_top_works = refl
 
+frames_on_top_reads : (nat_eq (wanted_reads frames_on_top (among ((0 ∷ []) ∷ (2 ∷ []) ∷ [] ∷ [])) 0) 0 && (nat_eq (wanted_reads
+    frames_on_top (among ((0 ∷ []) ∷ (2 ∷ []) ∷ [] ∷ [])) 1) 0 && (nat_eq (wanted_reads frames_on_top (among ((0 ∷ []) ∷
+    (2 ∷ []) ∷ [] ∷ [])) 2) 0 && true))) ≡ true
+frames_on_top_reads = refl
+
+frames_on_top_tests : (nat_eq (open_tests frames_on_top (among ((0 ∷ []) ∷ (2 ∷ []) ∷ [] ∷ [])) 0) 0 && (nat_eq (open_tests frames_on_top
+    (among ((0 ∷ []) ∷ (2 ∷ []) ∷ [] ∷ [])) 1) 0 && (nat_eq (open_tests frames_on_top (among ((0 ∷ []) ∷ (2 ∷ []) ∷ [] ∷
+    [])) 2) 0 && true))) ≡ true
+frames_on_top_tests = refl
+
 -- int f(int x){if(x)return 5;}void h(void){return;}int main(void){h();if(f(0)==0&&f(1)==5)return f(1);}
 abbrev fall_off : Program
 fall_off = record { limit = 100; function = function } where
@@ -585,6 +672,14 @@ fall_off_works : nat_le (work_of (run fall_off 100000 2 (start 128 16 fall_off_d
 unfolding compared misplaced combined spelled most_bytes
 fall_off_works = refl
 
+fall_off_reads : (nat_eq (wanted_reads fall_off (among ([] ∷ [] ∷ [] ∷ [])) 0) 0 && (nat_eq (wanted_reads fall_off (among ([] ∷ [] ∷ []
+    ∷ [])) 1) 0 && (nat_eq (wanted_reads fall_off (among ([] ∷ [] ∷ [] ∷ [])) 2) 0 && true))) ≡ true
+fall_off_reads = refl
+
+fall_off_tests : (nat_eq (open_tests fall_off (among ([] ∷ [] ∷ [] ∷ [])) 0) 0 && (nat_eq (open_tests fall_off (among ([] ∷ [] ∷ [] ∷
+    [])) 1) 0 && (nat_eq (open_tests fall_off (among ([] ∷ [] ∷ [] ∷ [])) 2) 0 && true))) ≡ true
+fall_off_tests = refl
+
 -- #include <stdio.h>
 -- void f(int x){if(x)return;putchar(102);}int main(void){f(1);f(0);(void)(f(0),1);return (f(1),4);}
 abbrev void_calls : Program
@@ -634,6 +729,14 @@ void_calls_runs = refl
 void_calls_works : nat_le (work_of (run void_calls 100000 1 (start 128 16 void_calls_data))) 141 ≡ true
 unfolding compared misplaced combined spelled most_bytes
 void_calls_works = refl
+
+void_calls_reads : (nat_eq (wanted_reads void_calls (among ([] ∷ [] ∷ [])) 0) 0 && (nat_eq (wanted_reads void_calls (among ([] ∷ [] ∷
+    [])) 1) 0 && true)) ≡ true
+void_calls_reads = refl
+
+void_calls_tests : (nat_eq (open_tests void_calls (among ([] ∷ [] ∷ [])) 0) 0 && (nat_eq (open_tests void_calls (among ([] ∷ [] ∷ [])) 1)
+    0 && true)) ≡ true
+void_calls_tests = refl
 
 -- #include <stdio.h>
 -- int add(int a,int b){return a+b;}int twice(int*p){*p=*p*2;return *p;}
@@ -694,6 +797,14 @@ nested_calls_runs :
     ∷ [])); reads = 6; writes = 3; bytes = (37 ∷ 100 ∷ 32 ∷ 37 ∷ 100 ∷ 10 ∷ 0 ∷ 0 ∷ 12 ∷ []); rest_is_zero = true }
 unfolding compared misplaced combined spelled most_bytes
 nested_calls_runs = refl
+
+nested_calls_reads : (nat_eq (wanted_reads nested_calls (among ([] ∷ (1 ∷ []) ∷ [] ∷ [])) 0) 0 && (nat_eq (wanted_reads nested_calls (among
+    ([] ∷ (1 ∷ []) ∷ [] ∷ [])) 1) 0 && true)) ≡ true
+nested_calls_reads = refl
+
+nested_calls_tests : (nat_eq (open_tests nested_calls (among ([] ∷ (1 ∷ []) ∷ [] ∷ [])) 0) 0 && (nat_eq (open_tests nested_calls (among ([]
+    ∷ (1 ∷ []) ∷ [] ∷ [])) 1) 0 && (nat_eq (open_tests nested_calls (among ([] ∷ (1 ∷ []) ∷ [] ∷ [])) 2) 0 && true))) ≡ true
+nested_calls_tests = refl
 
 -- #include <stdio.h>
 -- #include <stdlib.h>
@@ -761,6 +872,15 @@ arguments_in_order_works : nat_le (work_of (run arguments_in_order 100000 2 (sta
 unfolding compared misplaced combined spelled most_bytes
 arguments_in_order_works = refl
 
+arguments_in_order_reads : (nat_eq (wanted_reads arguments_in_order (among ([] ∷ [] ∷ [] ∷ [])) 0) 0 && (nat_eq (wanted_reads arguments_in_order
+    (among ([] ∷ [] ∷ [] ∷ [])) 1) 0 && (nat_eq (wanted_reads arguments_in_order (among ([] ∷ [] ∷ [] ∷ [])) 2) 0 &&
+    true))) ≡ true
+arguments_in_order_reads = refl
+
+arguments_in_order_tests : (nat_eq (open_tests arguments_in_order (among ([] ∷ [] ∷ [] ∷ [])) 0) 0 && (nat_eq (open_tests arguments_in_order
+    (among ([] ∷ [] ∷ [] ∷ [])) 1) 0 && (nat_eq (open_tests arguments_in_order (among ([] ∷ [] ∷ [] ∷ [])) 2) 0 && true))) ≡ true
+arguments_in_order_tests = refl
+
 -- void set(int*p,int x){*p=x;}char f(char c,short s){set((int*)0+5,1);s+=c;{char*q=&c;*q+=s;}return c;}
 -- int a;int b[4];int main(void){return f(200,100)+b[0];}
 abbrev addressed_parameter : Program
@@ -822,6 +942,15 @@ addressed_parameter_works : nat_le (work_of (run addressed_parameter 100000 2 (s
 unfolding compared misplaced combined spelled most_bytes
 addressed_parameter_works = refl
 
+addressed_parameter_reads : (nat_eq (wanted_reads addressed_parameter (among ((1 ∷ []) ∷ (3 ∷ []) ∷ [] ∷ [])) 0) 0 && (nat_eq (wanted_reads
+    addressed_parameter (among ((1 ∷ []) ∷ (3 ∷ []) ∷ [] ∷ [])) 2) 0 && true)) ≡ true
+addressed_parameter_reads = refl
+
+addressed_parameter_tests : (nat_eq (open_tests addressed_parameter (among ((1 ∷ []) ∷ (3 ∷ []) ∷ [] ∷ [])) 0) 0 && (nat_eq (open_tests
+    addressed_parameter (among ((1 ∷ []) ∷ (3 ∷ []) ∷ [] ∷ [])) 1) 0 && (nat_eq (open_tests addressed_parameter (among ((1
+    ∷ []) ∷ (3 ∷ []) ∷ [] ∷ [])) 2) 0 && true))) ≡ true
+addressed_parameter_tests = refl
+
 -- int f(char a,int b,short c){int*q=&b;char*p=&a;short*r=&c;*p+=1;*q+=2;*r+=3;return a+b+c+(int)((char*)q-p)+(int)((char*)r-p);}int main(void){return f(255,10,-1);}
 abbrev parameters_in_frame : Program
 parameters_in_frame = record { limit = 100; function = function } where
@@ -876,6 +1005,13 @@ parameters_in_frame_runs = refl
 parameters_in_frame_works : nat_le (work_of (run parameters_in_frame 100000 1 (start 128 16 parameters_in_frame_data))) 162 ≡ true
 unfolding compared misplaced combined spelled most_bytes
 parameters_in_frame_works = refl
+
+parameters_in_frame_reads : (nat_eq (wanted_reads parameters_in_frame (among ((4 ∷ 5 ∷ 6 ∷ []) ∷ [] ∷ [])) 1) 0 && true) ≡ true
+parameters_in_frame_reads = refl
+
+parameters_in_frame_tests : (nat_eq (open_tests parameters_in_frame (among ((4 ∷ 5 ∷ 6 ∷ []) ∷ [] ∷ [])) 0) 0 && (nat_eq (open_tests
+    parameters_in_frame (among ((4 ∷ 5 ∷ 6 ∷ []) ∷ [] ∷ [])) 1) 0 && true)) ≡ true
+parameters_in_frame_tests = refl
 
 -- #include <stdio.h>
 -- int odd(int n);int even(int n){return n?odd(n-1):1;}int odd(int n){return n?even(n-1):0;}int fib(int n){return n<2?n:fib(n-1)+fib(n-2);}int main(void){return fib(9)*100+even(7)*10+odd(7);}
@@ -950,6 +1086,16 @@ mutual_recursion_works : nat_le (work_of (run mutual_recursion 100000 3 (start 1
 unfolding compared misplaced combined spelled most_bytes
 mutual_recursion_works = refl
 
+mutual_recursion_reads : (nat_eq (wanted_reads mutual_recursion (among ([] ∷ [] ∷ [] ∷ [] ∷ [])) 0) 0 && (nat_eq (wanted_reads mutual_recursion
+    (among ([] ∷ [] ∷ [] ∷ [] ∷ [])) 1) 0 && (nat_eq (wanted_reads mutual_recursion (among ([] ∷ [] ∷ [] ∷ [] ∷ [])) 2) 0
+    && (nat_eq (wanted_reads mutual_recursion (among ([] ∷ [] ∷ [] ∷ [] ∷ [])) 3) 0 && true)))) ≡ true
+mutual_recursion_reads = refl
+
+mutual_recursion_tests : (nat_eq (open_tests mutual_recursion (among ([] ∷ [] ∷ [] ∷ [] ∷ [])) 0) 0 && (nat_eq (open_tests mutual_recursion
+    (among ([] ∷ [] ∷ [] ∷ [] ∷ [])) 1) 0 && (nat_eq (open_tests mutual_recursion (among ([] ∷ [] ∷ [] ∷ [] ∷ [])) 2) 0 &&
+    (nat_eq (open_tests mutual_recursion (among ([] ∷ [] ∷ [] ∷ [] ∷ [])) 3) 0 && true)))) ≡ true
+mutual_recursion_tests = refl
+
 -- #include <stdio.h>
 -- #include <stdlib.h>
 -- int f(int x){if(x>2)exit(x*7);return f(x+1);}int main(void){putchar('q');return f(0);}
@@ -1000,6 +1146,14 @@ abort_exit_works : nat_le (work_of (run abort_exit 100000 1 (start 128 16 abort_
 unfolding compared misplaced combined spelled most_bytes
 abort_exit_works = refl
 
+abort_exit_reads : (nat_eq (wanted_reads abort_exit (among ([] ∷ [] ∷ [])) 0) 0 && (nat_eq (wanted_reads abort_exit (among ([] ∷ [] ∷
+    [])) 1) 0 && true)) ≡ true
+abort_exit_reads = refl
+
+abort_exit_tests : (nat_eq (open_tests abort_exit (among ([] ∷ [] ∷ [])) 0) 0 && (nat_eq (open_tests abort_exit (among ([] ∷ [] ∷ [])) 1)
+    0 && true)) ≡ true
+abort_exit_tests = refl
+
 -- int n=5;
 -- #include <stdio.h>
 -- extern int n;int main(void){printf("%d\n",n);return 0;}
@@ -1033,6 +1187,12 @@ two_files_runs :
     0 ∷ 0 ∷ 0 ∷ 37 ∷ 100 ∷ 10 ∷ []); rest_is_zero = true }
 unfolding compared misplaced combined spelled most_bytes
 two_files_runs = refl
+
+two_files_reads : (nat_eq (wanted_reads two_files (among ([] ∷ [])) 0) 0 && true) ≡ true
+two_files_reads = refl
+
+two_files_tests : (nat_eq (open_tests two_files (among ([] ∷ [])) 0) 0 && true) ≡ true
+two_files_tests = refl
 
 -- /* inventory.c: a small example */
 -- #include <stdio.h>
@@ -1234,6 +1394,20 @@ inventory_runs :
 unfolding compared misplaced combined spelled most_bytes
 inventory_runs = refl
 
+inventory_reads : (nat_eq (wanted_reads inventory (among ((1 ∷ 2 ∷ 3 ∷ []) ∷ (0 ∷ 2 ∷ []) ∷ (1 ∷ []) ∷ [] ∷ [] ∷ [])) 0) 0 && (nat_eq
+    (wanted_reads inventory (among ((1 ∷ 2 ∷ 3 ∷ []) ∷ (0 ∷ 2 ∷ []) ∷ (1 ∷ []) ∷ [] ∷ [] ∷ [])) 1) 0 && (nat_eq
+    (wanted_reads inventory (among ((1 ∷ 2 ∷ 3 ∷ []) ∷ (0 ∷ 2 ∷ []) ∷ (1 ∷ []) ∷ [] ∷ [] ∷ [])) 2) 1 && (nat_eq
+    (wanted_reads inventory (among ((1 ∷ 2 ∷ 3 ∷ []) ∷ (0 ∷ 2 ∷ []) ∷ (1 ∷ []) ∷ [] ∷ [] ∷ [])) 3) 0 && (nat_eq
+    (wanted_reads inventory (among ((1 ∷ 2 ∷ 3 ∷ []) ∷ (0 ∷ 2 ∷ []) ∷ (1 ∷ []) ∷ [] ∷ [] ∷ [])) 4) 0 && true))))) ≡ true
+inventory_reads = refl
+
+inventory_tests : (nat_eq (open_tests inventory (among ((1 ∷ 2 ∷ 3 ∷ []) ∷ (0 ∷ 2 ∷ []) ∷ (1 ∷ []) ∷ [] ∷ [] ∷ [])) 0) 3 && (nat_eq
+    (open_tests inventory (among ((1 ∷ 2 ∷ 3 ∷ []) ∷ (0 ∷ 2 ∷ []) ∷ (1 ∷ []) ∷ [] ∷ [] ∷ [])) 1) 0 && (nat_eq (open_tests
+    inventory (among ((1 ∷ 2 ∷ 3 ∷ []) ∷ (0 ∷ 2 ∷ []) ∷ (1 ∷ []) ∷ [] ∷ [] ∷ [])) 2) 1 && (nat_eq (open_tests inventory
+    (among ((1 ∷ 2 ∷ 3 ∷ []) ∷ (0 ∷ 2 ∷ []) ∷ (1 ∷ []) ∷ [] ∷ [] ∷ [])) 3) 0 && (nat_eq (open_tests inventory (among ((1 ∷
+    2 ∷ 3 ∷ []) ∷ (0 ∷ 2 ∷ []) ∷ (1 ∷ []) ∷ [] ∷ [] ∷ [])) 4) 0 && true))))) ≡ true
+inventory_tests = refl
+
 -- #include <stdio.h>
 -- typedef int t;int main(void){int t=3;printf("%d\n",t);return 0;}
 abbrev hidden_typedef : Program
@@ -1267,3 +1441,9 @@ hidden_typedef_runs :
     100 ∷ 10 ∷ []); rest_is_zero = true }
 unfolding compared misplaced combined spelled most_bytes
 hidden_typedef_runs = refl
+
+hidden_typedef_reads : (nat_eq (wanted_reads hidden_typedef (among ([] ∷ [])) 0) 0 && true) ≡ true
+hidden_typedef_reads = refl
+
+hidden_typedef_tests : (nat_eq (open_tests hidden_typedef (among ([] ∷ [])) 0) 0 && true) ≡ true
+hidden_typedef_tests = refl

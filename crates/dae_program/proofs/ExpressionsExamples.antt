@@ -14,7 +14,8 @@ use Rattle.dae_program.specs.Trees.{Program, Function}
 use Rattle.dae_program.specs.Printing.{most_bytes}
 use Rattle.dae_program.specs.Programs.{run, start}
 use Rattle.dae_program.specs.Lawful.{is_lawful_body}
-use Rattle.dae_program.proofs.Seen.{here, seen, work_of}
+use Rattle.dae_program.specs.Wanted.{wanted_reads, open_tests}
+use Rattle.dae_program.proofs.Seen.{here, seen, work_of, among}
 
 -- unsigned char c=250;signed char d=127;short s=32767;int main(void){c+=10;d++;s++;return (c<<16)+(d&255)*256+(s==-32768)+(c--==4)*2+(~d>>4);}
 abbrev wraps : Program
@@ -61,6 +62,12 @@ wraps_works : nat_le (work_of (run wraps 100000 0 (start 128 20 wraps_data))) 11
 unfolding compared misplaced combined spelled most_bytes
 wraps_works = refl
 
+wraps_reads : (nat_eq (wanted_reads wraps (among ([] ∷ [])) 0) 0 && true) ≡ true
+wraps_reads = refl
+
+wraps_tests : (nat_eq (open_tests wraps (among ([] ∷ [])) 0) 0 && true) ≡ true
+wraps_tests = refl
+
 -- #include <stdio.h>
 -- int g;int main(void){g=2147483647;g=g+1;printf("%d\n",g);return 0;}
 abbrev sum_wraps : Program
@@ -96,6 +103,12 @@ sum_wraps_runs :
     bytes = (0 ∷ 0 ∷ 0 ∷ 128 ∷ 37 ∷ 100 ∷ 10 ∷ []); rest_is_zero = true }
 unfolding compared misplaced combined spelled most_bytes
 sum_wraps_runs = refl
+
+sum_wraps_reads : (nat_eq (wanted_reads sum_wraps (among ([] ∷ [])) 0) 0 && true) ≡ true
+sum_wraps_reads = refl
+
+sum_wraps_tests : (nat_eq (open_tests sum_wraps (among ([] ∷ [])) 0) 0 && true) ≡ true
+sum_wraps_tests = refl
 
 -- #include <stdio.h>
 -- int a;int b;int c;int d;int e;int main(void){a=1;b=2;c=3;d=4;e=5;printf("%d\n",a+b*c-d+e);return 0;}
@@ -138,6 +151,12 @@ sum_of_five_runs :
 unfolding compared misplaced combined spelled most_bytes
 sum_of_five_runs = refl
 
+sum_of_five_reads : (nat_eq (wanted_reads sum_of_five (among ([] ∷ [])) 0) 0 && true) ≡ true
+sum_of_five_reads = refl
+
+sum_of_five_tests : (nat_eq (open_tests sum_of_five (among ([] ∷ [])) 0) 0 && true) ≡ true
+sum_of_five_tests = refl
+
 -- #include <stdio.h>
 -- int main(void){printf("%d %d\n",-7/2,-7%2);return 0;}
 abbrev signed_division : Program
@@ -171,6 +190,12 @@ signed_division_runs :
     4294967295) ++ (10 ∷ [])); reads = 0; writes = 0; bytes = (37 ∷ 100 ∷ 32 ∷ 37 ∷ 100 ∷ 10 ∷ []); rest_is_zero = true }
 unfolding compared misplaced combined spelled most_bytes
 signed_division_runs = refl
+
+signed_division_reads : (nat_eq (wanted_reads signed_division (among ([] ∷ [])) 0) 0 && true) ≡ true
+signed_division_reads = refl
+
+signed_division_tests : (nat_eq (open_tests signed_division (among ([] ∷ [])) 0) 0 && true) ≡ true
+signed_division_tests = refl
 
 -- #include <stdio.h>
 -- int main(void){int m=-2147483647-1;int d=-1;printf("%d %d\n",m/d,m%d);return 0;}
@@ -208,6 +233,12 @@ least_divided_runs :
     ++ (10 ∷ [])); reads = 0; writes = 0; bytes = (37 ∷ 100 ∷ 32 ∷ 37 ∷ 100 ∷ 10 ∷ []); rest_is_zero = true }
 unfolding compared misplaced combined spelled most_bytes
 least_divided_runs = refl
+
+least_divided_reads : (nat_eq (wanted_reads least_divided (among ([] ∷ [])) 0) 0 && true) ≡ true
+least_divided_reads = refl
+
+least_divided_tests : (nat_eq (open_tests least_divided (among ([] ∷ [])) 0) 0 && true) ≡ true
+least_divided_tests = refl
 
 -- int main(void){int m=-17;unsigned u=4000000000u;int k=33;return (m>>2)+(int)(u>>30)+(m<<k)+(m/5)*(m%5)+(int)(u%7)+(u/1000000000>3)+(m<0)+(u<1);}
 abbrev shifts : Program
@@ -254,6 +285,12 @@ shifts_works : nat_le (work_of (run shifts 100000 0 (start 128 16 shifts_data)))
 unfolding compared misplaced combined spelled most_bytes
 shifts_works = refl
 
+shifts_reads : (nat_eq (wanted_reads shifts (among ([] ∷ [])) 0) 0 && true) ≡ true
+shifts_reads = refl
+
+shifts_tests : (nat_eq (open_tests shifts (among ([] ∷ [])) 0) 0 && true) ≡ true
+shifts_tests = refl
+
 -- #include <stdio.h>
 -- int main(void){int k=37;int m=-64;unsigned u=0x80000001u;printf("%d %d %u %u",m>>k,1<<k,u>>k,u<<(k+27));return 0;}
 abbrev shifts_by_much : Program
@@ -295,6 +332,12 @@ shifts_by_much_runs :
     writes = 0; bytes = (37 ∷ 100 ∷ 32 ∷ 37 ∷ 100 ∷ 32 ∷ 37 ∷ 117 ∷ 32 ∷ 37 ∷ 117 ∷ []); rest_is_zero = true }
 unfolding compared misplaced combined spelled most_bytes
 shifts_by_much_runs = refl
+
+shifts_by_much_reads : (nat_eq (wanted_reads shifts_by_much (among ([] ∷ [])) 0) 0 && true) ≡ true
+shifts_by_much_reads = refl
+
+shifts_by_much_tests : (nat_eq (open_tests shifts_by_much (among ([] ∷ [])) 0) 0 && true) ≡ true
+shifts_by_much_tests = refl
 
 -- #include <stdio.h>
 -- int main(void){int a=-2000000011;int b=7;unsigned u=2294967285u;printf("%d %d %d %d %d ",a+b,a-b,a*b,a/b,a%b);printf("%u %u %d %d %d ",u/b,u%b,a&b,a|b,a^b);printf("%d %d %u %d %d",a<<b,a>>b,u>>b,~a,-a);return 0;}
@@ -362,6 +405,12 @@ operators_runs :
 unfolding compared misplaced combined spelled most_bytes
 operators_runs = refl
 
+operators_reads : (nat_eq (wanted_reads operators (among ([] ∷ [])) 0) 0 && true) ≡ true
+operators_reads = refl
+
+operators_tests : (nat_eq (open_tests operators (among ([] ∷ [])) 0) 0 && true) ≡ true
+operators_tests = refl
+
 -- int c(int a,int b,unsigned u,unsigned v){return (a<b)+2*(a>b)+4*(a<=b)+8*(a>=b)+16*(a==b)+32*(a!=b)+64*(u<v)+128*(u>v)+256*(u<=v)+512*(u>=v);}
 -- int main(void){return c(-1,1,-1,1)*10000+c(3,3,3,3)*100+c(2,-2,2,-2);}
 abbrev comparisons : Program
@@ -427,6 +476,14 @@ comparisons_works : nat_le (work_of (run comparisons 100000 1 (start 128 16 comp
 unfolding compared misplaced combined spelled most_bytes
 comparisons_works = refl
 
+comparisons_reads : (nat_eq (wanted_reads comparisons (among ([] ∷ [] ∷ [])) 0) 0 && (nat_eq (wanted_reads comparisons (among ([] ∷ [] ∷
+    [])) 1) 0 && true)) ≡ true
+comparisons_reads = refl
+
+comparisons_tests : (nat_eq (open_tests comparisons (among ([] ∷ [] ∷ [])) 0) 0 && (nat_eq (open_tests comparisons (among ([] ∷ [] ∷ []))
+    1) 0 && true)) ≡ true
+comparisons_tests = refl
+
 -- #include <stdio.h>
 -- int main(void){int x=-32641;unsigned char a=x;signed char b=x;unsigned short c=x;short d=x;printf("%d %d %d %d ",a,b,c,d);printf("%d %d %d",(signed char)200+(unsigned char)-1,(short)40000,(unsigned short)-2);return 0;}
 abbrev conversions : Program
@@ -475,6 +532,12 @@ conversions_runs :
 unfolding compared misplaced combined spelled most_bytes
 conversions_runs = refl
 
+conversions_reads : (nat_eq (wanted_reads conversions (among ([] ∷ [])) 0) 0 && true) ≡ true
+conversions_reads = refl
+
+conversions_tests : (nat_eq (open_tests conversions (among ([] ∷ [])) 0) 0 && true) ≡ true
+conversions_tests = refl
+
 -- #include <stdio.h>
 -- int main(void){char c;c=255;printf("%d %u\n",c+1,0u-1);return 0;}
 abbrev char_wraps : Program
@@ -510,6 +573,12 @@ char_wraps_runs :
     4294967295) ++ (10 ∷ [])); reads = 0; writes = 0; bytes = (37 ∷ 100 ∷ 32 ∷ 37 ∷ 117 ∷ 10 ∷ []); rest_is_zero = true }
 unfolding compared misplaced combined spelled most_bytes
 char_wraps_runs = refl
+
+char_wraps_reads : (nat_eq (wanted_reads char_wraps (among ([] ∷ [])) 0) 0 && true) ≡ true
+char_wraps_reads = refl
+
+char_wraps_tests : (nat_eq (open_tests char_wraps (among ([] ∷ [])) 0) 0 && true) ≡ true
+char_wraps_tests = refl
 
 -- int n;int t(int x){n++;return x;}int main(void){int a=t(0)&&t(1);int b=t(2)||t(3);int c=!t(5)?t(1):t(0)?4:6;return a*1000+b*100+c*10+n+((t(1),t(7))==7)+!(n>3||t(0));}
 abbrev logic : Program
@@ -571,6 +640,14 @@ logic_works : nat_le (work_of (run logic 100000 1 (start 128 20 logic_data))) 26
 unfolding compared misplaced combined spelled most_bytes
 logic_works = refl
 
+logic_reads : (nat_eq (wanted_reads logic (among ([] ∷ [] ∷ [])) 0) 0 && (nat_eq (wanted_reads logic (among ([] ∷ [] ∷ [])) 1) 0 &&
+    true)) ≡ true
+logic_reads = refl
+
+logic_tests : (nat_eq (open_tests logic (among ([] ∷ [] ∷ [])) 0) 0 && (nat_eq (open_tests logic (among ([] ∷ [] ∷ [])) 1) 0 &&
+    true)) ≡ true
+logic_tests = refl
+
 -- int main(void){int a=5;int*p=&a;return (a&&2)+(0||p)*10+!a*100+(!0)*1000+(a&&0||a)*10000;}
 abbrev logical_values : Program
 logical_values = record { limit = 100; function = function } where
@@ -611,6 +688,12 @@ logical_values_runs = refl
 logical_values_works : nat_le (work_of (run logical_values 100000 0 (start 128 16 logical_values_data))) 105 ≡ true
 unfolding compared misplaced combined spelled most_bytes
 logical_values_works = refl
+
+logical_values_reads : (nat_eq (wanted_reads logical_values (among ([] ∷ [])) 0) 0 && true) ≡ true
+logical_values_reads = refl
+
+logical_values_tests : (nat_eq (open_tests logical_values (among ([] ∷ [])) 0) 3 && true) ≡ true
+logical_values_tests = refl
 
 -- #include <stdio.h>
 -- int n;int t(int x){n=n*10+x;return x;}int main(void){int r=0;if(t(0)||t(2)&&!t(0))r=1;if(!(t(1)&&t(0)))r+=2;if(t(3)?t(0):t(4))r+=4;if((t(0),t(5)))r+=8;printf("%d %d",r,n);return 0;}
@@ -670,6 +753,13 @@ conditions_runs :
 unfolding compared misplaced combined spelled most_bytes
 conditions_runs = refl
 
+conditions_reads : (nat_eq (wanted_reads conditions (among ([] ∷ [] ∷ [])) 0) 0 && (nat_eq (wanted_reads conditions (among ([] ∷ [] ∷
+    [])) 1) 0 && true)) ≡ true
+conditions_reads = refl
+
+conditions_tests : (nat_eq (open_tests conditions (among ([] ∷ [] ∷ [])) 0) 0 && true) ≡ true
+conditions_tests = refl
+
 -- int g=1;int f(int x){g=g*10+x;return x;}int main(void){int a[3];a[f(0)]=f(1)+f(2)*f(3);return g==10123&&a[0]==7&&f(5)+(g=3)==8&&g==3;}
 abbrev order : Program
 order = record { limit = 100; function = function } where
@@ -725,6 +815,13 @@ order_runs = refl
 order_works : nat_le (work_of (run order 100000 1 (start 128 20 order_data))) 297 ≡ true
 unfolding compared misplaced combined spelled most_bytes
 order_works = refl
+
+order_reads : (nat_eq (wanted_reads order (among ((0 ∷ 1 ∷ []) ∷ [] ∷ [])) 0) 0 && (nat_eq (wanted_reads order (among ((0 ∷ 1 ∷ [])
+    ∷ [] ∷ [])) 1) 0 && true)) ≡ true
+order_reads = refl
+
+order_tests : (nat_eq (open_tests order (among ((0 ∷ 1 ∷ []) ∷ [] ∷ [])) 0) 0 && true) ≡ true
+order_tests = refl
 
 -- #include <stdio.h>
 -- int a[2];int f(int x){putchar(48+x);return x;}int main(void){int r=f(1)-f(2)*f(3);r+=(f(4)<f(5))+(f(6)==f(6));a[f(0)]=f(7)+a[f(1)];return r+(f(8),f(9));}
@@ -788,6 +885,14 @@ left_before_right_works : nat_le (work_of (run left_before_right 100000 1 (start
 unfolding compared misplaced combined spelled most_bytes
 left_before_right_works = refl
 
+left_before_right_reads : (nat_eq (wanted_reads left_before_right (among ((0 ∷ 1 ∷ []) ∷ [] ∷ [])) 0) 0 && (nat_eq (wanted_reads
+    left_before_right (among ((0 ∷ 1 ∷ []) ∷ [] ∷ [])) 1) 0 && true)) ≡ true
+left_before_right_reads = refl
+
+left_before_right_tests : (nat_eq (open_tests left_before_right (among ((0 ∷ 1 ∷ []) ∷ [] ∷ [])) 0) 0 && (nat_eq (open_tests left_before_right
+    (among ((0 ∷ 1 ∷ []) ∷ [] ∷ [])) 1) 0 && true)) ≡ true
+left_before_right_tests = refl
+
 -- #include <stdio.h>
 -- char c=255;int g=5;int main(void){signed char s=127;int i=3;int*p=&g;printf("%d %d %d %d ",c++,c,++c,c--);printf("%d %d %d ",s++,s,--i);printf("%d %d %d",(*p)--,++*p,i++ +i);return 0;}
 abbrev steps : Program
@@ -842,6 +947,9 @@ steps_runs :
 unfolding compared misplaced combined spelled most_bytes
 steps_runs = refl
 
+steps_tests : (nat_eq (open_tests steps (among ((3 ∷ []) ∷ [])) 0) 0 && true) ≡ true
+steps_tests = refl
+
 -- int main(void){int i=3;int j;j=i+(i=10);j=j*100+i++ + i;i+=(i=7);return j*100+i;}
 abbrev variable_alias : Program
 variable_alias = record { limit = 100; function = function } where
@@ -883,6 +991,12 @@ variable_alias_runs = refl
 variable_alias_works : nat_le (work_of (run variable_alias 100000 0 (start 128 16 variable_alias_data))) 108 ≡ true
 unfolding compared misplaced combined spelled most_bytes
 variable_alias_works = refl
+
+variable_alias_reads : (nat_eq (wanted_reads variable_alias (among ([] ∷ [])) 0) 0 && true) ≡ true
+variable_alias_reads = refl
+
+variable_alias_tests : (nat_eq (open_tests variable_alias (among ([] ∷ [])) 0) 0 && true) ≡ true
+variable_alias_tests = refl
 
 -- #include <stdio.h>
 -- int g=1;int h(void){g=50;return 2;}int main(void){int x=1;int*p=&g;x+=(x=10);*p+=h();printf("%d %d ",x,g);g-=(g=7)+g;printf("%d",g);return 0;}
@@ -937,6 +1051,13 @@ update_reads_first_runs :
 unfolding compared misplaced combined spelled most_bytes
 update_reads_first_runs = refl
 
+update_reads_first_reads : (nat_eq (wanted_reads update_reads_first (among ([] ∷ (2 ∷ []) ∷ [])) 0) 0 && true) ≡ true
+update_reads_first_reads = refl
+
+update_reads_first_tests : (nat_eq (open_tests update_reads_first (among ([] ∷ (2 ∷ []) ∷ [])) 0) 0 && (nat_eq (open_tests update_reads_first
+    (among ([] ∷ (2 ∷ []) ∷ [])) 1) 0 && true)) ≡ true
+update_reads_first_tests = refl
+
 -- unsigned char g=250;int main(void){char c=200;short s=32767;signed char d=100;int r=(c+=100);s+=2;d*=2;r=r*1000+(g+=10);return r+(s<0)+(d==-56)*2+c;}
 abbrev narrow_updates : Program
 narrow_updates = record { limit = 100; function = function } where
@@ -982,6 +1103,12 @@ narrow_updates_works : nat_le (work_of (run narrow_updates 100000 0 (start 128 2
 unfolding compared misplaced combined spelled most_bytes
 narrow_updates_works = refl
 
+narrow_updates_reads : (nat_eq (wanted_reads narrow_updates (among ([] ∷ [])) 0) 0 && true) ≡ true
+narrow_updates_reads = refl
+
+narrow_updates_tests : (nat_eq (open_tests narrow_updates (among ([] ∷ [])) 0) 0 && true) ≡ true
+narrow_updates_tests = refl
+
 -- int z;int main(void){int x=5;x%=3;x/=z;return x;}
 abbrev update_traps : Program
 update_traps = record { limit = 100; function = function } where
@@ -1019,6 +1146,12 @@ update_traps_works : nat_le (work_of (run update_traps 100000 0 (start 128 20 up
 unfolding compared misplaced combined spelled most_bytes
 update_traps_works = refl
 
+update_traps_reads : (nat_eq (wanted_reads update_traps (among ([] ∷ [])) 0) 0 && true) ≡ true
+update_traps_reads = refl
+
+update_traps_tests : (nat_eq (open_tests update_traps (among ([] ∷ [])) 0) 0 && true) ≡ true
+update_traps_tests = refl
+
 -- unsigned z;int main(void){unsigned x=5;return x%z;}
 abbrev unsigned_by_zero : Program
 unsigned_by_zero = record { limit = 100; function = function } where
@@ -1054,6 +1187,12 @@ unsigned_by_zero_runs = refl
 unsigned_by_zero_works : nat_le (work_of (run unsigned_by_zero 100000 0 (start 128 20 unsigned_by_zero_data))) 24 ≡ true
 unfolding compared misplaced combined spelled most_bytes
 unsigned_by_zero_works = refl
+
+unsigned_by_zero_reads : (nat_eq (wanted_reads unsigned_by_zero (among ([] ∷ [])) 0) 0 && true) ≡ true
+unsigned_by_zero_reads = refl
+
+unsigned_by_zero_tests : (nat_eq (open_tests unsigned_by_zero (among ([] ∷ [])) 0) 0 && true) ≡ true
+unsigned_by_zero_tests = refl
 
 -- #include <stdio.h>
 -- int main(void){int x=putchar(353);return x*1000+putchar(-159);}
@@ -1092,6 +1231,12 @@ putchar_gives_byte_runs = refl
 putchar_gives_byte_works : nat_le (work_of (run putchar_gives_byte 100000 0 (start 128 16 putchar_gives_byte_data))) 51 ≡ true
 unfolding compared misplaced combined spelled most_bytes
 putchar_gives_byte_works = refl
+
+putchar_gives_byte_reads : (nat_eq (wanted_reads putchar_gives_byte (among ([] ∷ [])) 0) 0 && true) ≡ true
+putchar_gives_byte_reads = refl
+
+putchar_gives_byte_tests : (nat_eq (open_tests putchar_gives_byte (among ([] ∷ [])) 0) 0 && true) ≡ true
+putchar_gives_byte_tests = refl
 
 -- #include <stdio.h>
 -- int f(int p){int a=p,b=p+1,c=p+2,d=p+3,e=p+4,f=p+5,g=p+6,h=p+7,i=p+8,j=p+9,k=p+10,l=p+11,m=p+12,n=p+13,o=p+14,q=p+15;return a+b+c+d+e+f+g+h+i+j+k+l+m+n+o+q;}
@@ -1163,6 +1308,14 @@ sixteen_locals_runs :
 unfolding compared misplaced combined spelled most_bytes
 sixteen_locals_runs = refl
 
+sixteen_locals_reads : (nat_eq (wanted_reads sixteen_locals (among ([] ∷ [] ∷ [])) 0) 0 && (nat_eq (wanted_reads sixteen_locals (among ([] ∷
+    [] ∷ [])) 1) 0 && true)) ≡ true
+sixteen_locals_reads = refl
+
+sixteen_locals_tests : (nat_eq (open_tests sixteen_locals (among ([] ∷ [] ∷ [])) 0) 0 && (nat_eq (open_tests sixteen_locals (among ([] ∷ [] ∷
+    [])) 1) 0 && true)) ≡ true
+sixteen_locals_tests = refl
+
 -- int main(void){int i;int s=0;for(i=0;i<3;i++){int k=k+1;s+=k;}return s;}
 abbrev self_init : Program
 self_init = record { limit = 100; function = function } where
@@ -1202,6 +1355,12 @@ self_init_runs = refl
 self_init_works : nat_le (work_of (run self_init 100000 0 (start 128 16 self_init_data))) 177 ≡ true
 unfolding compared misplaced combined spelled most_bytes
 self_init_works = refl
+
+self_init_reads : (nat_eq (wanted_reads self_init (among ([] ∷ [])) 0) 0 && true) ≡ true
+self_init_reads = refl
+
+self_init_tests : (nat_eq (open_tests self_init (among ([] ∷ [])) 0) 0 && true) ≡ true
+self_init_tests = refl
 
 -- #include <stdio.h>
 -- #include <stdlib.h>
@@ -1243,6 +1402,12 @@ abort_in_middle_works : nat_le (work_of (run abort_in_middle 100000 0 (start 128
 unfolding compared misplaced combined spelled most_bytes
 abort_in_middle_works = refl
 
+abort_in_middle_reads : (nat_eq (wanted_reads abort_in_middle (among ([] ∷ [])) 0) 0 && true) ≡ true
+abort_in_middle_reads = refl
+
+abort_in_middle_tests : (nat_eq (open_tests abort_in_middle (among ([] ∷ [])) 0) 0 && true) ≡ true
+abort_in_middle_tests = refl
+
 -- #include <stdlib.h>
 -- #include <stdio.h>
 -- int main(void){int i=putchar(300);if(i==44)abort();return 1;}
@@ -1281,6 +1446,12 @@ aborts_runs = refl
 aborts_works : nat_le (work_of (run aborts 100000 0 (start 128 16 aborts_data))) 39 ≡ true
 unfolding compared misplaced combined spelled most_bytes
 aborts_works = refl
+
+aborts_reads : (nat_eq (wanted_reads aborts (among ([] ∷ [])) 0) 0 && true) ≡ true
+aborts_reads = refl
+
+aborts_tests : (nat_eq (open_tests aborts (among ([] ∷ [])) 0) 0 && true) ≡ true
+aborts_tests = refl
 
 -- #include <stdio.h>
 -- int main(void){int n=10;int d=0;if(n>5)n=n/d;printf("%d\n",n);return 0;}
@@ -1321,3 +1492,9 @@ late_division_runs = refl
 late_division_works : nat_le (work_of (run late_division 100000 0 (start 128 20 late_division_data))) 48 ≡ true
 unfolding compared misplaced combined spelled most_bytes
 late_division_works = refl
+
+late_division_reads : (nat_eq (wanted_reads late_division (among ([] ∷ [])) 0) 0 && true) ≡ true
+late_division_reads = refl
+
+late_division_tests : (nat_eq (open_tests late_division (among ([] ∷ [])) 0) 0 && true) ≡ true
+late_division_tests = refl

@@ -14,7 +14,8 @@ use Rattle.dae_program.specs.Trees.{Program, Function}
 use Rattle.dae_program.specs.Printing.{most_bytes}
 use Rattle.dae_program.specs.Programs.{run, start}
 use Rattle.dae_program.specs.Lawful.{is_lawful_body}
-use Rattle.dae_program.proofs.Seen.{here, seen, work_of}
+use Rattle.dae_program.specs.Wanted.{wanted_reads, open_tests}
+use Rattle.dae_program.proofs.Seen.{here, seen, work_of, among}
 
 -- #include <stdio.h>
 -- int g;int h;int main(void){g=6;h=g*7;printf("%d\n",h);return 0;}
@@ -52,6 +53,12 @@ product_runs :
 unfolding compared misplaced combined spelled most_bytes
 product_runs = refl
 
+product_reads : (nat_eq (wanted_reads product (among ([] ∷ [])) 0) 0 && true) ≡ true
+product_reads = refl
+
+product_tests : (nat_eq (open_tests product (among ([] ∷ [])) 0) 0 && true) ≡ true
+product_tests = refl
+
 -- #include <stdio.h>
 -- int g;int h;int main(void){g=3;h=g*g;printf("%d\n",h);return 0;}
 abbrev square : Program
@@ -88,6 +95,12 @@ square_runs :
     0 ∷ 0 ∷ 0 ∷ 9 ∷ 0 ∷ 0 ∷ 0 ∷ 37 ∷ 100 ∷ 10 ∷ []); rest_is_zero = true }
 unfolding compared misplaced combined spelled most_bytes
 square_runs = refl
+
+square_reads : (nat_eq (wanted_reads square (among ([] ∷ [])) 0) 0 && true) ≡ true
+square_reads = refl
+
+square_tests : (nat_eq (open_tests square (among ([] ∷ [])) 0) 0 && true) ≡ true
+square_tests = refl
 
 -- #include <stdio.h>
 -- struct p{int x;short y;char z;};struct p t[4];int main(void){struct p*a=&t[3];struct p*b=t;b->y=7;(b+1)->x=5;a--;a->z='c';printf("%d %d %d %c\n",a-b,t[0].y+b[1].x,a>b,t[2].z);return (int)a-(int)b;}
@@ -137,6 +150,12 @@ pointers_runs :
     0 ∷ 0 ∷ 0 ∷ 0 ∷ 0 ∷ 37 ∷ 100 ∷ 32 ∷ 37 ∷ 100 ∷ 32 ∷ 37 ∷ 100 ∷ 32 ∷ 37 ∷ 99 ∷ 10 ∷ []); rest_is_zero = true }
 unfolding compared misplaced combined spelled most_bytes
 pointers_runs = refl
+
+pointers_reads : (nat_eq (wanted_reads pointers (among ((1 ∷ 2 ∷ []) ∷ [])) 0) 0 && true) ≡ true
+pointers_reads = refl
+
+pointers_tests : (nat_eq (open_tests pointers (among ((1 ∷ 2 ∷ []) ∷ [])) 0) 0 && true) ≡ true
+pointers_tests = refl
 
 -- #include <stdio.h>
 -- int a[5]={1,2,3,4,5};int m[2][3]={{1,2,3},{4,5,6}};int main(void){int*p=a+4;int*q=&a[1];int n=p-q;n=n*10+(q-p)+4;n=n*10+2[a];n=n*10+*(p-1);n=n*10+m[1][2];n=n*10+(*(m+1))[0];return n*10+(p>q)+(q<=p)*2+(p==q+3)*4+!p*8;}
@@ -197,6 +216,12 @@ pointer_sums_works : nat_le (work_of (run pointer_sums 100000 0 (start 192 60 po
 unfolding compared misplaced combined spelled most_bytes
 pointer_sums_works = refl
 
+pointer_sums_reads : (nat_eq (wanted_reads pointer_sums (among ((1 ∷ []) ∷ [])) 0) 0 && true) ≡ true
+pointer_sums_reads = refl
+
+pointer_sums_tests : (nat_eq (open_tests pointer_sums (among ((1 ∷ []) ∷ [])) 0) 0 && true) ≡ true
+pointer_sums_tests = refl
+
 -- #include <stdio.h>
 -- struct n{int v;struct n*next;};struct n c={3,0};struct n b={2,&c};struct n a={1,&b};int main(void){struct n*p=&a;int s=0;while(p){s=s*10+p->v;p=p->next;}a.next->next->v=9;return s*10+b.next->v;}
 abbrev linked_list : Program
@@ -242,6 +267,12 @@ linked_list_works : nat_le (work_of (run linked_list 100000 0 (start 128 40 link
 unfolding compared misplaced combined spelled most_bytes
 linked_list_works = refl
 
+linked_list_reads : (nat_eq (wanted_reads linked_list (among ((1 ∷ []) ∷ [])) 0) 4 && true) ≡ true
+linked_list_reads = refl
+
+linked_list_tests : (nat_eq (open_tests linked_list (among ((1 ∷ []) ∷ [])) 0) 1 && true) ≡ true
+linked_list_tests = refl
+
 -- char s[6]="hello";int main(void){unsigned char i=255;int n=0;i++;while(s[i])n=n*3+s[i++]%7;return n+i[s]+*(s+1);}
 abbrev char_index : Program
 char_index = record { limit = 100; function = function } where
@@ -286,6 +317,9 @@ char_index_works : nat_le (work_of (run char_index 100000 0 (start 128 28 char_i
 unfolding compared misplaced combined spelled most_bytes
 char_index_works = refl
 
+char_index_reads : (nat_eq (wanted_reads char_index (among ((1 ∷ []) ∷ [])) 0) 0 && true) ≡ true
+char_index_reads = refl
+
 -- struct s{int a;int b;};struct s x={1,2};struct s y={3,4};int main(void){int n=0;struct s*p=&y;return (n?x:y).b*10+(n++,x).a+(n?*p:x).a*100;}
 abbrev comma_struct : Program
 comma_struct = record { limit = 100; function = function } where
@@ -328,6 +362,12 @@ comma_struct_works : nat_le (work_of (run comma_struct 100000 0 (start 128 32 co
 unfolding compared misplaced combined spelled most_bytes
 comma_struct_works = refl
 
+comma_struct_reads : (nat_eq (wanted_reads comma_struct (among ((2 ∷ []) ∷ [])) 0) 0 && true) ≡ true
+comma_struct_reads = refl
+
+comma_struct_tests : (nat_eq (open_tests comma_struct (among ((2 ∷ []) ∷ [])) 0) 0 && true) ≡ true
+comma_struct_tests = refl
+
 -- int x=1;int y;int main(void){int*p=&x;*p+=(x=10);y=x;x-=(*p=5);return x;}
 abbrev alias_update : Program
 alias_update = record { limit = 100; function = function } where
@@ -367,6 +407,9 @@ alias_update_runs = refl
 alias_update_works : nat_le (work_of (run alias_update 100000 0 (start 128 24 alias_update_data))) 75 ≡ true
 unfolding compared misplaced combined spelled most_bytes
 alias_update_works = refl
+
+alias_update_tests : (nat_eq (open_tests alias_update (among ((1 ∷ []) ∷ [])) 0) 0 && true) ≡ true
+alias_update_tests = refl
 
 -- #include <stdio.h>
 -- int a[3]={1,2,3};int n;int i(void){putchar(48+n);return n++;}int main(void){a[i()]+=10;a[i()]++;a[i()]=7;return a[0]*100+a[1]*10+a[2]+n;}
@@ -424,6 +467,14 @@ address_once_works : nat_le (work_of (run address_once 100000 1 (start 128 32 ad
 unfolding compared misplaced combined spelled most_bytes
 address_once_works = refl
 
+address_once_reads : (nat_eq (wanted_reads address_once (among ((0 ∷ []) ∷ [] ∷ [])) 0) 1 && (nat_eq (wanted_reads address_once (among ((0
+    ∷ []) ∷ [] ∷ [])) 1) 0 && true)) ≡ true
+address_once_reads = refl
+
+address_once_tests : (nat_eq (open_tests address_once (among ((0 ∷ []) ∷ [] ∷ [])) 0) 0 && (nat_eq (open_tests address_once (among ((0 ∷
+    []) ∷ [] ∷ [])) 1) 0 && true)) ≡ true
+address_once_tests = refl
+
 -- #include <stdio.h>
 -- struct s{int a;short b;};struct s t[3]={{1,2},{3,4},{5,6}};int main(void){struct s*p=t;int n=p++->a;n=n*10+p->b;n=n*10+(++p)->a;p--;return n*10+p--->a;}
 abbrev step_of_pointer : Program
@@ -468,6 +519,12 @@ step_of_pointer_runs = refl
 step_of_pointer_works : nat_le (work_of (run step_of_pointer 100000 0 (start 128 40 step_of_pointer_data))) 114 ≡ true
 unfolding compared misplaced combined spelled most_bytes
 step_of_pointer_works = refl
+
+step_of_pointer_reads : (nat_eq (wanted_reads step_of_pointer (among ((1 ∷ []) ∷ [])) 0) 0 && true) ≡ true
+step_of_pointer_reads = refl
+
+step_of_pointer_tests : (nat_eq (open_tests step_of_pointer (among ((1 ∷ []) ∷ [])) 0) 0 && true) ≡ true
+step_of_pointer_tests = refl
 
 -- #include <stdio.h>
 -- signed char a[2]={-1,127};unsigned char b[2]={255,1};short c[2]={-2,3};unsigned short d[2]={65534,4};int main(void){printf("%d %d %d %d ",a[0],b[0],c[0],d[0]);a[1]++;b[0]++;c[0]-=32767;d[1]=65536+9;printf("%d %d %d %d",a[1],b[0],c[0],d[1]);return 0;}
@@ -519,6 +576,12 @@ kinds_in_memory_runs :
 unfolding compared misplaced combined spelled most_bytes
 kinds_in_memory_runs = refl
 
+kinds_in_memory_reads : (nat_eq (wanted_reads kinds_in_memory (among ([] ∷ [])) 0) 0 && true) ≡ true
+kinds_in_memory_reads = refl
+
+kinds_in_memory_tests : (nat_eq (open_tests kinds_in_memory (among ([] ∷ [])) 0) 0 && true) ≡ true
+kinds_in_memory_tests = refl
+
 -- #include <stdio.h>
 -- unsigned a[1];int main(void){unsigned char*p=(unsigned char*)a;a[0]=0x11223344;p[1]=0;printf("%x\n",a[0]);return 0;}
 abbrev bytes_of_word : Program
@@ -555,6 +618,12 @@ bytes_of_word_runs :
     bytes = (68 ∷ 0 ∷ 34 ∷ 17 ∷ 37 ∷ 120 ∷ 10 ∷ []); rest_is_zero = true }
 unfolding compared misplaced combined spelled most_bytes
 bytes_of_word_runs = refl
+
+bytes_of_word_reads : (nat_eq (wanted_reads bytes_of_word (among ((1 ∷ []) ∷ [])) 0) 0 && true) ≡ true
+bytes_of_word_reads = refl
+
+bytes_of_word_tests : (nat_eq (open_tests bytes_of_word (among ((1 ∷ []) ∷ [])) 0) 0 && true) ≡ true
+bytes_of_word_tests = refl
 
 -- #include <stdio.h>
 -- int u=10;int v=20;int*q[3]={&u,&v,0};int main(void){int i;for(i=0;i<3;i++)printf("%d\n",*q[i]);return 0;}
@@ -594,6 +663,12 @@ pointers_to_null_runs :
     ∷ 0 ∷ 0 ∷ 37 ∷ 100 ∷ 10 ∷ []); rest_is_zero = true }
 unfolding compared misplaced combined spelled most_bytes
 pointers_to_null_runs = refl
+
+pointers_to_null_reads : (nat_eq (wanted_reads pointers_to_null (among ((1 ∷ []) ∷ [])) 0) 1 && true) ≡ true
+pointers_to_null_reads = refl
+
+pointers_to_null_tests : (nat_eq (open_tests pointers_to_null (among ((1 ∷ []) ∷ [])) 0) 1 && true) ≡ true
+pointers_to_null_tests = refl
 
 -- #include <stdio.h>
 -- int a[3]={2,0,1};int b[3]={5,6,7};int main(void){int i;for(i=0;i<3;i++)printf("%d\n",b[a[i]]);return 0;}
@@ -635,6 +710,12 @@ two_tables_runs :
     ∷ 0 ∷ 0 ∷ 5 ∷ 0 ∷ 0 ∷ 0 ∷ 6 ∷ 0 ∷ 0 ∷ 0 ∷ 7 ∷ 0 ∷ 0 ∷ 0 ∷ 37 ∷ 100 ∷ 10 ∷ []); rest_is_zero = true }
 unfolding compared misplaced combined spelled most_bytes
 two_tables_runs = refl
+
+two_tables_reads : (nat_eq (wanted_reads two_tables (among ((1 ∷ []) ∷ [])) 0) 1 && true) ≡ true
+two_tables_reads = refl
+
+two_tables_tests : (nat_eq (open_tests two_tables (among ((1 ∷ []) ∷ [])) 0) 1 && true) ≡ true
+two_tables_tests = refl
 
 -- #include <stdio.h>
 -- int x[10];int main(void){int i;x[0]=0;for(i=1;i<10;i++)x[i]=x[i-1]+1;printf("%d\n",x[9]);return 0;}
@@ -680,6 +761,12 @@ chain_of_stores_runs :
 unfolding compared misplaced combined spelled most_bytes
 chain_of_stores_runs = refl
 
+chain_of_stores_reads : (nat_eq (wanted_reads chain_of_stores (among ((1 ∷ []) ∷ [])) 0) 0 && true) ≡ true
+chain_of_stores_reads = refl
+
+chain_of_stores_tests : (nat_eq (open_tests chain_of_stores (among ((1 ∷ []) ∷ [])) 0) 1 && true) ≡ true
+chain_of_stores_tests = refl
+
 -- #include <stdio.h>
 -- int s[4];int main(void){int i=0;while(i<4){s[i]=i;i++;}printf("%d\n",s[3]);return 0;}
 abbrev filled_array : Program
@@ -718,6 +805,12 @@ filled_array_runs :
 unfolding compared misplaced combined spelled most_bytes
 filled_array_runs = refl
 
+filled_array_reads : (nat_eq (wanted_reads filled_array (among ((1 ∷ []) ∷ [])) 0) 0 && true) ≡ true
+filled_array_reads = refl
+
+filled_array_tests : (nat_eq (open_tests filled_array (among ((1 ∷ []) ∷ [])) 0) 1 && true) ≡ true
+filled_array_tests = refl
+
 -- #include <stdio.h>
 -- int k=2;int x[4];int main(void){int j=k;x[j]=j;printf("%d\n",x[2]);return 0;}
 abbrev index_in_memory : Program
@@ -754,6 +847,12 @@ index_in_memory_runs :
 unfolding compared misplaced combined spelled most_bytes
 index_in_memory_runs = refl
 
+index_in_memory_reads : (nat_eq (wanted_reads index_in_memory (among ((1 ∷ []) ∷ [])) 0) 1 && true) ≡ true
+index_in_memory_reads = refl
+
+index_in_memory_tests : (nat_eq (open_tests index_in_memory (among ((1 ∷ []) ∷ [])) 0) 0 && true) ≡ true
+index_in_memory_tests = refl
+
 -- int main(void){*(int*)12=1;return 0;}
 abbrev write_below : Program
 write_below = record { limit = 100; function = function } where
@@ -788,6 +887,12 @@ write_below_runs = refl
 write_below_works : nat_le (work_of (run write_below 100000 0 (start 128 16 write_below_data))) 24 ≡ true
 unfolding compared misplaced combined spelled most_bytes
 write_below_works = refl
+
+write_below_reads : (nat_eq (wanted_reads write_below (among ([] ∷ [])) 0) 0 && true) ≡ true
+write_below_reads = refl
+
+write_below_tests : (nat_eq (open_tests write_below (among ([] ∷ [])) 0) 0 && true) ≡ true
+write_below_tests = refl
 
 -- int main(void){*(int*)124=1;return 0;}
 abbrev write_last_word : Program
@@ -828,6 +933,12 @@ write_last_word_works : nat_le (work_of (run write_last_word 100000 0 (start 128
 unfolding compared misplaced combined spelled most_bytes
 write_last_word_works = refl
 
+write_last_word_reads : (nat_eq (wanted_reads write_last_word (among ([] ∷ [])) 0) 0 && true) ≡ true
+write_last_word_reads = refl
+
+write_last_word_tests : (nat_eq (open_tests write_last_word (among ([] ∷ [])) 0) 0 && true) ≡ true
+write_last_word_tests = refl
+
 -- int main(void){*(int*)128=1;return 0;}
 abbrev write_past_end : Program
 write_past_end = record { limit = 100; function = function } where
@@ -862,6 +973,12 @@ write_past_end_runs = refl
 write_past_end_works : nat_le (work_of (run write_past_end 100000 0 (start 128 16 write_past_end_data))) 24 ≡ true
 unfolding compared misplaced combined spelled most_bytes
 write_past_end_works = refl
+
+write_past_end_reads : (nat_eq (wanted_reads write_past_end (among ([] ∷ [])) 0) 0 && true) ≡ true
+write_past_end_reads = refl
+
+write_past_end_tests : (nat_eq (open_tests write_past_end (among ([] ∷ [])) 0) 0 && true) ≡ true
+write_past_end_tests = refl
 
 -- int main(void){*(int*)18=1;return 0;}
 abbrev write_misaligned : Program
@@ -898,6 +1015,12 @@ write_misaligned_works : nat_le (work_of (run write_misaligned 100000 0 (start 1
 unfolding compared misplaced combined spelled most_bytes
 write_misaligned_works = refl
 
+write_misaligned_reads : (nat_eq (wanted_reads write_misaligned (among ([] ∷ [])) 0) 0 && true) ≡ true
+write_misaligned_reads = refl
+
+write_misaligned_tests : (nat_eq (open_tests write_misaligned (among ([] ∷ [])) 0) 0 && true) ≡ true
+write_misaligned_tests = refl
+
 -- int main(void){return *(char*)15;}
 abbrev read_below : Program
 read_below = record { limit = 100; function = function } where
@@ -931,6 +1054,12 @@ read_below_runs = refl
 read_below_works : nat_le (work_of (run read_below 100000 0 (start 128 16 read_below_data))) 18 ≡ true
 unfolding compared misplaced combined spelled most_bytes
 read_below_works = refl
+
+read_below_reads : (nat_eq (wanted_reads read_below (among ([] ∷ [])) 0) 0 && true) ≡ true
+read_below_reads = refl
+
+read_below_tests : (nat_eq (open_tests read_below (among ([] ∷ [])) 0) 0 && true) ≡ true
+read_below_tests = refl
 
 -- int main(void){return *(char*)16;}
 abbrev read_first : Program
@@ -966,6 +1095,12 @@ read_first_works : nat_le (work_of (run read_first 100000 0 (start 128 16 read_f
 unfolding compared misplaced combined spelled most_bytes
 read_first_works = refl
 
+read_first_reads : (nat_eq (wanted_reads read_first (among ([] ∷ [])) 0) 0 && true) ≡ true
+read_first_reads = refl
+
+read_first_tests : (nat_eq (open_tests read_first (among ([] ∷ [])) 0) 0 && true) ≡ true
+read_first_tests = refl
+
 -- int main(void){return *(short*)128;}
 abbrev read_past_end : Program
 read_past_end = record { limit = 100; function = function } where
@@ -999,6 +1134,12 @@ read_past_end_runs = refl
 read_past_end_works : nat_le (work_of (run read_past_end 100000 0 (start 128 16 read_past_end_data))) 18 ≡ true
 unfolding compared misplaced combined spelled most_bytes
 read_past_end_works = refl
+
+read_past_end_reads : (nat_eq (wanted_reads read_past_end (among ([] ∷ [])) 0) 0 && true) ≡ true
+read_past_end_reads = refl
+
+read_past_end_tests : (nat_eq (open_tests read_past_end (among ([] ∷ [])) 0) 0 && true) ≡ true
+read_past_end_tests = refl
 
 -- int main(void){return *(char*)127+*(short*)126;}
 abbrev read_last : Program
@@ -1035,6 +1176,12 @@ read_last_works : nat_le (work_of (run read_last 100000 0 (start 128 16 read_las
 unfolding compared misplaced combined spelled most_bytes
 read_last_works = refl
 
+read_last_reads : (nat_eq (wanted_reads read_last (among ([] ∷ [])) 0) 0 && true) ≡ true
+read_last_reads = refl
+
+read_last_tests : (nat_eq (open_tests read_last (among ([] ∷ [])) 0) 0 && true) ≡ true
+read_last_tests = refl
+
 -- int main(void){return *(short*)17;}
 abbrev read_misaligned : Program
 read_misaligned = record { limit = 100; function = function } where
@@ -1068,6 +1215,12 @@ read_misaligned_runs = refl
 read_misaligned_works : nat_le (work_of (run read_misaligned 100000 0 (start 128 16 read_misaligned_data))) 18 ≡ true
 unfolding compared misplaced combined spelled most_bytes
 read_misaligned_works = refl
+
+read_misaligned_reads : (nat_eq (wanted_reads read_misaligned (among ([] ∷ [])) 0) 0 && true) ≡ true
+read_misaligned_reads = refl
+
+read_misaligned_tests : (nat_eq (open_tests read_misaligned (among ([] ∷ [])) 0) 0 && true) ≡ true
+read_misaligned_tests = refl
 
 -- int main(void){short*p=(short*)1;return *p;}
 abbrev misaligned_first : Program
@@ -1104,6 +1257,12 @@ misaligned_first_works : nat_le (work_of (run misaligned_first 100000 0 (start 1
 unfolding compared misplaced combined spelled most_bytes
 misaligned_first_works = refl
 
+misaligned_first_reads : (nat_eq (wanted_reads misaligned_first (among ((1 ∷ []) ∷ [])) 0) 0 && true) ≡ true
+misaligned_first_reads = refl
+
+misaligned_first_tests : (nat_eq (open_tests misaligned_first (among ((1 ∷ []) ∷ [])) 0) 0 && true) ≡ true
+misaligned_first_tests = refl
+
 -- int main(void){return *(int*)-1;}
 abbrev misaligned_past_end : Program
 misaligned_past_end = record { limit = 100; function = function } where
@@ -1138,6 +1297,12 @@ misaligned_past_end_works : nat_le (work_of (run misaligned_past_end 100000 0 (s
 unfolding compared misplaced combined spelled most_bytes
 misaligned_past_end_works = refl
 
+misaligned_past_end_reads : (nat_eq (wanted_reads misaligned_past_end (among ([] ∷ [])) 0) 0 && true) ≡ true
+misaligned_past_end_reads = refl
+
+misaligned_past_end_tests : (nat_eq (open_tests misaligned_past_end (among ([] ∷ [])) 0) 0 && true) ≡ true
+misaligned_past_end_tests = refl
+
 -- int main(void){return *(char*)-1;}
 abbrev byte_past_end : Program
 byte_past_end = record { limit = 100; function = function } where
@@ -1171,6 +1336,12 @@ byte_past_end_runs = refl
 byte_past_end_works : nat_le (work_of (run byte_past_end 100000 0 (start 128 16 byte_past_end_data))) 21 ≡ true
 unfolding compared misplaced combined spelled most_bytes
 byte_past_end_works = refl
+
+byte_past_end_reads : (nat_eq (wanted_reads byte_past_end (among ([] ∷ [])) 0) 0 && true) ≡ true
+byte_past_end_reads = refl
+
+byte_past_end_tests : (nat_eq (open_tests byte_past_end (among ([] ∷ [])) 0) 0 && true) ≡ true
+byte_past_end_tests = refl
 
 -- #include <stdio.h>
 -- int g;int z;int main(void){printf("%d\n",5);g=7;g=g/z;return 0;}
@@ -1207,6 +1378,12 @@ division_traps_runs :
     0 ∷ 0 ∷ 0 ∷ 0 ∷ 0 ∷ 0 ∷ 0 ∷ 37 ∷ 100 ∷ 10 ∷ []); rest_is_zero = true }
 unfolding compared misplaced combined spelled most_bytes
 division_traps_runs = refl
+
+division_traps_reads : (nat_eq (wanted_reads division_traps (among ([] ∷ [])) 0) 0 && true) ≡ true
+division_traps_reads = refl
+
+division_traps_tests : (nat_eq (open_tests division_traps (among ([] ∷ [])) 0) 0 && true) ≡ true
+division_traps_tests = refl
 
 -- int z;int t[2];int main(void){int*p=(int*)2;t[0]=1;*p=1/z;return 0;}
 abbrev traps_order : Program
@@ -1246,6 +1423,12 @@ traps_order_works : nat_le (work_of (run traps_order 100000 0 (start 128 28 trap
 unfolding compared misplaced combined spelled most_bytes
 traps_order_works = refl
 
+traps_order_reads : (nat_eq (wanted_reads traps_order (among ((1 ∷ []) ∷ [])) 0) 0 && true) ≡ true
+traps_order_reads = refl
+
+traps_order_tests : (nat_eq (open_tests traps_order (among ((1 ∷ []) ∷ [])) 0) 0 && true) ≡ true
+traps_order_tests = refl
+
 -- #include <stdio.h>
 -- int z;int main(void){int*p=0;*p=putchar(97);return 0;}
 abbrev access_traps_last : Program
@@ -1284,6 +1467,12 @@ access_traps_last_works : nat_le (work_of (run access_traps_last 100000 0 (start
 unfolding compared misplaced combined spelled most_bytes
 access_traps_last_works = refl
 
+access_traps_last_reads : (nat_eq (wanted_reads access_traps_last (among ((1 ∷ []) ∷ [])) 0) 0 && true) ≡ true
+access_traps_last_reads = refl
+
+access_traps_last_tests : (nat_eq (open_tests access_traps_last (among ((1 ∷ []) ∷ [])) 0) 0 && true) ≡ true
+access_traps_last_tests = refl
+
 -- #include <stdio.h>
 -- int main(void){int*p=(int*)8;*p+=putchar(97);return 0;}
 abbrev update_access_first : Program
@@ -1320,6 +1509,12 @@ update_access_first_runs = refl
 update_access_first_works : nat_le (work_of (run update_access_first 100000 0 (start 128 16 update_access_first_data))) 36 ≡ true
 unfolding compared misplaced combined spelled most_bytes
 update_access_first_works = refl
+
+update_access_first_reads : (nat_eq (wanted_reads update_access_first (among ((1 ∷ []) ∷ [])) 0) 0 && true) ≡ true
+update_access_first_reads = refl
+
+update_access_first_tests : (nat_eq (open_tests update_access_first (among ((1 ∷ []) ∷ [])) 0) 0 && true) ≡ true
+update_access_first_tests = refl
 
 -- #include <stdio.h>
 -- int*p;int main(void){putchar(97);*p;putchar(98);return 0;}
@@ -1358,3 +1553,9 @@ unused_read_runs = refl
 unused_read_works : nat_le (work_of (run unused_read 100000 0 (start 128 20 unused_read_data))) 30 ≡ true
 unfolding compared misplaced combined spelled most_bytes
 unused_read_works = refl
+
+unused_read_reads : (nat_eq (wanted_reads unused_read (among ([] ∷ [])) 0) 1 && true) ≡ true
+unused_read_reads = refl
+
+unused_read_tests : (nat_eq (open_tests unused_read (among ([] ∷ [])) 0) 0 && true) ≡ true
+unused_read_tests = refl

@@ -15,7 +15,8 @@ use Rattle.dae_program.specs.Trees.{Program, Function}
 use Rattle.dae_program.specs.Printing.{most_bytes}
 use Rattle.dae_program.specs.Programs.{run, start}
 use Rattle.dae_program.specs.Lawful.{is_lawful_body}
-use Rattle.dae_program.proofs.Seen.{here, seen, work_of}
+use Rattle.dae_program.specs.Wanted.{wanted_reads, open_tests}
+use Rattle.dae_program.proofs.Seen.{here, seen, work_of, among}
 
 -- #include <stdio.h>
 -- int main(void){printf("%d|%i|%u|%x|%c|%%|%s",-5,7,-5,48879,321,"s");printf("%ld%lx",-1l,255u);return 0;}
@@ -60,6 +61,12 @@ spellings_runs :
     ∷ 100 ∷ 37 ∷ 108 ∷ 120 ∷ []); rest_is_zero = true }
 unfolding compared misplaced combined spelled most_bytes
 spellings_runs = refl
+
+spellings_reads : (nat_eq (wanted_reads spellings (among ([] ∷ [])) 0) 0 && true) ≡ true
+spellings_reads = refl
+
+spellings_tests : (nat_eq (open_tests spellings (among ([] ∷ [])) 0) 0 && true) ≡ true
+spellings_tests = refl
 
 -- #include <stdio.h>
 -- int f(int x){putchar(48+x);return x;}int main(void){printf("a%db%dc",f(1),f(2));return 0;}
@@ -107,6 +114,14 @@ printf_evaluates_first_runs :
 unfolding compared misplaced combined spelled most_bytes
 printf_evaluates_first_runs = refl
 
+printf_evaluates_first_reads : (nat_eq (wanted_reads printf_evaluates_first (among ([] ∷ [] ∷ [])) 0) 0 && (nat_eq (wanted_reads
+    printf_evaluates_first (among ([] ∷ [] ∷ [])) 1) 0 && true)) ≡ true
+printf_evaluates_first_reads = refl
+
+printf_evaluates_first_tests : (nat_eq (open_tests printf_evaluates_first (among ([] ∷ [] ∷ [])) 0) 0 && (nat_eq (open_tests printf_evaluates_first
+    (among ([] ∷ [] ∷ [])) 1) 0 && true)) ≡ true
+printf_evaluates_first_tests = refl
+
 -- #include <stdio.h>
 -- int z;int main(void){printf("a%d",1/z);return 0;}
 abbrev printf_trap_before : Program
@@ -144,6 +159,12 @@ printf_trap_before_runs = refl
 printf_trap_before_works : nat_le (work_of (run printf_trap_before 100000 0 (start 128 24 printf_trap_before_data))) 24 ≡ true
 unfolding compared misplaced combined spelled most_bytes
 printf_trap_before_works = refl
+
+printf_trap_before_reads : (nat_eq (wanted_reads printf_trap_before (among ([] ∷ [])) 0) 0 && true) ≡ true
+printf_trap_before_reads = refl
+
+printf_trap_before_tests : (nat_eq (open_tests printf_trap_before (among ([] ∷ [])) 0) 0 && true) ≡ true
+printf_trap_before_tests = refl
 
 -- #include <stdio.h>
 -- char s[4]="ab";int main(void){printf("[%s|%s%%|%c]",s,"xyz",65);s[2]='c';s[3]='d';printf("%s",s);return 0;}
@@ -192,6 +213,12 @@ strings_works : nat_le (work_of (run strings 100000 0 (start 192 44 strings_data
 unfolding compared misplaced combined spelled most_bytes
 strings_works = refl
 
+strings_reads : (nat_eq (wanted_reads strings (among ([] ∷ [])) 0) 0 && true) ≡ true
+strings_reads = refl
+
+strings_tests : (nat_eq (open_tests strings (among ([] ∷ [])) 0) 0 && true) ≡ true
+strings_tests = refl
+
 -- #include <stdio.h>
 -- int main(void){printf("a%sb",(char*)0);return 0;}
 abbrev string_null : Program
@@ -228,6 +255,12 @@ string_null_runs = refl
 string_null_works : nat_le (work_of (run string_null 100000 0 (start 128 24 string_null_data))) 24 ≡ true
 unfolding compared misplaced combined spelled most_bytes
 string_null_works = refl
+
+string_null_reads : (nat_eq (wanted_reads string_null (among ([] ∷ [])) 0) 0 && true) ≡ true
+string_null_reads = refl
+
+string_null_tests : (nat_eq (open_tests string_null (among ([] ∷ [])) 0) 0 && true) ≡ true
+string_null_tests = refl
 
 -- #include <stdio.h>
 -- int main(void){char*p;for(p=(char*)120;p<(char*)128;p++)*p='y';printf("%s","ok");printf("%s",(char*)124);return 0;}
@@ -276,6 +309,12 @@ string_trap_works : nat_le (work_of (run string_trap 100000 0 (start 128 28 stri
 unfolding compared misplaced combined spelled most_bytes
 string_trap_works = refl
 
+string_trap_reads : (nat_eq (wanted_reads string_trap (among ((1 ∷ []) ∷ [])) 0) 0 && true) ≡ true
+string_trap_reads = refl
+
+string_trap_tests : (nat_eq (open_tests string_trap (among ((1 ∷ []) ∷ [])) 0) 1 && true) ≡ true
+string_trap_tests = refl
+
 -- #include <stdio.h>
 -- char s[8]="abc";int main(void){char*p=s+1;printf("%s",p);printf("<%s%s>","",s);return 0;}
 abbrev text_reads : Program
@@ -317,6 +356,12 @@ text_reads_runs = refl
 text_reads_works : nat_le (work_of (run text_reads 100000 0 (start 128 40 text_reads_data))) 72 ≡ true
 unfolding compared misplaced combined spelled most_bytes
 text_reads_works = refl
+
+text_reads_reads : (nat_eq (wanted_reads text_reads (among ((1 ∷ []) ∷ [])) 0) 0 && true) ≡ true
+text_reads_reads = refl
+
+text_reads_tests : (nat_eq (open_tests text_reads (among ((1 ∷ []) ∷ [])) 0) 0 && true) ≡ true
+text_reads_tests = refl
 
 -- #include <stdio.h>
 -- char*p="ab";char*q="ab";char r[3]="ab";int main(void){printf("%d%s%s%s",p==q,p,q,r);p[0]=99;r[1]=100;printf("%s%s%s",p,q,r);return sizeof(r);}
@@ -363,6 +408,12 @@ shared_texts_runs :
     37 ∷ 115 ∷ []); rest_is_zero = true }
 unfolding compared misplaced combined spelled most_bytes
 shared_texts_runs = refl
+
+shared_texts_reads : (nat_eq (wanted_reads shared_texts (among ([] ∷ [])) 0) 5 && true) ≡ true
+shared_texts_reads = refl
+
+shared_texts_tests : (nat_eq (open_tests shared_texts (among ([] ∷ [])) 0) 0 && true) ≡ true
+shared_texts_tests = refl
 
 -- struct s{char c;int n[2];};int g;int f(int k){struct s t={1,{2}};int a[3]={5,6};char w[4]="hi";int*p[2]={&g,0};int r=t.c+t.n[0]*10+t.n[1]*100+a[1]*1000+w[1]+(p[0]==&g);if(k){t.n[1]=9;a[2]=7;}return r;}
 -- int main(void){int a[2]={3};return f(1)+f(0)+a[0]+a[1];}
@@ -428,6 +479,14 @@ aggregates_runs = refl
 aggregates_works : nat_le (work_of (run aggregates 100000 1 (start 192 24 aggregates_data))) 621 ≡ true
 unfolding compared misplaced combined spelled most_bytes
 aggregates_works = refl
+
+aggregates_reads : (nat_eq (wanted_reads aggregates (among ([] ∷ [] ∷ [])) 0) 0 && (nat_eq (wanted_reads aggregates (among ([] ∷ [] ∷
+    [])) 1) 0 && true)) ≡ true
+aggregates_reads = refl
+
+aggregates_tests : (nat_eq (open_tests aggregates (among ([] ∷ [] ∷ [])) 0) 4 && (nat_eq (open_tests aggregates (among ([] ∷ [] ∷ [])) 1)
+    1 && true)) ≡ true
+aggregates_tests = refl
 
 -- #include <stdio.h>
 -- int f(int k){int a[3];int r=a[0]+a[1];a[0]=k;a[1]=k*2;return r;}int g(void){char w[7]={1,2};short h[2]={-1};return w[0]+w[6]+h[1]+h[0];}int main(void){int r=f(1);r=r*100+f(5);r=r*100+g();return r*100+f(0);}
@@ -499,6 +558,14 @@ local_arrays_works : nat_le (work_of (run local_arrays 100000 2 (start 128 16 lo
 unfolding compared misplaced combined spelled most_bytes
 local_arrays_works = refl
 
+local_arrays_reads : (nat_eq (wanted_reads local_arrays (among ([] ∷ [] ∷ [] ∷ [])) 0) 0 && (nat_eq (wanted_reads local_arrays (among ([] ∷
+    [] ∷ [] ∷ [])) 1) 0 && (nat_eq (wanted_reads local_arrays (among ([] ∷ [] ∷ [] ∷ [])) 2) 0 && true))) ≡ true
+local_arrays_reads = refl
+
+local_arrays_tests : (nat_eq (open_tests local_arrays (among ([] ∷ [] ∷ [] ∷ [])) 0) 0 && (nat_eq (open_tests local_arrays (among ([] ∷ []
+    ∷ [] ∷ [])) 1) 2 && (nat_eq (open_tests local_arrays (among ([] ∷ [] ∷ [] ∷ [])) 2) 0 && true))) ≡ true
+local_arrays_tests = refl
+
 -- #include <stdio.h>
 -- struct p{char c;short s[2];struct{int a;char*t;}q;};struct p g={1,{2},{3,"xy"}};int main(void){struct p l={9,{8,7},{6,"z"}};struct p m[2]={{1},{2,{3,4}}};printf("%d%d%d%d%s ",g.c,g.s[0],g.s[1],g.q.a,g.q.t);printf("%d%d%d%d%s ",l.c,l.s[0],l.s[1],l.q.a,l.q.t);printf("%d%d%d%d",m[0].c,m[0].q.a,m[1].s[1],m[1].c);return 0;}
 abbrev nested_initialisers : Program
@@ -559,3 +626,9 @@ nested_initialisers_runs :
     ∷ 0 ∷ 4 ∷ []); rest_is_zero = true }
 unfolding compared misplaced combined spelled most_bytes
 nested_initialisers_runs = refl
+
+nested_initialisers_reads : (nat_eq (wanted_reads nested_initialisers (among ([] ∷ [])) 0) 2 && true) ≡ true
+nested_initialisers_reads = refl
+
+nested_initialisers_tests : (nat_eq (open_tests nested_initialisers (among ([] ∷ [])) 0) 2 && true) ≡ true
+nested_initialisers_tests = refl

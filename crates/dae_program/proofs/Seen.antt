@@ -1,6 +1,6 @@
 -- What examples look at after a run.
-use Rattle.std.specs.Prelude.{ℕ, ◌+◌, Bool, nat_eq, List, drop}
-use Rattle.std.specs.List.{list_all}
+use Rattle.std.specs.Prelude.{ℕ, zero, suc, ◌+◌, Bool, false, nat_eq, List, [], ◌∷◌, drop}
+use Rattle.std.specs.List.{list_all, list_any}
 use Rattle.dae_base.specs.declared.Place.{Place}
 use Rattle.dae_base.specs.Words.{bytes_at}
 use Rattle.dae_meaning.specs.Results.{End}
@@ -32,3 +32,9 @@ seen count r = let w = last_world r in record {
 
 abbrev pub work_of : Outcome ℕ → ℕ
 work_of r = let w = last_world r in w.items
+
+-- the variables of each function that are wanted, as a table
+abbrev pub among : List (List ℕ) → ℕ → ℕ → Bool
+among [] f v = false
+among (table ∷ tables) zero v = list_any (nat_eq v) table
+among (table ∷ tables) (suc f) v = among tables f v

@@ -14,7 +14,8 @@ use Rattle.dae_program.specs.Trees.{Program, Function}
 use Rattle.dae_program.specs.Printing.{most_bytes}
 use Rattle.dae_program.specs.Programs.{run, start}
 use Rattle.dae_program.specs.Lawful.{is_lawful_body}
-use Rattle.dae_program.proofs.Seen.{here, seen, work_of}
+use Rattle.dae_program.specs.Wanted.{wanted_reads, open_tests}
+use Rattle.dae_program.proofs.Seen.{here, seen, work_of, among}
 
 -- int main(void){return 0;}
 abbrev nothing : Program
@@ -50,6 +51,12 @@ nothing_works : nat_le (work_of (run nothing 100000 0 (start 128 16 nothing_data
 unfolding compared misplaced combined spelled most_bytes
 nothing_works = refl
 
+nothing_reads : (nat_eq (wanted_reads nothing (among ([] ∷ [])) 0) 0 && true) ≡ true
+nothing_reads = refl
+
+nothing_tests : (nat_eq (open_tests nothing (among ([] ∷ [])) 0) 0 && true) ≡ true
+nothing_tests = refl
+
 -- int g;int main(void){g=1;return 1;}
 abbrev returns_one : Program
 returns_one = record { limit = 100; function = function } where
@@ -84,6 +91,12 @@ returns_one_runs = refl
 returns_one_works : nat_le (work_of (run returns_one 100000 0 (start 128 20 returns_one_data))) 24 ≡ true
 unfolding compared misplaced combined spelled most_bytes
 returns_one_works = refl
+
+returns_one_reads : (nat_eq (wanted_reads returns_one (among ([] ∷ [])) 0) 0 && true) ≡ true
+returns_one_reads = refl
+
+returns_one_tests : (nat_eq (open_tests returns_one (among ([] ∷ [])) 0) 0 && true) ≡ true
+returns_one_tests = refl
 
 -- #include <stdio.h>
 -- int main(void){int i,j,s=0;for(i=0;;i++){if(i==5)break;for(j=0;j<5;j++){if(j==i)continue;if(j>3)break;s+=i*j;}do{s++;if(s%3==0)continue;s++;}while(s%5);}while(s>100)s-=7;printf("%d\n",s);return 0;}
@@ -136,6 +149,12 @@ loops_runs :
 unfolding compared misplaced combined spelled most_bytes
 loops_runs = refl
 
+loops_reads : (nat_eq (wanted_reads loops (among ([] ∷ [])) 0) 0 && true) ≡ true
+loops_reads = refl
+
+loops_tests : (nat_eq (open_tests loops (among ([] ∷ [])) 0) 0 && true) ≡ true
+loops_tests = refl
+
 -- #include <stdio.h>
 -- int main(void){int n=27;int s=0;while(n!=1){if(n%2)n=3*n+1;else n=n/2;s++;}printf("%d\n",s);return 0;}
 abbrev collatz : Program
@@ -176,6 +195,12 @@ collatz_runs :
     ∷ 100 ∷ 10 ∷ []); rest_is_zero = true }
 unfolding compared misplaced combined spelled most_bytes
 collatz_runs = refl
+
+collatz_reads : (nat_eq (wanted_reads collatz (among ([] ∷ [])) 0) 0 && true) ≡ true
+collatz_reads = refl
+
+collatz_tests : (nat_eq (open_tests collatz (among ([] ∷ [])) 0) 0 && true) ≡ true
+collatz_tests = refl
 
 -- #include <stdio.h>
 -- int a[4]={1,2,3,4};int b[4]={10,20,30,40};int c[4];int main(void){int i;for(i=0;i<4;i++)c[i]=a[i]+b[i];for(i=0;i<4;i++)printf("%d\n",c[i]);return 0;}
@@ -226,6 +251,12 @@ sum_of_arrays_runs :
 unfolding compared misplaced combined spelled most_bytes
 sum_of_arrays_runs = refl
 
+sum_of_arrays_reads : (nat_eq (wanted_reads sum_of_arrays (among ((1 ∷ []) ∷ [])) 0) 0 && true) ≡ true
+sum_of_arrays_reads = refl
+
+sum_of_arrays_tests : (nat_eq (open_tests sum_of_arrays (among ((1 ∷ []) ∷ [])) 0) 2 && true) ≡ true
+sum_of_arrays_tests = refl
+
 -- #include <stdio.h>
 -- int x[5];int main(void){int i;for(i=0;i<4;i++);x[i]=7;printf("%d\n",x[4]);return 0;}
 abbrev empty_loop : Program
@@ -264,6 +295,12 @@ empty_loop_runs :
     0 ∷ 0 ∷ 0 ∷ 0 ∷ 0 ∷ 0 ∷ 0 ∷ 0 ∷ 0 ∷ 0 ∷ 0 ∷ 0 ∷ 0 ∷ 0 ∷ 0 ∷ 7 ∷ 0 ∷ 0 ∷ 0 ∷ 37 ∷ 100 ∷ 10 ∷ []); rest_is_zero = true }
 unfolding compared misplaced combined spelled most_bytes
 empty_loop_runs = refl
+
+empty_loop_reads : (nat_eq (wanted_reads empty_loop (among ((1 ∷ []) ∷ [])) 0) 0 && true) ≡ true
+empty_loop_reads = refl
+
+empty_loop_tests : (nat_eq (open_tests empty_loop (among ((1 ∷ []) ∷ [])) 0) 1 && true) ≡ true
+empty_loop_tests = refl
 
 -- #include <stdio.h>
 -- typedef int num;int main(void){num i;int s=0;for(i=0;i<5;i++)switch(i){case 1:s+=10;case 2:s+=100;break;case 4:s+=1;break;default:s+=1000;}printf("%d\n",s);return 0;}
@@ -308,6 +345,12 @@ switch_falls_runs :
 unfolding compared misplaced combined spelled most_bytes
 switch_falls_runs = refl
 
+switch_falls_reads : (nat_eq (wanted_reads switch_falls (among ([] ∷ [])) 0) 0 && true) ≡ true
+switch_falls_reads = refl
+
+switch_falls_tests : (nat_eq (open_tests switch_falls (among ([] ∷ [])) 0) 0 && true) ≡ true
+switch_falls_tests = refl
+
 -- #include <stdio.h>
 -- int main(void){int i;int s=0;for(i=0;i<4;i++){switch(i&1){case 0:continue;}s+=i;}printf("%d\n",s);return 0;}
 abbrev switch_continues : Program
@@ -348,6 +391,12 @@ switch_continues_runs :
 unfolding compared misplaced combined spelled most_bytes
 switch_continues_runs = refl
 
+switch_continues_reads : (nat_eq (wanted_reads switch_continues (among ([] ∷ [])) 0) 0 && true) ≡ true
+switch_continues_reads = refl
+
+switch_continues_tests : (nat_eq (open_tests switch_continues (among ([] ∷ [])) 0) 0 && true) ≡ true
+switch_continues_tests = refl
+
 -- int main(void){int n=0;switch(n++){}switch(3){case 1:n=9;}switch(n){default:;}return n;}
 abbrev switch_empty : Program
 switch_empty = record { limit = 100; function = function } where
@@ -385,6 +434,12 @@ switch_empty_runs = refl
 switch_empty_works : nat_le (work_of (run switch_empty 100000 0 (start 128 16 switch_empty_data))) 51 ≡ true
 unfolding compared misplaced combined spelled most_bytes
 switch_empty_works = refl
+
+switch_empty_reads : (nat_eq (wanted_reads switch_empty (among ([] ∷ [])) 0) 0 && true) ≡ true
+switch_empty_reads = refl
+
+switch_empty_tests : (nat_eq (open_tests switch_empty (among ([] ∷ [])) 0) 1 && true) ≡ true
+switch_empty_tests = refl
 
 -- #include <stdio.h>
 -- int main(void){int i,j;for(i=0;i<4;i++){switch(i){for(;;)putchar('!');case 3:case 1:for(j=0;j<3;j++){switch(j){case 1:continue;default:putchar('0'+j);}if(j==2)break;}if(i==1)continue;putchar('m');break;case 0:switch(i+5){case 5:putchar('n');continue;}putchar('?');default:putchar('d');}putchar(';');}return 0;}
@@ -441,6 +496,12 @@ switch_nested_works : nat_le (work_of (run switch_nested 100000 0 (start 128 16 
 unfolding compared misplaced combined spelled most_bytes
 switch_nested_works = refl
 
+switch_nested_reads : (nat_eq (wanted_reads switch_nested (among ([] ∷ [])) 0) 0 && true) ≡ true
+switch_nested_reads = refl
+
+switch_nested_tests : (nat_eq (open_tests switch_nested (among ([] ∷ [])) 0) 0 && true) ≡ true
+switch_nested_tests = refl
+
 -- #include <stdio.h>
 -- int f(unsigned x){int r=0;switch(x){case 4294967295u:r+=1;break;default:r+=2;case 7:r+=4;break;case 8:r+=8;}return r;}int main(void){printf("%d%d%d%d",f(-1),f(7),f(8),f(3));return 0;}
 abbrev switch_default_middle : Program
@@ -493,6 +554,14 @@ switch_default_middle_runs :
     ∷ []); rest_is_zero = true }
 unfolding compared misplaced combined spelled most_bytes
 switch_default_middle_runs = refl
+
+switch_default_middle_reads : (nat_eq (wanted_reads switch_default_middle (among ([] ∷ [] ∷ [])) 0) 0 && (nat_eq (wanted_reads switch_default_middle
+    (among ([] ∷ [] ∷ [])) 1) 0 && true)) ≡ true
+switch_default_middle_reads = refl
+
+switch_default_middle_tests : (nat_eq (open_tests switch_default_middle (among ([] ∷ [] ∷ [])) 0) 0 && (nat_eq (open_tests switch_default_middle
+    (among ([] ∷ [] ∷ [])) 1) 0 && true)) ≡ true
+switch_default_middle_tests = refl
 
 -- #include <stdio.h>
 -- int f(int x){switch(x){putchar(33);case -1:return 1;case 1:case 2:{int k=x*2;switch(k){case 2:break;default:return 4;}return 5;}}return 0;}int main(void){signed char c=-1;printf("%d%d%d%d",f(c),f(1),f(2),f(9));return 0;}
@@ -548,6 +617,14 @@ switch_signed_runs :
 unfolding compared misplaced combined spelled most_bytes
 switch_signed_runs = refl
 
+switch_signed_reads : (nat_eq (wanted_reads switch_signed (among ([] ∷ [] ∷ [])) 0) 0 && (nat_eq (wanted_reads switch_signed (among ([] ∷ []
+    ∷ [])) 1) 0 && true)) ≡ true
+switch_signed_reads = refl
+
+switch_signed_tests : (nat_eq (open_tests switch_signed (among ([] ∷ [] ∷ [])) 0) 0 && (nat_eq (open_tests switch_signed (among ([] ∷ [] ∷
+    [])) 1) 0 && true)) ≡ true
+switch_signed_tests = refl
+
 -- #include <stdio.h>
 -- int main(void){int i=0;do{if(i==2)continue;putchar(48+i);switch(i){case 3:continue;case 1:break;}putchar(45);}while(++i<5);return i;}
 abbrev do_continues : Program
@@ -590,6 +667,12 @@ do_continues_runs = refl
 do_continues_works : nat_le (work_of (run do_continues 100000 0 (start 128 16 do_continues_data))) 363 ≡ true
 unfolding compared misplaced combined spelled most_bytes
 do_continues_works = refl
+
+do_continues_reads : (nat_eq (wanted_reads do_continues (among ([] ∷ [])) 0) 0 && true) ≡ true
+do_continues_reads = refl
+
+do_continues_tests : (nat_eq (open_tests do_continues (among ([] ∷ [])) 0) 0 && true) ≡ true
+do_continues_tests = refl
 
 -- #include <stdio.h>
 -- int main(void){int i;int s=0;for(i=0;i<6;i+=1){if(i%2)continue;while(1){if(s>20)break;s+=i+1;break;}s*=2;}for(;;){if(s<50)break;s-=9;}return s;}
@@ -637,6 +720,12 @@ for_continues_runs = refl
 for_continues_works : nat_le (work_of (run for_continues 100000 0 (start 128 16 for_continues_data))) 462 ≡ true
 unfolding compared misplaced combined spelled most_bytes
 for_continues_works = refl
+
+for_continues_reads : (nat_eq (wanted_reads for_continues (among ([] ∷ [])) 0) 0 && true) ≡ true
+for_continues_reads = refl
+
+for_continues_tests : (nat_eq (open_tests for_continues (among ([] ∷ [])) 0) 1 && true) ≡ true
+for_continues_tests = refl
 
 -- int f(int n){int i;for(i=0;;i++){while(i>3){do{if(i==n)return i*10;}while(0);break;}switch(i){case 9:return 1;}}}int g(int n){while(n)return;return;}int main(void){return f(6)+f(3)+g(1);}
 abbrev returns_from_loops : Program
@@ -701,6 +790,15 @@ returns_from_loops_works : nat_le (work_of (run returns_from_loops 100000 2 (sta
 unfolding compared misplaced combined spelled most_bytes
 returns_from_loops_works = refl
 
+returns_from_loops_reads : (nat_eq (wanted_reads returns_from_loops (among ([] ∷ [] ∷ [] ∷ [])) 0) 0 && (nat_eq (wanted_reads returns_from_loops
+    (among ([] ∷ [] ∷ [] ∷ [])) 1) 0 && (nat_eq (wanted_reads returns_from_loops (among ([] ∷ [] ∷ [] ∷ [])) 2) 0 &&
+    true))) ≡ true
+returns_from_loops_reads = refl
+
+returns_from_loops_tests : (nat_eq (open_tests returns_from_loops (among ([] ∷ [] ∷ [] ∷ [])) 0) 1 && (nat_eq (open_tests returns_from_loops
+    (among ([] ∷ [] ∷ [] ∷ [])) 1) 0 && (nat_eq (open_tests returns_from_loops (among ([] ∷ [] ∷ [] ∷ [])) 2) 0 && true))) ≡ true
+returns_from_loops_tests = refl
+
 -- int f(int k){int r=0;while(k--){int i;{int j;r+=i+j;j=5;}i=7;}return r;}int main(void){int x;return f(3)*10+x;}
 abbrev scalars_begin_zero : Program
 scalars_begin_zero = record { limit = 100; function = function } where
@@ -752,6 +850,14 @@ scalars_begin_zero_works : nat_le (work_of (run scalars_begin_zero 100000 1 (sta
 unfolding compared misplaced combined spelled most_bytes
 scalars_begin_zero_works = refl
 
+scalars_begin_zero_reads : (nat_eq (wanted_reads scalars_begin_zero (among ([] ∷ [] ∷ [])) 0) 0 && (nat_eq (wanted_reads scalars_begin_zero
+    (among ([] ∷ [] ∷ [])) 1) 0 && true)) ≡ true
+scalars_begin_zero_reads = refl
+
+scalars_begin_zero_tests : (nat_eq (open_tests scalars_begin_zero (among ([] ∷ [] ∷ [])) 0) 0 && (nat_eq (open_tests scalars_begin_zero (among
+    ([] ∷ [] ∷ [])) 1) 0 && true)) ≡ true
+scalars_begin_zero_tests = refl
+
 -- #include <stdio.h>
 -- int main(void){while(1)putchar('x');return 0;}
 abbrev endless_print : Program
@@ -789,6 +895,12 @@ endless_print_works : nat_le (work_of (run endless_print 3 0 (start 128 16 endle
 unfolding compared misplaced combined spelled most_bytes
 endless_print_works = refl
 
+endless_print_reads : (nat_eq (wanted_reads endless_print (among ([] ∷ [])) 0) 0 && true) ≡ true
+endless_print_reads = refl
+
+endless_print_tests : (nat_eq (open_tests endless_print (among ([] ∷ [])) 0) 1 && true) ≡ true
+endless_print_tests = refl
+
 -- int main(void){for(;;);return 0;}
 abbrev endless_quiet : Program
 endless_quiet = record { limit = 100; function = function } where
@@ -822,6 +934,12 @@ endless_quiet_runs = refl
 endless_quiet_works : nat_le (work_of (run endless_quiet 3 0 (start 128 16 endless_quiet_data))) 27 ≡ true
 unfolding compared misplaced combined spelled most_bytes
 endless_quiet_works = refl
+
+endless_quiet_reads : (nat_eq (wanted_reads endless_quiet (among ([] ∷ [])) 0) 0 && true) ≡ true
+endless_quiet_reads = refl
+
+endless_quiet_tests : (nat_eq (open_tests endless_quiet (among ([] ∷ [])) 0) 0 && true) ≡ true
+endless_quiet_tests = refl
 
 -- #include <stdio.h>
 -- int main(void){int i;for(i=0;i<9;i++){putchar('a'+i);if(i==2)for(;;)putchar('.');}return 0;}
@@ -866,6 +984,12 @@ endless_inner_works : nat_le (work_of (run endless_inner 3 0 (start 128 16 endle
 unfolding compared misplaced combined spelled most_bytes
 endless_inner_works = refl
 
+endless_inner_reads : (nat_eq (wanted_reads endless_inner (among ([] ∷ [])) 0) 0 && true) ≡ true
+endless_inner_reads = refl
+
+endless_inner_tests : (nat_eq (open_tests endless_inner (among ([] ∷ [])) 0) 0 && true) ≡ true
+endless_inner_tests = refl
+
 -- #include <stdio.h>
 -- int main(void){int i=0;while(i<3){putchar('0'+i);i++;}do{putchar('b');}while(i++<9);return 0;}
 abbrev turns_run_out : Program
@@ -908,6 +1032,12 @@ turns_run_out_works : nat_le (work_of (run turns_run_out 3 0 (start 128 16 turns
 unfolding compared misplaced combined spelled most_bytes
 turns_run_out_works = refl
 
+turns_run_out_reads : (nat_eq (wanted_reads turns_run_out (among ([] ∷ [])) 0) 0 && true) ≡ true
+turns_run_out_reads = refl
+
+turns_run_out_tests : (nat_eq (open_tests turns_run_out (among ([] ∷ [])) 0) 0 && true) ≡ true
+turns_run_out_tests = refl
+
 -- #include <stdio.h>
 -- int main(void){while(putchar(116))putchar(98);return 0;}
 abbrev tests_of_last_turn : Program
@@ -945,6 +1075,12 @@ tests_of_last_turn_runs = refl
 tests_of_last_turn_works : nat_le (work_of (run tests_of_last_turn 3 0 (start 128 16 tests_of_last_turn_data))) 111 ≡ true
 unfolding compared misplaced combined spelled most_bytes
 tests_of_last_turn_works = refl
+
+tests_of_last_turn_reads : (nat_eq (wanted_reads tests_of_last_turn (among ([] ∷ [])) 0) 0 && true) ≡ true
+tests_of_last_turn_reads = refl
+
+tests_of_last_turn_tests : (nat_eq (open_tests tests_of_last_turn (among ([] ∷ [])) 0) 0 && true) ≡ true
+tests_of_last_turn_tests = refl
 
 -- #include <stdio.h>
 -- #include <stdlib.h>
@@ -985,3 +1121,6 @@ test_ends_program_runs = refl
 test_ends_program_works : nat_le (work_of (run test_ends_program 3 0 (start 128 16 test_ends_program_data))) 144 ≡ true
 unfolding compared misplaced combined spelled most_bytes
 test_ends_program_works = refl
+
+test_ends_program_reads : (nat_eq (wanted_reads test_ends_program (among ([] ∷ [])) 0) 0 && true) ≡ true
+test_ends_program_reads = refl

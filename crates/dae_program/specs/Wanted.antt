@@ -1,10 +1,10 @@
 -- What of a program the access side may load and decide by itself: what is wanted for addresses, and which tests are open to
 -- it. Both speak of the program alone, and bound what a compiler may give the access side to do.
-use Rattle.std.specs.Prelude.{◌≡◌, ℕ, suc, ◌+◌, Bool, true, false, not, ◌&&◌, ◌||◌, nat_eq, if◌then◌else◌, List, [], ◌∷◌, Option, Some, None}
+use Rattle.std.specs.Prelude.{◌≡◌, ℕ, suc, ◌+◌, Bool, true, false, ◌&&◌, ◌||◌, nat_eq, if◌then◌else◌, List, [], ◌∷◌, Option, Some, None}
 use Rattle.dae_program.specs.declared.statements.Piece.{Piece}
 use Rattle.dae_program.specs.declared.statements.Piece.TheVariants as piece
 use Rattle.dae_program.specs.Expressions.{bit}
-use Rattle.dae_program.specs.Trees.{Expression, Target, Expressions, Setting, Statements, Arms, Function, Program, Number, Address, Frame, Variable, Read, Convert, Not, Binary, Compare, And, Or, Conditional, Comma, Assign, Update, Step, Call, Putchar, Exit, Abort, InVariable, AtAddress, no_expressions, expression_then, Done, Evaluate, Initialise, Print, If, Loop, Do, Switch, Break, Continue, Return, no_arms, arm_then}
+use Rattle.dae_program.specs.Trees.{Expression, Target, Expressions, Setting, Statements, Arms, Program, Number, Address, Frame, Variable, Read, Convert, Not, Binary, Compare, And, Or, Conditional, Comma, Assign, Update, Step, Call, Putchar, Exit, Abort, InVariable, AtAddress, no_expressions, expression_then, Done, Evaluate, Initialise, Print, If, Loop, Do, Switch, Break, Continue, Return, no_arms, arm_then}
 
 -- which variables of each function are wanted; variable 0 stands for what it returns
 abbrev pub Wants : Type 0
@@ -305,12 +305,12 @@ module _ (wants : ℕ → Bool) where
     open_statements (If p x t u k) = open_test x + (open_statements t + (open_statements u + open_statements k))
     open_statements (Loop p test body step k) = open_some test + (open_statements body + (open_in_some step + open_statements k))
     open_statements (Do p body test k) = open_statements body + (open_test test + open_statements k)
-    open_statements (Switch p x arms k) = open_in x + (open_arms (is_open_operand x) arms + open_statements k)
+    open_statements (Switch p x arms k) = open_in x + (open_arms (is_open x) arms + open_statements k)
     open_statements (Break p k) = open_statements k
     open_statements (Continue p k) = open_statements k
     open_statements (Return p x k) = open_in_some x + open_statements k
 
-    -- where the flag says that the switch's value is open
+    -- where the flag says that the value is open as a test
     pub open_arms : Bool → Arms → ℕ
     open_arms flag no_arms = 0
     open_arms flag (arm_then labels t rest) = (if flag then count_tests labels else 0) + (open_statements t + open_arms flag rest)
