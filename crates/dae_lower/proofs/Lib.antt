@@ -15,3 +15,4 @@ mod Straying
 mod Switching
 mod Whole
 mod Forms
+mod Programs

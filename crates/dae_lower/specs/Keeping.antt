@@ -1,5 +1,5 @@
 -- The form of a program keeps its meaning.
-use Rattle.std.specs.Prelude.{◌≡◌, ◌≢◌, ℕ, suc, ◌*◌, ◌≤◌, true, false, [], length}
+use Rattle.std.specs.Prelude.{◌≡◌, ◌≢◌, ℕ, suc, ◌*◌, ◌≤◌, true, false, [], length, slice_get, Option, Some, None}
 use Rattle.dae_base.specs.declared.Place.{Place}
 use Rattle.dae_meaning.specs.Worlds.{World}
 use Rattle.dae_meaning.specs.Results.{Result, End, Halted, Trapped, Going, Astray, world_of}
@@ -12,7 +12,10 @@ use Rattle.dae_program.specs.Calls.{call}
 use Rattle.dae_program.specs.Outcomes.{Outcome, last_world}
 use Rattle.dae_program.specs.Placed.{KeepsFrames, IsBegin}
 use Rattle.dae_program.specs.Printing.{most_bytes}
-use Rattle.dae_program.specs.Programs.{run, program_end}
+use Rattle.dae_program.specs.declared.program.Function.{Function}
+use Rattle.dae_program.specs.declared.program.Program.{Program}
+use Rattle.dae_program.specs.Lawful.{is_lawful}
+use Rattle.dae_program.specs.Programs.{run, program_end, program_of, variables_of, meaning_of, start}
 use Rattle.dae_program.specs.Scope.{KeepsScope}
 use Rattle.dae_program.specs.Trees as tree
 use Rattle.dae_lower.specs.Lowering.{program_form}
@@ -76,3 +79,22 @@ abbrev pub FormsClose : Type 0
 FormsClose =
     (p : tree.Program) (place : ℕ → Place) (variables : ℕ → ℕ) (main f : ℕ) →
     closes (let q = program_form p place variables main in q.body f) ≡ true
+
+-- ---- programs in memory
+
+abbrev pub place_in : Option Function → Place
+place_in None = record { file = 0; line = 0; col = 0 }
+place_in (Some f) = f.place
+
+-- what the form of a program in memory does, with a limit on calls inside one another
+abbrev pub form_run_of : Program → (limit n : ℕ) → Result Env
+form_run_of p limit n =
+    form_run (program_of p limit) (λ f. place_in (slice_get p.functions f)) (variables_of p) p.main (start p.memory p.frames p.content) n
+
+pub record ProgramKept (p : Program) (limit : ℕ) : Type 0 where
+  pub meaning : MeaningIsKept (meaning_of p limit) (form_run_of p limit)
+  pub stays : (n : ℕ) → end_of (form_run_of p limit n) ≢ Astray
+
+-- each program in memory keeps its meaning, and its form never goes astray
+abbrev pub ProgramsKept : Type 0
+ProgramsKept = (p : Program) (depth : ℕ) → is_lawful p.memory p.frames p.content p.links p.functions p.main ≡ true → ProgramKept p (suc depth)

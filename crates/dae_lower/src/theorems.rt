@@ -1,6 +1,6 @@
 // What is proved of the forms of programs: the contracts of functions that do nothing but call others like them.
 
-ghost use Rattle.dae_lower.specs.Keeping.{FormKeeps, FormsClose, FormsNeverStray, MeaningKept};
+ghost use Rattle.dae_lower.specs.Keeping.{FormKeeps, FormsClose, FormsNeverStray, MeaningKept, ProgramsKept};
 
 /// The form of a program ends as the program does, with the same output, memory, reads and writes, for every large bound on
 /// the turns of loops; or both go on. It executes at most 11 items for each unit of work.
@@ -29,3 +29,12 @@ pub fn forms_never_stray()
 pub fn forms_close()
     ensures { FormsClose }
 {}
+
+/// The form of a program in memory keeps its meaning, whatever the limit on calls, and goes astray under no bound.
+pub fn programs_kept()
+    ensures { ProgramsKept }
+{
+    dae_program::lawful_keep_rules();
+    meaning_kept();
+    forms_never_stray();
+}

@@ -42,6 +42,9 @@ no_items (x ∷ xs) h = absurd (grind (arith, nat_tests))
 different : (a b : ℕ) → not (nat_eq a b) ≡ true → a ≢ b
 different a b h e = absurd (grind (arith, nat_tests))
 
+too_many : (m n : ℕ) → m < n → n ≡ m → ⊥
+too_many m n h e = omega (arith, h, e)
+
 -- ---- functions
 
 module _ (memory variables : ℕ) (counts : ℕ → Option ℕ) (returns : Bool) (f : tree.Function) (h : is_lawful_body memory variables counts returns f ≡ true) where
@@ -110,7 +113,7 @@ module _ (p : Program) (limit : ℕ) (h : is_lawful p.memory p.frames p.content 
   main_there (Some f) e i = there p.functions p.main f e
 
   none_else : length p.functions ≢ p.main
-  none_else e = let i : p.main < length p.functions = main_there (slice_get p.functions p.main) refl (second _ _ beginning) in let c : ⊥ = omega (arith, i, e) in absurd c
+  none_else e = too_many p.main (length p.functions) (main_there (slice_get p.functions p.main) refl (second _ _ beginning)) e
 
   callee_else : (links : Option Links) (file g : ℕ) → slice_get p.links file ≡ links → callee_in (length p.functions) links g ≢ p.main
   callee_else None file g e = none_else
