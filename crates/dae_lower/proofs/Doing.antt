@@ -14,7 +14,7 @@ use Rattle.dae_lower.specs.Lowering.{Made, skip, ◌≫◌, Condition, branches,
 use Rattle.dae_lower.proofs.Relation.{at, Agree, Kept, Alike, Both, Stop, exec_then}
 use Rattle.dae_lower.proofs.Chains.{run, Follows, then_done}
 use Rattle.dae_lower.proofs.Branches.{Deciding, Always}
-use Rattle.dae_lower.proofs.Expressions.{Anything}
+use Rattle.dae_lower.proofs.Valued.{Anything}
 
 -- any of the program's variables may change
 abbrev pub everything : VariableSet

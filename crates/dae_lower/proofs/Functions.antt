@@ -26,7 +26,7 @@ use Rattle.dae_lower.specs.Lowering.{Made, one, ◌≫◌, ◌⨾◌, checks, no
 use Rattle.dae_lower.proofs.Relation.{at, Agree, Kept, Alike, Both, Stop, exec_then, put_same, put_other}
 use Rattle.dae_lower.proofs.Chains.{run}
 use Rattle.dae_lower.proofs.Leaves.{Holding, agree_put, kept_put}
-use Rattle.dae_lower.proofs.Expressions.{Called}
+use Rattle.dae_lower.proofs.Arguments.{Called}
 use Rattle.dae_lower.proofs.Doing.{everything, Same, Goes, Halts, same_from, after_statements, Does}
 use Rattle.dae_lower.proofs.Statements.{PrintsDo, InitialisesDo, SwitchesDo, statements_do}
 

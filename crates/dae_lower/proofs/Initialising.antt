@@ -25,7 +25,8 @@ use Rattle.dae_lower.specs.Lowering.{emit, one, ◌≫◌, nowhere, leaves_if_no
 use Rattle.dae_lower.proofs.Relation.{at, Agree, Kept, Lasts, put_same, put_other}
 use Rattle.dae_lower.proofs.Chains.{run, then_done}
 use Rattle.dae_lower.proofs.Leaves.{agree_put, kept_put}
-use Rattle.dae_lower.proofs.Expressions.{Called, faithful}
+use Rattle.dae_lower.proofs.Arguments.{Called}
+use Rattle.dae_lower.proofs.Expressions.{faithful}
 use Rattle.dae_lower.proofs.Doing.{everything, kept_everything, Same, Goes, Halts, same_from, Does, value_does, then_does, skip_does}
 use Rattle.dae_lower.proofs.Statements.{InitialisesDo}
 use Rattle.dae_lower.proofs.Printing.{everything_from}

@@ -2,6 +2,11 @@ mod Branches
 mod Chains
 mod Closing
 mod Doing
+mod Valued
+mod Operators
+mod Choices
+mod Assignments
+mod Arguments
 mod Expressions
 mod Functions
 mod Initialising

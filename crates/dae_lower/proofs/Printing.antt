@@ -27,7 +27,8 @@ use Rattle.dae_program.specs.declared.statements.Piece.{Piece}
 use Rattle.dae_program.specs.declared.statements.Piece.TheVariants as piece
 use Rattle.dae_lower.specs.Lowering.{one, nowhere, leaves_if_not, test_of, prints, operands, Links, assigned_all}
 use Rattle.dae_lower.proofs.Relation.{at, Agree, Kept, put_same, put_other, still_alone}
-use Rattle.dae_lower.proofs.Expressions.{Called, amount, AllLast, all_wider, all_faithful}
+use Rattle.dae_lower.proofs.Arguments.{Called, amount, AllLast, all_wider}
+use Rattle.dae_lower.proofs.Expressions.{all_faithful}
 use Rattle.dae_lower.proofs.Statements.{PrintsDo}
 use Rattle.dae_lower.proofs.Chains.{run, spared, weaker}
 use Rattle.dae_lower.proofs.Leaves.{agree_put, kept_put}

@@ -1,5 +1,5 @@
 -- What is proved of trees, of programs in memory.
-use Rattle.std.proofs.Common.{◌≡◌, ℕ, suc, length, refl, sym, subst}
+use Rattle.std.proofs.Common.{ℕ, suc, refl, sym, subst}
 use Rattle.std.specs.Prelude.{slice_get}
 use Rattle.dae_base.specs.declared.Place.{Place}
 use Rattle.dae_program.specs.Placed.{KeepsFrames}

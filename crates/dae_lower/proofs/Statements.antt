@@ -25,7 +25,9 @@ use Rattle.dae_lower.proofs.Relation.{at, Agree, Kept, Alike, Both, Stop, put_ot
 use Rattle.dae_lower.proofs.Chains.{run, Follows, paid, spared}
 use Rattle.dae_lower.proofs.Branches.{Always}
 use Rattle.dae_lower.proofs.Leaves.{agree_both}
-use Rattle.dae_lower.proofs.Expressions.{Anything, Nothing, Called, faithful}
+use Rattle.dae_lower.proofs.Valued.{Anything, Nothing}
+use Rattle.dae_lower.proofs.Arguments.{Called}
+use Rattle.dae_lower.proofs.Expressions.{faithful}
 use Rattle.dae_lower.proofs.Doing.{everything, Same, Goes, Halts, kept_everything, same_from, after_statements, Does, cheaper_does, spared_does, skip_does, then_does, value_does, branches_do, loop_does}
 
 module _ (m n : ℕ) (s : Setup) (l : Links) (p : Program) (calls : Calls) (places : (k : ℕ) → s.address k ≡ l.address k) (called : Called m n s l p calls places) (some : 0 < m) where

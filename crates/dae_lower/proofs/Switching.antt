@@ -23,7 +23,9 @@ use Rattle.dae_lower.specs.Lowering.{Made, one, ◌≫◌, ◌⨾◌, nowhere, t
 use Rattle.dae_lower.proofs.Relation.{at, Agree, Kept, Lasts, Alike, exec_then, still_alone, put_same, put_other}
 use Rattle.dae_lower.proofs.Chains.{run, Follows}
 use Rattle.dae_lower.proofs.Leaves.{agree_put, kept_put}
-use Rattle.dae_lower.proofs.Expressions.{Called, Anything, faithful}
+use Rattle.dae_lower.proofs.Arguments.{Called}
+use Rattle.dae_lower.proofs.Valued.{Anything}
+use Rattle.dae_lower.proofs.Expressions.{faithful}
 use Rattle.dae_lower.proofs.Doing.{everything, Same, Goes, Halts, same_from, Does, value_does}
 use Rattle.dae_lower.proofs.Skipping.{NotSkips, arms_stay}
 use Rattle.dae_lower.proofs.Statements.{SwitchesDo, ArmsDo}
