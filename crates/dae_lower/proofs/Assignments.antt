@@ -209,5 +209,4 @@ module _ (m n : ℕ) (s : Setup) (l : Links) (p : Program) (calls : Calls) where
       effect = step_effect place kind t change new h;
       condition = (as_condition m n s l p calls) (assigned (tree.Step place kind t change new)) _ _ (step_value place kind t change new h);
     }
-
     -- ---- what prints and what ends

@@ -118,5 +118,4 @@ module _ (m n : ℕ) (s : Setup) (l : Links) (p : Program) (calls : Calls) where
       bit_is : (b : Bool) → b ≡ not (nat_eq (bit b) 0)
       bit_is true = refl
       bit_is false = refl
-
-    -- ---- and, or, conditional
+      -- ---- and, or, conditional

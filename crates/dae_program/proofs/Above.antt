@@ -122,4 +122,3 @@ leave_over xs r q (GoingResult w (At Leaves e u) a b) = GoingResult w (At Next e
 leave_over xs r q (GoingResult w (At Skips e u) a b) = GoingResult w (At Skips e u) a b
 leave_over xs r q (GoingResult w (At Returns e u) a b) = GoingResult w (At Returns e u) a b
 leave_over xs r q (GoingResult w (Over end u) a b) = GoingResult w (Over end u) a b
-

@@ -95,4 +95,3 @@ module _ (address : ℕ → ℕ) (calls more : ℕ → List ℕ → World → Ou
     pub arguments_above : (xs : Expressions) (env : Env) (w : World) → Above w.printed (arguments less xs env w) (arguments greater xs env w)
     arguments_above tree.no_expressions env w = gives_above _ env w
     arguments_above (tree.expression_then a xs) env w = bind_above w.printed _ _ _ _ (evaluate_above a env (ticked w)) (λ x env w. bind_above w.printed _ _ _ _ (arguments_above xs env w) (λ words env w. gives_above _ env w))
-

@@ -58,8 +58,15 @@ deep_calls_data = (37 ∷ 100 ∷ 10 ∷ 0 ∷ [])
 
 deep_calls_runs :
     seen 3 (run deep_calls 100000 1 (start 128 20 deep_calls_data)) ≡
-    record { end = Halted 0; printed = (([] ++ spelled spell.Signed 18) ++ (10 ∷ [])); reads = 0; writes = 0; bytes = (37
-    ∷ 100 ∷ 10 ∷ []); rest_is_zero = true }
+    record {
+      end = Halted 0;
+      printed = (([] ++ spelled spell.Signed 18) ++ (10 ∷ []));
+      reads = 0;
+      writes = 0;
+      bytes = (37
+          ∷ 100 ∷ 10 ∷ []);
+      rest_is_zero = true;
+    }
 unfolding compared misplaced combined spelled most_bytes
 deep_calls_runs = refl
 
@@ -227,8 +234,15 @@ room_after_arguments_data = []
 
 room_after_arguments_runs :
     seen 0 (run room_after_arguments 100000 2 (start 128 16 room_after_arguments_data)) ≡
-    record { end = Trapped 4; printed = ((([] ++ spelled spell.Byte 51) ++ spelled spell.Byte 51) ++ spelled spell.Byte
-    51); reads = 0; writes = 0; bytes = []; rest_is_zero = true }
+    record {
+      end = Trapped 4;
+      printed = ((([] ++ spelled spell.Byte 51) ++ spelled spell.Byte 51) ++ spelled spell.Byte
+          51);
+      reads = 0;
+      writes = 0;
+      bytes = [];
+      rest_is_zero = true;
+    }
 unfolding compared misplaced combined spelled most_bytes
 room_after_arguments_runs = refl
 
@@ -275,8 +289,14 @@ one_call_deep_data = (37 ∷ 99 ∷ 0 ∷ [])
 
 one_call_deep_runs :
     seen 2 (run one_call_deep 100000 0 (start 128 20 one_call_deep_data)) ≡
-    record { end = Halted 7; printed = (([] ++ spelled spell.Byte 65) ++ spelled spell.Byte 66); reads = 0; writes = 0;
-    bytes = (37 ∷ 99 ∷ []); rest_is_zero = true }
+    record {
+      end = Halted 7;
+      printed = (([] ++ spelled spell.Byte 65) ++ spelled spell.Byte 66);
+      reads = 0;
+      writes = 0;
+      bytes = (37 ∷ 99 ∷ []);
+      rest_is_zero = true;
+    }
 unfolding compared misplaced combined spelled most_bytes
 one_call_deep_runs = refl
 
@@ -327,8 +347,15 @@ one_call_too_deep_data = []
 
 one_call_too_deep_runs :
     seen 0 (run one_call_too_deep 100000 1 (start 128 16 one_call_too_deep_data)) ≡
-    record { end = Trapped 4; printed = ([] ++ spelled spell.Byte 65); reads = 0; writes = 0; bytes = []; rest_is_zero =
-    true }
+    record {
+      end = Trapped 4;
+      printed = ([] ++ spelled spell.Byte 65);
+      reads = 0;
+      writes = 0;
+      bytes = [];
+      rest_is_zero =
+          true;
+    }
 unfolding compared misplaced combined spelled most_bytes
 one_call_too_deep_runs = refl
 
@@ -381,8 +408,15 @@ two_calls_deep_data = []
 
 two_calls_deep_runs :
     seen 0 (run two_calls_deep 100000 1 (start 128 16 two_calls_deep_data)) ≡
-    record { end = Halted 2; printed = ([] ++ spelled spell.Byte 65); reads = 0; writes = 0; bytes = []; rest_is_zero =
-    true }
+    record {
+      end = Halted 2;
+      printed = ([] ++ spelled spell.Byte 65);
+      reads = 0;
+      writes = 0;
+      bytes = [];
+      rest_is_zero =
+          true;
+    }
 unfolding compared misplaced combined spelled most_bytes
 two_calls_deep_runs = refl
 
@@ -466,11 +500,18 @@ main_with_room_data = []
 
 main_with_room_runs :
     seen 109 (run main_with_room 100000 0 (start 128 16 main_with_room_data)) ≡
-    record { end = Halted 1; printed = []; reads = 1; writes = 1; bytes = (0 ∷ 0 ∷ 0 ∷ 0 ∷ 0 ∷ 0 ∷ 0 ∷ 0 ∷ 0 ∷ 0 ∷ 0 ∷ 0 ∷
-    0 ∷ 0 ∷ 0 ∷ 0 ∷ 0 ∷ 0 ∷ 0 ∷ 0 ∷ 0 ∷ 0 ∷ 0 ∷ 0 ∷ 0 ∷ 0 ∷ 0 ∷ 0 ∷ 0 ∷ 0 ∷ 0 ∷ 0 ∷ 0 ∷ 0 ∷ 0 ∷ 0 ∷ 0 ∷ 0 ∷ 0 ∷ 0 ∷ 0 ∷ 0
-    ∷ 0 ∷ 0 ∷ 0 ∷ 0 ∷ 0 ∷ 0 ∷ 0 ∷ 0 ∷ 0 ∷ 0 ∷ 0 ∷ 0 ∷ 0 ∷ 0 ∷ 0 ∷ 0 ∷ 0 ∷ 0 ∷ 0 ∷ 0 ∷ 0 ∷ 0 ∷ 0 ∷ 0 ∷ 0 ∷ 0 ∷ 0 ∷ 0 ∷ 0 ∷
-    0 ∷ 0 ∷ 0 ∷ 0 ∷ 0 ∷ 0 ∷ 0 ∷ 0 ∷ 0 ∷ 0 ∷ 0 ∷ 0 ∷ 0 ∷ 0 ∷ 0 ∷ 0 ∷ 0 ∷ 0 ∷ 0 ∷ 0 ∷ 0 ∷ 0 ∷ 0 ∷ 0 ∷ 0 ∷ 0 ∷ 0 ∷ 0 ∷ 0 ∷ 0
-    ∷ 0 ∷ 0 ∷ 0 ∷ 0 ∷ 0 ∷ 0 ∷ 0 ∷ 1 ∷ []); rest_is_zero = true }
+    record {
+      end = Halted 1;
+      printed = [];
+      reads = 1;
+      writes = 1;
+      bytes = (0 ∷ 0 ∷ 0 ∷ 0 ∷ 0 ∷ 0 ∷ 0 ∷ 0 ∷ 0 ∷ 0 ∷ 0 ∷ 0 ∷
+          0 ∷ 0 ∷ 0 ∷ 0 ∷ 0 ∷ 0 ∷ 0 ∷ 0 ∷ 0 ∷ 0 ∷ 0 ∷ 0 ∷ 0 ∷ 0 ∷ 0 ∷ 0 ∷ 0 ∷ 0 ∷ 0 ∷ 0 ∷ 0 ∷ 0 ∷ 0 ∷ 0 ∷ 0 ∷ 0 ∷ 0 ∷ 0 ∷ 0 ∷ 0
+          ∷ 0 ∷ 0 ∷ 0 ∷ 0 ∷ 0 ∷ 0 ∷ 0 ∷ 0 ∷ 0 ∷ 0 ∷ 0 ∷ 0 ∷ 0 ∷ 0 ∷ 0 ∷ 0 ∷ 0 ∷ 0 ∷ 0 ∷ 0 ∷ 0 ∷ 0 ∷ 0 ∷ 0 ∷ 0 ∷ 0 ∷ 0 ∷ 0 ∷ 0 ∷
+          0 ∷ 0 ∷ 0 ∷ 0 ∷ 0 ∷ 0 ∷ 0 ∷ 0 ∷ 0 ∷ 0 ∷ 0 ∷ 0 ∷ 0 ∷ 0 ∷ 0 ∷ 0 ∷ 0 ∷ 0 ∷ 0 ∷ 0 ∷ 0 ∷ 0 ∷ 0 ∷ 0 ∷ 0 ∷ 0 ∷ 0 ∷ 0 ∷ 0 ∷ 0
+          ∷ 0 ∷ 0 ∷ 0 ∷ 0 ∷ 0 ∷ 0 ∷ 0 ∷ 1 ∷ []);
+      rest_is_zero = true;
+    }
 unfolding compared misplaced combined spelled most_bytes
 main_with_room_runs = refl
 
@@ -524,11 +565,17 @@ frame_full_data = []
 
 frame_full_runs :
     seen 97 (run frame_full 100000 1 (start 128 16 frame_full_data)) ≡
-    record { end = Trapped 4; printed = []; reads = 3; writes = 11; bytes = (9 ∷ 0 ∷ 0 ∷ 0 ∷ 0 ∷ 0 ∷ 0 ∷ 0 ∷ 0 ∷ 0 ∷ 0 ∷ 0
-    ∷ 0 ∷ 0 ∷ 0 ∷ 0 ∷ 8 ∷ 0 ∷ 0 ∷ 0 ∷ 0 ∷ 0 ∷ 0 ∷ 0 ∷ 0 ∷ 0 ∷ 0 ∷ 0 ∷ 0 ∷ 0 ∷ 0 ∷ 0 ∷ 7 ∷ 0 ∷ 0 ∷ 0 ∷ 0 ∷ 0 ∷ 0 ∷ 0 ∷ 0 ∷
-    0 ∷ 0 ∷ 0 ∷ 0 ∷ 0 ∷ 0 ∷ 0 ∷ 6 ∷ 0 ∷ 0 ∷ 0 ∷ 0 ∷ 0 ∷ 0 ∷ 0 ∷ 0 ∷ 0 ∷ 0 ∷ 0 ∷ 0 ∷ 0 ∷ 0 ∷ 0 ∷ 5 ∷ 0 ∷ 0 ∷ 0 ∷ 0 ∷ 0 ∷ 0
-    ∷ 0 ∷ 0 ∷ 0 ∷ 0 ∷ 0 ∷ 0 ∷ 0 ∷ 0 ∷ 0 ∷ 4 ∷ 0 ∷ 0 ∷ 0 ∷ 0 ∷ 0 ∷ 0 ∷ 0 ∷ 0 ∷ 0 ∷ 0 ∷ 0 ∷ 0 ∷ 0 ∷ 0 ∷ 0 ∷ 3 ∷ []);
-    rest_is_zero = true }
+    record {
+      end = Trapped 4;
+      printed = [];
+      reads = 3;
+      writes = 11;
+      bytes = (9 ∷ 0 ∷ 0 ∷ 0 ∷ 0 ∷ 0 ∷ 0 ∷ 0 ∷ 0 ∷ 0 ∷ 0 ∷ 0
+          ∷ 0 ∷ 0 ∷ 0 ∷ 0 ∷ 8 ∷ 0 ∷ 0 ∷ 0 ∷ 0 ∷ 0 ∷ 0 ∷ 0 ∷ 0 ∷ 0 ∷ 0 ∷ 0 ∷ 0 ∷ 0 ∷ 0 ∷ 0 ∷ 7 ∷ 0 ∷ 0 ∷ 0 ∷ 0 ∷ 0 ∷ 0 ∷ 0 ∷ 0 ∷
+          0 ∷ 0 ∷ 0 ∷ 0 ∷ 0 ∷ 0 ∷ 0 ∷ 6 ∷ 0 ∷ 0 ∷ 0 ∷ 0 ∷ 0 ∷ 0 ∷ 0 ∷ 0 ∷ 0 ∷ 0 ∷ 0 ∷ 0 ∷ 0 ∷ 0 ∷ 0 ∷ 5 ∷ 0 ∷ 0 ∷ 0 ∷ 0 ∷ 0 ∷ 0
+          ∷ 0 ∷ 0 ∷ 0 ∷ 0 ∷ 0 ∷ 0 ∷ 0 ∷ 0 ∷ 0 ∷ 4 ∷ 0 ∷ 0 ∷ 0 ∷ 0 ∷ 0 ∷ 0 ∷ 0 ∷ 0 ∷ 0 ∷ 0 ∷ 0 ∷ 0 ∷ 0 ∷ 0 ∷ 0 ∷ 3 ∷ []);
+      rest_is_zero = true;
+    }
 unfolding compared misplaced combined spelled most_bytes
 frame_full_runs = refl
 
@@ -597,8 +644,15 @@ frames_on_top_data = []
 
 frames_on_top_runs :
     seen 13 (run frames_on_top 100000 2 (start 128 16 frames_on_top_data)) ≡
-    record { end = Halted 17; printed = []; reads = 2; writes = 3; bytes = (5 ∷ 0 ∷ 0 ∷ 0 ∷ 0 ∷ 0 ∷ 0 ∷ 0 ∷ 10 ∷ 0 ∷ 0 ∷ 0
-    ∷ 11 ∷ []); rest_is_zero = true }
+    record {
+      end = Halted 17;
+      printed = [];
+      reads = 2;
+      writes = 3;
+      bytes = (5 ∷ 0 ∷ 0 ∷ 0 ∷ 0 ∷ 0 ∷ 0 ∷ 0 ∷ 10 ∷ 0 ∷ 0 ∷ 0
+          ∷ 11 ∷ []);
+      rest_is_zero = true;
+    }
 unfolding compared misplaced combined spelled most_bytes
 frames_on_top_runs = refl
 
@@ -721,8 +775,14 @@ void_calls_data = []
 
 void_calls_runs :
     seen 0 (run void_calls 100000 1 (start 128 16 void_calls_data)) ≡
-    record { end = Halted 4; printed = (([] ++ spelled spell.Byte 102) ++ spelled spell.Byte 102); reads = 0; writes = 0;
-    bytes = []; rest_is_zero = true }
+    record {
+      end = Halted 4;
+      printed = (([] ++ spelled spell.Byte 102) ++ spelled spell.Byte 102);
+      reads = 0;
+      writes = 0;
+      bytes = [];
+      rest_is_zero = true;
+    }
 unfolding compared misplaced combined spelled most_bytes
 void_calls_runs = refl
 
@@ -793,8 +853,15 @@ nested_calls_data = (37 ∷ 100 ∷ 32 ∷ 37 ∷ 100 ∷ 10 ∷ 0 ∷ [])
 
 nested_calls_runs :
     seen 9 (run nested_calls 100000 2 (start 192 24 nested_calls_data)) ≡
-    record { end = Halted 0; printed = (((([] ++ spelled spell.Signed 24) ++ (32 ∷ [])) ++ spelled spell.Signed 12) ++ (10
-    ∷ [])); reads = 6; writes = 3; bytes = (37 ∷ 100 ∷ 32 ∷ 37 ∷ 100 ∷ 10 ∷ 0 ∷ 0 ∷ 12 ∷ []); rest_is_zero = true }
+    record {
+      end = Halted 0;
+      printed = (((([] ++ spelled spell.Signed 24) ++ (32 ∷ [])) ++ spelled spell.Signed 12) ++ (10
+          ∷ []));
+      reads = 6;
+      writes = 3;
+      bytes = (37 ∷ 100 ∷ 32 ∷ 37 ∷ 100 ∷ 10 ∷ 0 ∷ 0 ∷ 12 ∷ []);
+      rest_is_zero = true;
+    }
 unfolding compared misplaced combined spelled most_bytes
 nested_calls_runs = refl
 
@@ -863,8 +930,15 @@ arguments_in_order_data = []
 
 arguments_in_order_runs :
     seen 0 (run arguments_in_order 100000 2 (start 128 16 arguments_in_order_data)) ≡
-    record { end = Halted 123; printed = (((([] ++ spelled spell.Byte 49) ++ spelled spell.Byte 50) ++ spelled spell.Byte
-    51) ++ spelled spell.Byte 52); reads = 0; writes = 0; bytes = []; rest_is_zero = true }
+    record {
+      end = Halted 123;
+      printed = (((([] ++ spelled spell.Byte 49) ++ spelled spell.Byte 50) ++ spelled spell.Byte
+          51) ++ spelled spell.Byte 52);
+      reads = 0;
+      writes = 0;
+      bytes = [];
+      rest_is_zero = true;
+    }
 unfolding compared misplaced combined spelled most_bytes
 arguments_in_order_runs = refl
 
@@ -933,8 +1007,15 @@ addressed_parameter_data = (0 ∷ 0 ∷ 0 ∷ 0 ∷ 0 ∷ 0 ∷ 0 ∷ 0 ∷ 0 �
 
 addressed_parameter_runs :
     seen 21 (run addressed_parameter 100000 2 (start 192 36 addressed_parameter_data)) ≡
-    record { end = Halted 245; printed = []; reads = 4; writes = 3; bytes = (0 ∷ 0 ∷ 0 ∷ 0 ∷ 1 ∷ 0 ∷ 0 ∷ 0 ∷ 0 ∷ 0 ∷ 0 ∷ 0
-    ∷ 0 ∷ 0 ∷ 0 ∷ 0 ∷ 0 ∷ 0 ∷ 0 ∷ 0 ∷ 244 ∷ []); rest_is_zero = true }
+    record {
+      end = Halted 245;
+      printed = [];
+      reads = 4;
+      writes = 3;
+      bytes = (0 ∷ 0 ∷ 0 ∷ 0 ∷ 1 ∷ 0 ∷ 0 ∷ 0 ∷ 0 ∷ 0 ∷ 0 ∷ 0
+          ∷ 0 ∷ 0 ∷ 0 ∷ 0 ∷ 0 ∷ 0 ∷ 0 ∷ 0 ∷ 244 ∷ []);
+      rest_is_zero = true;
+    }
 unfolding compared misplaced combined spelled most_bytes
 addressed_parameter_runs = refl
 
@@ -997,8 +1078,14 @@ parameters_in_frame_data = []
 
 parameters_in_frame_runs :
     seen 9 (run parameters_in_frame 100000 1 (start 128 16 parameters_in_frame_data)) ≡
-    record { end = Halted 26; printed = []; reads = 6; writes = 6; bytes = (0 ∷ 0 ∷ 0 ∷ 0 ∷ 12 ∷ 0 ∷ 0 ∷ 0 ∷ 2 ∷ []);
-    rest_is_zero = true }
+    record {
+      end = Halted 26;
+      printed = [];
+      reads = 6;
+      writes = 6;
+      bytes = (0 ∷ 0 ∷ 0 ∷ 0 ∷ 12 ∷ 0 ∷ 0 ∷ 0 ∷ 2 ∷ []);
+      rest_is_zero = true;
+    }
 unfolding compared misplaced combined spelled most_bytes
 parameters_in_frame_runs = refl
 
@@ -1137,8 +1224,15 @@ abort_exit_data = []
 
 abort_exit_runs :
     seen 0 (run abort_exit 100000 1 (start 128 16 abort_exit_data)) ≡
-    record { end = Halted 21; printed = ([] ++ spelled spell.Byte 113); reads = 0; writes = 0; bytes = []; rest_is_zero =
-    true }
+    record {
+      end = Halted 21;
+      printed = ([] ++ spelled spell.Byte 113);
+      reads = 0;
+      writes = 0;
+      bytes = [];
+      rest_is_zero =
+          true;
+    }
 unfolding compared misplaced combined spelled most_bytes
 abort_exit_runs = refl
 
@@ -1183,8 +1277,15 @@ two_files_data = (5 ∷ 0 ∷ 0 ∷ 0 ∷ 37 ∷ 100 ∷ 10 ∷ 0 ∷ [])
 
 two_files_runs :
     seen 7 (run two_files 100000 0 (start 128 24 two_files_data)) ≡
-    record { end = Halted 0; printed = (([] ++ spelled spell.Signed 5) ++ (10 ∷ [])); reads = 1; writes = 0; bytes = (5 ∷
-    0 ∷ 0 ∷ 0 ∷ 37 ∷ 100 ∷ 10 ∷ []); rest_is_zero = true }
+    record {
+      end = Halted 0;
+      printed = (([] ++ spelled spell.Signed 5) ++ (10 ∷ []));
+      reads = 1;
+      writes = 0;
+      bytes = (5 ∷
+          0 ∷ 0 ∷ 0 ∷ 37 ∷ 100 ∷ 10 ∷ []);
+      rest_is_zero = true;
+    }
 unfolding compared misplaced combined spelled most_bytes
 two_files_runs = refl
 
@@ -1379,18 +1480,25 @@ inventory_data = (1 ∷ 0 ∷ 0 ∷ 0 ∷ 2 ∷ 0 ∷ 0 ∷ 0 ∷ 3 ∷ 0 ∷ 0 
 
 inventory_runs :
     seen 146 (run inventory 100000 4 (start 320 164 inventory_data)) ≡
-    record { end = Halted 0; printed = (((((((((((((((((((((((((((((((([] ++ spelled spell.Signed 58) ++ (32 ∷ [])) ++
-    spelled spell.Signed 64) ++ (10 ∷ [])) ++ spelled spell.Signed 139) ++ (32 ∷ [])) ++ spelled spell.Signed 154) ++ (10
-    ∷ [])) ++ (116 ∷ [])) ++ (111 ∷ [])) ++ (116 ∷ [])) ++ (97 ∷ [])) ++ (108 ∷ [])) ++ (32 ∷ [])) ++ spelled spell.Signed
-    30) ++ (10 ∷ [])) ++ (99 ∷ [])) ++ (111 ∷ [])) ++ (109 ∷ [])) ++ (109 ∷ [])) ++ (111 ∷ [])) ++ (110 ∷ [])) ++ (32 ∷
-    [])) ++ spelled spell.Signed 12) ++ (32 ∷ [])) ++ (108 ∷ [])) ++ (97 ∷ [])) ++ (115 ∷ [])) ++ (116 ∷ [])) ++ (32 ∷
-    [])) ++ spelled spell.Signed 6) ++ (10 ∷ [])); reads = 52; writes = 26; bytes = (1 ∷ 0 ∷ 0 ∷ 0 ∷ 2 ∷ 0 ∷ 0 ∷ 0 ∷ 3 ∷ 0
-    ∷ 0 ∷ 0 ∷ 4 ∷ 0 ∷ 0 ∷ 0 ∷ 5 ∷ 0 ∷ 0 ∷ 0 ∷ 6 ∷ 0 ∷ 0 ∷ 0 ∷ 7 ∷ 0 ∷ 0 ∷ 0 ∷ 8 ∷ 0 ∷ 0 ∷ 0 ∷ 9 ∷ 0 ∷ 0 ∷ 0 ∷ 10 ∷ 0 ∷ 0 ∷
-    0 ∷ 11 ∷ 0 ∷ 0 ∷ 0 ∷ 12 ∷ 0 ∷ 0 ∷ 0 ∷ 58 ∷ 0 ∷ 0 ∷ 0 ∷ 64 ∷ 0 ∷ 0 ∷ 0 ∷ 139 ∷ 0 ∷ 0 ∷ 0 ∷ 154 ∷ 0 ∷ 0 ∷ 0 ∷ 0 ∷ 0 ∷ 0
-    ∷ 0 ∷ 88 ∷ 0 ∷ 0 ∷ 0 ∷ 1 ∷ 0 ∷ 0 ∷ 0 ∷ 96 ∷ 0 ∷ 0 ∷ 0 ∷ 4 ∷ 0 ∷ 0 ∷ 0 ∷ 104 ∷ 0 ∷ 0 ∷ 0 ∷ 9 ∷ 0 ∷ 0 ∷ 0 ∷ 112 ∷ 0 ∷ 0
-    ∷ 0 ∷ 16 ∷ 0 ∷ 0 ∷ 0 ∷ 0 ∷ 0 ∷ 0 ∷ 0 ∷ 37 ∷ 100 ∷ 32 ∷ 37 ∷ 100 ∷ 10 ∷ 0 ∷ 37 ∷ 100 ∷ 32 ∷ 37 ∷ 100 ∷ 10 ∷ 0 ∷ 116 ∷
-    111 ∷ 116 ∷ 97 ∷ 108 ∷ 32 ∷ 37 ∷ 100 ∷ 10 ∷ 0 ∷ 99 ∷ 111 ∷ 109 ∷ 109 ∷ 111 ∷ 110 ∷ 32 ∷ 37 ∷ 100 ∷ 32 ∷ 108 ∷ 97 ∷ 115
-    ∷ 116 ∷ 32 ∷ 37 ∷ 100 ∷ 10 ∷ []); rest_is_zero = true }
+    record {
+      end = Halted 0;
+      printed = (((((((((((((((((((((((((((((((([] ++ spelled spell.Signed 58) ++ (32 ∷ [])) ++
+          spelled spell.Signed 64) ++ (10 ∷ [])) ++ spelled spell.Signed 139) ++ (32 ∷ [])) ++ spelled spell.Signed 154) ++ (10
+          ∷ [])) ++ (116 ∷ [])) ++ (111 ∷ [])) ++ (116 ∷ [])) ++ (97 ∷ [])) ++ (108 ∷ [])) ++ (32 ∷ [])) ++ spelled spell.Signed
+          30) ++ (10 ∷ [])) ++ (99 ∷ [])) ++ (111 ∷ [])) ++ (109 ∷ [])) ++ (109 ∷ [])) ++ (111 ∷ [])) ++ (110 ∷ [])) ++ (32 ∷
+          [])) ++ spelled spell.Signed 12) ++ (32 ∷ [])) ++ (108 ∷ [])) ++ (97 ∷ [])) ++ (115 ∷ [])) ++ (116 ∷ [])) ++ (32 ∷
+          [])) ++ spelled spell.Signed 6) ++ (10 ∷ []));
+      reads = 52;
+      writes = 26;
+      bytes = (1 ∷ 0 ∷ 0 ∷ 0 ∷ 2 ∷ 0 ∷ 0 ∷ 0 ∷ 3 ∷ 0
+          ∷ 0 ∷ 0 ∷ 4 ∷ 0 ∷ 0 ∷ 0 ∷ 5 ∷ 0 ∷ 0 ∷ 0 ∷ 6 ∷ 0 ∷ 0 ∷ 0 ∷ 7 ∷ 0 ∷ 0 ∷ 0 ∷ 8 ∷ 0 ∷ 0 ∷ 0 ∷ 9 ∷ 0 ∷ 0 ∷ 0 ∷ 10 ∷ 0 ∷ 0 ∷
+          0 ∷ 11 ∷ 0 ∷ 0 ∷ 0 ∷ 12 ∷ 0 ∷ 0 ∷ 0 ∷ 58 ∷ 0 ∷ 0 ∷ 0 ∷ 64 ∷ 0 ∷ 0 ∷ 0 ∷ 139 ∷ 0 ∷ 0 ∷ 0 ∷ 154 ∷ 0 ∷ 0 ∷ 0 ∷ 0 ∷ 0 ∷ 0
+          ∷ 0 ∷ 88 ∷ 0 ∷ 0 ∷ 0 ∷ 1 ∷ 0 ∷ 0 ∷ 0 ∷ 96 ∷ 0 ∷ 0 ∷ 0 ∷ 4 ∷ 0 ∷ 0 ∷ 0 ∷ 104 ∷ 0 ∷ 0 ∷ 0 ∷ 9 ∷ 0 ∷ 0 ∷ 0 ∷ 112 ∷ 0 ∷ 0
+          ∷ 0 ∷ 16 ∷ 0 ∷ 0 ∷ 0 ∷ 0 ∷ 0 ∷ 0 ∷ 0 ∷ 37 ∷ 100 ∷ 32 ∷ 37 ∷ 100 ∷ 10 ∷ 0 ∷ 37 ∷ 100 ∷ 32 ∷ 37 ∷ 100 ∷ 10 ∷ 0 ∷ 116 ∷
+          111 ∷ 116 ∷ 97 ∷ 108 ∷ 32 ∷ 37 ∷ 100 ∷ 10 ∷ 0 ∷ 99 ∷ 111 ∷ 109 ∷ 109 ∷ 111 ∷ 110 ∷ 32 ∷ 37 ∷ 100 ∷ 32 ∷ 108 ∷ 97 ∷ 115
+          ∷ 116 ∷ 32 ∷ 37 ∷ 100 ∷ 10 ∷ []);
+      rest_is_zero = true;
+    }
 unfolding compared misplaced combined spelled most_bytes
 inventory_runs = refl
 
@@ -1437,8 +1545,15 @@ hidden_typedef_data = (37 ∷ 100 ∷ 10 ∷ 0 ∷ [])
 
 hidden_typedef_runs :
     seen 3 (run hidden_typedef 100000 0 (start 128 20 hidden_typedef_data)) ≡
-    record { end = Halted 0; printed = (([] ++ spelled spell.Signed 3) ++ (10 ∷ [])); reads = 0; writes = 0; bytes = (37 ∷
-    100 ∷ 10 ∷ []); rest_is_zero = true }
+    record {
+      end = Halted 0;
+      printed = (([] ++ spelled spell.Signed 3) ++ (10 ∷ []));
+      reads = 0;
+      writes = 0;
+      bytes = (37 ∷
+          100 ∷ 10 ∷ []);
+      rest_is_zero = true;
+    }
 unfolding compared misplaced combined spelled most_bytes
 hidden_typedef_runs = refl
 

@@ -53,8 +53,15 @@ wraps_data = (250 ∷ 127 ∷ 255 ∷ 127 ∷ [])
 
 wraps_runs :
     seen 4 (run wraps 100000 0 (start 128 20 wraps_data)) ≡
-    record { end = Halted 294922; printed = []; reads = 8; writes = 4; bytes = (3 ∷ 128 ∷ 0 ∷ 128 ∷ []); rest_is_zero =
-    true }
+    record {
+      end = Halted 294922;
+      printed = [];
+      reads = 8;
+      writes = 4;
+      bytes = (3 ∷ 128 ∷ 0 ∷ 128 ∷ []);
+      rest_is_zero =
+          true;
+    }
 unfolding compared misplaced combined spelled most_bytes
 wraps_runs = refl
 
@@ -99,8 +106,14 @@ sum_wraps_data = (0 ∷ 0 ∷ 0 ∷ 0 ∷ 37 ∷ 100 ∷ 10 ∷ 0 ∷ [])
 
 sum_wraps_runs :
     seen 7 (run sum_wraps 100000 0 (start 128 24 sum_wraps_data)) ≡
-    record { end = Halted 0; printed = (([] ++ spelled spell.Signed 2147483648) ++ (10 ∷ [])); reads = 2; writes = 2;
-    bytes = (0 ∷ 0 ∷ 0 ∷ 128 ∷ 37 ∷ 100 ∷ 10 ∷ []); rest_is_zero = true }
+    record {
+      end = Halted 0;
+      printed = (([] ++ spelled spell.Signed 2147483648) ++ (10 ∷ []));
+      reads = 2;
+      writes = 2;
+      bytes = (0 ∷ 0 ∷ 0 ∷ 128 ∷ 37 ∷ 100 ∷ 10 ∷ []);
+      rest_is_zero = true;
+    }
 unfolding compared misplaced combined spelled most_bytes
 sum_wraps_runs = refl
 
@@ -146,8 +159,15 @@ sum_of_five_data = (0 ∷ 0 ∷ 0 ∷ 0 ∷ 0 ∷ 0 ∷ 0 ∷ 0 ∷ 0 ∷ 0 ∷ 
 
 sum_of_five_runs :
     seen 23 (run sum_of_five 100000 0 (start 128 40 sum_of_five_data)) ≡
-    record { end = Halted 0; printed = (([] ++ spelled spell.Signed 8) ++ (10 ∷ [])); reads = 5; writes = 5; bytes = (1 ∷
-    0 ∷ 0 ∷ 0 ∷ 2 ∷ 0 ∷ 0 ∷ 0 ∷ 3 ∷ 0 ∷ 0 ∷ 0 ∷ 4 ∷ 0 ∷ 0 ∷ 0 ∷ 5 ∷ 0 ∷ 0 ∷ 0 ∷ 37 ∷ 100 ∷ 10 ∷ []); rest_is_zero = true }
+    record {
+      end = Halted 0;
+      printed = (([] ++ spelled spell.Signed 8) ++ (10 ∷ []));
+      reads = 5;
+      writes = 5;
+      bytes = (1 ∷
+          0 ∷ 0 ∷ 0 ∷ 2 ∷ 0 ∷ 0 ∷ 0 ∷ 3 ∷ 0 ∷ 0 ∷ 0 ∷ 4 ∷ 0 ∷ 0 ∷ 0 ∷ 5 ∷ 0 ∷ 0 ∷ 0 ∷ 37 ∷ 100 ∷ 10 ∷ []);
+      rest_is_zero = true;
+    }
 unfolding compared misplaced combined spelled most_bytes
 sum_of_five_runs = refl
 
@@ -186,8 +206,15 @@ signed_division_data = (37 ∷ 100 ∷ 32 ∷ 37 ∷ 100 ∷ 10 ∷ 0 ∷ [])
 
 signed_division_runs :
     seen 6 (run signed_division 100000 0 (start 128 24 signed_division_data)) ≡
-    record { end = Halted 0; printed = (((([] ++ spelled spell.Signed 4294967293) ++ (32 ∷ [])) ++ spelled spell.Signed
-    4294967295) ++ (10 ∷ [])); reads = 0; writes = 0; bytes = (37 ∷ 100 ∷ 32 ∷ 37 ∷ 100 ∷ 10 ∷ []); rest_is_zero = true }
+    record {
+      end = Halted 0;
+      printed = (((([] ++ spelled spell.Signed 4294967293) ++ (32 ∷ [])) ++ spelled spell.Signed
+          4294967295) ++ (10 ∷ []));
+      reads = 0;
+      writes = 0;
+      bytes = (37 ∷ 100 ∷ 32 ∷ 37 ∷ 100 ∷ 10 ∷ []);
+      rest_is_zero = true;
+    }
 unfolding compared misplaced combined spelled most_bytes
 signed_division_runs = refl
 
@@ -229,8 +256,15 @@ least_divided_data = (37 ∷ 100 ∷ 32 ∷ 37 ∷ 100 ∷ 10 ∷ 0 ∷ [])
 
 least_divided_runs :
     seen 6 (run least_divided 100000 0 (start 128 24 least_divided_data)) ≡
-    record { end = Halted 0; printed = (((([] ++ spelled spell.Signed 2147483648) ++ (32 ∷ [])) ++ spelled spell.Signed 0)
-    ++ (10 ∷ [])); reads = 0; writes = 0; bytes = (37 ∷ 100 ∷ 32 ∷ 37 ∷ 100 ∷ 10 ∷ []); rest_is_zero = true }
+    record {
+      end = Halted 0;
+      printed = (((([] ++ spelled spell.Signed 2147483648) ++ (32 ∷ [])) ++ spelled spell.Signed 0)
+          ++ (10 ∷ []));
+      reads = 0;
+      writes = 0;
+      bytes = (37 ∷ 100 ∷ 32 ∷ 37 ∷ 100 ∷ 10 ∷ []);
+      rest_is_zero = true;
+    }
 unfolding compared misplaced combined spelled most_bytes
 least_divided_runs = refl
 
@@ -327,9 +361,15 @@ shifts_by_much_data = (37 ∷ 100 ∷ 32 ∷ 37 ∷ 100 ∷ 32 ∷ 37 ∷ 117 �
 
 shifts_by_much_runs :
     seen 11 (run shifts_by_much 100000 0 (start 128 28 shifts_by_much_data)) ≡
-    record { end = Halted 0; printed = ((((((([] ++ spelled spell.Signed 4294967294) ++ (32 ∷ [])) ++ spelled spell.Signed
-    32) ++ (32 ∷ [])) ++ spelled spell.Unsigned 67108864) ++ (32 ∷ [])) ++ spelled spell.Unsigned 2147483649); reads = 0;
-    writes = 0; bytes = (37 ∷ 100 ∷ 32 ∷ 37 ∷ 100 ∷ 32 ∷ 37 ∷ 117 ∷ 32 ∷ 37 ∷ 117 ∷ []); rest_is_zero = true }
+    record {
+      end = Halted 0;
+      printed = ((((((([] ++ spelled spell.Signed 4294967294) ++ (32 ∷ [])) ++ spelled spell.Signed
+          32) ++ (32 ∷ [])) ++ spelled spell.Unsigned 67108864) ++ (32 ∷ [])) ++ spelled spell.Unsigned 2147483649);
+      reads = 0;
+      writes = 0;
+      bytes = (37 ∷ 100 ∷ 32 ∷ 37 ∷ 100 ∷ 32 ∷ 37 ∷ 117 ∷ 32 ∷ 37 ∷ 117 ∷ []);
+      rest_is_zero = true;
+    }
 unfolding compared misplaced combined spelled most_bytes
 shifts_by_much_runs = refl
 
@@ -392,16 +432,23 @@ operators_data = (37 ∷ 100 ∷ 32 ∷ 37 ∷ 100 ∷ 32 ∷ 37 ∷ 100 ∷ 32 
 
 operators_runs :
     seen 46 (run operators 100000 0 (start 128 64 operators_data)) ≡
-    record { end = Halted 0; printed = ((((((((((((((((((((((((((((([] ++ spelled spell.Signed 2294967292) ++ (32 ∷ []))
-    ++ spelled spell.Signed 2294967278) ++ (32 ∷ [])) ++ spelled spell.Signed 3179869107) ++ (32 ∷ [])) ++ spelled
-    spell.Signed 4009253009) ++ (32 ∷ [])) ++ spelled spell.Signed 4294967294) ++ (32 ∷ [])) ++ spelled spell.Unsigned
-    327852469) ++ (32 ∷ [])) ++ spelled spell.Unsigned 2) ++ (32 ∷ [])) ++ spelled spell.Signed 5) ++ (32 ∷ [])) ++
-    spelled spell.Signed 2294967287) ++ (32 ∷ [])) ++ spelled spell.Signed 2294967282) ++ (32 ∷ [])) ++ spelled
-    spell.Signed 1698036352) ++ (32 ∷ [])) ++ spelled spell.Signed 4279342295) ++ (32 ∷ [])) ++ spelled spell.Unsigned
-    17929431) ++ (32 ∷ [])) ++ spelled spell.Signed 2000000010) ++ (32 ∷ [])) ++ spelled spell.Signed 2000000011); reads =
-    0; writes = 0; bytes = (37 ∷ 100 ∷ 32 ∷ 37 ∷ 100 ∷ 32 ∷ 37 ∷ 100 ∷ 32 ∷ 37 ∷ 100 ∷ 32 ∷ 37 ∷ 100 ∷ 32 ∷ 0 ∷ 37 ∷ 117 ∷
-    32 ∷ 37 ∷ 117 ∷ 32 ∷ 37 ∷ 100 ∷ 32 ∷ 37 ∷ 100 ∷ 32 ∷ 37 ∷ 100 ∷ 32 ∷ 0 ∷ 37 ∷ 100 ∷ 32 ∷ 37 ∷ 100 ∷ 32 ∷ 37 ∷ 117 ∷ 32
-    ∷ 37 ∷ 100 ∷ 32 ∷ 37 ∷ 100 ∷ []); rest_is_zero = true }
+    record {
+      end = Halted 0;
+      printed = ((((((((((((((((((((((((((((([] ++ spelled spell.Signed 2294967292) ++ (32 ∷ []))
+          ++ spelled spell.Signed 2294967278) ++ (32 ∷ [])) ++ spelled spell.Signed 3179869107) ++ (32 ∷ [])) ++ spelled
+          spell.Signed 4009253009) ++ (32 ∷ [])) ++ spelled spell.Signed 4294967294) ++ (32 ∷ [])) ++ spelled spell.Unsigned
+          327852469) ++ (32 ∷ [])) ++ spelled spell.Unsigned 2) ++ (32 ∷ [])) ++ spelled spell.Signed 5) ++ (32 ∷ [])) ++
+          spelled spell.Signed 2294967287) ++ (32 ∷ [])) ++ spelled spell.Signed 2294967282) ++ (32 ∷ [])) ++ spelled
+          spell.Signed 1698036352) ++ (32 ∷ [])) ++ spelled spell.Signed 4279342295) ++ (32 ∷ [])) ++ spelled spell.Unsigned
+          17929431) ++ (32 ∷ [])) ++ spelled spell.Signed 2000000010) ++ (32 ∷ [])) ++ spelled spell.Signed 2000000011);
+      reads =
+          0;
+      writes = 0;
+      bytes = (37 ∷ 100 ∷ 32 ∷ 37 ∷ 100 ∷ 32 ∷ 37 ∷ 100 ∷ 32 ∷ 37 ∷ 100 ∷ 32 ∷ 37 ∷ 100 ∷ 32 ∷ 0 ∷ 37 ∷ 117 ∷
+          32 ∷ 37 ∷ 117 ∷ 32 ∷ 37 ∷ 100 ∷ 32 ∷ 37 ∷ 100 ∷ 32 ∷ 37 ∷ 100 ∷ 32 ∷ 0 ∷ 37 ∷ 100 ∷ 32 ∷ 37 ∷ 100 ∷ 32 ∷ 37 ∷ 117 ∷ 32
+          ∷ 37 ∷ 100 ∷ 32 ∷ 37 ∷ 100 ∷ []);
+      rest_is_zero = true;
+    }
 unfolding compared misplaced combined spelled most_bytes
 operators_runs = refl
 
@@ -524,11 +571,18 @@ conversions_data = (37 ∷ 100 ∷ 32 ∷ 37 ∷ 100 ∷ 32 ∷ 37 ∷ 100 ∷ 3
 
 conversions_runs :
     seen 21 (run conversions 100000 0 (start 128 40 conversions_data)) ≡
-    record { end = Halted 0; printed = ((((((((((((([] ++ spelled spell.Signed 127) ++ (32 ∷ [])) ++ spelled spell.Signed
-    127) ++ (32 ∷ [])) ++ spelled spell.Signed 32895) ++ (32 ∷ [])) ++ spelled spell.Signed 4294934655) ++ (32 ∷ [])) ++
-    spelled spell.Signed 199) ++ (32 ∷ [])) ++ spelled spell.Signed 4294941760) ++ (32 ∷ [])) ++ spelled spell.Signed
-    65534); reads = 0; writes = 0; bytes = (37 ∷ 100 ∷ 32 ∷ 37 ∷ 100 ∷ 32 ∷ 37 ∷ 100 ∷ 32 ∷ 37 ∷ 100 ∷ 32 ∷ 0 ∷ 37 ∷ 100 ∷
-    32 ∷ 37 ∷ 100 ∷ 32 ∷ 37 ∷ 100 ∷ []); rest_is_zero = true }
+    record {
+      end = Halted 0;
+      printed = ((((((((((((([] ++ spelled spell.Signed 127) ++ (32 ∷ [])) ++ spelled spell.Signed
+          127) ++ (32 ∷ [])) ++ spelled spell.Signed 32895) ++ (32 ∷ [])) ++ spelled spell.Signed 4294934655) ++ (32 ∷ [])) ++
+          spelled spell.Signed 199) ++ (32 ∷ [])) ++ spelled spell.Signed 4294941760) ++ (32 ∷ [])) ++ spelled spell.Signed
+          65534);
+      reads = 0;
+      writes = 0;
+      bytes = (37 ∷ 100 ∷ 32 ∷ 37 ∷ 100 ∷ 32 ∷ 37 ∷ 100 ∷ 32 ∷ 37 ∷ 100 ∷ 32 ∷ 0 ∷ 37 ∷ 100 ∷
+          32 ∷ 37 ∷ 100 ∷ 32 ∷ 37 ∷ 100 ∷ []);
+      rest_is_zero = true;
+    }
 unfolding compared misplaced combined spelled most_bytes
 conversions_runs = refl
 
@@ -569,8 +623,15 @@ char_wraps_data = (37 ∷ 100 ∷ 32 ∷ 37 ∷ 117 ∷ 10 ∷ 0 ∷ [])
 
 char_wraps_runs :
     seen 6 (run char_wraps 100000 0 (start 128 24 char_wraps_data)) ≡
-    record { end = Halted 0; printed = (((([] ++ spelled spell.Signed 256) ++ (32 ∷ [])) ++ spelled spell.Unsigned
-    4294967295) ++ (10 ∷ [])); reads = 0; writes = 0; bytes = (37 ∷ 100 ∷ 32 ∷ 37 ∷ 117 ∷ 10 ∷ []); rest_is_zero = true }
+    record {
+      end = Halted 0;
+      printed = (((([] ++ spelled spell.Signed 256) ++ (32 ∷ [])) ++ spelled spell.Unsigned
+          4294967295) ++ (10 ∷ []));
+      reads = 0;
+      writes = 0;
+      bytes = (37 ∷ 100 ∷ 32 ∷ 37 ∷ 117 ∷ 10 ∷ []);
+      rest_is_zero = true;
+    }
 unfolding compared misplaced combined spelled most_bytes
 char_wraps_runs = refl
 
@@ -748,8 +809,14 @@ conditions_data = (0 ∷ 0 ∷ 0 ∷ 0 ∷ 37 ∷ 100 ∷ 32 ∷ 37 ∷ 100 ∷ 
 
 conditions_runs :
     seen 9 (run conditions 100000 1 (start 128 28 conditions_data)) ≡
-    record { end = Halted 0; printed = ((([] ++ spelled spell.Signed 11) ++ (32 ∷ [])) ++ spelled spell.Signed 20103005);
-    reads = 10; writes = 9; bytes = (93 ∷ 191 ∷ 50 ∷ 1 ∷ 37 ∷ 100 ∷ 32 ∷ 37 ∷ 100 ∷ []); rest_is_zero = true }
+    record {
+      end = Halted 0;
+      printed = ((([] ++ spelled spell.Signed 11) ++ (32 ∷ [])) ++ spelled spell.Signed 20103005);
+      reads = 10;
+      writes = 9;
+      bytes = (93 ∷ 191 ∷ 50 ∷ 1 ∷ 37 ∷ 100 ∷ 32 ∷ 37 ∷ 100 ∷ []);
+      rest_is_zero = true;
+    }
 unfolding compared misplaced combined spelled most_bytes
 conditions_runs = refl
 
@@ -874,10 +941,17 @@ left_before_right_data = (0 ∷ 0 ∷ 0 ∷ 0 ∷ 0 ∷ 0 ∷ 0 ∷ 0 ∷ [])
 
 left_before_right_runs :
     seen 1 (run left_before_right 100000 1 (start 128 24 left_before_right_data)) ≡
-    record { end = Halted 6; printed = (((((((((((([] ++ spelled spell.Byte 49) ++ spelled spell.Byte 50) ++ spelled
-    spell.Byte 51) ++ spelled spell.Byte 52) ++ spelled spell.Byte 53) ++ spelled spell.Byte 54) ++ spelled spell.Byte 54)
-    ++ spelled spell.Byte 48) ++ spelled spell.Byte 55) ++ spelled spell.Byte 49) ++ spelled spell.Byte 56) ++ spelled
-    spell.Byte 57); reads = 1; writes = 1; bytes = (7 ∷ []); rest_is_zero = true }
+    record {
+      end = Halted 6;
+      printed = (((((((((((([] ++ spelled spell.Byte 49) ++ spelled spell.Byte 50) ++ spelled
+          spell.Byte 51) ++ spelled spell.Byte 52) ++ spelled spell.Byte 53) ++ spelled spell.Byte 54) ++ spelled spell.Byte 54)
+          ++ spelled spell.Byte 48) ++ spelled spell.Byte 55) ++ spelled spell.Byte 49) ++ spelled spell.Byte 56) ++ spelled
+          spell.Byte 57);
+      reads = 1;
+      writes = 1;
+      bytes = (7 ∷ []);
+      rest_is_zero = true;
+    }
 unfolding compared misplaced combined spelled most_bytes
 left_before_right_runs = refl
 
@@ -937,13 +1011,20 @@ steps_data = (255 ∷ 0 ∷ 0 ∷ 0 ∷ 5 ∷ 0 ∷ 0 ∷ 0 ∷ 37 ∷ 100 ∷ 3
 
 steps_runs :
     seen 39 (run steps 100000 0 (start 128 56 steps_data)) ≡
-    record { end = Halted 0; printed = ((((((((((((((((((([] ++ spelled spell.Signed 255) ++ (32 ∷ [])) ++ spelled
-    spell.Signed 0) ++ (32 ∷ [])) ++ spelled spell.Signed 1) ++ (32 ∷ [])) ++ spelled spell.Signed 1) ++ (32 ∷ [])) ++
-    spelled spell.Signed 127) ++ (32 ∷ [])) ++ spelled spell.Signed 4294967168) ++ (32 ∷ [])) ++ spelled spell.Signed 2)
-    ++ (32 ∷ [])) ++ spelled spell.Signed 5) ++ (32 ∷ [])) ++ spelled spell.Signed 5) ++ (32 ∷ [])) ++ spelled
-    spell.Signed 5); reads = 6; writes = 5; bytes = (0 ∷ 0 ∷ 0 ∷ 0 ∷ 5 ∷ 0 ∷ 0 ∷ 0 ∷ 37 ∷ 100 ∷ 32 ∷ 37 ∷ 100 ∷ 32 ∷ 37 ∷
-    100 ∷ 32 ∷ 37 ∷ 100 ∷ 32 ∷ 0 ∷ 37 ∷ 100 ∷ 32 ∷ 37 ∷ 100 ∷ 32 ∷ 37 ∷ 100 ∷ 32 ∷ 0 ∷ 37 ∷ 100 ∷ 32 ∷ 37 ∷ 100 ∷ 32 ∷ 37
-    ∷ 100 ∷ []); rest_is_zero = true }
+    record {
+      end = Halted 0;
+      printed = ((((((((((((((((((([] ++ spelled spell.Signed 255) ++ (32 ∷ [])) ++ spelled
+          spell.Signed 0) ++ (32 ∷ [])) ++ spelled spell.Signed 1) ++ (32 ∷ [])) ++ spelled spell.Signed 1) ++ (32 ∷ [])) ++
+          spelled spell.Signed 127) ++ (32 ∷ [])) ++ spelled spell.Signed 4294967168) ++ (32 ∷ [])) ++ spelled spell.Signed 2)
+          ++ (32 ∷ [])) ++ spelled spell.Signed 5) ++ (32 ∷ [])) ++ spelled spell.Signed 5) ++ (32 ∷ [])) ++ spelled
+          spell.Signed 5);
+      reads = 6;
+      writes = 5;
+      bytes = (0 ∷ 0 ∷ 0 ∷ 0 ∷ 5 ∷ 0 ∷ 0 ∷ 0 ∷ 37 ∷ 100 ∷ 32 ∷ 37 ∷ 100 ∷ 32 ∷ 37 ∷
+          100 ∷ 32 ∷ 37 ∷ 100 ∷ 32 ∷ 0 ∷ 37 ∷ 100 ∷ 32 ∷ 37 ∷ 100 ∷ 32 ∷ 37 ∷ 100 ∷ 32 ∷ 0 ∷ 37 ∷ 100 ∷ 32 ∷ 37 ∷ 100 ∷ 32 ∷ 37
+          ∷ 100 ∷ []);
+      rest_is_zero = true;
+    }
 unfolding compared misplaced combined spelled most_bytes
 steps_runs = refl
 
@@ -1045,9 +1126,16 @@ update_reads_first_data = (1 ∷ 0 ∷ 0 ∷ 0 ∷ 37 ∷ 100 ∷ 32 ∷ 37 ∷ 
 
 update_reads_first_runs :
     seen 13 (run update_reads_first 100000 1 (start 128 32 update_reads_first_data)) ≡
-    record { end = Halted 0; printed = ((((([] ++ spelled spell.Signed 11) ++ (32 ∷ [])) ++ spelled spell.Signed 3) ++ (32
-    ∷ [])) ++ spelled spell.Signed 4294967285); reads = 5; writes = 4; bytes = (245 ∷ 255 ∷ 255 ∷ 255 ∷ 37 ∷ 100 ∷ 32 ∷ 37
-    ∷ 100 ∷ 32 ∷ 0 ∷ 37 ∷ 100 ∷ []); rest_is_zero = true }
+    record {
+      end = Halted 0;
+      printed = ((((([] ++ spelled spell.Signed 11) ++ (32 ∷ [])) ++ spelled spell.Signed 3) ++ (32
+          ∷ [])) ++ spelled spell.Signed 4294967285);
+      reads = 5;
+      writes = 4;
+      bytes = (245 ∷ 255 ∷ 255 ∷ 255 ∷ 37 ∷ 100 ∷ 32 ∷ 37
+          ∷ 100 ∷ 32 ∷ 0 ∷ 37 ∷ 100 ∷ []);
+      rest_is_zero = true;
+    }
 unfolding compared misplaced combined spelled most_bytes
 update_reads_first_runs = refl
 
@@ -1223,8 +1311,15 @@ putchar_gives_byte_data = []
 
 putchar_gives_byte_runs :
     seen 0 (run putchar_gives_byte 100000 0 (start 128 16 putchar_gives_byte_data)) ≡
-    record { end = Halted 97097; printed = (([] ++ spelled spell.Byte 97) ++ spelled spell.Byte 97); reads = 0; writes =
-    0; bytes = []; rest_is_zero = true }
+    record {
+      end = Halted 97097;
+      printed = (([] ++ spelled spell.Byte 97) ++ spelled spell.Byte 97);
+      reads = 0;
+      writes =
+          0;
+      bytes = [];
+      rest_is_zero = true;
+    }
 unfolding compared misplaced combined spelled most_bytes
 putchar_gives_byte_runs = refl
 
@@ -1303,8 +1398,15 @@ sixteen_locals_data = (37 ∷ 100 ∷ 10 ∷ 0 ∷ [])
 
 sixteen_locals_runs :
     seen 3 (run sixteen_locals 100000 1 (start 128 20 sixteen_locals_data)) ≡
-    record { end = Halted 0; printed = (([] ++ spelled spell.Signed 136) ++ (10 ∷ [])); reads = 0; writes = 0; bytes = (37
-    ∷ 100 ∷ 10 ∷ []); rest_is_zero = true }
+    record {
+      end = Halted 0;
+      printed = (([] ++ spelled spell.Signed 136) ++ (10 ∷ []));
+      reads = 0;
+      writes = 0;
+      bytes = (37
+          ∷ 100 ∷ 10 ∷ []);
+      rest_is_zero = true;
+    }
 unfolding compared misplaced combined spelled most_bytes
 sixteen_locals_runs = refl
 
@@ -1393,8 +1495,14 @@ abort_in_middle_data = (0 ∷ 0 ∷ 0 ∷ 0 ∷ [])
 
 abort_in_middle_runs :
     seen 1 (run abort_in_middle 100000 0 (start 128 20 abort_in_middle_data)) ≡
-    record { end = Trapped 5; printed = ([] ++ spelled spell.Byte 97); reads = 1; writes = 1; bytes = (1 ∷ []);
-    rest_is_zero = true }
+    record {
+      end = Trapped 5;
+      printed = ([] ++ spelled spell.Byte 97);
+      reads = 1;
+      writes = 1;
+      bytes = (1 ∷ []);
+      rest_is_zero = true;
+    }
 unfolding compared misplaced combined spelled most_bytes
 abort_in_middle_runs = refl
 
@@ -1438,8 +1546,15 @@ aborts_data = []
 
 aborts_runs :
     seen 0 (run aborts 100000 0 (start 128 16 aborts_data)) ≡
-    record { end = Trapped 5; printed = ([] ++ spelled spell.Byte 44); reads = 0; writes = 0; bytes = []; rest_is_zero =
-    true }
+    record {
+      end = Trapped 5;
+      printed = ([] ++ spelled spell.Byte 44);
+      reads = 0;
+      writes = 0;
+      bytes = [];
+      rest_is_zero =
+          true;
+    }
 unfolding compared misplaced combined spelled most_bytes
 aborts_runs = refl
 

@@ -48,8 +48,15 @@ product_data = (0 ∷ 0 ∷ 0 ∷ 0 ∷ 0 ∷ 0 ∷ 0 ∷ 0 ∷ 37 ∷ 100 ∷ 1
 
 product_runs :
     seen 11 (run product 100000 0 (start 128 28 product_data)) ≡
-    record { end = Halted 0; printed = (([] ++ spelled spell.Signed 42) ++ (10 ∷ [])); reads = 2; writes = 2; bytes = (6 ∷
-    0 ∷ 0 ∷ 0 ∷ 42 ∷ 0 ∷ 0 ∷ 0 ∷ 37 ∷ 100 ∷ 10 ∷ []); rest_is_zero = true }
+    record {
+      end = Halted 0;
+      printed = (([] ++ spelled spell.Signed 42) ++ (10 ∷ []));
+      reads = 2;
+      writes = 2;
+      bytes = (6 ∷
+          0 ∷ 0 ∷ 0 ∷ 42 ∷ 0 ∷ 0 ∷ 0 ∷ 37 ∷ 100 ∷ 10 ∷ []);
+      rest_is_zero = true;
+    }
 unfolding compared misplaced combined spelled most_bytes
 product_runs = refl
 
@@ -91,8 +98,15 @@ square_data = (0 ∷ 0 ∷ 0 ∷ 0 ∷ 0 ∷ 0 ∷ 0 ∷ 0 ∷ 37 ∷ 100 ∷ 10
 
 square_runs :
     seen 11 (run square 100000 0 (start 128 28 square_data)) ≡
-    record { end = Halted 0; printed = (([] ++ spelled spell.Signed 9) ++ (10 ∷ [])); reads = 3; writes = 2; bytes = (3 ∷
-    0 ∷ 0 ∷ 0 ∷ 9 ∷ 0 ∷ 0 ∷ 0 ∷ 37 ∷ 100 ∷ 10 ∷ []); rest_is_zero = true }
+    record {
+      end = Halted 0;
+      printed = (([] ++ spelled spell.Signed 9) ++ (10 ∷ []));
+      reads = 3;
+      writes = 2;
+      bytes = (3 ∷
+          0 ∷ 0 ∷ 0 ∷ 9 ∷ 0 ∷ 0 ∷ 0 ∷ 37 ∷ 100 ∷ 10 ∷ []);
+      rest_is_zero = true;
+    }
 unfolding compared misplaced combined spelled most_bytes
 square_runs = refl
 
@@ -144,10 +158,16 @@ pointers_data = (0 ∷ 0 ∷ 0 ∷ 0 ∷ 0 ∷ 0 ∷ 0 ∷ 0 ∷ 0 ∷ 0 ∷ 0 �
 
 pointers_runs :
     seen 44 (run pointers 100000 0 (start 192 64 pointers_data)) ≡
-    record { end = Halted 16; printed = (((((((([] ++ spelled spell.Signed 2) ++ (32 ∷ [])) ++ spelled spell.Signed 12) ++
-    (32 ∷ [])) ++ spelled spell.Signed 1) ++ (32 ∷ [])) ++ spelled spell.Byte 99) ++ (10 ∷ [])); reads = 3; writes = 3;
-    bytes = (0 ∷ 0 ∷ 0 ∷ 0 ∷ 7 ∷ 0 ∷ 0 ∷ 0 ∷ 5 ∷ 0 ∷ 0 ∷ 0 ∷ 0 ∷ 0 ∷ 0 ∷ 0 ∷ 0 ∷ 0 ∷ 0 ∷ 0 ∷ 0 ∷ 0 ∷ 99 ∷ 0 ∷ 0 ∷ 0 ∷ 0 ∷
-    0 ∷ 0 ∷ 0 ∷ 0 ∷ 0 ∷ 37 ∷ 100 ∷ 32 ∷ 37 ∷ 100 ∷ 32 ∷ 37 ∷ 100 ∷ 32 ∷ 37 ∷ 99 ∷ 10 ∷ []); rest_is_zero = true }
+    record {
+      end = Halted 16;
+      printed = (((((((([] ++ spelled spell.Signed 2) ++ (32 ∷ [])) ++ spelled spell.Signed 12) ++
+          (32 ∷ [])) ++ spelled spell.Signed 1) ++ (32 ∷ [])) ++ spelled spell.Byte 99) ++ (10 ∷ []));
+      reads = 3;
+      writes = 3;
+      bytes = (0 ∷ 0 ∷ 0 ∷ 0 ∷ 7 ∷ 0 ∷ 0 ∷ 0 ∷ 5 ∷ 0 ∷ 0 ∷ 0 ∷ 0 ∷ 0 ∷ 0 ∷ 0 ∷ 0 ∷ 0 ∷ 0 ∷ 0 ∷ 0 ∷ 0 ∷ 99 ∷ 0 ∷ 0 ∷ 0 ∷ 0 ∷
+          0 ∷ 0 ∷ 0 ∷ 0 ∷ 0 ∷ 37 ∷ 100 ∷ 32 ∷ 37 ∷ 100 ∷ 32 ∷ 37 ∷ 100 ∷ 32 ∷ 37 ∷ 99 ∷ 10 ∷ []);
+      rest_is_zero = true;
+    }
 unfolding compared misplaced combined spelled most_bytes
 pointers_runs = refl
 
@@ -206,9 +226,16 @@ pointer_sums_data = (1 ∷ 0 ∷ 0 ∷ 0 ∷ 2 ∷ 0 ∷ 0 ∷ 0 ∷ 3 ∷ 0 ∷
 
 pointer_sums_runs :
     seen 41 (run pointer_sums 100000 0 (start 192 60 pointer_sums_data)) ≡
-    record { end = Halted 3134647; printed = []; reads = 4; writes = 0; bytes = (1 ∷ 0 ∷ 0 ∷ 0 ∷ 2 ∷ 0 ∷ 0 ∷ 0 ∷ 3 ∷ 0 ∷ 0
-    ∷ 0 ∷ 4 ∷ 0 ∷ 0 ∷ 0 ∷ 5 ∷ 0 ∷ 0 ∷ 0 ∷ 1 ∷ 0 ∷ 0 ∷ 0 ∷ 2 ∷ 0 ∷ 0 ∷ 0 ∷ 3 ∷ 0 ∷ 0 ∷ 0 ∷ 4 ∷ 0 ∷ 0 ∷ 0 ∷ 5 ∷ 0 ∷ 0 ∷ 0 ∷
-    6 ∷ []); rest_is_zero = true }
+    record {
+      end = Halted 3134647;
+      printed = [];
+      reads = 4;
+      writes = 0;
+      bytes = (1 ∷ 0 ∷ 0 ∷ 0 ∷ 2 ∷ 0 ∷ 0 ∷ 0 ∷ 3 ∷ 0 ∷ 0
+          ∷ 0 ∷ 4 ∷ 0 ∷ 0 ∷ 0 ∷ 5 ∷ 0 ∷ 0 ∷ 0 ∷ 1 ∷ 0 ∷ 0 ∷ 0 ∷ 2 ∷ 0 ∷ 0 ∷ 0 ∷ 3 ∷ 0 ∷ 0 ∷ 0 ∷ 4 ∷ 0 ∷ 0 ∷ 0 ∷ 5 ∷ 0 ∷ 0 ∷ 0 ∷
+          6 ∷ []);
+      rest_is_zero = true;
+    }
 unfolding compared misplaced combined spelled most_bytes
 pointer_sums_runs = refl
 
@@ -258,8 +285,15 @@ linked_list_data = (3 ∷ 0 ∷ 0 ∷ 0 ∷ 0 ∷ 0 ∷ 0 ∷ 0 ∷ 2 ∷ 0 ∷ 
 
 linked_list_runs :
     seen 21 (run linked_list 100000 0 (start 128 40 linked_list_data)) ≡
-    record { end = Halted 1239; printed = []; reads = 10; writes = 1; bytes = (9 ∷ 0 ∷ 0 ∷ 0 ∷ 0 ∷ 0 ∷ 0 ∷ 0 ∷ 2 ∷ 0 ∷ 0 ∷
-    0 ∷ 16 ∷ 0 ∷ 0 ∷ 0 ∷ 1 ∷ 0 ∷ 0 ∷ 0 ∷ 24 ∷ []); rest_is_zero = true }
+    record {
+      end = Halted 1239;
+      printed = [];
+      reads = 10;
+      writes = 1;
+      bytes = (9 ∷ 0 ∷ 0 ∷ 0 ∷ 0 ∷ 0 ∷ 0 ∷ 0 ∷ 2 ∷ 0 ∷ 0 ∷
+          0 ∷ 16 ∷ 0 ∷ 0 ∷ 0 ∷ 1 ∷ 0 ∷ 0 ∷ 0 ∷ 24 ∷ []);
+      rest_is_zero = true;
+    }
 unfolding compared misplaced combined spelled most_bytes
 linked_list_runs = refl
 
@@ -308,8 +342,15 @@ char_index_data = (104 ∷ 101 ∷ 108 ∷ 108 ∷ 111 ∷ 0 ∷ 104 ∷ 101 ∷
 
 char_index_runs :
     seen 11 (run char_index 100000 0 (start 128 28 char_index_data)) ≡
-    record { end = Halted 710; printed = []; reads = 13; writes = 0; bytes = (104 ∷ 101 ∷ 108 ∷ 108 ∷ 111 ∷ 0 ∷ 104 ∷ 101
-    ∷ 108 ∷ 108 ∷ 111 ∷ []); rest_is_zero = true }
+    record {
+      end = Halted 710;
+      printed = [];
+      reads = 13;
+      writes = 0;
+      bytes = (104 ∷ 101 ∷ 108 ∷ 108 ∷ 111 ∷ 0 ∷ 104 ∷ 101
+          ∷ 108 ∷ 108 ∷ 111 ∷ []);
+      rest_is_zero = true;
+    }
 unfolding compared misplaced combined spelled most_bytes
 char_index_runs = refl
 
@@ -353,8 +394,15 @@ comma_struct_data = (1 ∷ 0 ∷ 0 ∷ 0 ∷ 2 ∷ 0 ∷ 0 ∷ 0 ∷ 3 ∷ 0 ∷
 
 comma_struct_runs :
     seen 13 (run comma_struct 100000 0 (start 128 32 comma_struct_data)) ≡
-    record { end = Halted 341; printed = []; reads = 3; writes = 0; bytes = (1 ∷ 0 ∷ 0 ∷ 0 ∷ 2 ∷ 0 ∷ 0 ∷ 0 ∷ 3 ∷ 0 ∷ 0 ∷ 0
-    ∷ 4 ∷ []); rest_is_zero = true }
+    record {
+      end = Halted 341;
+      printed = [];
+      reads = 3;
+      writes = 0;
+      bytes = (1 ∷ 0 ∷ 0 ∷ 0 ∷ 2 ∷ 0 ∷ 0 ∷ 0 ∷ 3 ∷ 0 ∷ 0 ∷ 0
+          ∷ 4 ∷ []);
+      rest_is_zero = true;
+    }
 unfolding compared misplaced combined spelled most_bytes
 comma_struct_runs = refl
 
@@ -458,8 +506,15 @@ address_once_data = (1 ∷ 0 ∷ 0 ∷ 0 ∷ 2 ∷ 0 ∷ 0 ∷ 0 ∷ 3 ∷ 0 ∷
 
 address_once_runs :
     seen 13 (run address_once 100000 1 (start 128 32 address_once_data)) ≡
-    record { end = Halted 1140; printed = ((([] ++ spelled spell.Byte 48) ++ spelled spell.Byte 49) ++ spelled spell.Byte
-    50); reads = 12; writes = 6; bytes = (11 ∷ 0 ∷ 0 ∷ 0 ∷ 3 ∷ 0 ∷ 0 ∷ 0 ∷ 7 ∷ 0 ∷ 0 ∷ 0 ∷ 3 ∷ []); rest_is_zero = true }
+    record {
+      end = Halted 1140;
+      printed = ((([] ++ spelled spell.Byte 48) ++ spelled spell.Byte 49) ++ spelled spell.Byte
+          50);
+      reads = 12;
+      writes = 6;
+      bytes = (11 ∷ 0 ∷ 0 ∷ 0 ∷ 3 ∷ 0 ∷ 0 ∷ 0 ∷ 7 ∷ 0 ∷ 0 ∷ 0 ∷ 3 ∷ []);
+      rest_is_zero = true;
+    }
 unfolding compared misplaced combined spelled most_bytes
 address_once_runs = refl
 
@@ -511,8 +566,15 @@ step_of_pointer_data = (1 ∷ 0 ∷ 0 ∷ 0 ∷ 2 ∷ 0 ∷ 0 ∷ 0 ∷ 3 ∷ 0 
 
 step_of_pointer_runs :
     seen 21 (run step_of_pointer 100000 0 (start 128 40 step_of_pointer_data)) ≡
-    record { end = Halted 1453; printed = []; reads = 4; writes = 0; bytes = (1 ∷ 0 ∷ 0 ∷ 0 ∷ 2 ∷ 0 ∷ 0 ∷ 0 ∷ 3 ∷ 0 ∷ 0 ∷
-    0 ∷ 4 ∷ 0 ∷ 0 ∷ 0 ∷ 5 ∷ 0 ∷ 0 ∷ 0 ∷ 6 ∷ []); rest_is_zero = true }
+    record {
+      end = Halted 1453;
+      printed = [];
+      reads = 4;
+      writes = 0;
+      bytes = (1 ∷ 0 ∷ 0 ∷ 0 ∷ 2 ∷ 0 ∷ 0 ∷ 0 ∷ 3 ∷ 0 ∷ 0 ∷
+          0 ∷ 4 ∷ 0 ∷ 0 ∷ 0 ∷ 5 ∷ 0 ∷ 0 ∷ 0 ∷ 6 ∷ []);
+      rest_is_zero = true;
+    }
 unfolding compared misplaced combined spelled most_bytes
 step_of_pointer_runs = refl
 
@@ -567,12 +629,19 @@ kinds_in_memory_data = (255 ∷ 127 ∷ 255 ∷ 1 ∷ 254 ∷ 255 ∷ 3 ∷ 0 �
 
 kinds_in_memory_runs :
     seen 36 (run kinds_in_memory 100000 0 (start 128 56 kinds_in_memory_data)) ≡
-    record { end = Halted 0; printed = ((((((((((((((([] ++ spelled spell.Signed 4294967295) ++ (32 ∷ [])) ++ spelled
-    spell.Signed 255) ++ (32 ∷ [])) ++ spelled spell.Signed 4294967294) ++ (32 ∷ [])) ++ spelled spell.Signed 65534) ++
-    (32 ∷ [])) ++ spelled spell.Signed 4294967168) ++ (32 ∷ [])) ++ spelled spell.Signed 0) ++ (32 ∷ [])) ++ spelled
-    spell.Signed 32767) ++ (32 ∷ [])) ++ spelled spell.Signed 9); reads = 11; writes = 4; bytes = (255 ∷ 128 ∷ 0 ∷ 1 ∷ 255
-    ∷ 127 ∷ 3 ∷ 0 ∷ 254 ∷ 255 ∷ 9 ∷ 0 ∷ 37 ∷ 100 ∷ 32 ∷ 37 ∷ 100 ∷ 32 ∷ 37 ∷ 100 ∷ 32 ∷ 37 ∷ 100 ∷ 32 ∷ 0 ∷ 37 ∷ 100 ∷ 32
-    ∷ 37 ∷ 100 ∷ 32 ∷ 37 ∷ 100 ∷ 32 ∷ 37 ∷ 100 ∷ []); rest_is_zero = true }
+    record {
+      end = Halted 0;
+      printed = ((((((((((((((([] ++ spelled spell.Signed 4294967295) ++ (32 ∷ [])) ++ spelled
+          spell.Signed 255) ++ (32 ∷ [])) ++ spelled spell.Signed 4294967294) ++ (32 ∷ [])) ++ spelled spell.Signed 65534) ++
+          (32 ∷ [])) ++ spelled spell.Signed 4294967168) ++ (32 ∷ [])) ++ spelled spell.Signed 0) ++ (32 ∷ [])) ++ spelled
+          spell.Signed 32767) ++ (32 ∷ [])) ++ spelled spell.Signed 9);
+      reads = 11;
+      writes = 4;
+      bytes = (255 ∷ 128 ∷ 0 ∷ 1 ∷ 255
+          ∷ 127 ∷ 3 ∷ 0 ∷ 254 ∷ 255 ∷ 9 ∷ 0 ∷ 37 ∷ 100 ∷ 32 ∷ 37 ∷ 100 ∷ 32 ∷ 37 ∷ 100 ∷ 32 ∷ 37 ∷ 100 ∷ 32 ∷ 0 ∷ 37 ∷ 100 ∷ 32
+          ∷ 37 ∷ 100 ∷ 32 ∷ 37 ∷ 100 ∷ 32 ∷ 37 ∷ 100 ∷ []);
+      rest_is_zero = true;
+    }
 unfolding compared misplaced combined spelled most_bytes
 kinds_in_memory_runs = refl
 
@@ -614,8 +683,14 @@ bytes_of_word_data = (0 ∷ 0 ∷ 0 ∷ 0 ∷ 37 ∷ 120 ∷ 10 ∷ 0 ∷ [])
 
 bytes_of_word_runs :
     seen 7 (run bytes_of_word 100000 0 (start 128 24 bytes_of_word_data)) ≡
-    record { end = Halted 0; printed = (([] ++ spelled spell.Hexadecimal 287440964) ++ (10 ∷ [])); reads = 1; writes = 2;
-    bytes = (68 ∷ 0 ∷ 34 ∷ 17 ∷ 37 ∷ 120 ∷ 10 ∷ []); rest_is_zero = true }
+    record {
+      end = Halted 0;
+      printed = (([] ++ spelled spell.Hexadecimal 287440964) ++ (10 ∷ []));
+      reads = 1;
+      writes = 2;
+      bytes = (68 ∷ 0 ∷ 34 ∷ 17 ∷ 37 ∷ 120 ∷ 10 ∷ []);
+      rest_is_zero = true;
+    }
 unfolding compared misplaced combined spelled most_bytes
 bytes_of_word_runs = refl
 
@@ -658,9 +733,16 @@ pointers_to_null_data = (10 ∷ 0 ∷ 0 ∷ 0 ∷ 20 ∷ 0 ∷ 0 ∷ 0 ∷ 16 �
 
 pointers_to_null_runs :
     seen 23 (run pointers_to_null 100000 0 (start 128 40 pointers_to_null_data)) ≡
-    record { end = Trapped 2; printed = (((([] ++ spelled spell.Signed 10) ++ (10 ∷ [])) ++ spelled spell.Signed 20) ++
-    (10 ∷ [])); reads = 5; writes = 0; bytes = (10 ∷ 0 ∷ 0 ∷ 0 ∷ 20 ∷ 0 ∷ 0 ∷ 0 ∷ 16 ∷ 0 ∷ 0 ∷ 0 ∷ 20 ∷ 0 ∷ 0 ∷ 0 ∷ 0 ∷ 0
-    ∷ 0 ∷ 0 ∷ 37 ∷ 100 ∷ 10 ∷ []); rest_is_zero = true }
+    record {
+      end = Trapped 2;
+      printed = (((([] ++ spelled spell.Signed 10) ++ (10 ∷ [])) ++ spelled spell.Signed 20) ++
+          (10 ∷ []));
+      reads = 5;
+      writes = 0;
+      bytes = (10 ∷ 0 ∷ 0 ∷ 0 ∷ 20 ∷ 0 ∷ 0 ∷ 0 ∷ 16 ∷ 0 ∷ 0 ∷ 0 ∷ 20 ∷ 0 ∷ 0 ∷ 0 ∷ 0 ∷ 0
+          ∷ 0 ∷ 0 ∷ 37 ∷ 100 ∷ 10 ∷ []);
+      rest_is_zero = true;
+    }
 unfolding compared misplaced combined spelled most_bytes
 pointers_to_null_runs = refl
 
@@ -705,9 +787,16 @@ two_tables_data = (2 ∷ 0 ∷ 0 ∷ 0 ∷ 0 ∷ 0 ∷ 0 ∷ 0 ∷ 1 ∷ 0 ∷ 0
 
 two_tables_runs :
     seen 27 (run two_tables 100000 0 (start 128 44 two_tables_data)) ≡
-    record { end = Halted 0; printed = (((((([] ++ spelled spell.Signed 7) ++ (10 ∷ [])) ++ spelled spell.Signed 5) ++ (10
-    ∷ [])) ++ spelled spell.Signed 6) ++ (10 ∷ [])); reads = 6; writes = 0; bytes = (2 ∷ 0 ∷ 0 ∷ 0 ∷ 0 ∷ 0 ∷ 0 ∷ 0 ∷ 1 ∷ 0
-    ∷ 0 ∷ 0 ∷ 5 ∷ 0 ∷ 0 ∷ 0 ∷ 6 ∷ 0 ∷ 0 ∷ 0 ∷ 7 ∷ 0 ∷ 0 ∷ 0 ∷ 37 ∷ 100 ∷ 10 ∷ []); rest_is_zero = true }
+    record {
+      end = Halted 0;
+      printed = (((((([] ++ spelled spell.Signed 7) ++ (10 ∷ [])) ++ spelled spell.Signed 5) ++ (10
+          ∷ [])) ++ spelled spell.Signed 6) ++ (10 ∷ []));
+      reads = 6;
+      writes = 0;
+      bytes = (2 ∷ 0 ∷ 0 ∷ 0 ∷ 0 ∷ 0 ∷ 0 ∷ 0 ∷ 1 ∷ 0
+          ∷ 0 ∷ 0 ∷ 5 ∷ 0 ∷ 0 ∷ 0 ∷ 6 ∷ 0 ∷ 0 ∷ 0 ∷ 7 ∷ 0 ∷ 0 ∷ 0 ∷ 37 ∷ 100 ∷ 10 ∷ []);
+      rest_is_zero = true;
+    }
 unfolding compared misplaced combined spelled most_bytes
 two_tables_runs = refl
 
@@ -755,9 +844,16 @@ chain_of_stores_data = (0 ∷ 0 ∷ 0 ∷ 0 ∷ 0 ∷ 0 ∷ 0 ∷ 0 ∷ 0 ∷ 0 
 
 chain_of_stores_runs :
     seen 43 (run chain_of_stores 100000 0 (start 128 60 chain_of_stores_data)) ≡
-    record { end = Halted 0; printed = (([] ++ spelled spell.Signed 9) ++ (10 ∷ [])); reads = 10; writes = 10; bytes = (0
-    ∷ 0 ∷ 0 ∷ 0 ∷ 1 ∷ 0 ∷ 0 ∷ 0 ∷ 2 ∷ 0 ∷ 0 ∷ 0 ∷ 3 ∷ 0 ∷ 0 ∷ 0 ∷ 4 ∷ 0 ∷ 0 ∷ 0 ∷ 5 ∷ 0 ∷ 0 ∷ 0 ∷ 6 ∷ 0 ∷ 0 ∷ 0 ∷ 7 ∷ 0 ∷
-    0 ∷ 0 ∷ 8 ∷ 0 ∷ 0 ∷ 0 ∷ 9 ∷ 0 ∷ 0 ∷ 0 ∷ 37 ∷ 100 ∷ 10 ∷ []); rest_is_zero = true }
+    record {
+      end = Halted 0;
+      printed = (([] ++ spelled spell.Signed 9) ++ (10 ∷ []));
+      reads = 10;
+      writes = 10;
+      bytes = (0
+          ∷ 0 ∷ 0 ∷ 0 ∷ 1 ∷ 0 ∷ 0 ∷ 0 ∷ 2 ∷ 0 ∷ 0 ∷ 0 ∷ 3 ∷ 0 ∷ 0 ∷ 0 ∷ 4 ∷ 0 ∷ 0 ∷ 0 ∷ 5 ∷ 0 ∷ 0 ∷ 0 ∷ 6 ∷ 0 ∷ 0 ∷ 0 ∷ 7 ∷ 0 ∷
+          0 ∷ 0 ∷ 8 ∷ 0 ∷ 0 ∷ 0 ∷ 9 ∷ 0 ∷ 0 ∷ 0 ∷ 37 ∷ 100 ∷ 10 ∷ []);
+      rest_is_zero = true;
+    }
 unfolding compared misplaced combined spelled most_bytes
 chain_of_stores_runs = refl
 
@@ -800,8 +896,15 @@ filled_array_data = (0 ∷ 0 ∷ 0 ∷ 0 ∷ 0 ∷ 0 ∷ 0 ∷ 0 ∷ 0 ∷ 0 ∷
 
 filled_array_runs :
     seen 19 (run filled_array 100000 0 (start 128 36 filled_array_data)) ≡
-    record { end = Halted 0; printed = (([] ++ spelled spell.Signed 3) ++ (10 ∷ [])); reads = 1; writes = 4; bytes = (0 ∷
-    0 ∷ 0 ∷ 0 ∷ 1 ∷ 0 ∷ 0 ∷ 0 ∷ 2 ∷ 0 ∷ 0 ∷ 0 ∷ 3 ∷ 0 ∷ 0 ∷ 0 ∷ 37 ∷ 100 ∷ 10 ∷ []); rest_is_zero = true }
+    record {
+      end = Halted 0;
+      printed = (([] ++ spelled spell.Signed 3) ++ (10 ∷ []));
+      reads = 1;
+      writes = 4;
+      bytes = (0 ∷
+          0 ∷ 0 ∷ 0 ∷ 1 ∷ 0 ∷ 0 ∷ 0 ∷ 2 ∷ 0 ∷ 0 ∷ 0 ∷ 3 ∷ 0 ∷ 0 ∷ 0 ∷ 37 ∷ 100 ∷ 10 ∷ []);
+      rest_is_zero = true;
+    }
 unfolding compared misplaced combined spelled most_bytes
 filled_array_runs = refl
 
@@ -842,8 +945,15 @@ index_in_memory_data = (2 ∷ 0 ∷ 0 ∷ 0 ∷ 0 ∷ 0 ∷ 0 ∷ 0 ∷ 0 ∷ 0 
 
 index_in_memory_runs :
     seen 23 (run index_in_memory 100000 0 (start 128 40 index_in_memory_data)) ≡
-    record { end = Halted 0; printed = (([] ++ spelled spell.Signed 2) ++ (10 ∷ [])); reads = 2; writes = 1; bytes = (2 ∷
-    0 ∷ 0 ∷ 0 ∷ 0 ∷ 0 ∷ 0 ∷ 0 ∷ 0 ∷ 0 ∷ 0 ∷ 0 ∷ 2 ∷ 0 ∷ 0 ∷ 0 ∷ 0 ∷ 0 ∷ 0 ∷ 0 ∷ 37 ∷ 100 ∷ 10 ∷ []); rest_is_zero = true }
+    record {
+      end = Halted 0;
+      printed = (([] ++ spelled spell.Signed 2) ++ (10 ∷ []));
+      reads = 2;
+      writes = 1;
+      bytes = (2 ∷
+          0 ∷ 0 ∷ 0 ∷ 0 ∷ 0 ∷ 0 ∷ 0 ∷ 0 ∷ 0 ∷ 0 ∷ 0 ∷ 2 ∷ 0 ∷ 0 ∷ 0 ∷ 0 ∷ 0 ∷ 0 ∷ 0 ∷ 37 ∷ 100 ∷ 10 ∷ []);
+      rest_is_zero = true;
+    }
 unfolding compared misplaced combined spelled most_bytes
 index_in_memory_runs = refl
 
@@ -921,11 +1031,18 @@ write_last_word_data = []
 
 write_last_word_runs :
     seen 109 (run write_last_word 100000 0 (start 128 16 write_last_word_data)) ≡
-    record { end = Halted 0; printed = []; reads = 0; writes = 1; bytes = (0 ∷ 0 ∷ 0 ∷ 0 ∷ 0 ∷ 0 ∷ 0 ∷ 0 ∷ 0 ∷ 0 ∷ 0 ∷ 0 ∷
-    0 ∷ 0 ∷ 0 ∷ 0 ∷ 0 ∷ 0 ∷ 0 ∷ 0 ∷ 0 ∷ 0 ∷ 0 ∷ 0 ∷ 0 ∷ 0 ∷ 0 ∷ 0 ∷ 0 ∷ 0 ∷ 0 ∷ 0 ∷ 0 ∷ 0 ∷ 0 ∷ 0 ∷ 0 ∷ 0 ∷ 0 ∷ 0 ∷ 0 ∷ 0
-    ∷ 0 ∷ 0 ∷ 0 ∷ 0 ∷ 0 ∷ 0 ∷ 0 ∷ 0 ∷ 0 ∷ 0 ∷ 0 ∷ 0 ∷ 0 ∷ 0 ∷ 0 ∷ 0 ∷ 0 ∷ 0 ∷ 0 ∷ 0 ∷ 0 ∷ 0 ∷ 0 ∷ 0 ∷ 0 ∷ 0 ∷ 0 ∷ 0 ∷ 0 ∷
-    0 ∷ 0 ∷ 0 ∷ 0 ∷ 0 ∷ 0 ∷ 0 ∷ 0 ∷ 0 ∷ 0 ∷ 0 ∷ 0 ∷ 0 ∷ 0 ∷ 0 ∷ 0 ∷ 0 ∷ 0 ∷ 0 ∷ 0 ∷ 0 ∷ 0 ∷ 0 ∷ 0 ∷ 0 ∷ 0 ∷ 0 ∷ 0 ∷ 0 ∷ 0
-    ∷ 0 ∷ 0 ∷ 0 ∷ 0 ∷ 0 ∷ 0 ∷ 0 ∷ 1 ∷ []); rest_is_zero = true }
+    record {
+      end = Halted 0;
+      printed = [];
+      reads = 0;
+      writes = 1;
+      bytes = (0 ∷ 0 ∷ 0 ∷ 0 ∷ 0 ∷ 0 ∷ 0 ∷ 0 ∷ 0 ∷ 0 ∷ 0 ∷ 0 ∷
+          0 ∷ 0 ∷ 0 ∷ 0 ∷ 0 ∷ 0 ∷ 0 ∷ 0 ∷ 0 ∷ 0 ∷ 0 ∷ 0 ∷ 0 ∷ 0 ∷ 0 ∷ 0 ∷ 0 ∷ 0 ∷ 0 ∷ 0 ∷ 0 ∷ 0 ∷ 0 ∷ 0 ∷ 0 ∷ 0 ∷ 0 ∷ 0 ∷ 0 ∷ 0
+          ∷ 0 ∷ 0 ∷ 0 ∷ 0 ∷ 0 ∷ 0 ∷ 0 ∷ 0 ∷ 0 ∷ 0 ∷ 0 ∷ 0 ∷ 0 ∷ 0 ∷ 0 ∷ 0 ∷ 0 ∷ 0 ∷ 0 ∷ 0 ∷ 0 ∷ 0 ∷ 0 ∷ 0 ∷ 0 ∷ 0 ∷ 0 ∷ 0 ∷ 0 ∷
+          0 ∷ 0 ∷ 0 ∷ 0 ∷ 0 ∷ 0 ∷ 0 ∷ 0 ∷ 0 ∷ 0 ∷ 0 ∷ 0 ∷ 0 ∷ 0 ∷ 0 ∷ 0 ∷ 0 ∷ 0 ∷ 0 ∷ 0 ∷ 0 ∷ 0 ∷ 0 ∷ 0 ∷ 0 ∷ 0 ∷ 0 ∷ 0 ∷ 0 ∷ 0
+          ∷ 0 ∷ 0 ∷ 0 ∷ 0 ∷ 0 ∷ 0 ∷ 0 ∷ 1 ∷ []);
+      rest_is_zero = true;
+    }
 unfolding compared misplaced combined spelled most_bytes
 write_last_word_runs = refl
 
@@ -1374,8 +1491,15 @@ division_traps_data = (0 ∷ 0 ∷ 0 ∷ 0 ∷ 0 ∷ 0 ∷ 0 ∷ 0 ∷ 37 ∷ 10
 
 division_traps_runs :
     seen 11 (run division_traps 100000 0 (start 128 28 division_traps_data)) ≡
-    record { end = Trapped 1; printed = (([] ++ spelled spell.Signed 5) ++ (10 ∷ [])); reads = 2; writes = 1; bytes = (7 ∷
-    0 ∷ 0 ∷ 0 ∷ 0 ∷ 0 ∷ 0 ∷ 0 ∷ 37 ∷ 100 ∷ 10 ∷ []); rest_is_zero = true }
+    record {
+      end = Trapped 1;
+      printed = (([] ++ spelled spell.Signed 5) ++ (10 ∷ []));
+      reads = 2;
+      writes = 1;
+      bytes = (7 ∷
+          0 ∷ 0 ∷ 0 ∷ 0 ∷ 0 ∷ 0 ∷ 0 ∷ 37 ∷ 100 ∷ 10 ∷ []);
+      rest_is_zero = true;
+    }
 unfolding compared misplaced combined spelled most_bytes
 division_traps_runs = refl
 
@@ -1458,8 +1582,15 @@ access_traps_last_data = (0 ∷ 0 ∷ 0 ∷ 0 ∷ [])
 
 access_traps_last_runs :
     seen 0 (run access_traps_last 100000 0 (start 128 20 access_traps_last_data)) ≡
-    record { end = Trapped 2; printed = ([] ++ spelled spell.Byte 97); reads = 0; writes = 0; bytes = []; rest_is_zero =
-    true }
+    record {
+      end = Trapped 2;
+      printed = ([] ++ spelled spell.Byte 97);
+      reads = 0;
+      writes = 0;
+      bytes = [];
+      rest_is_zero =
+          true;
+    }
 unfolding compared misplaced combined spelled most_bytes
 access_traps_last_runs = refl
 
@@ -1545,8 +1676,15 @@ unused_read_data = (0 ∷ 0 ∷ 0 ∷ 0 ∷ [])
 
 unused_read_runs :
     seen 0 (run unused_read 100000 0 (start 128 20 unused_read_data)) ≡
-    record { end = Trapped 2; printed = ([] ++ spelled spell.Byte 97); reads = 1; writes = 0; bytes = []; rest_is_zero =
-    true }
+    record {
+      end = Trapped 2;
+      printed = ([] ++ spelled spell.Byte 97);
+      reads = 1;
+      writes = 0;
+      bytes = [];
+      rest_is_zero =
+          true;
+    }
 unfolding compared misplaced combined spelled most_bytes
 unused_read_runs = refl
 

@@ -53,12 +53,19 @@ spellings_data = (37 ∷ 100 ∷ 124 ∷ 37 ∷ 105 ∷ 124 ∷ 37 ∷ 117 ∷ 1
 
 spellings_runs :
     seen 29 (run spellings 100000 0 (start 128 48 spellings_data)) ≡
-    record { end = Halted 0; printed = ((((((((((((((([] ++ spelled spell.Signed 4294967291) ++ (124 ∷ [])) ++ spelled
-    spell.Signed 7) ++ (124 ∷ [])) ++ spelled spell.Unsigned 4294967291) ++ (124 ∷ [])) ++ spelled spell.Hexadecimal
-    48879) ++ (124 ∷ [])) ++ spelled spell.Byte 65) ++ (124 ∷ [])) ++ (37 ∷ [])) ++ (124 ∷ [])) ++ spelled spell.Byte 115)
-    ++ spelled spell.Signed 4294967295) ++ spelled spell.Hexadecimal 255); reads = 2; writes = 0; bytes = (37 ∷ 100 ∷ 124
-    ∷ 37 ∷ 105 ∷ 124 ∷ 37 ∷ 117 ∷ 124 ∷ 37 ∷ 120 ∷ 124 ∷ 37 ∷ 99 ∷ 124 ∷ 37 ∷ 37 ∷ 124 ∷ 37 ∷ 115 ∷ 0 ∷ 115 ∷ 0 ∷ 37 ∷ 108
-    ∷ 100 ∷ 37 ∷ 108 ∷ 120 ∷ []); rest_is_zero = true }
+    record {
+      end = Halted 0;
+      printed = ((((((((((((((([] ++ spelled spell.Signed 4294967291) ++ (124 ∷ [])) ++ spelled
+          spell.Signed 7) ++ (124 ∷ [])) ++ spelled spell.Unsigned 4294967291) ++ (124 ∷ [])) ++ spelled spell.Hexadecimal
+          48879) ++ (124 ∷ [])) ++ spelled spell.Byte 65) ++ (124 ∷ [])) ++ (37 ∷ [])) ++ (124 ∷ [])) ++ spelled spell.Byte 115)
+          ++ spelled spell.Signed 4294967295) ++ spelled spell.Hexadecimal 255);
+      reads = 2;
+      writes = 0;
+      bytes = (37 ∷ 100 ∷ 124
+          ∷ 37 ∷ 105 ∷ 124 ∷ 37 ∷ 117 ∷ 124 ∷ 37 ∷ 120 ∷ 124 ∷ 37 ∷ 99 ∷ 124 ∷ 37 ∷ 37 ∷ 124 ∷ 37 ∷ 115 ∷ 0 ∷ 115 ∷ 0 ∷ 37 ∷ 108
+          ∷ 100 ∷ 37 ∷ 108 ∷ 120 ∷ []);
+      rest_is_zero = true;
+    }
 unfolding compared misplaced combined spelled most_bytes
 spellings_runs = refl
 
@@ -108,9 +115,16 @@ printf_evaluates_first_data = (97 ∷ 37 ∷ 100 ∷ 98 ∷ 37 ∷ 100 ∷ 99 �
 
 printf_evaluates_first_runs :
     seen 7 (run printf_evaluates_first 100000 1 (start 128 24 printf_evaluates_first_data)) ≡
-    record { end = Halted 0; printed = ((((((([] ++ spelled spell.Byte 49) ++ spelled spell.Byte 50) ++ (97 ∷ [])) ++
-    spelled spell.Signed 1) ++ (98 ∷ [])) ++ spelled spell.Signed 2) ++ (99 ∷ [])); reads = 0; writes = 0; bytes = (97 ∷
-    37 ∷ 100 ∷ 98 ∷ 37 ∷ 100 ∷ 99 ∷ []); rest_is_zero = true }
+    record {
+      end = Halted 0;
+      printed = ((((((([] ++ spelled spell.Byte 49) ++ spelled spell.Byte 50) ++ (97 ∷ [])) ++
+          spelled spell.Signed 1) ++ (98 ∷ [])) ++ spelled spell.Signed 2) ++ (99 ∷ []));
+      reads = 0;
+      writes = 0;
+      bytes = (97 ∷
+          37 ∷ 100 ∷ 98 ∷ 37 ∷ 100 ∷ 99 ∷ []);
+      rest_is_zero = true;
+    }
 unfolding compared misplaced combined spelled most_bytes
 printf_evaluates_first_runs = refl
 
@@ -151,8 +165,14 @@ printf_trap_before_data = (0 ∷ 0 ∷ 0 ∷ 0 ∷ 97 ∷ 37 ∷ 100 ∷ 0 ∷ [
 
 printf_trap_before_runs :
     seen 7 (run printf_trap_before 100000 0 (start 128 24 printf_trap_before_data)) ≡
-    record { end = Trapped 1; printed = []; reads = 1; writes = 0; bytes = (0 ∷ 0 ∷ 0 ∷ 0 ∷ 97 ∷ 37 ∷ 100 ∷ []);
-    rest_is_zero = true }
+    record {
+      end = Trapped 1;
+      printed = [];
+      reads = 1;
+      writes = 0;
+      bytes = (0 ∷ 0 ∷ 0 ∷ 0 ∷ 97 ∷ 37 ∷ 100 ∷ []);
+      rest_is_zero = true;
+    }
 unfolding compared misplaced combined spelled most_bytes
 printf_trap_before_runs = refl
 
@@ -200,12 +220,18 @@ strings_data = (97 ∷ 98 ∷ 0 ∷ 0 ∷ 97 ∷ 98 ∷ 0 ∷ 91 ∷ 37 ∷ 115 
 
 strings_runs :
     seen 26 (run strings 100000 0 (start 192 44 strings_data)) ≡
-    record { end = Halted 0; printed = ((((((((((((((((([] ++ (91 ∷ [])) ++ spelled spell.Byte 97) ++ spelled spell.Byte
-    98) ++ (124 ∷ [])) ++ spelled spell.Byte 120) ++ spelled spell.Byte 121) ++ spelled spell.Byte 122) ++ (37 ∷ [])) ++
-    (124 ∷ [])) ++ spelled spell.Byte 65) ++ (93 ∷ [])) ++ spelled spell.Byte 97) ++ spelled spell.Byte 98) ++ spelled
-    spell.Byte 99) ++ spelled spell.Byte 100) ++ spelled spell.Byte 97) ++ spelled spell.Byte 98); reads = 14; writes = 2;
-    bytes = (97 ∷ 98 ∷ 99 ∷ 100 ∷ 97 ∷ 98 ∷ 0 ∷ 91 ∷ 37 ∷ 115 ∷ 124 ∷ 37 ∷ 115 ∷ 37 ∷ 37 ∷ 124 ∷ 37 ∷ 99 ∷ 93 ∷ 0 ∷ 120 ∷
-    121 ∷ 122 ∷ 0 ∷ 37 ∷ 115 ∷ []); rest_is_zero = true }
+    record {
+      end = Halted 0;
+      printed = ((((((((((((((((([] ++ (91 ∷ [])) ++ spelled spell.Byte 97) ++ spelled spell.Byte
+          98) ++ (124 ∷ [])) ++ spelled spell.Byte 120) ++ spelled spell.Byte 121) ++ spelled spell.Byte 122) ++ (37 ∷ [])) ++
+          (124 ∷ [])) ++ spelled spell.Byte 65) ++ (93 ∷ [])) ++ spelled spell.Byte 97) ++ spelled spell.Byte 98) ++ spelled
+          spell.Byte 99) ++ spelled spell.Byte 100) ++ spelled spell.Byte 97) ++ spelled spell.Byte 98);
+      reads = 14;
+      writes = 2;
+      bytes = (97 ∷ 98 ∷ 99 ∷ 100 ∷ 97 ∷ 98 ∷ 0 ∷ 91 ∷ 37 ∷ 115 ∷ 124 ∷ 37 ∷ 115 ∷ 37 ∷ 37 ∷ 124 ∷ 37 ∷ 99 ∷ 93 ∷ 0 ∷ 120 ∷
+          121 ∷ 122 ∷ 0 ∷ 37 ∷ 115 ∷ []);
+      rest_is_zero = true;
+    }
 unfolding compared misplaced combined spelled most_bytes
 strings_runs = refl
 
@@ -247,8 +273,14 @@ string_null_data = (97 ∷ 37 ∷ 115 ∷ 98 ∷ 0 ∷ [])
 
 string_null_runs :
     seen 4 (run string_null 100000 0 (start 128 24 string_null_data)) ≡
-    record { end = Trapped 2; printed = ([] ++ (97 ∷ [])); reads = 0; writes = 0; bytes = (97 ∷ 37 ∷ 115 ∷ 98 ∷ []);
-    rest_is_zero = true }
+    record {
+      end = Trapped 2;
+      printed = ([] ++ (97 ∷ []));
+      reads = 0;
+      writes = 0;
+      bytes = (97 ∷ 37 ∷ 115 ∷ 98 ∷ []);
+      rest_is_zero = true;
+    }
 unfolding compared misplaced combined spelled most_bytes
 string_null_runs = refl
 
@@ -295,13 +327,20 @@ string_trap_data = (37 ∷ 115 ∷ 0 ∷ 111 ∷ 107 ∷ 0 ∷ 37 ∷ 115 ∷ 0 
 
 string_trap_runs :
     seen 112 (run string_trap 100000 0 (start 128 28 string_trap_data)) ≡
-    record { end = Trapped 2; printed = (((((([] ++ spelled spell.Byte 111) ++ spelled spell.Byte 107) ++ spelled
-    spell.Byte 121) ++ spelled spell.Byte 121) ++ spelled spell.Byte 121) ++ spelled spell.Byte 121); reads = 7; writes =
-    8; bytes = (37 ∷ 115 ∷ 0 ∷ 111 ∷ 107 ∷ 0 ∷ 37 ∷ 115 ∷ 0 ∷ 0 ∷ 0 ∷ 0 ∷ 0 ∷ 0 ∷ 0 ∷ 0 ∷ 0 ∷ 0 ∷ 0 ∷ 0 ∷ 0 ∷ 0 ∷ 0 ∷ 0 ∷
-    0 ∷ 0 ∷ 0 ∷ 0 ∷ 0 ∷ 0 ∷ 0 ∷ 0 ∷ 0 ∷ 0 ∷ 0 ∷ 0 ∷ 0 ∷ 0 ∷ 0 ∷ 0 ∷ 0 ∷ 0 ∷ 0 ∷ 0 ∷ 0 ∷ 0 ∷ 0 ∷ 0 ∷ 0 ∷ 0 ∷ 0 ∷ 0 ∷ 0 ∷ 0
-    ∷ 0 ∷ 0 ∷ 0 ∷ 0 ∷ 0 ∷ 0 ∷ 0 ∷ 0 ∷ 0 ∷ 0 ∷ 0 ∷ 0 ∷ 0 ∷ 0 ∷ 0 ∷ 0 ∷ 0 ∷ 0 ∷ 0 ∷ 0 ∷ 0 ∷ 0 ∷ 0 ∷ 0 ∷ 0 ∷ 0 ∷ 0 ∷ 0 ∷ 0 ∷
-    0 ∷ 0 ∷ 0 ∷ 0 ∷ 0 ∷ 0 ∷ 0 ∷ 0 ∷ 0 ∷ 0 ∷ 0 ∷ 0 ∷ 0 ∷ 0 ∷ 0 ∷ 0 ∷ 0 ∷ 0 ∷ 0 ∷ 0 ∷ 0 ∷ 121 ∷ 121 ∷ 121 ∷ 121 ∷ 121 ∷ 121
-    ∷ 121 ∷ 121 ∷ []); rest_is_zero = true }
+    record {
+      end = Trapped 2;
+      printed = (((((([] ++ spelled spell.Byte 111) ++ spelled spell.Byte 107) ++ spelled
+          spell.Byte 121) ++ spelled spell.Byte 121) ++ spelled spell.Byte 121) ++ spelled spell.Byte 121);
+      reads = 7;
+      writes =
+          8;
+      bytes = (37 ∷ 115 ∷ 0 ∷ 111 ∷ 107 ∷ 0 ∷ 37 ∷ 115 ∷ 0 ∷ 0 ∷ 0 ∷ 0 ∷ 0 ∷ 0 ∷ 0 ∷ 0 ∷ 0 ∷ 0 ∷ 0 ∷ 0 ∷ 0 ∷ 0 ∷ 0 ∷ 0 ∷
+          0 ∷ 0 ∷ 0 ∷ 0 ∷ 0 ∷ 0 ∷ 0 ∷ 0 ∷ 0 ∷ 0 ∷ 0 ∷ 0 ∷ 0 ∷ 0 ∷ 0 ∷ 0 ∷ 0 ∷ 0 ∷ 0 ∷ 0 ∷ 0 ∷ 0 ∷ 0 ∷ 0 ∷ 0 ∷ 0 ∷ 0 ∷ 0 ∷ 0 ∷ 0
+          ∷ 0 ∷ 0 ∷ 0 ∷ 0 ∷ 0 ∷ 0 ∷ 0 ∷ 0 ∷ 0 ∷ 0 ∷ 0 ∷ 0 ∷ 0 ∷ 0 ∷ 0 ∷ 0 ∷ 0 ∷ 0 ∷ 0 ∷ 0 ∷ 0 ∷ 0 ∷ 0 ∷ 0 ∷ 0 ∷ 0 ∷ 0 ∷ 0 ∷ 0 ∷
+          0 ∷ 0 ∷ 0 ∷ 0 ∷ 0 ∷ 0 ∷ 0 ∷ 0 ∷ 0 ∷ 0 ∷ 0 ∷ 0 ∷ 0 ∷ 0 ∷ 0 ∷ 0 ∷ 0 ∷ 0 ∷ 0 ∷ 0 ∷ 0 ∷ 121 ∷ 121 ∷ 121 ∷ 121 ∷ 121 ∷ 121
+          ∷ 121 ∷ 121 ∷ []);
+      rest_is_zero = true;
+    }
 unfolding compared misplaced combined spelled most_bytes
 string_trap_runs = refl
 
@@ -346,10 +385,16 @@ text_reads_data = (97 ∷ 98 ∷ 99 ∷ 0 ∷ 0 ∷ 0 ∷ 0 ∷ 0 ∷ 97 ∷ 98 
 
 text_reads_runs :
     seen 21 (run text_reads 100000 0 (start 128 40 text_reads_data)) ≡
-    record { end = Halted 0; printed = ((((((([] ++ spelled spell.Byte 98) ++ spelled spell.Byte 99) ++ (60 ∷ [])) ++
-    spelled spell.Byte 97) ++ spelled spell.Byte 98) ++ spelled spell.Byte 99) ++ (62 ∷ [])); reads = 8; writes = 0; bytes
-    = (97 ∷ 98 ∷ 99 ∷ 0 ∷ 0 ∷ 0 ∷ 0 ∷ 0 ∷ 97 ∷ 98 ∷ 99 ∷ 0 ∷ 37 ∷ 115 ∷ 0 ∷ 60 ∷ 37 ∷ 115 ∷ 37 ∷ 115 ∷ 62 ∷ []);
-    rest_is_zero = true }
+    record {
+      end = Halted 0;
+      printed = ((((((([] ++ spelled spell.Byte 98) ++ spelled spell.Byte 99) ++ (60 ∷ [])) ++
+          spelled spell.Byte 97) ++ spelled spell.Byte 98) ++ spelled spell.Byte 99) ++ (62 ∷ []));
+      reads = 8;
+      writes = 0;
+      bytes
+          = (97 ∷ 98 ∷ 99 ∷ 0 ∷ 0 ∷ 0 ∷ 0 ∷ 0 ∷ 97 ∷ 98 ∷ 99 ∷ 0 ∷ 37 ∷ 115 ∷ 0 ∷ 60 ∷ 37 ∷ 115 ∷ 37 ∷ 115 ∷ 62 ∷ []);
+      rest_is_zero = true;
+    }
 unfolding compared misplaced combined spelled most_bytes
 text_reads_runs = refl
 
@@ -400,12 +445,19 @@ shared_texts_data = (27 ∷ 0 ∷ 0 ∷ 0 ∷ 30 ∷ 0 ∷ 0 ∷ 0 ∷ 97 ∷ 98
 
 shared_texts_runs :
     seen 35 (run shared_texts 100000 0 (start 128 52 shared_texts_data)) ≡
-    record { end = Halted 3; printed = ((((((((((((([] ++ spelled spell.Signed 0) ++ spelled spell.Byte 97) ++ spelled
-    spell.Byte 98) ++ spelled spell.Byte 97) ++ spelled spell.Byte 98) ++ spelled spell.Byte 97) ++ spelled spell.Byte 98)
-    ++ spelled spell.Byte 99) ++ spelled spell.Byte 98) ++ spelled spell.Byte 97) ++ spelled spell.Byte 98) ++ spelled
-    spell.Byte 97) ++ spelled spell.Byte 100); reads = 25; writes = 2; bytes = (27 ∷ 0 ∷ 0 ∷ 0 ∷ 30 ∷ 0 ∷ 0 ∷ 0 ∷ 97 ∷ 100
-    ∷ 0 ∷ 99 ∷ 98 ∷ 0 ∷ 97 ∷ 98 ∷ 0 ∷ 97 ∷ 98 ∷ 0 ∷ 37 ∷ 100 ∷ 37 ∷ 115 ∷ 37 ∷ 115 ∷ 37 ∷ 115 ∷ 0 ∷ 37 ∷ 115 ∷ 37 ∷ 115 ∷
-    37 ∷ 115 ∷ []); rest_is_zero = true }
+    record {
+      end = Halted 3;
+      printed = ((((((((((((([] ++ spelled spell.Signed 0) ++ spelled spell.Byte 97) ++ spelled
+          spell.Byte 98) ++ spelled spell.Byte 97) ++ spelled spell.Byte 98) ++ spelled spell.Byte 97) ++ spelled spell.Byte 98)
+          ++ spelled spell.Byte 99) ++ spelled spell.Byte 98) ++ spelled spell.Byte 97) ++ spelled spell.Byte 98) ++ spelled
+          spell.Byte 97) ++ spelled spell.Byte 100);
+      reads = 25;
+      writes = 2;
+      bytes = (27 ∷ 0 ∷ 0 ∷ 0 ∷ 30 ∷ 0 ∷ 0 ∷ 0 ∷ 97 ∷ 100
+          ∷ 0 ∷ 99 ∷ 98 ∷ 0 ∷ 97 ∷ 98 ∷ 0 ∷ 97 ∷ 98 ∷ 0 ∷ 37 ∷ 100 ∷ 37 ∷ 115 ∷ 37 ∷ 115 ∷ 37 ∷ 115 ∷ 0 ∷ 37 ∷ 115 ∷ 37 ∷ 115 ∷
+          37 ∷ 115 ∷ []);
+      rest_is_zero = true;
+    }
 unfolding compared misplaced combined spelled most_bytes
 shared_texts_runs = refl
 
@@ -428,12 +480,28 @@ aggregates = record { limit = 100; function = function } where
     callee = λ g. g;
     parameters = (None ∷ []);
     frame = 36;
-    body = (tree.Initialise here 0 12 (record { offset = 0; width = width.B1; value = (tree.Number 1) } ∷ record { offset =
-        4; width = width.B4; value = (tree.Number 2) } ∷ []) (tree.Initialise here 12 12 (record { offset = 12; width =
-        width.B4; value = (tree.Number 5) } ∷ record { offset = 16; width = width.B4; value = (tree.Number 6) } ∷ [])
-        (tree.Initialise here 24 4 (record { offset = 24; width = width.B1; value = (tree.Number 104) } ∷ record { offset
-        = 25; width = width.B1; value = (tree.Number 105) } ∷ []) (tree.Initialise here 28 8 (record { offset = 28; width
-        = width.B4; value = (tree.Address 0 0) } ∷ record { offset = 32; width = width.B4; value = (tree.Number 0) } ∷ [])
+    body = (tree.Initialise here 0 12 (record { offset = 0; width = width.B1; value = (tree.Number 1) } ∷ record {
+      offset =
+          4;
+      width = width.B4;
+      value = (tree.Number 2);
+    } ∷ []) (tree.Initialise here 12 12 (record {
+      offset = 12;
+      width =
+          width.B4;
+      value = (tree.Number 5);
+    } ∷ record { offset = 16; width = width.B4; value = (tree.Number 6) } ∷ [])
+        (tree.Initialise here 24 4 (record { offset = 24; width = width.B1; value = (tree.Number 104) } ∷ record {
+          offset
+              = 25;
+          width = width.B1;
+          value = (tree.Number 105);
+        } ∷ []) (tree.Initialise here 28 8 (record {
+          offset = 28;
+          width
+              = width.B4;
+          value = (tree.Address 0 0);
+        } ∷ record { offset = 32; width = width.B4; value = (tree.Number 0) } ∷ [])
         (tree.Evaluate here (tree.Assign here kind.I32 (tree.InVariable 2) (tree.Binary here op.Add (tree.Binary here
         op.Add (tree.Binary here op.Add (tree.Binary here op.Add (tree.Binary here op.Add (tree.Read here kind.U8 false
         (tree.Frame here 0)) (tree.Binary here op.Multiply (tree.Read here kind.I32 true (tree.Frame here 4)) (tree.Number
@@ -470,9 +538,16 @@ aggregates_data = (0 ∷ 0 ∷ 0 ∷ 0 ∷ 104 ∷ 105 ∷ 0 ∷ [])
 
 aggregates_runs :
     seen 45 (run aggregates 100000 1 (start 192 24 aggregates_data)) ≡
-    record { end = Halted 12257; printed = []; reads = 14; writes = 99; bytes = (0 ∷ 0 ∷ 0 ∷ 0 ∷ 104 ∷ 105 ∷ 0 ∷ 0 ∷ 3 ∷ 0
-    ∷ 0 ∷ 0 ∷ 0 ∷ 0 ∷ 0 ∷ 0 ∷ 1 ∷ 0 ∷ 0 ∷ 0 ∷ 2 ∷ 0 ∷ 0 ∷ 0 ∷ 0 ∷ 0 ∷ 0 ∷ 0 ∷ 5 ∷ 0 ∷ 0 ∷ 0 ∷ 6 ∷ 0 ∷ 0 ∷ 0 ∷ 0 ∷ 0 ∷ 0 ∷
-    0 ∷ 104 ∷ 105 ∷ 0 ∷ 0 ∷ 16 ∷ []); rest_is_zero = true }
+    record {
+      end = Halted 12257;
+      printed = [];
+      reads = 14;
+      writes = 99;
+      bytes = (0 ∷ 0 ∷ 0 ∷ 0 ∷ 104 ∷ 105 ∷ 0 ∷ 0 ∷ 3 ∷ 0
+          ∷ 0 ∷ 0 ∷ 0 ∷ 0 ∷ 0 ∷ 0 ∷ 1 ∷ 0 ∷ 0 ∷ 0 ∷ 2 ∷ 0 ∷ 0 ∷ 0 ∷ 0 ∷ 0 ∷ 0 ∷ 0 ∷ 5 ∷ 0 ∷ 0 ∷ 0 ∷ 6 ∷ 0 ∷ 0 ∷ 0 ∷ 0 ∷ 0 ∷ 0 ∷
+          0 ∷ 104 ∷ 105 ∷ 0 ∷ 0 ∷ 16 ∷ []);
+      rest_is_zero = true;
+    }
 unfolding compared misplaced combined spelled most_bytes
 aggregates_runs = refl
 
@@ -514,9 +589,16 @@ local_arrays = record { limit = 100; function = function } where
     callee = λ g. g;
     parameters = [];
     frame = 12;
-    body = (tree.Initialise here 0 7 (record { offset = 0; width = width.B1; value = (tree.Number 1) } ∷ record { offset = 1;
-        width = width.B1; value = (tree.Number 2) } ∷ []) (tree.Initialise here 8 4 (record { offset = 8; width =
-        width.B2; value = (tree.Number 4294967295) } ∷ []) (tree.Return here (Some (tree.Binary here op.Add (tree.Binary
+    body = (tree.Initialise here 0 7 (record { offset = 0; width = width.B1; value = (tree.Number 1) } ∷ record {
+      offset = 1;
+      width = width.B1;
+      value = (tree.Number 2);
+    } ∷ []) (tree.Initialise here 8 4 (record {
+      offset = 8;
+      width =
+          width.B2;
+      value = (tree.Number 4294967295);
+    } ∷ []) (tree.Return here (Some (tree.Binary here op.Add (tree.Binary
         here op.Add (tree.Binary here op.Add (tree.Read here kind.U8 true (tree.Frame here 0)) (tree.Read here kind.U8
         true (tree.Frame here 6))) (tree.Read here kind.I16 true (tree.Frame here 10))) (tree.Read here kind.I16 true
         (tree.Frame here 8)))) tree.Done)));
@@ -549,8 +631,15 @@ local_arrays_data = []
 
 local_arrays_runs :
     seen 10 (run local_arrays 100000 2 (start 128 16 local_arrays_data)) ≡
-    record { end = Halted 30513; printed = []; reads = 10; writes = 20; bytes = (0 ∷ 0 ∷ 0 ∷ 0 ∷ 0 ∷ 0 ∷ 0 ∷ 0 ∷ 255 ∷ 255
-    ∷ []); rest_is_zero = true }
+    record {
+      end = Halted 30513;
+      printed = [];
+      reads = 10;
+      writes = 20;
+      bytes = (0 ∷ 0 ∷ 0 ∷ 0 ∷ 0 ∷ 0 ∷ 0 ∷ 0 ∷ 255 ∷ 255
+          ∷ []);
+      rest_is_zero = true;
+    }
 unfolding compared misplaced combined spelled most_bytes
 local_arrays_runs = refl
 
@@ -579,12 +668,27 @@ nested_initialisers = record { limit = 100; function = function } where
     callee = λ g. g;
     parameters = [];
     frame = 48;
-    body = (tree.Initialise here 0 16 (record { offset = 0; width = width.B1; value = (tree.Number 9) } ∷ record { offset =
-        2; width = width.B2; value = (tree.Number 8) } ∷ record { offset = 4; width = width.B2; value = (tree.Number 7) }
-        ∷ record { offset = 8; width = width.B4; value = (tree.Number 6) } ∷ record { offset = 12; width = width.B4; value
-        = (tree.Address 2 0) } ∷ []) (tree.Initialise here 16 32 (record { offset = 16; width = width.B1; value =
-        (tree.Number 1) } ∷ record { offset = 32; width = width.B1; value = (tree.Number 2) } ∷ record { offset = 34;
-        width = width.B2; value = (tree.Number 3) } ∷ record { offset = 36; width = width.B2; value = (tree.Number 4) } ∷
+    body = (tree.Initialise here 0 16 (record { offset = 0; width = width.B1; value = (tree.Number 9) } ∷ record {
+      offset =
+          2;
+      width = width.B2;
+      value = (tree.Number 8);
+    } ∷ record { offset = 4; width = width.B2; value = (tree.Number 7) }
+        ∷ record { offset = 8; width = width.B4; value = (tree.Number 6) } ∷ record {
+          offset = 12;
+          width = width.B4;
+          value
+              = (tree.Address 2 0);
+        } ∷ []) (tree.Initialise here 16 32 (record {
+          offset = 16;
+          width = width.B1;
+          value =
+              (tree.Number 1);
+        } ∷ record { offset = 32; width = width.B1; value = (tree.Number 2) } ∷ record {
+          offset = 34;
+          width = width.B2;
+          value = (tree.Number 3);
+        } ∷ record { offset = 36; width = width.B2; value = (tree.Number 4) } ∷
         []) (tree.Print here (tree.expression_then (tree.Read here kind.U8 false (tree.Address 0 0)) (tree.expression_then
         (tree.Read here kind.I16 true (tree.Address 0 2)) (tree.expression_then (tree.Read here kind.I16 true
         (tree.Address 0 4)) (tree.expression_then (tree.Read here kind.I32 false (tree.Address 0 8)) (tree.expression_then
@@ -615,15 +719,22 @@ nested_initialisers_data = (1 ∷ 0 ∷ 2 ∷ 0 ∷ 0 ∷ 0 ∷ 0 ∷ 0 ∷ 3 �
 
 nested_initialisers_runs :
     seen 93 (run nested_initialisers 100000 0 (start 320 72 nested_initialisers_data)) ≡
-    record { end = Halted 0; printed = ((((((((((((((((([] ++ spelled spell.Signed 1) ++ spelled spell.Signed 2) ++
-    spelled spell.Signed 0) ++ spelled spell.Signed 3) ++ spelled spell.Byte 120) ++ spelled spell.Byte 121) ++ (32 ∷ []))
-    ++ spelled spell.Signed 9) ++ spelled spell.Signed 8) ++ spelled spell.Signed 7) ++ spelled spell.Signed 6) ++ spelled
-    spell.Byte 122) ++ (32 ∷ [])) ++ spelled spell.Signed 1) ++ spelled spell.Signed 0) ++ spelled spell.Signed 4) ++
-    spelled spell.Signed 2); reads = 19; writes = 57; bytes = (1 ∷ 0 ∷ 2 ∷ 0 ∷ 0 ∷ 0 ∷ 0 ∷ 0 ∷ 3 ∷ 0 ∷ 0 ∷ 0 ∷ 32 ∷ 0 ∷ 0
-    ∷ 0 ∷ 120 ∷ 121 ∷ 0 ∷ 122 ∷ 0 ∷ 37 ∷ 100 ∷ 37 ∷ 100 ∷ 37 ∷ 100 ∷ 37 ∷ 100 ∷ 37 ∷ 115 ∷ 32 ∷ 0 ∷ 37 ∷ 100 ∷ 37 ∷ 100 ∷
-    37 ∷ 100 ∷ 37 ∷ 100 ∷ 37 ∷ 115 ∷ 32 ∷ 0 ∷ 37 ∷ 100 ∷ 37 ∷ 100 ∷ 37 ∷ 100 ∷ 37 ∷ 100 ∷ 0 ∷ 0 ∷ 0 ∷ 9 ∷ 0 ∷ 8 ∷ 0 ∷ 7 ∷
-    0 ∷ 0 ∷ 0 ∷ 6 ∷ 0 ∷ 0 ∷ 0 ∷ 35 ∷ 0 ∷ 0 ∷ 0 ∷ 1 ∷ 0 ∷ 0 ∷ 0 ∷ 0 ∷ 0 ∷ 0 ∷ 0 ∷ 0 ∷ 0 ∷ 0 ∷ 0 ∷ 0 ∷ 0 ∷ 0 ∷ 0 ∷ 2 ∷ 0 ∷ 3
-    ∷ 0 ∷ 4 ∷ []); rest_is_zero = true }
+    record {
+      end = Halted 0;
+      printed = ((((((((((((((((([] ++ spelled spell.Signed 1) ++ spelled spell.Signed 2) ++
+          spelled spell.Signed 0) ++ spelled spell.Signed 3) ++ spelled spell.Byte 120) ++ spelled spell.Byte 121) ++ (32 ∷ []))
+          ++ spelled spell.Signed 9) ++ spelled spell.Signed 8) ++ spelled spell.Signed 7) ++ spelled spell.Signed 6) ++ spelled
+          spell.Byte 122) ++ (32 ∷ [])) ++ spelled spell.Signed 1) ++ spelled spell.Signed 0) ++ spelled spell.Signed 4) ++
+          spelled spell.Signed 2);
+      reads = 19;
+      writes = 57;
+      bytes = (1 ∷ 0 ∷ 2 ∷ 0 ∷ 0 ∷ 0 ∷ 0 ∷ 0 ∷ 3 ∷ 0 ∷ 0 ∷ 0 ∷ 32 ∷ 0 ∷ 0
+          ∷ 0 ∷ 120 ∷ 121 ∷ 0 ∷ 122 ∷ 0 ∷ 37 ∷ 100 ∷ 37 ∷ 100 ∷ 37 ∷ 100 ∷ 37 ∷ 100 ∷ 37 ∷ 115 ∷ 32 ∷ 0 ∷ 37 ∷ 100 ∷ 37 ∷ 100 ∷
+          37 ∷ 100 ∷ 37 ∷ 100 ∷ 37 ∷ 115 ∷ 32 ∷ 0 ∷ 37 ∷ 100 ∷ 37 ∷ 100 ∷ 37 ∷ 100 ∷ 37 ∷ 100 ∷ 0 ∷ 0 ∷ 0 ∷ 9 ∷ 0 ∷ 8 ∷ 0 ∷ 7 ∷
+          0 ∷ 0 ∷ 0 ∷ 6 ∷ 0 ∷ 0 ∷ 0 ∷ 35 ∷ 0 ∷ 0 ∷ 0 ∷ 1 ∷ 0 ∷ 0 ∷ 0 ∷ 0 ∷ 0 ∷ 0 ∷ 0 ∷ 0 ∷ 0 ∷ 0 ∷ 0 ∷ 0 ∷ 0 ∷ 0 ∷ 0 ∷ 2 ∷ 0 ∷ 3
+          ∷ 0 ∷ 4 ∷ []);
+      rest_is_zero = true;
+    }
 unfolding compared misplaced combined spelled most_bytes
 nested_initialisers_runs = refl
 

@@ -144,8 +144,15 @@ loops_data = (37 ∷ 100 ∷ 10 ∷ 0 ∷ [])
 
 loops_runs :
     seen 3 (run loops 100000 0 (start 128 20 loops_data)) ≡
-    record { end = Halted 0; printed = (([] ++ spelled spell.Signed 75) ++ (10 ∷ [])); reads = 0; writes = 0; bytes = (37
-    ∷ 100 ∷ 10 ∷ []); rest_is_zero = true }
+    record {
+      end = Halted 0;
+      printed = (([] ++ spelled spell.Signed 75) ++ (10 ∷ []));
+      reads = 0;
+      writes = 0;
+      bytes = (37
+          ∷ 100 ∷ 10 ∷ []);
+      rest_is_zero = true;
+    }
 unfolding compared misplaced combined spelled most_bytes
 loops_runs = refl
 
@@ -191,8 +198,15 @@ collatz_data = (37 ∷ 100 ∷ 10 ∷ 0 ∷ [])
 
 collatz_runs :
     seen 3 (run collatz 100000 0 (start 128 20 collatz_data)) ≡
-    record { end = Halted 0; printed = (([] ++ spelled spell.Signed 111) ++ (10 ∷ [])); reads = 0; writes = 0; bytes = (37
-    ∷ 100 ∷ 10 ∷ []); rest_is_zero = true }
+    record {
+      end = Halted 0;
+      printed = (([] ++ spelled spell.Signed 111) ++ (10 ∷ []));
+      reads = 0;
+      writes = 0;
+      bytes = (37
+          ∷ 100 ∷ 10 ∷ []);
+      rest_is_zero = true;
+    }
 unfolding compared misplaced combined spelled most_bytes
 collatz_runs = refl
 
@@ -243,11 +257,17 @@ sum_of_arrays_data = (1 ∷ 0 ∷ 0 ∷ 0 ∷ 2 ∷ 0 ∷ 0 ∷ 0 ∷ 3 ∷ 0 �
 
 sum_of_arrays_runs :
     seen 51 (run sum_of_arrays 100000 0 (start 128 68 sum_of_arrays_data)) ≡
-    record { end = Halted 0; printed = (((((((([] ++ spelled spell.Signed 11) ++ (10 ∷ [])) ++ spelled spell.Signed 22) ++
-    (10 ∷ [])) ++ spelled spell.Signed 33) ++ (10 ∷ [])) ++ spelled spell.Signed 44) ++ (10 ∷ [])); reads = 12; writes =
-    4; bytes = (1 ∷ 0 ∷ 0 ∷ 0 ∷ 2 ∷ 0 ∷ 0 ∷ 0 ∷ 3 ∷ 0 ∷ 0 ∷ 0 ∷ 4 ∷ 0 ∷ 0 ∷ 0 ∷ 10 ∷ 0 ∷ 0 ∷ 0 ∷ 20 ∷ 0 ∷ 0 ∷ 0 ∷ 30 ∷ 0 ∷
-    0 ∷ 0 ∷ 40 ∷ 0 ∷ 0 ∷ 0 ∷ 11 ∷ 0 ∷ 0 ∷ 0 ∷ 22 ∷ 0 ∷ 0 ∷ 0 ∷ 33 ∷ 0 ∷ 0 ∷ 0 ∷ 44 ∷ 0 ∷ 0 ∷ 0 ∷ 37 ∷ 100 ∷ 10 ∷ []);
-    rest_is_zero = true }
+    record {
+      end = Halted 0;
+      printed = (((((((([] ++ spelled spell.Signed 11) ++ (10 ∷ [])) ++ spelled spell.Signed 22) ++
+          (10 ∷ [])) ++ spelled spell.Signed 33) ++ (10 ∷ [])) ++ spelled spell.Signed 44) ++ (10 ∷ []));
+      reads = 12;
+      writes =
+          4;
+      bytes = (1 ∷ 0 ∷ 0 ∷ 0 ∷ 2 ∷ 0 ∷ 0 ∷ 0 ∷ 3 ∷ 0 ∷ 0 ∷ 0 ∷ 4 ∷ 0 ∷ 0 ∷ 0 ∷ 10 ∷ 0 ∷ 0 ∷ 0 ∷ 20 ∷ 0 ∷ 0 ∷ 0 ∷ 30 ∷ 0 ∷
+          0 ∷ 0 ∷ 40 ∷ 0 ∷ 0 ∷ 0 ∷ 11 ∷ 0 ∷ 0 ∷ 0 ∷ 22 ∷ 0 ∷ 0 ∷ 0 ∷ 33 ∷ 0 ∷ 0 ∷ 0 ∷ 44 ∷ 0 ∷ 0 ∷ 0 ∷ 37 ∷ 100 ∷ 10 ∷ []);
+      rest_is_zero = true;
+    }
 unfolding compared misplaced combined spelled most_bytes
 sum_of_arrays_runs = refl
 
@@ -291,8 +311,15 @@ empty_loop_data = (0 ∷ 0 ∷ 0 ∷ 0 ∷ 0 ∷ 0 ∷ 0 ∷ 0 ∷ 0 ∷ 0 ∷ 0
 
 empty_loop_runs :
     seen 23 (run empty_loop 100000 0 (start 128 40 empty_loop_data)) ≡
-    record { end = Halted 0; printed = (([] ++ spelled spell.Signed 7) ++ (10 ∷ [])); reads = 1; writes = 1; bytes = (0 ∷
-    0 ∷ 0 ∷ 0 ∷ 0 ∷ 0 ∷ 0 ∷ 0 ∷ 0 ∷ 0 ∷ 0 ∷ 0 ∷ 0 ∷ 0 ∷ 0 ∷ 0 ∷ 7 ∷ 0 ∷ 0 ∷ 0 ∷ 37 ∷ 100 ∷ 10 ∷ []); rest_is_zero = true }
+    record {
+      end = Halted 0;
+      printed = (([] ++ spelled spell.Signed 7) ++ (10 ∷ []));
+      reads = 1;
+      writes = 1;
+      bytes = (0 ∷
+          0 ∷ 0 ∷ 0 ∷ 0 ∷ 0 ∷ 0 ∷ 0 ∷ 0 ∷ 0 ∷ 0 ∷ 0 ∷ 0 ∷ 0 ∷ 0 ∷ 0 ∷ 7 ∷ 0 ∷ 0 ∷ 0 ∷ 37 ∷ 100 ∷ 10 ∷ []);
+      rest_is_zero = true;
+    }
 unfolding compared misplaced combined spelled most_bytes
 empty_loop_runs = refl
 
@@ -340,8 +367,15 @@ switch_falls_data = (37 ∷ 100 ∷ 10 ∷ 0 ∷ [])
 
 switch_falls_runs :
     seen 3 (run switch_falls 100000 0 (start 128 20 switch_falls_data)) ≡
-    record { end = Halted 0; printed = (([] ++ spelled spell.Signed 2211) ++ (10 ∷ [])); reads = 0; writes = 0; bytes =
-    (37 ∷ 100 ∷ 10 ∷ []); rest_is_zero = true }
+    record {
+      end = Halted 0;
+      printed = (([] ++ spelled spell.Signed 2211) ++ (10 ∷ []));
+      reads = 0;
+      writes = 0;
+      bytes =
+          (37 ∷ 100 ∷ 10 ∷ []);
+      rest_is_zero = true;
+    }
 unfolding compared misplaced combined spelled most_bytes
 switch_falls_runs = refl
 
@@ -386,8 +420,15 @@ switch_continues_data = (37 ∷ 100 ∷ 10 ∷ 0 ∷ [])
 
 switch_continues_runs :
     seen 3 (run switch_continues 100000 0 (start 128 20 switch_continues_data)) ≡
-    record { end = Halted 0; printed = (([] ++ spelled spell.Signed 4) ++ (10 ∷ [])); reads = 0; writes = 0; bytes = (37 ∷
-    100 ∷ 10 ∷ []); rest_is_zero = true }
+    record {
+      end = Halted 0;
+      printed = (([] ++ spelled spell.Signed 4) ++ (10 ∷ []));
+      reads = 0;
+      writes = 0;
+      bytes = (37 ∷
+          100 ∷ 10 ∷ []);
+      rest_is_zero = true;
+    }
 unfolding compared misplaced combined spelled most_bytes
 switch_continues_runs = refl
 
@@ -486,9 +527,16 @@ switch_nested_data = []
 
 switch_nested_runs :
     seen 0 (run switch_nested 100000 0 (start 128 16 switch_nested_data)) ≡
-    record { end = Halted 0; printed = ((((((((([] ++ spelled spell.Byte 110) ++ spelled spell.Byte 48) ++ spelled
-    spell.Byte 50) ++ spelled spell.Byte 100) ++ spelled spell.Byte 59) ++ spelled spell.Byte 48) ++ spelled spell.Byte
-    50) ++ spelled spell.Byte 109) ++ spelled spell.Byte 59); reads = 0; writes = 0; bytes = []; rest_is_zero = true }
+    record {
+      end = Halted 0;
+      printed = ((((((((([] ++ spelled spell.Byte 110) ++ spelled spell.Byte 48) ++ spelled
+          spell.Byte 50) ++ spelled spell.Byte 100) ++ spelled spell.Byte 59) ++ spelled spell.Byte 48) ++ spelled spell.Byte
+          50) ++ spelled spell.Byte 109) ++ spelled spell.Byte 59);
+      reads = 0;
+      writes = 0;
+      bytes = [];
+      rest_is_zero = true;
+    }
 unfolding compared misplaced combined spelled most_bytes
 switch_nested_runs = refl
 
@@ -549,9 +597,16 @@ switch_default_middle_data = (37 ∷ 100 ∷ 37 ∷ 100 ∷ 37 ∷ 100 ∷ 37 �
 
 switch_default_middle_runs :
     seen 8 (run switch_default_middle 100000 1 (start 128 28 switch_default_middle_data)) ≡
-    record { end = Halted 0; printed = (((([] ++ spelled spell.Signed 1) ++ spelled spell.Signed 4) ++ spelled
-    spell.Signed 8) ++ spelled spell.Signed 6); reads = 0; writes = 0; bytes = (37 ∷ 100 ∷ 37 ∷ 100 ∷ 37 ∷ 100 ∷ 37 ∷ 100
-    ∷ []); rest_is_zero = true }
+    record {
+      end = Halted 0;
+      printed = (((([] ++ spelled spell.Signed 1) ++ spelled spell.Signed 4) ++ spelled
+          spell.Signed 8) ++ spelled spell.Signed 6);
+      reads = 0;
+      writes = 0;
+      bytes = (37 ∷ 100 ∷ 37 ∷ 100 ∷ 37 ∷ 100 ∷ 37 ∷ 100
+          ∷ []);
+      rest_is_zero = true;
+    }
 unfolding compared misplaced combined spelled most_bytes
 switch_default_middle_runs = refl
 
@@ -611,9 +666,16 @@ switch_signed_data = (37 ∷ 100 ∷ 37 ∷ 100 ∷ 37 ∷ 100 ∷ 37 ∷ 100 �
 
 switch_signed_runs :
     seen 8 (run switch_signed 100000 1 (start 128 28 switch_signed_data)) ≡
-    record { end = Halted 0; printed = (((([] ++ spelled spell.Signed 1) ++ spelled spell.Signed 5) ++ spelled
-    spell.Signed 4) ++ spelled spell.Signed 0); reads = 0; writes = 0; bytes = (37 ∷ 100 ∷ 37 ∷ 100 ∷ 37 ∷ 100 ∷ 37 ∷ 100
-    ∷ []); rest_is_zero = true }
+    record {
+      end = Halted 0;
+      printed = (((([] ++ spelled spell.Signed 1) ++ spelled spell.Signed 5) ++ spelled
+          spell.Signed 4) ++ spelled spell.Signed 0);
+      reads = 0;
+      writes = 0;
+      bytes = (37 ∷ 100 ∷ 37 ∷ 100 ∷ 37 ∷ 100 ∷ 37 ∷ 100
+          ∷ []);
+      rest_is_zero = true;
+    }
 unfolding compared misplaced combined spelled most_bytes
 switch_signed_runs = refl
 
@@ -658,9 +720,16 @@ do_continues_data = []
 
 do_continues_runs :
     seen 0 (run do_continues 100000 0 (start 128 16 do_continues_data)) ≡
-    record { end = Halted 5; printed = ((((((([] ++ spelled spell.Byte 48) ++ spelled spell.Byte 45) ++ spelled spell.Byte
-    49) ++ spelled spell.Byte 45) ++ spelled spell.Byte 51) ++ spelled spell.Byte 52) ++ spelled spell.Byte 45); reads =
-    0; writes = 0; bytes = []; rest_is_zero = true }
+    record {
+      end = Halted 5;
+      printed = ((((((([] ++ spelled spell.Byte 48) ++ spelled spell.Byte 45) ++ spelled spell.Byte
+          49) ++ spelled spell.Byte 45) ++ spelled spell.Byte 51) ++ spelled spell.Byte 52) ++ spelled spell.Byte 45);
+      reads =
+          0;
+      writes = 0;
+      bytes = [];
+      rest_is_zero = true;
+    }
 unfolding compared misplaced combined spelled most_bytes
 do_continues_runs = refl
 
@@ -886,8 +955,15 @@ endless_print_data = []
 
 endless_print_runs :
     seen 0 (run endless_print 3 0 (start 128 16 endless_print_data)) ≡
-    record { end = Going; printed = ((([] ++ spelled spell.Byte 120) ++ spelled spell.Byte 120) ++ spelled spell.Byte
-    120); reads = 0; writes = 0; bytes = []; rest_is_zero = true }
+    record {
+      end = Going;
+      printed = ((([] ++ spelled spell.Byte 120) ++ spelled spell.Byte 120) ++ spelled spell.Byte
+          120);
+      reads = 0;
+      writes = 0;
+      bytes = [];
+      rest_is_zero = true;
+    }
 unfolding compared misplaced combined spelled most_bytes
 endless_print_runs = refl
 
@@ -974,9 +1050,15 @@ endless_inner_data = []
 
 endless_inner_runs :
     seen 0 (run endless_inner 3 0 (start 128 16 endless_inner_data)) ≡
-    record { end = Going; printed = (((((([] ++ spelled spell.Byte 97) ++ spelled spell.Byte 98) ++ spelled spell.Byte 99)
-    ++ spelled spell.Byte 46) ++ spelled spell.Byte 46) ++ spelled spell.Byte 46); reads = 0; writes = 0; bytes = [];
-    rest_is_zero = true }
+    record {
+      end = Going;
+      printed = (((((([] ++ spelled spell.Byte 97) ++ spelled spell.Byte 98) ++ spelled spell.Byte 99)
+          ++ spelled spell.Byte 46) ++ spelled spell.Byte 46) ++ spelled spell.Byte 46);
+      reads = 0;
+      writes = 0;
+      bytes = [];
+      rest_is_zero = true;
+    }
 unfolding compared misplaced combined spelled most_bytes
 endless_inner_runs = refl
 
@@ -1022,9 +1104,15 @@ turns_run_out_data = []
 
 turns_run_out_runs :
     seen 0 (run turns_run_out 3 0 (start 128 16 turns_run_out_data)) ≡
-    record { end = Going; printed = (((((([] ++ spelled spell.Byte 48) ++ spelled spell.Byte 49) ++ spelled spell.Byte 50)
-    ++ spelled spell.Byte 98) ++ spelled spell.Byte 98) ++ spelled spell.Byte 98); reads = 0; writes = 0; bytes = [];
-    rest_is_zero = true }
+    record {
+      end = Going;
+      printed = (((((([] ++ spelled spell.Byte 48) ++ spelled spell.Byte 49) ++ spelled spell.Byte 50)
+          ++ spelled spell.Byte 98) ++ spelled spell.Byte 98) ++ spelled spell.Byte 98);
+      reads = 0;
+      writes = 0;
+      bytes = [];
+      rest_is_zero = true;
+    }
 unfolding compared misplaced combined spelled most_bytes
 turns_run_out_runs = refl
 
@@ -1066,9 +1154,16 @@ tests_of_last_turn_data = []
 
 tests_of_last_turn_runs :
     seen 0 (run tests_of_last_turn 3 0 (start 128 16 tests_of_last_turn_data)) ≡
-    record { end = Going; printed = ((((((([] ++ spelled spell.Byte 116) ++ spelled spell.Byte 98) ++ spelled spell.Byte
-    116) ++ spelled spell.Byte 98) ++ spelled spell.Byte 116) ++ spelled spell.Byte 98) ++ spelled spell.Byte 116); reads
-    = 0; writes = 0; bytes = []; rest_is_zero = true }
+    record {
+      end = Going;
+      printed = ((((((([] ++ spelled spell.Byte 116) ++ spelled spell.Byte 98) ++ spelled spell.Byte
+          116) ++ spelled spell.Byte 98) ++ spelled spell.Byte 116) ++ spelled spell.Byte 98) ++ spelled spell.Byte 116);
+      reads
+          = 0;
+      writes = 0;
+      bytes = [];
+      rest_is_zero = true;
+    }
 unfolding compared misplaced combined spelled most_bytes
 tests_of_last_turn_runs = refl
 
@@ -1113,8 +1208,15 @@ test_ends_program_data = []
 
 test_ends_program_runs :
     seen 0 (run test_ends_program 3 0 (start 128 16 test_ends_program_data)) ≡
-    record { end = Halted 4; printed = ((([] ++ spelled spell.Byte 98) ++ spelled spell.Byte 98) ++ spelled spell.Byte
-    98); reads = 0; writes = 0; bytes = []; rest_is_zero = true }
+    record {
+      end = Halted 4;
+      printed = ((([] ++ spelled spell.Byte 98) ++ spelled spell.Byte 98) ++ spelled spell.Byte
+          98);
+      reads = 0;
+      writes = 0;
+      bytes = [];
+      rest_is_zero = true;
+    }
 unfolding compared misplaced combined spelled most_bytes
 test_ends_program_runs = refl
 
