@@ -4,12 +4,10 @@ use Rattle.dae_base.specs.declared.Place.{Place}
 use Rattle.dae_ir.specs.Code.{Done, Do, If, Loop}
 use Rattle.dae_ir.specs.Form.{Form, form_of, before}
 use Rattle.dae_ir.specs.declared.form.Item.{Item}
-use Rattle.dae_ir.specs.declared.form.Item.TheVariants.{Assign}
-use Rattle.dae_ir.specs.declared.form.Value.{Value}
 use Rattle.dae_ir.specs.declared.form.Operand.{Operand}
 use Rattle.dae_ir.specs.declared.form.Operand.TheVariants.{Variable}
 use Rattle.dae_ir.specs.declared.form.Statement.{Statement, Simple, If', Loop'}
-use Rattle.dae_lower.specs.Lowering.{Made, nothing, only, set, one, checks, ◌⨾◌}
+use Rattle.dae_lower.specs.Lowering.{nothing, only, one, checks, ◌⨾◌}
 use Rattle.dae_maker.specs.Making.{Written, Writes}
 
 pub behind_behind : (a b c : Form) → ((a ⨾ b) ⨾ c) ≡ (a ⨾ (b ⨾ c))
@@ -52,3 +50,15 @@ checked_written f place check last n a b c x z e h i = record {
   given = i.given ∙ ap (λ k. Variable k) (h.next ∙ e);
   next = i.next ∙ ap (λ k. k + 1) (h.next ∙ e);
 }
+
+-- a check where the flag says so, and then an item
+pub checked_item : {Y : Type 0} (f : Bool) (place : Place) (check last : Item) (a b c : Written) (x z : Unit {0}) (y : Y) → Writes (only (checks f place check Done) x a.next) a b x → Writes (only (one place last) z b.next) b c z → Writes (only (checks f place check (one place last)) y a.next) a c y
+checked_item f place check last a b c x z y h i = record {
+  code = i.code ∙ ap (λ k. k ⨾ one place last) h.code ∙ behind_behind a.code (checks f place check Done) (one place last) ∙ ap (λ k. a.code ⨾ k) (checks_then f place check (one place last));
+  given = refl;
+  next = i.next ∙ h.next;
+}
+
+-- an item that gives something
+pub item_given : {Y : Type 0} (place : Place) (item : Item) (a b : Written) (x : Unit {0}) (y : Y) → Writes (only (one place item) x a.next) a b x → Writes (only (one place item) y a.next) a b y
+item_given place item a b x y h = record { code = h.code; given = refl; next = h.next }

@@ -53,8 +53,8 @@ fn is_checked(operator: Operator, y: Operand) -> bool
 impl Maker {
     ghost use Rattle.std.specs.Prelude.{◌+◌, ◌++◌};
     ghost use Rattle.dae_ir.specs.Code.{Done};
-    ghost use Rattle.dae_lower.specs.Lowering.{advanced, checks, fetched, held, narrowed, one, only, operated, put_in, set, variable};
-    ghost use Rattle.dae_maker.specs.Making.{Appends, loaded_next, so_far};
+    ghost use Rattle.dae_lower.specs.Lowering.{advanced, checks, fetched, held, narrowed, one, only, operated, put_in, set, variable, Placed};
+    ghost use Rattle.dae_maker.specs.Making.{Appends, loaded_next, so_far, spot_of};
     ghost use Rattle.dae_maker.specs.Assigned.{among};
 
     /// No statements yet, of a function with so many variables.
@@ -158,6 +158,56 @@ impl Maker {
             LoadKind::I32 => Ok(x),
             LoadKind::I8 | LoadKind::U8 | LoadKind::I16 | LoadKind::U16 => {
                 let z = self.set(place, Value::Extended(kind, x))?;
+                Ok(z)
+            }
+        }
+    }
+
+    /// A variable's value, in a copy where the flag says so.
+    pub fn variable(&mut self, copied: bool, place: Place, v: u32) -> Result<Operand, AllocError>
+        ensures { IfOk result (Appends (variable copied place v) self.old self.new) }
+    {
+        if copied {
+            let x = self.set(place, Value::Same(Operand::Variable(v)))?;
+            Ok(x)
+        } else {
+            Ok(Operand::Variable(v))
+        }
+    }
+
+    /// Stores a word at an address, behind a check where the flag says so.
+    fn store(
+        &mut self,
+        place: Place,
+        kind: LoadKind,
+        checked: bool,
+        x: Operand,
+        y: Operand,
+    ) -> Result<Operand, AllocError>
+        ensures { IfOk result (Appends (put_in place kind (Placed checked x) y) self.old self.new) }
+    {
+        self.item_if(checked, place, Item::Expect(Check::Place(kind.width(), x)))?;
+        self.item(place, Item::Store(kind.width(), x, y))?;
+        Ok(y)
+    }
+
+    /// What is assigned gets a value, which is given.
+    pub fn put_in(
+        &mut self,
+        place: Place,
+        kind: LoadKind,
+        spot: Spot,
+        y: Operand,
+    ) -> Result<Operand, AllocError>
+        ensures { IfOk result (Appends (put_in place kind (spot_of spot) y) self.old self.new) }
+    {
+        match spot {
+            Spot::Variable(v) => {
+                self.item(place, Item::Assign(v, Value::Same(y)))?;
+                Ok(y)
+            }
+            Spot::Object(checked, x) => {
+                let z = self.store(place, kind, checked, x, y)?;
                 Ok(z)
             }
         }
