@@ -1,0 +1,39 @@
+-- What a maker has written so far, and how it goes on.
+use Rattle.std.specs.Prelude.{◌≡◌, ℕ, ◌+◌}
+use Rattle.dae_ir.specs.Form.{Form, form_of}
+use Rattle.dae_maker.specs.declared.maker.Maker.{Maker}
+use Rattle.dae_maker.specs.declared.maker.Spot.{Spot}
+use Rattle.dae_maker.specs.declared.maker.Spot.TheVariants as spot
+use Rattle.dae_base.specs.declared.LoadKind.{LoadKind}
+use Rattle.dae_base.specs.declared.Place.{Place}
+use Rattle.dae_ir.specs.declared.form.Item.TheVariants.{Load}
+use Rattle.dae_ir.specs.declared.form.Operand.{Operand}
+use Rattle.dae_ir.specs.declared.form.Operand.TheVariants.{Variable}
+use Rattle.dae_lower.specs.Lowering.{Made, only, one, ◌⨾◌}
+use Rattle.dae_lower.specs.Lowering as form
+
+-- the form so far, and the next variable
+pub record Written : Type 0 where
+  pub code : Form
+  pub next : ℕ
+
+abbrev pub so_far : Maker → Written
+so_far maker = record { code = form_of maker.statements.items; next = maker.next }
+
+-- what is made stands behind what was written
+pub record Writes {Y : Type 0} (what : Made Y) (old new : Written) (y : Y) : Type 0 where
+  pub code : new.code ≡ old.code ⨾ what.code
+  pub given : y ≡ what.given
+  pub next : new.next ≡ what.next
+
+-- a maker appends what is made from its next variable on
+abbrev pub Appends : {Y : Type 0} → (ℕ → Made Y) → Maker → Maker → Y → Type 0
+Appends made old new y = Writes (made old.next) (so_far old) (so_far new) y
+
+abbrev pub spot_of : Spot → form.Spot
+spot_of (spot.Variable v) = form.Local v
+spot_of (spot.Object checked x) = form.Placed checked x
+
+-- a load into the next variable
+abbrev pub loaded_next : Place → LoadKind → Operand → ℕ → Made Operand
+loaded_next place kind x n = only (one place (Load n kind x)) (Variable n) (n + 1)

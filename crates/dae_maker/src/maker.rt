@@ -1,0 +1,215 @@
+// Statements so far, and single items behind them.
+
+use dae_base::{LoadKind, Place};
+use dae_ir::{Check, Item, Operand, Statement, Value};
+use dae_meaning::Operator;
+use std::alloc::{AllocError, Global};
+
+/// The statements so far, and the next variable that isn't used yet.
+#[derive(Drop)]
+pub struct Maker {
+    statements: Vec<Statement>,
+    next: u32,
+}
+
+/// What is assigned: a variable, or the object at an address, which may have to be checked.
+#[derive(Clone, Copy, PartialEq, Eq, Debug)]
+pub enum Spot {
+    Variable(u32),
+    Object(bool, Operand),
+}
+
+fn divides(operator: Operator) -> bool
+    ensures { result ≡ divides operator }
+{
+    matches!(
+        operator,
+        Operator::DivideSigned
+            | Operator::DivideUnsigned
+            | Operator::RemainderSigned
+            | Operator::RemainderUnsigned
+    )
+}
+
+ghost use Rattle.std.specs.Prelude.{◌≡◌, ◌&&◌, IfOk};
+ghost use Rattle.dae_program.specs.Expressions.{divides};
+ghost use Rattle.dae_lower.specs.Lowering.{may_be_zero};
+
+fn may_be_zero(x: Operand) -> bool
+    ensures { result ≡ may_be_zero x }
+{
+    match x {
+        Operand::Variable(_) => true,
+        Operand::Number(number) => number == 0,
+    }
+}
+
+fn is_checked(operator: Operator, y: Operand) -> bool
+    ensures { result ≡ (divides operator && may_be_zero y) }
+{
+    divides(operator) && may_be_zero(y)
+}
+
+impl Maker {
+    ghost use Rattle.std.specs.Prelude.{◌+◌, ◌++◌};
+    ghost use Rattle.dae_ir.specs.Code.{Done};
+    ghost use Rattle.dae_lower.specs.Lowering.{advanced, checks, fetched, held, narrowed, one, only, operated, put_in, set, variable, Placed};
+    ghost use Rattle.dae_maker.specs.Making.{Appends, loaded_next, so_far, spot_of};
+    ghost use Rattle.dae_maker.specs.Assigned.{among};
+
+    /// No statements yet, of a function with so many variables.
+    pub fn new(alloc: Global, variables: u32) -> Maker
+        ensures { so_far result ≡ record { code = Done; next = variables } }
+    {
+        Maker {
+            statements: Vec::new(alloc),
+            next: variables,
+        }
+    }
+
+    /// The next variable that isn't used yet.
+    pub fn next(&self) -> u32
+        ensures { result ≡ self.now.next }
+    {
+        self.next
+    }
+
+    /// Appends an item.
+    pub fn item(&mut self, place: Place, item: Item) -> Result<(), AllocError>
+        ensures { IfOk result (Appends (only (one place item) tt) self.old self.new) }
+    {
+        self.statements.push(Statement::Simple(place, item))?;
+        Ok(())
+    }
+
+    /// Appends an item where the flag says so.
+    fn item_if(&mut self, flag: bool, place: Place, item: Item) -> Result<(), AllocError>
+        ensures { IfOk result (Appends (only (checks flag place item Done) tt) self.old self.new) }
+    {
+        if flag {
+            self.item(place, item)?;
+        }
+        Ok(())
+    }
+
+    /// Sets the next variable.
+    pub fn set(&mut self, place: Place, value: Value) -> Result<Operand, AllocError>
+        ensures { IfOk result (Appends (set place value) self.old self.new) }
+    {
+        let variable = self.next;
+        let next = variable.checked_add(1).ok_or(AllocError)?;
+        self.item(place, Item::Assign(variable, value))?;
+        self.next = next;
+        Ok(Operand::Variable(variable))
+    }
+
+    /// Loads the next variable.
+    fn load(&mut self, place: Place, kind: LoadKind, x: Operand) -> Result<Operand, AllocError>
+        ensures { IfOk result (Appends (loaded_next place kind x) self.old self.new) }
+    {
+        let variable = self.next;
+        let next = variable.checked_add(1).ok_or(AllocError)?;
+        self.item(place, Item::Load(variable, kind, x))?;
+        self.next = next;
+        Ok(Operand::Variable(variable))
+    }
+
+    /// An operation, behind a check where the second operand may be a zero that it divides by.
+    pub fn operated(
+        &mut self,
+        place: Place,
+        operator: Operator,
+        x: Operand,
+        y: Operand,
+    ) -> Result<Operand, AllocError>
+        ensures { IfOk result (Appends (operated place operator x y) self.old self.new) }
+    {
+        let flag = is_checked(operator, y);
+        self.item_if(flag, place, Item::Expect(Check::Zero(y)))?;
+        let z = self.set(place, Value::Binary(operator, x, y))?;
+        Ok(z)
+    }
+
+    /// The value of the object at an address, behind a check where the flag says so.
+    pub fn fetched(
+        &mut self,
+        place: Place,
+        kind: LoadKind,
+        checked: bool,
+        x: Operand,
+    ) -> Result<Operand, AllocError>
+        ensures { IfOk result (Appends (fetched place kind checked x) self.old self.new) }
+    {
+        self.item_if(checked, place, Item::Expect(Check::Place(kind.width(), x)))?;
+        let z = self.load(place, kind, x)?;
+        Ok(z)
+    }
+
+    /// A word of a narrower type.
+    pub fn narrowed(
+        &mut self,
+        place: Place,
+        kind: LoadKind,
+        x: Operand,
+    ) -> Result<Operand, AllocError>
+        ensures { IfOk result (Appends (narrowed place kind x) self.old self.new) }
+    {
+        match kind {
+            LoadKind::I32 => Ok(x),
+            LoadKind::I8 | LoadKind::U8 | LoadKind::I16 | LoadKind::U16 => {
+                let z = self.set(place, Value::Extended(kind, x))?;
+                Ok(z)
+            }
+        }
+    }
+
+    /// A variable's value, in a copy where the flag says so.
+    pub fn variable(&mut self, copied: bool, place: Place, v: u32) -> Result<Operand, AllocError>
+        ensures { IfOk result (Appends (variable copied place v) self.old self.new) }
+    {
+        if copied {
+            let x = self.set(place, Value::Same(Operand::Variable(v)))?;
+            Ok(x)
+        } else {
+            Ok(Operand::Variable(v))
+        }
+    }
+
+    /// Stores a word at an address, behind a check where the flag says so.
+    fn store(
+        &mut self,
+        place: Place,
+        kind: LoadKind,
+        checked: bool,
+        x: Operand,
+        y: Operand,
+    ) -> Result<Operand, AllocError>
+        ensures { IfOk result (Appends (put_in place kind (Placed checked x) y) self.old self.new) }
+    {
+        self.item_if(checked, place, Item::Expect(Check::Place(kind.width(), x)))?;
+        self.item(place, Item::Store(kind.width(), x, y))?;
+        Ok(y)
+    }
+
+    /// What is assigned gets a value, which is given.
+    pub fn put_in(
+        &mut self,
+        place: Place,
+        kind: LoadKind,
+        spot: Spot,
+        y: Operand,
+    ) -> Result<Operand, AllocError>
+        ensures { IfOk result (Appends (put_in place kind (spot_of spot) y) self.old self.new) }
+    {
+        match spot {
+            Spot::Variable(v) => {
+                self.item(place, Item::Assign(v, Value::Same(y)))?;
+                Ok(y)
+            }
+            Spot::Object(checked, x) => {
+                let z = self.store(place, kind, checked, x, y)?;
+                Ok(z)
+            }
+        }
+    }
+}

@@ -1,0 +1,15 @@
+mod Numbers
+mod LawfulScope
+mod LawfulPlaced
+mod LawfulPrograms
+mod Above
+mod AboveExpressions
+mod Order
+mod Ends
+mod Straying
+mod Seen
+mod ExpressionsExamples
+mod ObjectsExamples
+mod StatementsExamples
+mod CallsExamples
+mod PrintingExamples

@@ -1,0 +1,17 @@
+pub mod Trees
+pub mod Outcomes
+pub mod Expressions
+pub mod Printing
+pub mod Initialising
+pub mod Switches
+pub mod Statements
+pub mod Calls
+pub mod Views
+pub mod Resolved
+pub mod Programs
+pub mod Turns
+pub mod Scope
+pub mod Placed
+pub mod Lawful
+pub mod Promise
+pub mod Wanted

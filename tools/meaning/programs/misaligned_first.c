@@ -1,0 +1,1 @@
+int main(void){short*p=(short*)1;return *p;}

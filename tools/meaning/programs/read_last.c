@@ -1,0 +1,1 @@
+int main(void){return *(char*)127+*(short*)126;}

@@ -1,0 +1,1 @@
+int g;int main(void){g=1;return 1;}

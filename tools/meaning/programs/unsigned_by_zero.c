@@ -1,0 +1,1 @@
+unsigned z;int main(void){unsigned x=5;return x%z;}

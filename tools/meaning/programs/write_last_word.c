@@ -1,0 +1,1 @@
+int main(void){*(int*)124=1;return 0;}

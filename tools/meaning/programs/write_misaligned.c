@@ -1,0 +1,1 @@
+int main(void){*(int*)18=1;return 0;}

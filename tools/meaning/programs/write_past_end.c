@@ -1,0 +1,1 @@
+int main(void){*(int*)128=1;return 0;}
