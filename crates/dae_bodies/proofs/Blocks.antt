@@ -2,11 +2,11 @@
 use Rattle.std.proofs.Common.{◌≡◌, ◌≢◌, List, Option, Some, None, sym, ap, ◌∙◌, arith}
 use Rattle.std.specs.Prelude.{slice_get}
 use Rattle.dae_base.specs.declared.Place.{Place}
-use Rattle.dae_syntax.specs.declared.statements.Block.{Block}
-use Rattle.dae_syntax.specs.declared.statements.Statement.{Statement, roll-Statement, roll-out-Statement}
-use Rattle.dae_syntax.specs.declared.statements.Statement.TheVariants as statement
-use Rattle.dae_syntax.specs.Trees as tree
-use Rattle.dae_syntax.specs.FileViews.{view_statement}
+use Rattle.dae_tree.specs.declared.statements.Block.{Block}
+use Rattle.dae_tree.specs.declared.statements.Statement.{Statement, roll-Statement, roll-out-Statement}
+use Rattle.dae_tree.specs.declared.statements.Statement.TheVariants as statement
+use Rattle.dae_tree.specs.Trees as tree
+use Rattle.dae_tree.specs.FileViews.{view_statement}
 use Rattle.dae_parts.specs.declared.values.Read.{Read}
 use Rattle.dae_parts.specs.Parts.{ShowsStatement}
 

@@ -1,16 +1,16 @@
 ghost use Rattle.std.specs.Prelude.{◌≡◌, ◌≢◌, List, [], ◌∷◌, Option, Some, None, IfOk};
 ghost use Rattle.dae_base.specs.declared.Place.{Place};
-ghost use Rattle.dae_syntax.specs.Trees as tree;
-ghost use Rattle.dae_syntax.specs.FileViews.{view_statement};
-ghost use Rattle.dae_syntax.specs.declared.statements.Block.{Block};
-ghost use Rattle.dae_syntax.specs.declared.statements.Statement.TheVariants as statements;
-ghost use Rattle.dae_syntax.specs.Depth.{place_of_specifiers};
+ghost use Rattle.dae_tree.specs.Trees as tree;
+ghost use Rattle.dae_tree.specs.FileViews.{view_statement};
+ghost use Rattle.dae_tree.specs.declared.statements.Block.{Block};
+ghost use Rattle.dae_tree.specs.declared.statements.Statement.TheVariants as statements;
+ghost use Rattle.dae_tree.specs.Depth.{place_of_specifiers};
 ghost use Rattle.dae_grammar.specs.Machine.{initialisers_onto, onto};
 ghost use Rattle.dae_parts.specs.Parts.{ShowsOperand, ShowsSpecified, ShowsDeclared, ShowsInitialiser, ShowsInitialisers, ShowsItems, ShowsDeclaration, ShowsDeclarations, ShowsStatement, ShowsExternal, ShowsExternals};
 
 use dae_base::Place;
 use dae_parts::{Declared, Depths, Operand, Read, Specified, beside, longer, over};
-use dae_syntax::{Block, Declaration, External, Initialiser, Item, Statement};
+use dae_tree::{Block, Declaration, External, Initialiser, Item, Statement};
 use std::alloc::{AllocError, Global};
 
 /// An expression as an initialiser.

@@ -1,15 +1,15 @@
 ghost use Rattle.std.specs.Prelude.{◌≡◌, List, [], ◌∷◌, Option, Some, None, IfOk};
-ghost use Rattle.dae_syntax.specs.Trees as tree;
+ghost use Rattle.dae_tree.specs.Trees as tree;
 ghost use Rattle.dae_grammar.specs.Frames as frames;
 ghost use Rattle.dae_grammar.specs.Machine.{for_of, onto, statements_onto};
-ghost use Rattle.dae_syntax.specs.Views.{view_optional};
+ghost use Rattle.dae_tree.specs.Views.{view_optional};
 ghost use Rattle.dae_grammar.specs.FirstPlaces.{firsts_optional};
 ghost use Rattle.dae_parts.specs.Shown.{Shows};
 ghost use Rattle.dae_parts.specs.Parts.{ShowsOperand, ShowsOptional, ShowsDeclarations, ShowsStatement, ShowsStatements, ShowsLoop};
 
 use dae_base::Place;
 use dae_parts::{Loop, Operand, Read, beside, flat, longer, over};
-use dae_syntax::{Block, Declaration, Expression, Header, Statement, Test};
+use dae_tree::{Block, Declaration, Expression, Heading, Statement, Test};
 use std::alloc::{AllocError, Global};
 
 /// A statement more.
@@ -248,7 +248,7 @@ pub fn for_statement(
         Some((start, rest)) => {
             let (test, last) = rest;
             let (step, body) = last;
-            let header = Header {
+            let header = Heading {
                 start,
                 after_start: first,
                 test,

@@ -1,15 +1,15 @@
 -- What is due for a text that is not run.
 use Rattle.std.proofs.Common.{◌≡◌, ℕ, ◌≤◌, ◌⊎◌, inl, inr, List, [], length, map, refl, ap, sym, ◌∙◌}
 use Rattle.std.specs.Prelude.{◌≢◌, Option, Err}
-use Rattle.dae_token.specs.declared.faults.LexError.{LexError}
-use Rattle.dae_token.specs.declared.faults.LexError.TheVariants as lex_errors
-use Rattle.dae_token.specs.declared.tokens.Room.{Room}
-use Rattle.dae_token.specs.Reading.{Reading}
-use Rattle.dae_token.specs.Tokens.{tokens_of, Answers}
-use Rattle.dae_syntax.specs.Trees.{External}
+use Rattle.dae_tree.specs.declared.faults.LexError.{LexError}
+use Rattle.dae_tree.specs.declared.faults.LexError.TheVariants as lex_errors
+use Rattle.dae_tree.specs.declared.tokens.Room.{Room}
+use Rattle.dae_tree.specs.Reading.{Reading}
+use Rattle.dae_tree.specs.Tokens.{tokens_of, Answers}
+use Rattle.dae_tree.specs.Trees.{External}
 use Rattle.dae_parse.specs.Parsed.{IsWithinLimits}
 use Rattle.dae_straight_reader.specs.Spelled.{mark_word, IsSpelled, IsTreeSpelled}
-use Rattle.dae_tree.specs.declared.StraightProgram.{StraightProgram}
+use Rattle.dae_straight.specs.declared.StraightProgram.{StraightProgram}
 use Rattle.dae_cli.specs.Notes.{memory_line}
 use Rattle.dae_cli.specs.Refusals.{lex_line}
 use Rattle.dae_cli.specs.Answers.{Answer, answer, whole_room, SpellsOnly, Gives, DueOfText, due_no_tokens, due_memory_to_read}

@@ -15,16 +15,16 @@ use Rattle.dae_machine.specs.Machine.{Setup, State}
 use Rattle.dae_machine.specs.Opened.{opened, setup_of}
 use Rattle.dae_machine.specs.Schedules.{word_of}
 use Rattle.dae_machine.specs.declared.End.TheVariants.{Ended, Trapped}
-use Rattle.dae_tree.specs.declared.StraightProgram.{StraightProgram}
-use Rattle.dae_tree.specs.Meaning as c
-use Rattle.dae_tree.specs.Straight.{meaning}
+use Rattle.dae_straight.specs.declared.StraightProgram.{StraightProgram}
+use Rattle.dae_straight.specs.Meaning as c
+use Rattle.dae_straight.specs.Straight.{meaning}
 use Rattle.dae_straight_compiler.specs.Compiled.{IsCompiled}
-use Rattle.dae_token.specs.declared.faults.LexError.{LexError}
-use Rattle.dae_token.specs.declared.faults.LexError.TheVariants as lex_errors
-use Rattle.dae_token.specs.declared.tokens.Room.{Room}
-use Rattle.dae_token.specs.Reading.{Reading}
-use Rattle.dae_token.specs.Tokens.{tokens_of}
-use Rattle.dae_syntax.specs.Trees.{External}
+use Rattle.dae_tree.specs.declared.faults.LexError.{LexError}
+use Rattle.dae_tree.specs.declared.faults.LexError.TheVariants as lex_errors
+use Rattle.dae_tree.specs.declared.tokens.Room.{Room}
+use Rattle.dae_tree.specs.Reading.{Reading}
+use Rattle.dae_tree.specs.Tokens.{tokens_of}
+use Rattle.dae_tree.specs.Trees.{External}
 use Rattle.dae_parse.specs.declared.error.ParseError.{ParseError}
 use Rattle.dae_parse.specs.declared.error.ParseError.TheVariants as tree_errors
 use Rattle.dae_parse.specs.Parsed.{IsRefused, IsWithinLimits}

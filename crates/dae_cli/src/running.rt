@@ -1,7 +1,7 @@
 ghost use Rattle.std.specs.Prelude.{◌≡◌, ℕ, ◌≤◌, ◌⊎◌, List, [], Option, IfOk, IfErr, string_bytes};
 ghost use Rattle.dae_io.specs.Faults.{Rose, fetch_of};
-ghost use Rattle.dae_tree.specs.Form.{IsStraight};
-ghost use Rattle.dae_syntax.specs.Trees.{External};
+ghost use Rattle.dae_straight.specs.Form.{IsStraight};
+ghost use Rattle.dae_tree.specs.Trees.{External};
 ghost use Rattle.dae_parse.specs.Parsed.{IsRefused, IsWithinLimits};
 ghost use Rattle.dae_cli.specs.Notes.{memory_line};
 ghost use Rattle.dae_cli.specs.Answers.{Answer, answer, IsRead, DueOfProgram, DueOfText, DueOfFile, Gives};
@@ -14,10 +14,10 @@ use dae_io::{FetchError, Shelf, Sink};
 use dae_lex::tokens;
 use dae_machine::Schedule;
 use dae_parse::{ParseError, parse};
+use dae_straight::StraightProgram;
 use dae_straight_compiler::compile;
 use dae_straight_reader::{ReadError, read};
-use dae_token::{LexError, Room, Tokens};
-use dae_tree::StraightProgram;
+use dae_tree::{LexError, Room, Tokens};
 use std::alloc::{AllocError, Global};
 
 /// One byte more than a source may have.

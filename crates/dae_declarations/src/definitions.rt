@@ -1,6 +1,6 @@
 ghost use Rattle.std.specs.Prelude.{◌≡◌, ◌≢◌, ◌∷◌, List, [], length, ltb, if◌then◌else◌, Option, Some, None, IfOk};
-ghost use Rattle.dae_syntax.specs.Trees.{Specifiers, Declarator, Declaration, Statements, External, Statement as StatementTree, Block, Defined};
-ghost use Rattle.dae_syntax.specs.Names.{Names};
+ghost use Rattle.dae_tree.specs.Trees.{Specifiers, Declarator, Declaration, Statements, External, Statement as StatementTree, Block, Defined};
+ghost use Rattle.dae_tree.specs.Names.{Names};
 ghost use Rattle.dae_grammar.specs.Frames as plain;
 ghost use Rattle.dae_grammar.specs.Frames.{Frame as PlainFrame};
 ghost use Rattle.dae_grammar.specs.Machine.{statement_given};
@@ -17,7 +17,7 @@ use dae_base::Place;
 use dae_bodies::{definition, with_external};
 use dae_frames::{Before, Doing, Frame, Machine};
 use dae_parts::{Declared, Read, Specified};
-use dae_syntax::Statement;
+use dae_tree::Statement;
 use std::alloc::AllocError;
 
 /// A definition may have at most so many tokens.

@@ -1,5 +1,5 @@
 ghost use Rattle.std.specs.Prelude.{List, IfOk};
-ghost use Rattle.dae_syntax.specs.Trees.{Expression, Specifiers, Declarator as DeclaratorTree};
+ghost use Rattle.dae_tree.specs.Trees.{Expression, Specifiers, Declarator as DeclaratorTree};
 ghost use Rattle.dae_grammar.specs.Frames as plain;
 ghost use Rattle.dae_grammar.specs.Frames.{Frame as PlainFrame};
 ghost use Rattle.dae_grammar.specs.Machine.{expression_given, declarator_given};
@@ -14,8 +14,7 @@ use dae_nodes::{
     with_valued_enumerator,
 };
 use dae_parts::{Declared, Operand, Read, Specified};
-use dae_syntax::{Declarator, Enumerator, Member, Name};
-use dae_token::Sign;
+use dae_tree::{Declarator, Enumerator, Member, Name, Sign};
 use std::alloc::AllocError;
 
 /// Behind the size of an array (C90 6.5.4.2).

@@ -1,6 +1,6 @@
 ghost use Rattle.std.specs.Prelude.{◌∷◌, List, IfOk};
-ghost use Rattle.dae_syntax.specs.Words.{with_whole};
-ghost use Rattle.dae_syntax.specs.Trees.{Specifier, StructureBody, EnumerationBody, no_members as no_members_tree, no_enumerators as no_enumerators_tree};
+ghost use Rattle.dae_tree.specs.Words.{with_whole};
+ghost use Rattle.dae_tree.specs.Trees.{Specifier, StructureBody, EnumerationBody, no_members as no_members_tree, no_enumerators as no_enumerators_tree};
 ghost use Rattle.dae_grammar.specs.Frames as plain;
 ghost use Rattle.dae_grammar.specs.Frames.{Frame as PlainFrame};
 ghost use Rattle.dae_grammar.specs.Machine.{tag_taken, tag_followed, tag_alone, body_opened, members_followed, enumerator_named, enumerator_followed, entry_followed, comma_followed, members_onto, enumerators_onto};
@@ -17,8 +17,7 @@ use dae_nodes::{
     with_structure_body,
 };
 use dae_parts::{Read, Specified, has_members, no_enumerators, no_members};
-use dae_syntax::{Enumerator, Member, Name};
-use dae_token::Sign;
+use dae_tree::{Enumerator, Member, Name, Sign};
 use std::alloc::{AllocError, Global};
 
 /// Behind `struct` or `enum` (C90 6.5.2).

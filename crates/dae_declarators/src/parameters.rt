@@ -1,6 +1,6 @@
 ghost use Rattle.std.specs.Prelude.{◌≡◌, ◌∷◌, List, Some, IfOk};
-ghost use Rattle.dae_syntax.specs.Names.{after_parameters};
-ghost use Rattle.dae_syntax.specs.Trees.{Specifiers, Declarator, no_parameters};
+ghost use Rattle.dae_tree.specs.Names.{after_parameters};
+ghost use Rattle.dae_tree.specs.Trees.{Specifiers, Declarator, no_parameters};
 ghost use Rattle.dae_grammar.specs.Frames as plain;
 ghost use Rattle.dae_grammar.specs.Frames.{Frame as PlainFrame};
 ghost use Rattle.dae_grammar.specs.Machine.{declarator_given, parameters_onto, closed};
@@ -14,7 +14,7 @@ use dae_front::Seen;
 use dae_grammar::parameters_add_names;
 use dae_nodes::{function, no_specifiers, with_parameter};
 use dae_parts::{Declared, ParameterList, Specified};
-use dae_token::Sign;
+use dae_tree::Sign;
 use std::alloc::AllocError;
 
 /// Behind the declarator of a parameter, whose name is one of the scope of the parameters (C90 6.5.4.3 and 6.1.2.1).

@@ -1,6 +1,6 @@
 ghost use Rattle.std.specs.Prelude.{◌≡◌, ◌∷◌, List, IfOk};
-ghost use Rattle.dae_syntax.specs.Marks.{word_mark, name as name_mark};
-ghost use Rattle.dae_syntax.specs.Trees.{Specifiers, Specifier};
+ghost use Rattle.dae_tree.specs.Marks.{word_mark, name as name_mark};
+ghost use Rattle.dae_tree.specs.Trees.{Specifiers, Specifier};
 ghost use Rattle.dae_grammar.specs.Frames as plain;
 ghost use Rattle.dae_grammar.specs.Frames.{Frame as PlainFrame};
 ghost use Rattle.dae_grammar.specs.Machine.{specified, specifiers_end, specifiers_given, word_taken as taken};
@@ -15,8 +15,7 @@ use dae_frames::{Body, Doing, Frame, Machine, Manner, Open};
 use dae_front::Seen;
 use dae_nodes::{with_type_name, with_word};
 use dae_parts::{ParameterList, Read, Specified, no_declarators};
-use dae_syntax::{Member, Name};
-use dae_token::{Keyword, Kind};
+use dae_tree::{Keyword, Kind, Member, Name};
 use std::alloc::AllocError;
 
 /// Behind specifiers, which others may follow (C90 6.5).

@@ -1,6 +1,6 @@
 ghost use Rattle.std.specs.Prelude.{◌≡◌, ◌∷◌, List, IfOk};
-ghost use Rattle.dae_syntax.specs.Marks.{sign as sign_of, part, comma};
-ghost use Rattle.dae_syntax.specs.Trees.{Expression as Tree};
+ghost use Rattle.dae_tree.specs.Marks.{sign as sign_of, part, comma};
+ghost use Rattle.dae_tree.specs.Trees.{Expression as Tree};
 ghost use Rattle.dae_grammar.specs.Frames.{Frame as PlainFrame};
 ghost use Rattle.dae_grammar.specs.Machine.{operated_at, operate as operate_of, named_member as member_named};
 ghost use Rattle.dae_front.specs.Fronts.{behind};
@@ -13,8 +13,7 @@ use dae_base::Place;
 use dae_frames::{Doing, Frame, Machine};
 use dae_nodes::{member, postfix, under};
 use dae_parts::Operand;
-use dae_syntax::MemberOperator;
-use dae_token::{Kind, Sign};
+use dae_tree::{Kind, MemberOperator, Sign};
 use std::alloc::AllocError;
 
 /// Behind an operand, which an operator may follow (C90 6.3.2 and 6.3.5 to 6.3.17).

@@ -2,15 +2,15 @@
 -- tokens that are left.
 use Rattle.std.specs.Prelude.{ℕ, List, Option, Bool}
 use Rattle.dae_base.specs.declared.Place.{Place}
-use Rattle.dae_syntax.specs.declared.expressions.Name.{Name}
-use Rattle.dae_syntax.specs.declared.operators.BinaryOperator.{BinaryOperator}
-use Rattle.dae_syntax.specs.declared.operators.AssignmentOperator.{AssignmentOperator}
-use Rattle.dae_syntax.specs.declared.operators.PrefixOperator.{PrefixOperator}
-use Rattle.dae_syntax.specs.Marks.{Mark}
-use Rattle.dae_syntax.specs.Names.{Names}
-use Rattle.dae_syntax.specs.Words.{Seen}
-use Rattle.dae_syntax.specs.Grammar.{Manner}
-use Rattle.dae_syntax.specs.Trees.{Expression, Specifiers, Specifier, Declarators, Declarator, Initialiser, Item, Declaration, Statement, External}
+use Rattle.dae_tree.specs.declared.expressions.Name.{Name}
+use Rattle.dae_tree.specs.declared.operators.BinaryOperator.{BinaryOperator}
+use Rattle.dae_tree.specs.declared.operators.AssignmentOperator.{AssignmentOperator}
+use Rattle.dae_tree.specs.declared.operators.PrefixOperator.{PrefixOperator}
+use Rattle.dae_tree.specs.Marks.{Mark}
+use Rattle.dae_tree.specs.Names.{Names}
+use Rattle.dae_tree.specs.Words.{Seen}
+use Rattle.dae_tree.specs.Grammar.{Manner}
+use Rattle.dae_tree.specs.Trees.{Expression, Specifiers, Specifier, Declarators, Declarator, Initialiser, Item, Declaration, Statement, External}
 
 -- the body of a structure or enumeration: its first word, tag and brace, and the specifiers before it, the last first
 pub record Body : Type 0 where

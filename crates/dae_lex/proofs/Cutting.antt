@@ -1,11 +1,11 @@
 -- A text cut piece by piece.
 use Rattle.std.proofs.Common.{◌≡◌, ℕ, zero, suc, pred, ◌+◌, ◌-◌, ◌<◌, ◌≤◌, List, [], ◌∷◌, map, take, drop, get_or, length, refl, ap, sym, ◌∙◌, arith, add-zero}
 use Rattle.std.proofs.lemmas.List.{get_or-drop, drop_all, drop-drop, length-drop, length-map}
-use Rattle.dae_token.specs.declared.pieces.Spot.{Spot}
-use Rattle.dae_token.specs.declared.pieces.Form.{Form}
-use Rattle.dae_token.specs.Lines.{Char, bytes_of, spots_of, start_of}
-use Rattle.dae_token.specs.Forms.{form}
-use Rattle.dae_token.specs.Pieces.{Cut, cut, piece}
+use Rattle.dae_tree.specs.declared.pieces.Spot.{Spot}
+use Rattle.dae_tree.specs.declared.pieces.Form.{Form}
+use Rattle.dae_tree.specs.Lines.{Char, bytes_of, spots_of, start_of}
+use Rattle.dae_tree.specs.Forms.{form}
+use Rattle.dae_tree.specs.Pieces.{Cut, cut, piece}
 use Rattle.dae_lex.specs.Cuts.{chars}
 
 drop_map : {A B : Type 0} (f : A → B) (n : ℕ) (xs : List A) → map f (drop n xs) ≡ drop n (map f xs)

@@ -8,10 +8,10 @@ use Rattle.std.proofs.lemmas.Map.Keys.{IsDistinct-push}
 use Rattle.std.proofs.lemmas.Cmp.{nat_list_eq_equiv}
 use Rattle.std.proofs.lemmas.List.Elements.{All-from_recursion}
 use Rattle.dae_base.specs.declared.Place.{Place}
-use Rattle.dae_token.specs.declared.tokens.Token.{Token}
-use Rattle.dae_token.specs.Replacing.{Meaning, keyword, sign, name, constant, literal, Read}
-use Rattle.dae_token.specs.Reading.{IsSpan, IsNumbered, AreInOrder, IsReading}
-use Rattle.dae_token.specs.Tokens.{joined, names_with, names_after, literals_with, literals_after, kind_of, numbered}
+use Rattle.dae_tree.specs.declared.tokens.Token.{Token}
+use Rattle.dae_tree.specs.Replacing.{Meaning, keyword, sign, name, constant, literal, Read}
+use Rattle.dae_tree.specs.Reading.{IsSpan, IsNumbered, AreInOrder, IsReading}
+use Rattle.dae_tree.specs.Tokens.{joined, names_with, names_after, literals_with, literals_after, kind_of, numbered}
 use Rattle.dae_lex.specs.Whole.{span, SpansFrom}
 use Rattle.dae_lex.proofs.Spans.{joined_steps}
 

@@ -1,14 +1,14 @@
 ghost use Rattle.std.specs.Prelude.{◌≡◌, ℕ, ◌≤◌, ◌<◌, ◌+◌, ◌^◌, ◌++◌, [], ◌∷◌, length, drop, IfOk, OnOk, IfErr, MatchOption, map, All};
-ghost use Rattle.dae_token.specs.Forms.{IsWithin};
-ghost use Rattle.dae_token.specs.Pieces.{cut, piece};
+ghost use Rattle.dae_tree.specs.Forms.{IsWithin};
+ghost use Rattle.dae_tree.specs.Pieces.{cut, piece};
 ghost use Rattle.dae_lex.specs.Cuts.{cut_of, chars, Rise, FollowEachOther, SpotsFrom, PlacesFrom};
 ghost use Rattle.dae_base.specs.declared.Place.{Place as Place_};
-ghost use Rattle.dae_token.specs.declared.faults.LexError.TheVariants.{Memory};
+ghost use Rattle.dae_tree.specs.declared.faults.LexError.TheVariants.{Memory};
 
 use crate::lines::Joined;
 use dae_base::Place;
 use dae_scan::form_at;
-use dae_token::{Form, LexError, PieceKind};
+use dae_tree::{Form, LexError, PieceKind};
 use std::alloc::Global;
 
 /// What a piece is, its bytes with lines joined, and where it stands in the text.

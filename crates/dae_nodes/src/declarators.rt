@@ -1,7 +1,7 @@
 ghost use Rattle.std.specs.Prelude.{◌≡◌, true, List, [], ◌∷◌, Option, Some, None, IfOk, ◌||◌, if◌then◌else◌};
-ghost use Rattle.dae_syntax.specs.Trees as tree;
-ghost use Rattle.dae_syntax.specs.Names.{Names, is_bare, after_parameters};
-ghost use Rattle.dae_syntax.specs.Grammar.{void_alone};
+ghost use Rattle.dae_tree.specs.Trees as tree;
+ghost use Rattle.dae_tree.specs.Names.{Names, is_bare, after_parameters};
+ghost use Rattle.dae_tree.specs.Grammar.{void_alone};
 ghost use Rattle.dae_grammar.specs.Frames as frames;
 ghost use Rattle.dae_grammar.specs.Machine.{closed_by, parameters_onto};
 ghost use Rattle.dae_front.specs.Shown.{bound_all};
@@ -10,7 +10,7 @@ ghost use Rattle.dae_parts.specs.Parts.{ShowsOperand, ShowsSpecified, ShowsDecla
 use dae_base::Place;
 use dae_front::Binding;
 use dae_parts::{Declared, Operand, ParameterList, Read, Specified, beside, flat, longer, over};
-use dae_syntax::{Declarator, Name, Parameter};
+use dae_tree::{Declarator, Name, Parameter};
 use std::alloc::{AllocError, Global};
 
 /// No part of a declarator.

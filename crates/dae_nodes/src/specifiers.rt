@@ -1,16 +1,15 @@
 ghost use Rattle.std.specs.Prelude.{◌≡◌, List, [], ◌∷◌, Option, Some, None, IfOk, ◌||◌};
-ghost use Rattle.dae_syntax.specs.Trees as tree;
-ghost use Rattle.dae_syntax.specs.Names.{is_typedef_specifier, is_typedef_word};
-ghost use Rattle.dae_syntax.specs.Depth.{place_of_specifier};
-ghost use Rattle.dae_syntax.specs.Grammar.{void_word};
+ghost use Rattle.dae_tree.specs.Trees as tree;
+ghost use Rattle.dae_tree.specs.Names.{is_typedef_specifier, is_typedef_word};
+ghost use Rattle.dae_tree.specs.Depth.{place_of_specifier};
+ghost use Rattle.dae_tree.specs.Grammar.{void_word};
 ghost use Rattle.dae_grammar.specs.Frames as frames;
 ghost use Rattle.dae_grammar.specs.Machine.{specifiers_onto, members_onto, enumerators_onto, declarators_onto};
 ghost use Rattle.dae_parts.specs.Parts.{ShowsOperand, ShowsSpecifier, ShowsSpecified, ShowsDeclared, ShowsDeclarators, ShowsMembers, ShowsEnumerators};
 
 use dae_base::Place;
 use dae_parts::{Declared, Operand, Read, Specified, beside, flat, longer, over};
-use dae_syntax::{Declarator, Enumerator, Member, Name, Specifier};
-use dae_token::Keyword;
+use dae_tree::{Declarator, Enumerator, Keyword, Member, Name, Specifier};
 use std::alloc::{AllocError, Global};
 
 /// No specifiers.

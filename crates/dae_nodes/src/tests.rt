@@ -4,8 +4,7 @@ use dae_front::Binding;
 use dae_parts::{
     Declared, GREATEST_DEPTH, Operand, ParameterList, Specified, no_declarators, no_members,
 };
-use dae_syntax::{BinaryOperator, Name};
-use dae_token::Keyword;
+use dae_tree::{BinaryOperator, Keyword, Name};
 use std::alloc::{AllocError, Global};
 use std::test::Fail;
 

@@ -1,5 +1,5 @@
 ghost use Rattle.std.specs.Prelude.{◌≡◌, ◌∷◌, List, length, IfOk};
-ghost use Rattle.dae_syntax.specs.Trees.{Expression, Specifiers, Declarator, Initialiser as InitialiserTree, Declaration as DeclarationTree, Statement as StatementTree};
+ghost use Rattle.dae_tree.specs.Trees.{Expression, Specifiers, Declarator, Initialiser as InitialiserTree, Declaration as DeclarationTree, Statement as StatementTree};
 ghost use Rattle.dae_grammar.specs.Frames as plain;
 ghost use Rattle.dae_grammar.specs.Frames.{Frame as PlainFrame, state};
 ghost use Rattle.dae_grammar.specs.Machine.{given, specifiers_taken, declarator_taken, initialiser_taken, declaration_taken, statement_taken};
@@ -27,7 +27,7 @@ use dae_statements::{
     case_body, default_body, do_body, else_branch, for_body, in_case, in_evaluation, in_loop_test,
     in_return, in_start, in_statements, in_step, in_test, switch_body, then_branch, while_body,
 };
-use dae_syntax::{Declaration, Initialiser, Statement};
+use dae_tree::{Declaration, Initialiser, Statement};
 use std::alloc::AllocError;
 
 /// Behind an expression, for what awaits it.

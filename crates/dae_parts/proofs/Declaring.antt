@@ -3,10 +3,10 @@ use Rattle.std.proofs.Common.{◌≡◌, Bool, true, false, ◌||◌, List, [], 
 use Rattle.std.specs.Prelude.{slice_get, if◌then◌else◌}
 use Rattle.std.specs.Option.{unwrap_or}
 use Rattle.dae_base.specs.declared.Place.{Place}
-use Rattle.dae_syntax.specs.declared.expressions.Declarator.{Declarator}
-use Rattle.dae_syntax.specs.Trees as tree
-use Rattle.dae_syntax.specs.Depth.{place_before, place_of_specifiers}
-use Rattle.dae_syntax.specs.Grammar.{void_word, void_alone}
+use Rattle.dae_tree.specs.declared.expressions.Declarator.{Declarator}
+use Rattle.dae_tree.specs.Trees as tree
+use Rattle.dae_tree.specs.Depth.{place_before, place_of_specifiers}
+use Rattle.dae_tree.specs.Grammar.{void_word, void_alone}
 use Rattle.dae_grammar.specs.FirstPlaces.{firsts_declarator}
 use Rattle.dae_grammar.specs.Frames as frames
 use Rattle.dae_grammar.specs.Machine.{parameters_onto}

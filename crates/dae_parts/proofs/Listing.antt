@@ -3,20 +3,20 @@ use Rattle.std.proofs.Common.{◌≡◌, ℕ, List, [], ◌∷◌, ◌++◌, map
 use Rattle.std.specs.Prelude.{Vec, Result, Ok, Err, IfOk}
 use Rattle.std.specs.declared.alloc.Global.{Global}
 use Rattle.dae_base.specs.declared.Place.{Place}
-use Rattle.dae_syntax.specs.declared.expressions.Name.{Name}
-use Rattle.dae_syntax.specs.declared.expressions.Expression.{Expression}
-use Rattle.dae_syntax.specs.declared.expressions.Member.{Member}
-use Rattle.dae_syntax.specs.declared.expressions.Enumerator.{Enumerator}
-use Rattle.dae_syntax.specs.declared.expressions.Enumerator.TheVariants as enumerator
-use Rattle.dae_syntax.specs.declared.expressions.Declarator.{Declarator}
-use Rattle.dae_syntax.specs.declared.expressions.Parameter.{Parameter}
-use Rattle.dae_syntax.specs.declared.statements.Initialiser.{Initialiser}
-use Rattle.dae_syntax.specs.declared.statements.Item.{Item}
-use Rattle.dae_syntax.specs.declared.statements.Declaration.{Declaration}
-use Rattle.dae_syntax.specs.declared.statements.Statement.{Statement}
-use Rattle.dae_syntax.specs.Trees as tree
-use Rattle.dae_syntax.specs.Views.{view, views, views_members, views_enumerators, view_declarator, views_declarators, views_parameters, views_specifiers}
-use Rattle.dae_syntax.specs.FileViews.{view_initialiser, views_initialisers, view_statement, views_statements, view_item, view_items, view_declaration, view_declarations}
+use Rattle.dae_tree.specs.declared.expressions.Name.{Name}
+use Rattle.dae_tree.specs.declared.expressions.Expression.{Expression}
+use Rattle.dae_tree.specs.declared.expressions.Member.{Member}
+use Rattle.dae_tree.specs.declared.expressions.Enumerator.{Enumerator}
+use Rattle.dae_tree.specs.declared.expressions.Enumerator.TheVariants as enumerator
+use Rattle.dae_tree.specs.declared.expressions.Declarator.{Declarator}
+use Rattle.dae_tree.specs.declared.expressions.Parameter.{Parameter}
+use Rattle.dae_tree.specs.declared.statements.Initialiser.{Initialiser}
+use Rattle.dae_tree.specs.declared.statements.Item.{Item}
+use Rattle.dae_tree.specs.declared.statements.Declaration.{Declaration}
+use Rattle.dae_tree.specs.declared.statements.Statement.{Statement}
+use Rattle.dae_tree.specs.Trees as tree
+use Rattle.dae_tree.specs.Views.{view, views, views_members, views_enumerators, view_declarator, views_declarators, views_parameters, views_specifiers}
+use Rattle.dae_tree.specs.FileViews.{view_initialiser, views_initialisers, view_statement, views_statements, view_item, view_items, view_declaration, view_declarations}
 use Rattle.dae_grammar.specs.FirstPlaces.{Places, or_else, both, firsts, firsts_all, firsts_members, firsts_enumerators, firsts_declarator, firsts_declarators, firsts_parameters, firsts_specifiers, firsts_initialiser, firsts_initialisers, firsts_statement, firsts_statements, firsts_value, firsts_items, firsts_declaration, firsts_declarations}
 use Rattle.dae_grammar.specs.Frames as frames
 use Rattle.dae_grammar.specs.Machine.{onto, arguments_onto, members_onto, enumerator_before, enumerators_onto, declarators_onto, parameters_onto, initialisers_onto, statements_onto}

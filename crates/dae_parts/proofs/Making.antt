@@ -1,8 +1,8 @@
 -- Nodes that are records or have many parts, made of equal parts.
 use Rattle.std.proofs.Common.{◌≡◌, List, Option, Some, None}
 use Rattle.dae_base.specs.declared.Place.{Place}
-use Rattle.dae_syntax.specs.declared.expressions.Name.{Name}
-use Rattle.dae_syntax.specs.Trees as tree
+use Rattle.dae_tree.specs.declared.expressions.Name.{Name}
+use Rattle.dae_tree.specs.Trees as tree
 use Rattle.dae_grammar.specs.Frames as frames
 
 abbrev pub plain_item : tree.Declarator → tree.Item

@@ -3,28 +3,28 @@ use Rattle.std.proofs.Common.{◌≡◌, refl, sym, ap, ◌∙◌}
 use Rattle.std.specs.Prelude.{Box, Vec, Option, Bool}
 use Rattle.std.specs.declared.alloc.Global.{Global}
 use Rattle.dae_base.specs.declared.Place.{Place}
-use Rattle.dae_syntax.specs.declared.expressions.Name.{Name}
-use Rattle.dae_syntax.specs.declared.expressions.Expression.{Expression}
-use Rattle.dae_syntax.specs.declared.expressions.Expression.TheVariants as code
-use Rattle.dae_syntax.specs.declared.expressions.TypeName.{TypeName}
-use Rattle.dae_syntax.specs.declared.expressions.Specifier.{Specifier}
-use Rattle.dae_syntax.specs.declared.expressions.Specifier.TheVariants as specifier
-use Rattle.dae_syntax.specs.declared.expressions.Member.{Member}
-use Rattle.dae_syntax.specs.declared.expressions.Enumerator.{Enumerator}
-use Rattle.dae_syntax.specs.declared.expressions.Declarator.{Declarator}
-use Rattle.dae_syntax.specs.declared.expressions.Declarator.TheVariants as declarator
-use Rattle.dae_syntax.specs.declared.expressions.Parameter.{Parameter}
-use Rattle.dae_syntax.specs.declared.expressions.Declarator.TheBlock.{Row_of-Expression, end_of-Expression, more_of-Expression, items-the_row-Expression, items_hidden-the_row-Expression-2, Row_of-Specifier, end_of-Specifier, more_of-Specifier, items-the_row-Specifier, items_hidden-the_row-Specifier-0, items_shown-the_row-Specifier-0, items_shown-the_row-Declarator-3, Row_of-Member, end_of-Member, more_of-Member, items-the_row-Member, items_hidden-the_row-Member-4, Row_of-Enumerator, end_of-Enumerator, more_of-Enumerator, items-the_row-Enumerator, items_hidden-the_row-Enumerator-5, Row_of-Declarator, end_of-Declarator, more_of-Declarator, items-the_row-Declarator, Row_of-Parameter, end_of-Parameter, more_of-Parameter, items-the_row-Parameter, items_hidden-the_row-Parameter-1}
-use Rattle.dae_syntax.specs.declared.statements.Initialiser.{Initialiser, Row_of-Initialiser, end_of-Initialiser, more_of-Initialiser}
-use Rattle.dae_syntax.specs.declared.statements.Initialiser.TheVariants as initialiser
-use Rattle.dae_syntax.specs.declared.statements.Initialiser.TheBlock.{items-the_row-Initialiser, items_hidden-the_row-Initialiser-0}
-use Rattle.dae_syntax.specs.declared.statements.Block.{Block}
-use Rattle.dae_syntax.specs.declared.statements.Statement.{Statement, Row_of-Statement, end_of-Statement, more_of-Statement}
-use Rattle.dae_syntax.specs.declared.statements.Statement.TheVariants as statement
-use Rattle.dae_syntax.specs.declared.statements.Statement.TheBlock.{items-the_row-Statement, items_hidden-the_row-Statement-0}
-use Rattle.dae_syntax.specs.Trees as tree
-use Rattle.dae_syntax.specs.Views.{view, views, view_expressions, view_specifier, view_specifiers, views_specifiers, view_members, views_members, view_enumerator, view_enumerators, views_enumerators, view_declarator, view_declarators, views_declarators, view_parameters, views_parameters}
-use Rattle.dae_syntax.specs.FileViews.{view_initialiser, view_initialisers, views_initialisers, view_declarations, view_statement, view_statements, views_statements}
+use Rattle.dae_tree.specs.declared.expressions.Name.{Name}
+use Rattle.dae_tree.specs.declared.expressions.Expression.{Expression}
+use Rattle.dae_tree.specs.declared.expressions.Expression.TheVariants as code
+use Rattle.dae_tree.specs.declared.expressions.TypeName.{TypeName}
+use Rattle.dae_tree.specs.declared.expressions.Specifier.{Specifier}
+use Rattle.dae_tree.specs.declared.expressions.Specifier.TheVariants as specifier
+use Rattle.dae_tree.specs.declared.expressions.Member.{Member}
+use Rattle.dae_tree.specs.declared.expressions.Enumerator.{Enumerator}
+use Rattle.dae_tree.specs.declared.expressions.Declarator.{Declarator}
+use Rattle.dae_tree.specs.declared.expressions.Declarator.TheVariants as declarator
+use Rattle.dae_tree.specs.declared.expressions.Parameter.{Parameter}
+use Rattle.dae_tree.specs.declared.expressions.Declarator.TheBlock.{Row_of-Expression, end_of-Expression, more_of-Expression, items-the_row-Expression, items_hidden-the_row-Expression-2, Row_of-Specifier, end_of-Specifier, more_of-Specifier, items-the_row-Specifier, items_hidden-the_row-Specifier-0, items_shown-the_row-Specifier-0, items_shown-the_row-Declarator-3, Row_of-Member, end_of-Member, more_of-Member, items-the_row-Member, items_hidden-the_row-Member-4, Row_of-Enumerator, end_of-Enumerator, more_of-Enumerator, items-the_row-Enumerator, items_hidden-the_row-Enumerator-5, Row_of-Declarator, end_of-Declarator, more_of-Declarator, items-the_row-Declarator, Row_of-Parameter, end_of-Parameter, more_of-Parameter, items-the_row-Parameter, items_hidden-the_row-Parameter-1}
+use Rattle.dae_tree.specs.declared.statements.Initialiser.{Initialiser, Row_of-Initialiser, end_of-Initialiser, more_of-Initialiser}
+use Rattle.dae_tree.specs.declared.statements.Initialiser.TheVariants as initialiser
+use Rattle.dae_tree.specs.declared.statements.Initialiser.TheBlock.{items-the_row-Initialiser, items_hidden-the_row-Initialiser-0}
+use Rattle.dae_tree.specs.declared.statements.Block.{Block}
+use Rattle.dae_tree.specs.declared.statements.Statement.{Statement, Row_of-Statement, end_of-Statement, more_of-Statement}
+use Rattle.dae_tree.specs.declared.statements.Statement.TheVariants as statement
+use Rattle.dae_tree.specs.declared.statements.Statement.TheBlock.{items-the_row-Statement, items_hidden-the_row-Statement-0}
+use Rattle.dae_tree.specs.Trees as tree
+use Rattle.dae_tree.specs.Views.{view, views, view_expressions, view_specifier, view_specifiers, views_specifiers, view_members, views_members, view_enumerator, view_enumerators, views_enumerators, view_declarator, view_declarators, views_declarators, view_parameters, views_parameters}
+use Rattle.dae_tree.specs.FileViews.{view_initialiser, view_initialisers, views_initialisers, view_declarations, view_statement, view_statements, views_statements}
 use Rattle.dae_parts.proofs.Showing.{ap_two, ap_three}
 
 row_expressions : (n : _) (row : Row_of-Expression n) → view_expressions row ≡ views (items-the_row-Expression n row)

@@ -4,13 +4,13 @@ use Rattle.std.specs.Prelude.{Vec}
 use Rattle.std.specs.Option.{unwrap_or}
 use Rattle.std.specs.declared.alloc.Global.{Global}
 use Rattle.dae_base.specs.declared.Place.{Place}
-use Rattle.dae_token.specs.declared.words.Keyword.TheVariants as keywords
-use Rattle.dae_syntax.specs.declared.expressions.Specifier.{Specifier}
-use Rattle.dae_syntax.specs.Trees as tree
-use Rattle.dae_syntax.specs.Depth.{place_of_specifier, place_of_specifiers}
-use Rattle.dae_syntax.specs.Names.{has_typedef, is_typedef_specifier}
-use Rattle.dae_syntax.specs.Grammar.{void_word}
-use Rattle.dae_syntax.specs.Views.{view_specifier, views_specifiers}
+use Rattle.dae_tree.specs.declared.words.Keyword.TheVariants as keywords
+use Rattle.dae_tree.specs.declared.expressions.Specifier.{Specifier}
+use Rattle.dae_tree.specs.Trees as tree
+use Rattle.dae_tree.specs.Depth.{place_of_specifier, place_of_specifiers}
+use Rattle.dae_tree.specs.Names.{has_typedef, is_typedef_specifier}
+use Rattle.dae_tree.specs.Grammar.{void_word}
+use Rattle.dae_tree.specs.Views.{view_specifier, views_specifiers}
 use Rattle.dae_grammar.specs.FirstPlaces.{Places, or_else, both, firsts_specifier, firsts_specifiers}
 use Rattle.dae_grammar.specs.Machine.{specifiers_onto}
 use Rattle.dae_parts.specs.declared.values.Read.{Read}

@@ -2,25 +2,25 @@
 use Rattle.std.specs.Prelude.{◌≡◌, ℕ, Bool, true, false, List, [], ◌∷◌, Option, Some, None, Vec}
 use Rattle.std.specs.declared.alloc.Global.{Global}
 use Rattle.dae_base.specs.declared.Place.{Place}
-use Rattle.dae_syntax.specs.declared.expressions.Name.{Name}
-use Rattle.dae_syntax.specs.declared.expressions.Expression.{Expression}
-use Rattle.dae_syntax.specs.declared.expressions.Specifier.{Specifier}
-use Rattle.dae_syntax.specs.declared.expressions.Member.{Member}
-use Rattle.dae_syntax.specs.declared.expressions.Enumerator.{Enumerator}
-use Rattle.dae_syntax.specs.declared.expressions.Enumerator.TheVariants as enumerator
-use Rattle.dae_syntax.specs.declared.expressions.Declarator.{Declarator}
-use Rattle.dae_syntax.specs.declared.expressions.Parameter.{Parameter}
-use Rattle.dae_syntax.specs.declared.statements.Initialiser.{Initialiser}
-use Rattle.dae_syntax.specs.declared.statements.Item.{Item}
-use Rattle.dae_syntax.specs.declared.statements.Declaration.{Declaration}
-use Rattle.dae_syntax.specs.declared.statements.Statement.{Statement}
-use Rattle.dae_syntax.specs.declared.statements.External.{External}
-use Rattle.dae_syntax.specs.Trees as tree
-use Rattle.dae_syntax.specs.Views.{view, views_specifiers, view_specifier, view_declarator, views_declarators}
-use Rattle.dae_syntax.specs.FileViews.{view_initialiser, view_item, view_declaration, view_statement, view_external}
-use Rattle.dae_syntax.specs.Depth.{place_of, place_of_specifier}
-use Rattle.dae_syntax.specs.Names.{Names, declared_name, has_typedef, is_bare, with_parameters}
-use Rattle.dae_syntax.specs.Grammar.{level, void_word, void_alone}
+use Rattle.dae_tree.specs.declared.expressions.Name.{Name}
+use Rattle.dae_tree.specs.declared.expressions.Expression.{Expression}
+use Rattle.dae_tree.specs.declared.expressions.Specifier.{Specifier}
+use Rattle.dae_tree.specs.declared.expressions.Member.{Member}
+use Rattle.dae_tree.specs.declared.expressions.Enumerator.{Enumerator}
+use Rattle.dae_tree.specs.declared.expressions.Enumerator.TheVariants as enumerator
+use Rattle.dae_tree.specs.declared.expressions.Declarator.{Declarator}
+use Rattle.dae_tree.specs.declared.expressions.Parameter.{Parameter}
+use Rattle.dae_tree.specs.declared.statements.Initialiser.{Initialiser}
+use Rattle.dae_tree.specs.declared.statements.Item.{Item}
+use Rattle.dae_tree.specs.declared.statements.Declaration.{Declaration}
+use Rattle.dae_tree.specs.declared.statements.Statement.{Statement}
+use Rattle.dae_tree.specs.declared.statements.External.{External}
+use Rattle.dae_tree.specs.Trees as tree
+use Rattle.dae_tree.specs.Views.{view, views_specifiers, view_specifier, view_declarator, views_declarators}
+use Rattle.dae_tree.specs.FileViews.{view_initialiser, view_item, view_declaration, view_statement, view_external}
+use Rattle.dae_tree.specs.Depth.{place_of, place_of_specifier}
+use Rattle.dae_tree.specs.Names.{Names, declared_name, has_typedef, is_bare, with_parameters}
+use Rattle.dae_tree.specs.Grammar.{level, void_word, void_alone}
 use Rattle.dae_grammar.specs.FirstPlaces.{Places, nowhere, both, firsts, firsts_specifiers, firsts_specifier, firsts_declarators, firsts_declarator, firsts_initialiser, firsts_value, firsts_declaration, firsts_statement, firsts_external}
 use Rattle.dae_grammar.specs.Frames as frames
 use Rattle.dae_grammar.specs.Machine.{parameters_onto}

@@ -1,10 +1,10 @@
 ghost use Rattle.std.specs.Prelude.{◌≡◌, List, [], Option, Some, None};
-ghost use Rattle.dae_syntax.specs.Trees as tree;
+ghost use Rattle.dae_tree.specs.Trees as tree;
 ghost use Rattle.dae_grammar.specs.Frames as frames;
 ghost use Rattle.dae_parts.specs.Parts.{is_some_list, ShowsArguments, ShowsMembers, ShowsEnumerators, ShowsDeclarators, ShowsInitialisers, ShowsItems, ShowsDeclarations, ShowsStatements, ShowsExternals};
 
 use crate::values::{Read, flat};
-use dae_syntax::{
+use dae_tree::{
     Declaration, Declarator, Enumerator, Expression, External, Initialiser, Item, Member, Statement,
 };
 use std::alloc::Global;

@@ -5,7 +5,7 @@ ghost use Rattle.dae_parts.specs.Shown.{Holds, IsFrom, IsPair, IsLonger};
 use crate::depths::Depths;
 use dae_base::Place;
 use dae_front::Binding;
-use dae_syntax::{Declarator, Expression, Parameter, Specifier};
+use dae_tree::{Declarator, Expression, Parameter, Specifier};
 use std::alloc::{AllocError, Global};
 
 /// A part that was read: its tree, where no node in it is too deep, and the places of its first nodes.

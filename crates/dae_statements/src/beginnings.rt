@@ -1,6 +1,6 @@
 ghost use Rattle.std.specs.Prelude.{◌≡◌, ◌∷◌, List, Option, Some, IfOk};
-ghost use Rattle.dae_syntax.specs.Marks.{word_mark};
-ghost use Rattle.dae_syntax.specs.Trees.{Expression, Statement as StatementTree};
+ghost use Rattle.dae_tree.specs.Marks.{word_mark};
+ghost use Rattle.dae_tree.specs.Trees.{Expression, Statement as StatementTree};
 ghost use Rattle.dae_grammar.specs.Frames as plain;
 ghost use Rattle.dae_grammar.specs.Frames.{Frame as PlainFrame};
 ghost use Rattle.dae_grammar.specs.Machine.{step_at, block_begun, block_followed, stated, started, loop_tested, stepped, returned, evaluation_begun};
@@ -17,8 +17,7 @@ use dae_frames::{Doing, Frame, Head, Inside, Machine};
 use dae_front::{Seen, begins_specifiers};
 use dae_nodes::no_specifiers;
 use dae_parts::{Loop, Operand, Read, no_declarations, no_statements};
-use dae_syntax::Statement;
-use dae_token::{Keyword, Sign};
+use dae_tree::{Keyword, Sign, Statement};
 use std::alloc::AllocError;
 
 /// In a block, before a declaration or the first statement (C90 6.6.2).

@@ -1,5 +1,5 @@
 ghost use Rattle.std.specs.Prelude.{◌∷◌, List, Option, IfOk};
-ghost use Rattle.dae_syntax.specs.Trees.{Expression, Statement as StatementTree};
+ghost use Rattle.dae_tree.specs.Trees.{Expression, Statement as StatementTree};
 ghost use Rattle.dae_grammar.specs.Frames as plain;
 ghost use Rattle.dae_grammar.specs.Frames.{Frame as PlainFrame};
 ghost use Rattle.dae_grammar.specs.Machine.{statement_given};
@@ -14,8 +14,7 @@ use dae_bodies::{
 };
 use dae_frames::{Doing, Frame, Head, Inside, Machine};
 use dae_parts::{Loop, Operand, Read};
-use dae_syntax::Statement;
-use dae_token::Keyword;
+use dae_tree::{Keyword, Statement};
 use std::alloc::AllocError;
 
 /// Behind the first branch of an `if` (C90 6.6.4.1).

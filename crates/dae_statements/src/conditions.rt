@@ -1,5 +1,5 @@
 ghost use Rattle.std.specs.Prelude.{List, Option, IfOk};
-ghost use Rattle.dae_syntax.specs.Trees.{Expression};
+ghost use Rattle.dae_tree.specs.Trees.{Expression};
 ghost use Rattle.dae_grammar.specs.Frames as plain;
 ghost use Rattle.dae_grammar.specs.Frames.{Frame as PlainFrame};
 ghost use Rattle.dae_grammar.specs.Machine.{expression_given};
@@ -11,7 +11,7 @@ use dae_base::Place;
 use dae_bodies::{evaluation, return_statement};
 use dae_frames::{Doing, Frame, Head, Machine};
 use dae_parts::{Loop, Operand};
-use dae_token::Sign;
+use dae_tree::Sign;
 use std::alloc::AllocError;
 
 /// Behind the expression of a statement (C90 6.6.3).

@@ -7,13 +7,13 @@ use Rattle.dae_base.specs.declared.Depths.{Depths}
 use Rattle.dae_encode.specs.declared.Inst.{Inst}
 use Rattle.dae_encode.specs.Spelling.{encoded}
 use Rattle.dae_image.specs.Contents.{Contents, Fits}
-use Rattle.dae_tree.specs.declared.Factor.{Factor}
-use Rattle.dae_tree.specs.declared.Factor.TheVariants.{Constant, Object}
-use Rattle.dae_tree.specs.declared.Statement.{Statement}
-use Rattle.dae_tree.specs.declared.Statement.TheVariants.{Assign, PrintLine as Line}
-use Rattle.dae_tree.specs.declared.StraightProgram.{StraightProgram}
-use Rattle.dae_tree.specs.Form.{IsFactorOf, IsStraight, statement_words, statements_words, declarations_words, head_words, tail_words, program_words}
-use Rattle.dae_tree.specs.Straight.{literals, data_of}
+use Rattle.dae_straight.specs.declared.Factor.{Factor}
+use Rattle.dae_straight.specs.declared.Factor.TheVariants.{Constant, Object}
+use Rattle.dae_straight.specs.declared.Statement.{Statement}
+use Rattle.dae_straight.specs.declared.Statement.TheVariants.{Assign, PrintLine as Line}
+use Rattle.dae_straight.specs.declared.StraightProgram.{StraightProgram}
+use Rattle.dae_straight.specs.Form.{IsFactorOf, IsStraight, statement_words, statements_words, declarations_words, head_words, tail_words, program_words}
+use Rattle.dae_straight.specs.Straight.{literals, data_of}
 use Rattle.dae_straight_compiler.specs.declared.Step.{Step}
 use Rattle.dae_straight_compiler.specs.declared.Step.TheVariants.{Clear, Begin, Times, AddTerm, SubtractTerm}
 use Rattle.dae_straight_compiler.specs.declared.Ending.{Ending}

@@ -2,16 +2,16 @@
 use Rattle.std.proofs.Common.{◌≡◌, ℕ, zero, suc, ◌+◌, ◌*◌, ◌≤◌, Bool, true, false, List, [], ◌∷◌, ◌++◌, length, refl, ap, sym, ◌∙◌, append_assoc, append-nil, length-append, add-zero, zero-add, arith}
 use Rattle.std.specs.Prelude.{replicate, nat_lt, if◌then◌else◌}
 use Rattle.dae_encode.specs.declared.Inst.{Inst}
-use Rattle.dae_tree.specs.declared.BinaryOperator.{BinaryOperator}
-use Rattle.dae_tree.specs.declared.BinaryOperator.TheVariants.{Add, Subtract, Multiply}
-use Rattle.dae_tree.specs.declared.Factor.{Factor}
-use Rattle.dae_tree.specs.declared.Factor.TheVariants.{Constant, Object}
-use Rattle.dae_tree.specs.declared.Link.{Link}
-use Rattle.dae_tree.specs.declared.Sum.{Sum}
-use Rattle.dae_tree.specs.declared.Statement.{Statement}
-use Rattle.dae_tree.specs.declared.Statement.TheVariants.{Assign, PrintLine as Line}
-use Rattle.dae_tree.specs.declared.StraightProgram.{StraightProgram}
-use Rattle.dae_tree.specs.Form.{link_words, sum_words, statement_words, statements_words, declarations_words, head_words, tail_words, program_words}
+use Rattle.dae_straight.specs.declared.BinaryOperator.{BinaryOperator}
+use Rattle.dae_straight.specs.declared.BinaryOperator.TheVariants.{Add, Subtract, Multiply}
+use Rattle.dae_straight.specs.declared.Factor.{Factor}
+use Rattle.dae_straight.specs.declared.Factor.TheVariants.{Constant, Object}
+use Rattle.dae_straight.specs.declared.Link.{Link}
+use Rattle.dae_straight.specs.declared.Sum.{Sum}
+use Rattle.dae_straight.specs.declared.Statement.{Statement}
+use Rattle.dae_straight.specs.declared.Statement.TheVariants.{Assign, PrintLine as Line}
+use Rattle.dae_straight.specs.declared.StraightProgram.{StraightProgram}
+use Rattle.dae_straight.specs.Form.{link_words, sum_words, statement_words, statements_words, declarations_words, head_words, tail_words, program_words}
 use Rattle.dae_straight_compiler.specs.declared.Step.{Step}
 use Rattle.dae_straight_compiler.specs.declared.Step.TheVariants.{Clear, Begin, Times, AddTerm, SubtractTerm}
 use Rattle.dae_straight_compiler.specs.declared.Ending.{Ending}

@@ -1,6 +1,6 @@
 ghost use Rattle.std.specs.Prelude.{◌≡◌, ℕ, ◌^◌, ◌<◌, ◌++◌, List, length, replicate, IfOk, OnOk};
-ghost use Rattle.dae_tree.specs.Form.{IsStraight};
-ghost use Rattle.dae_tree.specs.Straight.{literals, data_of};
+ghost use Rattle.dae_straight.specs.Form.{IsStraight};
+ghost use Rattle.dae_straight.specs.Straight.{literals, data_of};
 ghost use Rattle.dae_straight_compiler.specs.Compiled.{IsCompiled};
 
 use crate::budget::budget;
@@ -8,7 +8,7 @@ use crate::{code, order, plan};
 use dae_base::Items;
 use dae_image::Image;
 use dae_machine::Pick;
-use dae_tree::{Statement, StraightProgram};
+use dae_straight::{Statement, StraightProgram};
 use std::alloc::{AllocError, Global};
 
 /// A compiled program: its image, and the canonical order of its steps.

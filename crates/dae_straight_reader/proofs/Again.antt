@@ -4,16 +4,16 @@ use Rattle.std.specs.List.{AllByRecursion, list_all}
 use Rattle.std.proofs.lemmas.Bool.Decides.{nat_tests}
 use Rattle.std.proofs.lemmas.Str.Parse.{digit_at}
 use Rattle.std.proofs.lemmas.Fmt.{decimal_is_IsNumeral}
-use Rattle.dae_tree.specs.declared.BinaryOperator.{BinaryOperator}
-use Rattle.dae_tree.specs.declared.BinaryOperator.TheVariants.{Add, Subtract, Multiply}
-use Rattle.dae_tree.specs.declared.Factor.{Factor}
-use Rattle.dae_tree.specs.declared.Factor.TheVariants.{Constant, Object}
-use Rattle.dae_tree.specs.declared.Link.{Link}
-use Rattle.dae_tree.specs.declared.Sum.{Sum}
-use Rattle.dae_tree.specs.declared.Statement.{Statement}
-use Rattle.dae_tree.specs.declared.Statement.TheVariants.{Assign, PrintLine}
-use Rattle.dae_tree.specs.Text.{is_letter}
-use Rattle.dae_tree.specs.Form.{same_bytes, is_among, begins_name, is_free_name, are_distinct, reserved_names, name_of, operator_word, factor_word, link_words, sum_words, statement_words, statements_words, declarations_words, IsFactorOf, IsSumOf, IsStatementOf}
+use Rattle.dae_straight.specs.declared.BinaryOperator.{BinaryOperator}
+use Rattle.dae_straight.specs.declared.BinaryOperator.TheVariants.{Add, Subtract, Multiply}
+use Rattle.dae_straight.specs.declared.Factor.{Factor}
+use Rattle.dae_straight.specs.declared.Factor.TheVariants.{Constant, Object}
+use Rattle.dae_straight.specs.declared.Link.{Link}
+use Rattle.dae_straight.specs.declared.Sum.{Sum}
+use Rattle.dae_straight.specs.declared.Statement.{Statement}
+use Rattle.dae_straight.specs.declared.Statement.TheVariants.{Assign, PrintLine}
+use Rattle.dae_straight.specs.Text.{is_letter}
+use Rattle.dae_straight.specs.Form.{same_bytes, is_among, begins_name, is_free_name, are_distinct, reserved_names, name_of, operator_word, factor_word, link_words, sum_words, statement_words, statements_words, declarations_words, IsFactorOf, IsSumOf, IsStatementOf}
 use Rattle.dae_straight_reader.specs.Reading.{◌>>=◌, Read, or_else, after, after_all, begins, constant_of, place_from, factor_of, factor_at, operator_of, operator_at, link_of, links_from, sum_of, sum_at, print_front, print_end, print_at, assignment_at, statement_at, statements_from, is_new, names_from}
 use Rattle.dae_straight_reader.proofs.Numbers.{same_decides, same_self, both, constant_is, constant_none}
 use Rattle.dae_straight_reader.proofs.SoundFiles.{neither_of, not_true, same_symmetric}

@@ -1,10 +1,10 @@
 -- What is spelled in a file is read.
 use Rattle.std.proofs.Common.{◌≡◌, ℕ, ◌<◌, ◌≤◌, cond, List, [], ◌∷◌, ◌++◌, length, Option, Some, None, refl, ap, ◌∙◌, arith, length-append}
-use Rattle.dae_token.specs.Reading.{Reading}
-use Rattle.dae_tree.specs.declared.Statement.{Statement}
-use Rattle.dae_tree.specs.declared.Statement.TheVariants.{Assign, PrintLine}
-use Rattle.dae_tree.specs.declared.StraightProgram.{StraightProgram}
-use Rattle.dae_tree.specs.Form.{head_words, tail_words, statement_words, statements_words, program_words, IsStraight}
+use Rattle.dae_tree.specs.Reading.{Reading}
+use Rattle.dae_straight.specs.declared.Statement.{Statement}
+use Rattle.dae_straight.specs.declared.Statement.TheVariants.{Assign, PrintLine}
+use Rattle.dae_straight.specs.declared.StraightProgram.{StraightProgram}
+use Rattle.dae_straight.specs.Form.{head_words, tail_words, statement_words, statements_words, program_words, IsStraight}
 use Rattle.dae_straight_reader.specs.Reading.{◌>>=◌, after_all, statements_from, body_at, names_from, program, at_end, program_at, allowed, program_of}
 use Rattle.dae_straight_reader.specs.Spelled.{words_of, IsSpelled}
 use Rattle.dae_straight_reader.proofs.Files.{few_pass, length_words}

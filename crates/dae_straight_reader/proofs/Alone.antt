@@ -3,8 +3,8 @@ use Rattle.std.proofs.Common.{◌≡◌, ℕ, suc, ◌≤◌, Bool, List, [], �
 use Rattle.std.specs.List.{IsDistinct}
 use Rattle.std.specs.Str.{bytes_eq}
 use Rattle.dae_base.specs.declared.Place.{Place}
-use Rattle.dae_token.specs.declared.tokens.Token.{Token}
-use Rattle.dae_token.specs.Reading.{IsNumbered, IsReading, AreInOrder}
+use Rattle.dae_tree.specs.declared.tokens.Token.{Token}
+use Rattle.dae_tree.specs.Reading.{IsNumbered, IsReading, AreInOrder}
 
 abbrev pub IsAlone : Token → Type 0
 IsAlone t = (t.start ≡ 0) × (t.end ≡ 1) × IsNumbered 4 2 t.kind

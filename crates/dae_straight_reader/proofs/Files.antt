@@ -3,8 +3,8 @@ use Rattle.std.proofs.Common.{◌≡◌, ℕ, ◌+◌, ◌<◌, ◌≤◌, cond,
 use Rattle.std.specs.Borrow.{Bor}
 use Rattle.std.proofs.lemmas.List.{length-map, take_more}
 use Rattle.std.proofs.lemmas.Bool.{le-leb}
-use Rattle.dae_token.specs.Reading.{Reading}
-use Rattle.dae_syntax.specs.Marks.{mark, marks}
+use Rattle.dae_tree.specs.Reading.{Reading}
+use Rattle.dae_tree.specs.Marks.{mark, marks}
 use Rattle.dae_straight_reader.specs.Reading.{texts}
 use Rattle.dae_straight_reader.specs.Spelled.{mark_word, words_of}
 use Rattle.dae_straight_reader.proofs.Loops.{length-texts}

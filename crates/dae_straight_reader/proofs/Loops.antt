@@ -1,11 +1,11 @@
 -- Reading in a loop: what was read before, and what is still read.
 use Rattle.std.proofs.Common.{◌≡◌, ℕ, zero, suc, ◌+◌, ◌-◌, ◌<◌, ◌≤◌, List, [], ◌∷◌, ◌++◌, length, Some, None, refl, sym, ap, ◌∙◌, arith, append_assoc, append-nil, Bool, true, false, codes, Result, Ok, Err, IfOk}
-use Rattle.dae_tree.specs.declared.BinaryOperator.{BinaryOperator}
-use Rattle.dae_tree.specs.declared.Factor.{Factor}
-use Rattle.dae_tree.specs.declared.Link.{Link}
-use Rattle.dae_tree.specs.declared.Statement.{Statement}
-use Rattle.dae_tree.specs.Form.{head_words, tail_words}
-use Rattle.dae_tree.specs.declared.StraightProgram.{StraightProgram}
+use Rattle.dae_straight.specs.declared.BinaryOperator.{BinaryOperator}
+use Rattle.dae_straight.specs.declared.Factor.{Factor}
+use Rattle.dae_straight.specs.declared.Link.{Link}
+use Rattle.dae_straight.specs.declared.Statement.{Statement}
+use Rattle.dae_straight.specs.Form.{head_words, tail_words}
+use Rattle.dae_straight.specs.declared.StraightProgram.{StraightProgram}
 use Rattle.std.specs.Borrow.{Bor}
 use Rattle.dae_straight_reader.specs.declared.error.ReadError.{ReadError}
 use Rattle.dae_straight_reader.specs.declared.error.ReadError.TheVariants.{NotBuilt, Memory}

@@ -5,8 +5,8 @@ use Rattle.std.specs.Borrow.{Bor}
 use Rattle.std.proofs.lemmas.Str.{IsUtf8-from_ascii}
 use Rattle.std.proofs.lemmas.Str.Ascii.{IsAscii-nil}
 use Rattle.std.proofs.lemmas.Bool.Decides.{nat_tests}
-use Rattle.dae_tree.specs.Text.{is_letter, is_name_byte}
-use Rattle.dae_tree.specs.Form.{begins_name, is_free_name}
+use Rattle.dae_straight.specs.Text.{is_letter, is_name_byte}
+use Rattle.dae_straight.specs.Form.{begins_name, is_free_name}
 use Rattle.dae_straight_reader.specs.Reading.{Read, texts, declared_at, is_new, names_from}
 use Rattle.dae_straight_reader.proofs.Numbers.{both}
 use Rattle.dae_straight_reader.proofs.Sound.{chosen}

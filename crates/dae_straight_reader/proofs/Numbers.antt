@@ -8,7 +8,7 @@ use Rattle.std.proofs.lemmas.Str.Parse.{IsNumeralModel, numerals_by_value, tells
 use Rattle.std.proofs.lemmas.Str.{IsUtf8-from_ascii}
 use Rattle.std.proofs.lemmas.Slice.Eq.{compares_Decides}
 use Rattle.std.proofs.lemmas.Fmt.{decimal_is_IsNumeral, first_decimal, decimal_digit, decimal-digits_value, parse-decimal, IsAscii-decimal}
-use Rattle.dae_tree.specs.Form.{same_bytes}
+use Rattle.dae_straight.specs.Form.{same_bytes}
 use Rattle.dae_straight_reader.specs.Reading.{constant_of, is_plain}
 
 pub same_decides : (xs ys : List ℕ) → Decides (same_bytes xs ys) (xs ≡ ys)

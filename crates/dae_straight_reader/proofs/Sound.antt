@@ -1,15 +1,15 @@
 -- What is read is spelled: each part that reading finds is within the form, and its words stood there.
 use Rattle.std.proofs.Common.{◌≡◌, ℕ, zero, suc, ◌+◌, ◌<◌, ◌≤◌, Bool, true, false, cond, List, [], ◌∷◌, ◌++◌, length, codes, Option, Some, None, ◌⊎◌, inl, inr, refl, sym, ap, subst, ◌∙◌, arith, append_assoc, Decides, length-append}
 use Rattle.std.specs.List.{AllByRecursion}
-use Rattle.dae_tree.specs.declared.BinaryOperator.{BinaryOperator}
-use Rattle.dae_tree.specs.declared.BinaryOperator.TheVariants.{Add, Subtract, Multiply}
-use Rattle.dae_tree.specs.declared.Factor.{Factor}
-use Rattle.dae_tree.specs.declared.Factor.TheVariants.{Constant, Object}
-use Rattle.dae_tree.specs.declared.Link.{Link}
-use Rattle.dae_tree.specs.declared.Sum.{Sum}
-use Rattle.dae_tree.specs.declared.Statement.{Statement}
-use Rattle.dae_tree.specs.declared.Statement.TheVariants.{Assign, PrintLine}
-use Rattle.dae_tree.specs.Form.{same_bytes, name_of, operator_word, factor_word, link_words, sum_words, statement_words, statements_words, IsFactorOf, IsSumOf, IsStatementOf}
+use Rattle.dae_straight.specs.declared.BinaryOperator.{BinaryOperator}
+use Rattle.dae_straight.specs.declared.BinaryOperator.TheVariants.{Add, Subtract, Multiply}
+use Rattle.dae_straight.specs.declared.Factor.{Factor}
+use Rattle.dae_straight.specs.declared.Factor.TheVariants.{Constant, Object}
+use Rattle.dae_straight.specs.declared.Link.{Link}
+use Rattle.dae_straight.specs.declared.Sum.{Sum}
+use Rattle.dae_straight.specs.declared.Statement.{Statement}
+use Rattle.dae_straight.specs.declared.Statement.TheVariants.{Assign, PrintLine}
+use Rattle.dae_straight.specs.Form.{same_bytes, name_of, operator_word, factor_word, link_words, sum_words, statement_words, statements_words, IsFactorOf, IsSumOf, IsStatementOf}
 use Rattle.dae_straight_reader.specs.Reading.{◌>>=◌, or_else, after, after_all, begins, next, constant_of, place_from, object_of, constant_or, factor_of, factor_at, operator_of, operator_at, links_from, sum_at, print_front, print_end, print_at, assignment_at, statement_at, statements_from}
 use Rattle.dae_straight_reader.proofs.Numbers.{same_decides, constant_spelled}
 

@@ -3,10 +3,10 @@ use Rattle.std.proofs.Common.{◌≡◌, ℕ, Bool, true, false, cond, ◌&&◌,
 use Rattle.std.specs.List.{AllByRecursion, list_all}
 use Rattle.std.proofs.lemmas.Bool.{leb-true}
 use Rattle.std.proofs.lemmas.Bool.Decides.{same_from_decides}
-use Rattle.dae_token.specs.Reading.{Reading}
-use Rattle.dae_tree.specs.declared.Statement.{Statement}
-use Rattle.dae_tree.specs.declared.StraightProgram.{StraightProgram}
-use Rattle.dae_tree.specs.Form.{same_bytes, is_among, is_free_name, are_distinct, declarations_words, head_words, tail_words, statements_words, program_words, IsStatementOf}
+use Rattle.dae_tree.specs.Reading.{Reading}
+use Rattle.dae_straight.specs.declared.Statement.{Statement}
+use Rattle.dae_straight.specs.declared.StraightProgram.{StraightProgram}
+use Rattle.dae_straight.specs.Form.{same_bytes, is_among, is_free_name, are_distinct, declarations_words, head_words, tail_words, statements_words, program_words, IsStatementOf}
 use Rattle.dae_straight_reader.specs.Reading.{body_at, is_new, names_from, program, at_end, ◌>>=◌, program_at, allowed, program_of}
 use Rattle.dae_straight_reader.specs.Spelled.{words_of, IsSpelled}
 use Rattle.dae_straight_reader.proofs.Files.{length_words}

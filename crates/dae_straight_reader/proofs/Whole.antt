@@ -1,7 +1,7 @@
 -- A program is read exactly where the tokens spell one, and that one.
 use Rattle.std.proofs.Common.{◌≡◌, Some, Result, Ok, Err, IfOk, sym, ◌∙◌}
-use Rattle.dae_token.specs.Reading.{Reading}
-use Rattle.dae_tree.specs.declared.StraightProgram.{StraightProgram}
+use Rattle.dae_tree.specs.Reading.{Reading}
+use Rattle.dae_straight.specs.declared.StraightProgram.{StraightProgram}
 use Rattle.dae_straight_reader.specs.declared.error.ReadError.{ReadError}
 use Rattle.dae_straight_reader.specs.declared.error.ReadError.TheVariants.{NotBuilt, Memory}
 use Rattle.dae_straight_reader.specs.Reading.{Gives, program_of}

@@ -2,17 +2,17 @@
 use Rattle.std.specs.Prelude.{◌≡◌, ℕ, zero, suc, ◌+◌, ◌^◌, Bool, true, false, ◌&&◌, ◌||◌, ◌==◌, not, if◌then◌else◌, nat_le, nat_lt, List, [], ◌∷◌, ◌++◌, length, codes, decimal, Option, Some, None, Result, Ok, Err}
 use Rattle.std.specs.Borrow.{Bor}
 use Rattle.std.specs.Str.Parse.{digits_value}
-use Rattle.dae_token.specs.Reading.{Reading}
-use Rattle.dae_tree.specs.declared.BinaryOperator.{BinaryOperator}
-use Rattle.dae_tree.specs.declared.BinaryOperator.TheVariants.{Add, Subtract, Multiply}
-use Rattle.dae_tree.specs.declared.Factor.{Factor}
-use Rattle.dae_tree.specs.declared.Factor.TheVariants.{Constant, Object}
-use Rattle.dae_tree.specs.declared.Link.{Link}
-use Rattle.dae_tree.specs.declared.Sum.{Sum}
-use Rattle.dae_tree.specs.declared.Statement.{Statement}
-use Rattle.dae_tree.specs.declared.Statement.TheVariants.{Assign, PrintLine}
-use Rattle.dae_tree.specs.declared.StraightProgram.{StraightProgram}
-use Rattle.dae_tree.specs.Form.{same_bytes, is_among, is_free_name, head_words, tail_words, prints}
+use Rattle.dae_tree.specs.Reading.{Reading}
+use Rattle.dae_straight.specs.declared.BinaryOperator.{BinaryOperator}
+use Rattle.dae_straight.specs.declared.BinaryOperator.TheVariants.{Add, Subtract, Multiply}
+use Rattle.dae_straight.specs.declared.Factor.{Factor}
+use Rattle.dae_straight.specs.declared.Factor.TheVariants.{Constant, Object}
+use Rattle.dae_straight.specs.declared.Link.{Link}
+use Rattle.dae_straight.specs.declared.Sum.{Sum}
+use Rattle.dae_straight.specs.declared.Statement.{Statement}
+use Rattle.dae_straight.specs.declared.Statement.TheVariants.{Assign, PrintLine}
+use Rattle.dae_straight.specs.declared.StraightProgram.{StraightProgram}
+use Rattle.dae_straight.specs.Form.{same_bytes, is_among, is_free_name, head_words, tail_words, prints}
 use Rattle.dae_straight_reader.specs.declared.error.ReadError.{ReadError}
 use Rattle.dae_straight_reader.specs.declared.error.ReadError.TheVariants.{NotBuilt, Memory}
 use Rattle.dae_straight_reader.specs.Spelled.{words_of}

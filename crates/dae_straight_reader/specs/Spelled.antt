@@ -1,16 +1,16 @@
 -- Which tree spells which straight program: the tokens that the tree spells are the words of the program.
 use Rattle.std.specs.Prelude.{◌≡◌, ℕ, if◌then◌else◌, List, [], ◌∷◌, codes, decimal, map, slice_index_or}
-use Rattle.dae_token.specs.Reading.{Reading}
-use Rattle.dae_token.specs.declared.constants.Constant.{Constant}
-use Rattle.dae_token.specs.declared.signs.Sign.{Sign}
-use Rattle.dae_token.specs.declared.signs.Sign.TheVariants as signs
-use Rattle.dae_token.specs.declared.words.Keyword.{Keyword}
-use Rattle.dae_token.specs.declared.words.Keyword.TheVariants as keywords
-use Rattle.dae_syntax.specs.Marks.{Mark, word, sign, name, constant, literal, part, Part, close_paren, close_brace, comma, marks}
-use Rattle.dae_syntax.specs.Statements.{spell_file}
-use Rattle.dae_syntax.specs.Trees.{External}
-use Rattle.dae_tree.specs.declared.StraightProgram.{StraightProgram}
-use Rattle.dae_tree.specs.Form.{IsStraight, program_words, same_bytes}
+use Rattle.dae_tree.specs.Reading.{Reading}
+use Rattle.dae_tree.specs.declared.constants.Constant.{Constant}
+use Rattle.dae_tree.specs.declared.signs.Sign.{Sign}
+use Rattle.dae_tree.specs.declared.signs.Sign.TheVariants as signs
+use Rattle.dae_tree.specs.declared.words.Keyword.{Keyword}
+use Rattle.dae_tree.specs.declared.words.Keyword.TheVariants as keywords
+use Rattle.dae_tree.specs.Marks.{Mark, word, sign, name, constant, literal, part, Part, close_paren, close_brace, comma, marks}
+use Rattle.dae_tree.specs.Statements.{spell_file}
+use Rattle.dae_tree.specs.Trees.{External}
+use Rattle.dae_straight.specs.declared.StraightProgram.{StraightProgram}
+use Rattle.dae_straight.specs.Form.{IsStraight, program_words, same_bytes}
 
 -- the words of the form; what it does not have is the empty word
 abbrev pub keyword_word : Keyword → List ℕ

@@ -3,7 +3,7 @@
 #![tactic(auto)]
 
 ghost use Rattle.std.specs.Prelude.{◌≡◌, IfOk};
-ghost use Rattle.dae_tree.specs.declared.StraightProgram.{StraightProgram};
+ghost use Rattle.dae_straight.specs.declared.StraightProgram.{StraightProgram};
 ghost use Rattle.dae_straight_reader.specs.Reading.{Gives, program_of};
 ghost use Rattle.dae_straight_reader.specs.Spelled.{IsSpelled};
 
@@ -19,8 +19,8 @@ mod tests;
 mod words;
 
 use crate::spelling::{slices, words_of};
-use dae_token::{Header, Tokens};
-use dae_tree::StraightProgram;
+use dae_straight::StraightProgram;
+use dae_tree::{Header, Tokens};
 use std::alloc::Global;
 
 /// How many tokens a file has at most.

@@ -2,8 +2,8 @@
 
 ghost use Rattle.std.specs.Prelude.{◌≡◌, ◌≤◌, ◌<◌, IsTrue, length, option_map, IfOk, IfErr, MatchOption, OnSome, List, [], drop};
 ghost use Rattle.std.specs.List.{list_all};
-ghost use Rattle.dae_tree.specs.Text.{is_digit, is_letter, is_name_byte};
-ghost use Rattle.dae_tree.specs.Form.{is_among, begins_name, is_free_name};
+ghost use Rattle.dae_straight.specs.Text.{is_digit, is_letter, is_name_byte};
+ghost use Rattle.dae_straight.specs.Form.{is_among, begins_name, is_free_name};
 ghost use Rattle.dae_straight_reader.specs.declared.error.ReadError.TheVariants.{Memory};
 ghost use Rattle.dae_straight_reader.specs.Reading.{Gives, texts, declared_at, is_new, names_from};
 

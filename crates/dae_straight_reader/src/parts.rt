@@ -1,7 +1,7 @@
 //! Statements, and whole programs.
 
 ghost use Rattle.std.specs.Prelude.{◌≡◌, ◌≤◌, ◌<◌, ◌||◌, not, length, IfOk};
-ghost use Rattle.dae_tree.specs.Form.{prints};
+ghost use Rattle.dae_straight.specs.Form.{prints};
 ghost use Rattle.dae_straight_reader.specs.Reading.{Gives, texts, print_at, assignment_at, statement_at, statements_from, body_at, program_at};
 
 use crate::error::ReadError;
@@ -9,7 +9,7 @@ use crate::names::declarations;
 use crate::sums::{place, sum};
 use crate::words::{after, after_all, begins, next};
 use dae_base::{Items, Text};
-use dae_tree::{Statement, StraightProgram};
+use dae_straight::{Statement, StraightProgram};
 use std::alloc::Global;
 
 /// The words before the statements of main.

@@ -2,7 +2,7 @@
 
 ghost use Rattle.std.specs.Prelude.{◌≡◌, ℕ, List, [], slice_index_or, IfOk, IfErr};
 ghost use Rattle.dae_base.specs.declared.Place.{Place};
-ghost use Rattle.dae_syntax.specs.Marks.{word_mark, sign_mark, mark};
+ghost use Rattle.dae_tree.specs.Marks.{word_mark, sign_mark, mark};
 ghost use Rattle.dae_straight_reader.specs.declared.error.ReadError.TheVariants.{Memory};
 ghost use Rattle.dae_straight_reader.specs.Reading.{texts};
 ghost use Rattle.dae_straight_reader.specs.Spelled.{constant_word, literal_word, mark_word, words_of};
@@ -10,7 +10,7 @@ ghost use Rattle.dae_straight_reader.specs.Spelled.{constant_word, literal_word,
 use crate::error::ReadError;
 use crate::words::same;
 use dae_base::{Items, decimal_piece};
-use dae_token::{Constant, Keyword, Kind, Sign, Token, Tokens};
+use dae_tree::{Constant, Keyword, Kind, Sign, Token, Tokens};
 use std::alloc::Global;
 
 /// The word of a keyword. What the form does not have is the empty word, here and below.

@@ -6,7 +6,7 @@ ghost use Rattle.dae_straight_reader.specs.Reading.{Gives, texts, factor_of, fac
 use crate::error::ReadError;
 use crate::words::{next, same};
 use dae_base::{Items, Text};
-use dae_tree::{BinaryOperator, Factor, Link, Sum};
+use dae_straight::{BinaryOperator, Factor, Link, Sum};
 use std::alloc::Global;
 use std::str;
 

@@ -1,14 +1,14 @@
 //! Tests by tables, over words and over tokens.
 
 ghost use Rattle.std.specs.Prelude.{◌≡◌, ◌≤◌, IsTrue, length, IfOk};
-ghost use Rattle.dae_token.specs.Reading.{IsNumbered};
+ghost use Rattle.dae_tree.specs.Reading.{IsNumbered};
 ghost use Rattle.dae_straight_reader.specs.Reading.{texts};
 
 use crate::error::ReadError;
 use crate::spelling::copied;
 use crate::{parts, read};
 use dae_base::{Items, Place};
-use dae_token::{Constant, Includes, Keyword, Kind, Sign, Token, Tokens};
+use dae_tree::{Constant, Includes, Keyword, Kind, Sign, Token, Tokens};
 use std::alloc::Global;
 use std::process::Abort;
 

@@ -1,8 +1,8 @@
 //! Words, and what stands at the front of a list of them.
 
 ghost use Rattle.std.specs.Prelude.{◌≡◌};
-ghost use Rattle.dae_tree.specs.Text.{is_digit, is_letter, is_name_byte};
-ghost use Rattle.dae_tree.specs.Form.{same_bytes};
+ghost use Rattle.dae_straight.specs.Text.{is_digit, is_letter, is_name_byte};
+ghost use Rattle.dae_straight.specs.Form.{same_bytes};
 ghost use Rattle.dae_straight_reader.specs.Reading.{Gives, texts, after, after_all, begins, next};
 
 use crate::error::ReadError;

@@ -4,7 +4,7 @@ use Rattle.std.specs.Option.{unwrap_or}
 use Rattle.dae_grammar.specs.Machine.{onto}
 use Rattle.dae_parts.proofs.Making.{declaration_of}
 use Rattle.dae_parts.proofs.Specifying.{place_of_first}
-use Rattle.dae_syntax.specs.FileViews.{view_declaration}
+use Rattle.dae_tree.specs.FileViews.{view_declaration}
 use Rattle.dae_grammar.specs.FirstPlaces.{firsts_declaration, both, over, firsts_specifiers, firsts_items}
 use Rattle.dae_parts.proofs.Listing.{shows_items}
 use Rattle.dae_parts.proofs.Showing.{shows_over, shows_made, shows_absent, shows_pair, ap_two}

@@ -1,7 +1,7 @@
 use Rattle.std.proofs.Common.{sym, ap, ◌∙◌}
 use Rattle.dae_base.specs.declared.Place.{Place}
-use Rattle.dae_syntax.specs.Trees as tree
-use Rattle.dae_syntax.specs.FileViews.{view_statement, view_external}
+use Rattle.dae_tree.specs.Trees as tree
+use Rattle.dae_tree.specs.FileViews.{view_statement, view_external}
 use Rattle.dae_grammar.specs.FirstPlaces.{both, over, firsts_specifiers, firsts_declarator, firsts_statement, firsts_external}
 use Rattle.dae_parts.proofs.Making.{defined_same}
 use Rattle.dae_parts.proofs.Rows.{view_block}

@@ -1,7 +1,7 @@
 use Rattle.std.proofs.Common.{refl, ap, ◌∙◌}
-use Rattle.dae_syntax.specs.Trees as tree
+use Rattle.dae_tree.specs.Trees as tree
 use Rattle.dae_grammar.specs.Machine.{initialisers_onto}
-use Rattle.dae_syntax.specs.FileViews.{view_initialiser}
+use Rattle.dae_tree.specs.FileViews.{view_initialiser}
 use Rattle.dae_grammar.specs.FirstPlaces.{firsts_initialiser}
 use Rattle.dae_parts.proofs.Listing.{shows_initialisers}
 use Rattle.dae_parts.proofs.Rows.{view_initialiser_list}

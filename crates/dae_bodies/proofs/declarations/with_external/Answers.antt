@@ -1,6 +1,6 @@
 use Rattle.dae_grammar.specs.FirstPlaces.{firsts_external}
 use Rattle.dae_parts.proofs.Listing.{shows_longer}
-use Rattle.dae_syntax.specs.FileViews.{view_external}
+use Rattle.dae_tree.specs.FileViews.{view_external}
 use Rattle.dae_bodies.proofs.declarations.with_external.Goals as goal
 
 pub returns : goal.returns

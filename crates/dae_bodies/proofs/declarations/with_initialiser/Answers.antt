@@ -1,6 +1,6 @@
 use Rattle.dae_grammar.specs.FirstPlaces.{firsts_initialiser}
 use Rattle.dae_parts.proofs.Listing.{shows_longer}
-use Rattle.dae_syntax.specs.FileViews.{view_initialiser}
+use Rattle.dae_tree.specs.FileViews.{view_initialiser}
 use Rattle.dae_bodies.proofs.declarations.with_initialiser.Goals as goal
 
 pub returns : goal.returns

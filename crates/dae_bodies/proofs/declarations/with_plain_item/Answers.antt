@@ -1,10 +1,10 @@
 use Rattle.std.proofs.Common.{None, refl, ap}
-use Rattle.dae_syntax.specs.Trees as tree
+use Rattle.dae_tree.specs.Trees as tree
 use Rattle.dae_parts.proofs.Listing.{shows_longer}
 use Rattle.dae_parts.proofs.Making.{plain_item}
 use Rattle.dae_parts.proofs.Showing.{shows_absent, shows_alone, shows_made}
 use Rattle.dae_parts.specs.Parts.{firsts_item}
-use Rattle.dae_syntax.specs.FileViews.{view_item}
+use Rattle.dae_tree.specs.FileViews.{view_item}
 use Rattle.dae_bodies.proofs.declarations.with_plain_item.Goals as goal
 use Rattle.dae_bodies.proofs.declarations.with_plain_item.Goals.{in-Some, in-None}
 

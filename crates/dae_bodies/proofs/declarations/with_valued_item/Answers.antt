@@ -1,10 +1,10 @@
 use Rattle.std.proofs.Common.{Some, refl, ap}
-use Rattle.dae_syntax.specs.Trees as tree
+use Rattle.dae_tree.specs.Trees as tree
 use Rattle.dae_parts.proofs.Listing.{shows_longer}
 use Rattle.dae_parts.proofs.Making.{valued_item}
 use Rattle.dae_parts.proofs.Showing.{ap_two, shows_absent, shows_made, shows_pair}
 use Rattle.dae_parts.specs.Parts.{firsts_item}
-use Rattle.dae_syntax.specs.FileViews.{view_item}
+use Rattle.dae_tree.specs.FileViews.{view_item}
 use Rattle.dae_bodies.proofs.declarations.with_valued_item.Goals as goal
 use Rattle.dae_bodies.proofs.declarations.with_valued_item.Goals.{in-Some, in-None}
 

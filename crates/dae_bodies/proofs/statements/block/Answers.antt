@@ -1,7 +1,7 @@
 use Rattle.std.proofs.Common.{[], refl, ap, ◌∙◌}
-use Rattle.dae_syntax.specs.Trees as tree
+use Rattle.dae_tree.specs.Trees as tree
 use Rattle.dae_grammar.specs.Machine.{onto, statements_onto}
-use Rattle.dae_syntax.specs.FileViews.{view_statement}
+use Rattle.dae_tree.specs.FileViews.{view_statement}
 use Rattle.dae_grammar.specs.FirstPlaces.{firsts_statement}
 use Rattle.dae_parts.proofs.Listing.{shows_declarations}
 use Rattle.dae_parts.proofs.Listing.{shows_statements}

@@ -1,8 +1,8 @@
 use Rattle.std.proofs.Common.{refl}
-use Rattle.dae_syntax.specs.Trees as tree
+use Rattle.dae_tree.specs.Trees as tree
 use Rattle.dae_grammar.specs.FirstPlaces.{firsts_statement}
 use Rattle.dae_parts.proofs.Showing.{leaf_shown}
-use Rattle.dae_syntax.specs.FileViews.{view_statement}
+use Rattle.dae_tree.specs.FileViews.{view_statement}
 use Rattle.dae_bodies.proofs.statements.break_statement.Goals as goal
 
 pub returns : goal.returns

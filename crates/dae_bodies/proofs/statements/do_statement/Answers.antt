@@ -1,6 +1,6 @@
 use Rattle.std.proofs.Common.{refl, ap, ◌∙◌}
-use Rattle.dae_syntax.specs.Trees as tree
-use Rattle.dae_syntax.specs.FileViews.{view_statement}
+use Rattle.dae_tree.specs.Trees as tree
+use Rattle.dae_tree.specs.FileViews.{view_statement}
 use Rattle.dae_grammar.specs.FirstPlaces.{firsts_statement}
 use Rattle.dae_parts.proofs.Showing.{shows_over, shows_made, shows_absent, shows_pair, ap_two}
 use Rattle.dae_bodies.proofs.statements.do_statement.Goals as goal

@@ -1,7 +1,7 @@
 use Rattle.std.proofs.Common.{ap}
 use Rattle.dae_base.specs.declared.Place.{Place}
-use Rattle.dae_syntax.specs.Trees as tree
-use Rattle.dae_syntax.specs.FileViews.{view_statement}
+use Rattle.dae_tree.specs.Trees as tree
+use Rattle.dae_tree.specs.FileViews.{view_statement}
 use Rattle.dae_grammar.specs.FirstPlaces.{firsts_statement, over, firsts}
 use Rattle.dae_parts.proofs.Showing.{shows_over, shows_made, shows_absent}
 use Rattle.dae_bodies.proofs.statements.evaluation.Goals as goal

@@ -3,7 +3,7 @@ use Rattle.dae_base.specs.declared.Place.{Place}
 use Rattle.dae_grammar.specs.Machine.{for_of}
 use Rattle.dae_grammar.specs.FirstPlaces.{firsts_optional}
 use Rattle.dae_parts.proofs.Making.{for_same}
-use Rattle.dae_syntax.specs.FileViews.{view_statement}
+use Rattle.dae_tree.specs.FileViews.{view_statement}
 use Rattle.dae_grammar.specs.FirstPlaces.{firsts_statement, both, over}
 use Rattle.dae_parts.proofs.Showing.{shows_over, shows_made, shows_absent, shows_pair}
 use Rattle.dae_bodies.proofs.statements.for_statement.Goals as goal

@@ -1,8 +1,8 @@
 use Rattle.std.proofs.Common.{List, refl, ap, subst, ◌∙◌}
 use Rattle.dae_base.specs.declared.Place.{Place}
-use Rattle.dae_syntax.specs.Grammar.{void_alone}
-use Rattle.dae_syntax.specs.Names.{Names}
-use Rattle.dae_syntax.specs.Trees.{no_parameters}
+use Rattle.dae_tree.specs.Grammar.{void_alone}
+use Rattle.dae_tree.specs.Names.{Names}
+use Rattle.dae_tree.specs.Trees.{no_parameters}
 use Rattle.dae_grammar.specs.Machine.{parameters_onto, closed_by}
 use Rattle.dae_front.specs.Scopes.{Scopes, innermost, closed_to}
 use Rattle.dae_front.specs.Shown.{bound_all}

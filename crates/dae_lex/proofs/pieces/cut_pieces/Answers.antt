@@ -1,10 +1,10 @@
 use Rattle.std.proofs.Common.{◌≡◌, ◌+◌, ◌-◌, ◌<◌, length, get_or, ◌++◌, map, drop, arith, ap, sym, ◌∙◌, append-nil, append_assoc}
 use Rattle.std.proofs.lemmas.List.{take_rest, length-drop, map-append}
-use Rattle.dae_token.specs.Forms.{form}
+use Rattle.dae_tree.specs.Forms.{form}
 use Rattle.dae_lex.specs.Cuts.{cut_of}
-use Rattle.dae_token.specs.Pieces.{Cut}
+use Rattle.dae_tree.specs.Pieces.{Cut}
 use Rattle.dae_lex.proofs.Cutting.{cut_more, cut_all, piece_span, piece_place}
-use Rattle.dae_token.specs.Lines.{start_of}
+use Rattle.dae_tree.specs.Lines.{start_of}
 use Rattle.dae_lex.proofs.Places.{place_before, before_low, before_next, spots_within, places_push, places_wider, places_from}
 use Rattle.dae_lex.proofs.Rising.{bound, bound_below, bound_next, bound_end, rise_within}
 use Rattle.dae_lex.proofs.Spans.{follow_push, follow_wider}

@@ -1,5 +1,5 @@
 use Rattle.std.proofs.Common.{◌≡◌, ℕ, ◌++◌, ◌≤◌, ◌-◌, length, drop, map}
-use Rattle.dae_token.specs.Pieces.{cut}
+use Rattle.dae_tree.specs.Pieces.{cut}
 use Rattle.dae_lex.specs.Cuts.{cut_of, chars, Rise, FollowEachOther, SpotsFrom}
 use Rattle.dae_base.specs.declared.Place.{Place}
 use Rattle.dae_lex.proofs.Places.{PlacesTo, place_before}

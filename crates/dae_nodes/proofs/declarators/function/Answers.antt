@@ -1,6 +1,6 @@
 use Rattle.std.proofs.Common.{Option, sym, ◌∙◌}
 use Rattle.dae_base.specs.declared.Place.{Place}
-use Rattle.dae_syntax.specs.Trees as tree
+use Rattle.dae_tree.specs.Trees as tree
 use Rattle.std.proofs.Common.{subst}
 use Rattle.std.specs.Prelude.{IfOk}
 use Rattle.dae_grammar.specs.Machine.{closed_by, parameters_onto}

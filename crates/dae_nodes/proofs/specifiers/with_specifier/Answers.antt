@@ -1,6 +1,6 @@
 use Rattle.std.proofs.Common.{Option, Some, sym, ap, ◌∙◌}
 use Rattle.dae_base.specs.declared.Place.{Place}
-use Rattle.dae_syntax.specs.Trees as tree
+use Rattle.dae_tree.specs.Trees as tree
 use Rattle.std.specs.Prelude.{Bool, ◌||◌}
 use Rattle.dae_parts.proofs.Showing.{ap_two}
 use Rattle.dae_parts.proofs.Specifying.{place_last, shows_joined, typedef_last, void_first, void_last}

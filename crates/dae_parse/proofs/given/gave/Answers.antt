@@ -1,6 +1,6 @@
 use Rattle.std.proofs.Common.{rules, ◌≡◌, List, ◌∷◌, Option, refl, ap, subst, ◌∙◌}
 use Rattle.dae_frames.specs.declared.frames.Frame.{Frame}
-use Rattle.dae_syntax.specs.Trees.{Expression}
+use Rattle.dae_tree.specs.Trees.{Expression}
 use Rattle.dae_grammar.specs.Frames as plain
 use Rattle.dae_front.specs.Scopes.{Scopes}
 use Rattle.dae_parts.specs.Parts.{ShowsOptional}

@@ -1,8 +1,8 @@
 use Rattle.std.proofs.Common.{rules, ◌≡◌, List, ◌∷◌, Option, length, refl, sym, ap, subst, ◌∙◌}
 use Rattle.dae_frames.specs.declared.frames.Frame.{Frame}
-use Rattle.dae_syntax.specs.Trees.{Expression, Specifiers, Declarator}
-use Rattle.dae_syntax.specs.Names.{Names}
-use Rattle.dae_syntax.specs.Marks.{Mark}
+use Rattle.dae_tree.specs.Trees.{Expression, Specifiers, Declarator}
+use Rattle.dae_tree.specs.Names.{Names}
+use Rattle.dae_tree.specs.Marks.{Mark}
 use Rattle.dae_grammar.specs.Taken.{tokens_of}
 use Rattle.dae_grammar.specs.Frames as plain
 use Rattle.dae_front.specs.Scopes.{Scopes}

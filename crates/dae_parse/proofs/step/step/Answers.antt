@@ -1,5 +1,5 @@
 use Rattle.std.proofs.Common.{◌≡◌, List, ◌∷◌, refl, subst}
-use Rattle.dae_syntax.specs.Trees.{Expression, Specifiers, Declarator, Item, Statement}
+use Rattle.dae_tree.specs.Trees.{Expression, Specifiers, Declarator, Item, Statement}
 use Rattle.dae_grammar.specs.Frames as plain
 use Rattle.dae_parts.specs.Parts.{ShowsOperand, ShowsSpecified, ShowsEnumerators, ShowsDeclared, ShowsItems, ShowsStatement}
 use Rattle.dae_frames.specs.declared.frames.Doing.{Doing}

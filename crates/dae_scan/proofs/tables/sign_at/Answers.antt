@@ -1,8 +1,8 @@
 use Rattle.std.proofs.Common.{◌<◌, ◌≤◌, IfSome, refl, map, Option, Some, None, ℕ}
 use Rattle.dae_scan.proofs.Places.{row_is_spelled}
-use Rattle.dae_token.specs.Tables.{first_row}
-use Rattle.dae_token.specs.declared.pieces.PieceKind.{PieceKind}
-use Rattle.dae_token.specs.declared.signs.TheConstants.{SIGNS}
+use Rattle.dae_tree.specs.Tables.{first_row}
+use Rattle.dae_tree.specs.declared.pieces.PieceKind.{PieceKind}
+use Rattle.dae_tree.specs.declared.signs.TheConstants.{SIGNS}
 use Rattle.dae_scan.proofs.tables.sign_at.Goals as goal
 
 both : (o : Option (ℕ × PieceKind)) (n : ℕ) → IfSome o (λ f. 0 < f.0) → IfSome o (λ f. f.0 ≤ n) → IfSome o (λ f. (0 < f.0) × (f.0 ≤ n))

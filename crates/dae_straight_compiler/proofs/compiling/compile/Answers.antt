@@ -1,6 +1,6 @@
 use Rattle.std.proofs.Common.{rules, ◌≡◌, [], map, refl, arith}
 use Rattle.dae_encode.specs.Spelling.{encoded}
-use Rattle.dae_tree.specs.Straight.{data_of}
+use Rattle.dae_straight.specs.Straight.{data_of}
 use Rattle.dae_straight_compiler.specs.Budget.{budget_of}
 use Rattle.dae_straight_compiler.specs.Code.{access_code, execute_code}
 use Rattle.dae_straight_compiler.specs.Order.{picks_from}

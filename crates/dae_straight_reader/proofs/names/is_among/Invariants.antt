@@ -1,5 +1,5 @@
 use Rattle.std.proofs.Common.{◌≡◌, drop}
-use Rattle.dae_tree.specs.Form.{is_among}
+use Rattle.dae_straight.specs.Form.{is_among}
 use Rattle.dae_straight_reader.specs.Reading.{texts}
 use Rattle.dae_straight_reader.proofs.names.is_among.Given as goal
 

@@ -1,5 +1,5 @@
 use Rattle.std.proofs.Common.{◌≡◌, drop}
-use Rattle.dae_tree.specs.Form.{is_among}
+use Rattle.dae_straight.specs.Form.{is_among}
 use Rattle.dae_straight_reader.proofs.names.is_declared.Given as goal
 
 abbrev pub invariant-loop-known : goal.invariant-loop-known

@@ -1,5 +1,5 @@
 use Rattle.std.proofs.Common.{◌≡◌, take, map}
-use Rattle.dae_syntax.specs.Marks.{marks}
+use Rattle.dae_tree.specs.Marks.{marks}
 use Rattle.dae_straight_reader.specs.Spelled.{mark_word}
 use Rattle.dae_straight_reader.proofs.spelling.words_of.Given as goal
 
