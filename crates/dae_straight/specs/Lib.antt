@@ -1,4 +1,3 @@
-pub mod Text
 pub mod Form
 pub mod Meaning
 pub mod Straight

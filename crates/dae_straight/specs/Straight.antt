@@ -68,7 +68,7 @@ literals (Assign k sum ∷ ss) = literals ss
 literals (PrintLine sum ∷ ss) = codes "%d\n" ++ 0 ∷ literals ss
 
 abbrev pub data_of : StraightProgram → List ℕ
-data_of p = replicate (4 * length p.names) 0 ++ literals p.statements
+data_of p = replicate (4 * p.objects) 0 ++ literals p.statements
 
 -- the memory of this size before main: data begin at address 16, and all else is zero
 abbrev pub memory_of : ℕ → List ℕ → List ℕ

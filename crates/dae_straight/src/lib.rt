@@ -1,7 +1,7 @@
 // Straight programs: their form, and what they mean. Definitions only. They serve until the whole compiler stands.
 #![tactic(auto)]
 
-use dae_base::{Items, Text};
+use dae_base::Items;
 
 /// A binary operator (C90 6.3.5 and 6.3.6).
 #[derive(Clone, Copy, PartialEq, Eq, Debug)]
@@ -43,9 +43,7 @@ pub enum Statement {
 /// A straight program: objects of type int with file scope, and a main that assigns, prints and returns 0.
 #[derive(Drop)]
 pub struct StraightProgram {
-    /// Whether the file includes `<stdio.h>`.
-    pub has_stdio: bool,
-    /// The objects' names, in the order of their declarations.
-    pub names: Items<Text>,
+    /// How many objects there are. A place below that number says which is meant.
+    pub objects: u32,
     pub statements: Items<Statement>,
 }

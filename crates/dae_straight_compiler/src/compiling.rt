@@ -51,11 +51,11 @@ pub fn compile(alloc: Global, program: &StraightProgram) -> Result<Compiled, All
 // The objects, all zero, and then the format of each line that is printed.
 #[tactic(auto, using(crate::proofs::Counting::replicate_last))]
 fn content(alloc: Global, program: &StraightProgram) -> Result<Vec<u8>, AllocError>
-    requires { length program.now.names < 2 ^ 20 }
+    requires { program.now.objects < 2 ^ 20 }
     ensures { IfOk result (λ content. content.items ≡ data_of program.now) }
 {
     let mut content = Vec::new(alloc);
-    for _ in 0..4 * program.names.len() {
+    for _ in 0..4 * program.objects {
         content.push(0)?;
     }
     add_formats(&mut content, program.statements.as_slice())?;
