@@ -1,0 +1,4 @@
+mod Straight
+mod Rows
+mod Loops
+mod Shapes
