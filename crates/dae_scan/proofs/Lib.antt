@@ -2,3 +2,4 @@ pub mod Places
 pub mod Values
 pub mod Faults
 pub mod Units
+pub mod Longest

@@ -1,5 +1,6 @@
-ghost use Rattle.std.specs.Prelude.{◌≡◌, ◌≤◌, ◌<◌, length, IfSome};
-ghost use Rattle.dae_tree.specs.Tables.{first_row, row_of, rows_of, sign_of, keyword_of, refused_word, header_of, suffix_of};
+ghost use Rattle.std.specs.Prelude.{◌≡◌, ◌≤◌, ◌<◌, length, map, IfSome};
+ghost use Rattle.dae_tree.specs.declared.signs.TheConstants.{SIGNS};
+ghost use Rattle.dae_tree.specs.Tables.{first_row, row_of, rows_of, IsLongestRow, sign_of, keyword_of, refused_word, header_of, suffix_of};
 
 use dae_tree::{
     Construct, HEADERS, Header, KEYWORDS, Keyword, PieceKind, REFUSED_WORDS, SIGNS, SUFFIXES,
@@ -35,6 +36,7 @@ fn exact_row<T: Copy>(rows: &[(&[u8], T)], name: &[u8]) -> Option<T>
 pub fn sign_at(bytes: &[u8]) -> Option<(usize, PieceKind)>
     ensures value { result ≡ sign_of bytes.now }
     ensures within { IfSome result (λ found. (0 < found.0) × (found.0 ≤ length bytes.now)) }
+    ensures longest { IfSome result (λ found. IsLongestRow (map (λ r. (r.0.now, r.1)) SIGNS) bytes.now found.0) }
 {
     find_row(&SIGNS, bytes)
 }

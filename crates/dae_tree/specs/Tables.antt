@@ -1,6 +1,6 @@
 -- Tables from spellings to what they spell.
-use Rattle.std.specs.Prelude.{ℕ, Bool, List, [], ◌∷◌, Option, Some, None, if◌then◌else◌, nat_eq, length, map}
-use Rattle.std.specs.List.{starts_with}
+use Rattle.std.specs.Prelude.{ℕ, ◌≤◌, Bool, IsTrue, List, [], ◌∷◌, Option, Some, None, if◌then◌else◌, nat_eq, length, map}
+use Rattle.std.specs.List.{AllByRecursion, starts_with}
 use Rattle.std.specs.Str.{bytes_eq}
 use Rattle.std.specs.Borrow.{Bor}
 use Rattle.dae_tree.specs.declared.pieces.PieceKind.{PieceKind}
@@ -19,6 +19,10 @@ rows_of rows = map (λ r. (r.0.now, r.1)) rows
 abbrev pub first_row : {A : Type 0} → List (List ℕ × A) → List ℕ → Option (ℕ × A)
 first_row [] bytes = None
 first_row (r ∷ rs) bytes = if starts_with nat_eq bytes r.0 then Some (length r.0, r.1) else first_row rs bytes
+
+-- no row that begins the bytes is longer (C90 6.1)
+abbrev pub IsLongestRow : {A : Type 0} → List (List ℕ × A) → List ℕ → ℕ → Type 0
+IsLongestRow rows bytes n = AllByRecursion (λ r. IsTrue (starts_with nat_eq bytes r.0) → length r.0 ≤ n) rows
 
 -- what the row with this spelling says
 abbrev pub row_of : {A : Type 0} → List (List ℕ × A) → List ℕ → Option A
