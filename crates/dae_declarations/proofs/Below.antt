@@ -13,8 +13,8 @@ use Rattle.dae_frames.specs.declared.frames.Before.{Before}
 use Rattle.dae_frames.specs.declared.frames.Frame.{Frame}
 use Rattle.dae_frames.specs.declared.frames.Frame.TheVariants as frame
 use Rattle.dae_grammar.specs.Taken.{stack_taken, externals_before}
-use Rattle.dae_parts.specs.declared.values.Read.{Read}
-use Rattle.dae_parts.specs.Parts.{ShowsStatement}
+use Rattle.dae_nodes.specs.declared.values.Read.{Read}
+use Rattle.dae_nodes.specs.Parts.{ShowsStatement}
 use Rattle.dae_frames.specs.States.{outside_stack}
 use Rattle.dae_declarations.specs.Bottom.{IsBottom}
 use Rattle.dae_frames.specs.Frames.{ShowsStack, ShowsFile, is_block}

@@ -10,7 +10,7 @@ use Rattle.dae_grammar.specs.FirstPlaces.{or_else}
 use Rattle.dae_grammar.specs.Machine.{onto}
 use Rattle.dae_grammar.specs.Taken.{externals_before}
 use Rattle.dae_grammar.proofs.Lengths.{adds_external}
-use Rattle.dae_parts.proofs.Listing.{onto_last}
+use Rattle.dae_nodes.proofs.Listing.{onto_last}
 
 pub externals_add : (xs : List External) (ts : List Mark) → length (externals_before xs ts) ≡ length (externals_before xs []) + length ts
 externals_add [] ts = omega arith

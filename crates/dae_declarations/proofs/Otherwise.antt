@@ -10,7 +10,7 @@ use Rattle.dae_tree.specs.Trees.{Specifiers, Declarator, Initialiser, Item, Exte
 use Rattle.dae_grammar.specs.Frames.{Frame, state, in_value, seek, in_list, initialising, declaring, of_item, specifying, for_declaration, in_file}
 use Rattle.dae_grammar.specs.Machine.{initialised, list_followed, listed, declaration_begun, definition_begun, item_given, plain_item, item_followed, external_begun}
 use Rattle.dae_front.specs.Fronts.{sign_at}
-use Rattle.dae_parts.specs.Parts.{is_some_list}
+use Rattle.dae_nodes.specs.Parts.{is_some_list}
 
 pub initialised_otherwise : (s : List Frame) (names : Names) (ts : List Mark) → ¬ (sign_at ts ≡ Some signs.LeftBrace)
     → initialised s names ts ≡ Some (state (seek 15) (in_value ∷ s) names ts)

@@ -5,7 +5,7 @@ ghost use Rattle.dae_front.specs.Fronts.{behind, sign_at};
 ghost use Rattle.dae_tree.specs.Trees.{Declarator};
 ghost use Rattle.dae_grammar.specs.Frames.{Frame as PlainFrame};
 ghost use Rattle.dae_grammar.specs.Machine.{declared as declared_of, nothing_declared, qualified, suffixed, sized, parameters_opened, onto, begins_parameters as parameters_begin};
-ghost use Rattle.dae_parts.specs.Parts.{ShowsDeclared};
+ghost use Rattle.dae_nodes.specs.Parts.{ShowsDeclared};
 ghost use Rattle.dae_frames.specs.Frames.{manner_of};
 ghost use Rattle.dae_declarators.specs.Ahead.{parameters_ahead};
 ghost use Rattle.dae_frames.specs.States.{Stands, Follows, outside_stack};
@@ -14,7 +14,7 @@ use dae_base::Place;
 use dae_frames::{Doing, Frame, Machine, Manner, Open};
 use dae_front::{Rest, Scope, Seen, begins_specifiers};
 use dae_nodes::{absent, empty_function, named, no_parameters, no_specifiers, unsized_array};
-use dae_parts::Declared;
+use dae_nodes::Declared;
 use dae_tree::{Keyword, Sign};
 use std::alloc::AllocError;
 

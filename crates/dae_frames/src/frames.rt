@@ -1,6 +1,6 @@
 use dae_base::Place;
 use dae_front::Seen;
-use dae_parts::{Declared, Loop, Operand, ParameterList, Read, Specified};
+use dae_nodes::{Declared, Loop, Operand, ParameterList, Read, Specified};
 use dae_tree::{
     AssignmentOperator, BinaryOperator, Declaration, Declarator, Enumerator, Expression, External,
     Initialiser, Item, Member, Name, PrefixOperator, Statement,

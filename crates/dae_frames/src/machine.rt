@@ -1,7 +1,7 @@
 ghost use Rattle.std.specs.Prelude.{◌≡◌, ◌∷◌, List, IfOk};
 ghost use Rattle.dae_tree.specs.Names.{with_declarator};
 ghost use Rattle.dae_tree.specs.Trees.{Declarator};
-ghost use Rattle.dae_parts.specs.Parts.{number_of};
+ghost use Rattle.dae_nodes.specs.Parts.{number_of};
 ghost use Rattle.dae_tree.specs.Names.{declared_name};
 ghost use Rattle.dae_frames.specs.States.{frames_of, Popped};
 

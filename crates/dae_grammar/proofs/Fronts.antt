@@ -12,7 +12,8 @@ use Rattle.dae_tree.specs.Names.{Names}
 use Rattle.dae_tree.specs.Spelling.{spell, spell_specifiers, spell_declarator}
 use Rattle.dae_tree.specs.Grammar.{level, Manner, by_name, IsExpression, IsSpecifiers, IsDeclarator, IsPresent, IsNoType, leading_name}
 use Rattle.dae_tree.specs.Trees.{Expression, Specifiers, Declarator, Identifier, Number, Literal, Parenthesised, Index, Call, Member, Postfix, Prefix, SizeofExpression, SizeofType, Cast, Binary, Conditional, Assignment, Comma, no_specifiers, specifier_then, Word, TypeName, Structure, StructureBody, Enumeration, EnumerationBody, Absent, Named, Pointer, Grouped, Unsized, Sized, Empty, Void, Function}
-use Rattle.dae_grammar.specs.Frames.{Body, MemberLine, Frame, state, seek, in_arguments, behind_sizeof, in_size, gave_declarator, specifying, for_member}
+use Rattle.dae_tree.specs.Lists.{MemberLine}
+use Rattle.dae_grammar.specs.Frames.{Body, Frame, state, seek, in_arguments, behind_sizeof, in_size, gave_declarator, specifying, for_member}
 use Rattle.dae_grammar.specs.Machine.{called, measured, sized, suffixed, begins_parameters, members_followed}
 use Rattle.dae_grammar.specs.Starts.{IsStartSign, Starts, FollowsSpecifiers, FollowsDeclarator}
 use Rattle.dae_grammar.proofs.Steps.{under_least}

@@ -7,7 +7,7 @@ use Rattle.dae_tree.specs.Names.{Names, after_all, after_specifiers, after_membe
 use Rattle.dae_tree.specs.Grammar.{AreArguments, IsSpecifiers, AreMembers, AreEnumerators, AreDeclarators, AreParameters, HasMember, HasEnumerator, HasDeclarator, HasParameter}
 use Rattle.dae_tree.specs.Statements.{AreInitialisers, HasInitialiser, AreItems, AreDeclarations, AreStatements, AreExternals}
 use Rattle.dae_tree.specs.Trees.{Expression, Expressions, Specifiers, Specifier, Members, Enumerators, Declarators, Declarator, Parameters, Initialiser, Initialisers, Item, Declaration, Statement, Statements, External, expression_then, specifier_then, member_then, declarator_then, parameter_then, initialiser_then, statement_then}
-use Rattle.dae_grammar.specs.Frames.{MemberLine, Entry, Parameter}
+use Rattle.dae_tree.specs.Lists.{MemberLine, Entry, Parameter}
 use Rattle.dae_grammar.specs.Machine.{arguments_onto, specifiers_onto, members_onto, enumerators_onto, enumerator_before, declarators_onto, parameters_onto, initialisers_onto, statements_onto, onto}
 use Rattle.dae_grammar.specs.Standing.{now_arguments, now_specifiers, now_lines, now_entries, after_entry, now_declarators, now_parameters, now_initialisers, now_items, now_declarations, now_statements, now_externals, ArgumentsHold, seen_now, SpecifiersHold, LinesHold, EntryValueHolds, EntriesHold, DeclaratorsHold, ParametersHold, InitialisersHold, ItemsHold, DeclarationsHold, StatementsHold, ExternalsHold}
 

@@ -6,7 +6,8 @@ use Rattle.dae_tree.specs.Names.{Names, after_declarator}
 use Rattle.dae_tree.specs.Spelling.{spell_declarator}
 use Rattle.dae_tree.specs.Grammar.{Manner, IsDeclarator, HasMember}
 use Rattle.dae_tree.specs.Trees.{Declarator, Members, Absent, Pointer}
-use Rattle.dae_grammar.specs.Frames.{MemberLine, Frame, State, state, Doing, declaring, suffixing, gave_declarator}
+use Rattle.dae_tree.specs.Lists.{MemberLine}
+use Rattle.dae_grammar.specs.Frames.{Frame, State, state, Doing, declaring, suffixing, gave_declarator}
 use Rattle.dae_grammar.specs.Machine.{declared}
 use Rattle.dae_grammar.specs.Starts.{FollowsDeclarator}
 

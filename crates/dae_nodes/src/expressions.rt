@@ -1,11 +1,11 @@
 ghost use Rattle.std.specs.Prelude.{◌≡◌, List, [], ◌∷◌, Option, Some, None, IfOk};
 ghost use Rattle.dae_tree.specs.Trees as tree;
 ghost use Rattle.dae_grammar.specs.Machine.{arguments_onto};
-ghost use Rattle.dae_parts.specs.Parts.{ShowsOperand, ShowsArguments, ShowsSpecified, ShowsDeclared};
+ghost use Rattle.dae_nodes.specs.Parts.{ShowsOperand, ShowsArguments, ShowsSpecified, ShowsDeclared};
 
 use crate::operators::strength;
 use dae_base::Place;
-use dae_parts::{Declared, Operand, Read, Specified, beside, flat, longer, over};
+use crate::values::{Declared, Operand, Read, Specified, beside, flat, longer, over};
 use dae_tree::{
     AssignmentOperator, BinaryOperator, Constant, Expression, MemberOperator, Name,
     PostfixOperator, PrefixOperator, TypeName,

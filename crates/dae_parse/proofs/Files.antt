@@ -12,8 +12,8 @@ use Rattle.dae_grammar.specs.FirstPlaces.{or_else, firsts_external, firsts_file}
 use Rattle.dae_grammar.specs.Machine.{onto}
 use Rattle.dae_grammar.proofs.Runs.{unique}
 use Rattle.dae_grammar.proofs.FirstPlaces.{says_file}
-use Rattle.dae_parts.specs.Shown.{firsts_list}
-use Rattle.dae_parts.proofs.Showing.{seen_at}
+use Rattle.dae_nodes.specs.Shown.{firsts_list}
+use Rattle.dae_nodes.proofs.Showing.{seen_at}
 use Rattle.dae_frames.specs.declared.frames.Before.{Before}
 use Rattle.dae_frames.specs.Frames.{ShowsFile}
 use Rattle.dae_parse.specs.declared.error.ParseError.{ParseError}

@@ -17,7 +17,7 @@ use Rattle.dae_frames.specs.declared.frames.Doing.{Doing}
 use Rattle.dae_frames.specs.declared.machine.Machine.{Machine}
 use Rattle.dae_frames.specs.declared.frames.Doing.TheVariants as doing
 use Rattle.dae_frames.specs.declared.frames.Frame.{Frame as Top}
-use Rattle.dae_front.specs.Scopes.{Scopes}
+use Rattle.dae_scope.specs.Scopes.{Scopes}
 use Rattle.dae_frames.specs.Frames.{ShowsFile, ShowsStack}
 use Rattle.dae_frames.specs.States.{Follows}
 use Rattle.dae_parse.specs.Bottom.{IsEmptyAt, IsBottomState}

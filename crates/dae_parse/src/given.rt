@@ -6,7 +6,7 @@ ghost use Rattle.dae_grammar.specs.Machine.{given, specifiers_taken, declarator_
 ghost use Rattle.dae_grammar.specs.Standing.{Holds};
 ghost use Rattle.dae_grammar.specs.Taken.{tokens_of};
 ghost use Rattle.dae_declarations.specs.Bottom.{IsBottom};
-ghost use Rattle.dae_parts.specs.Parts.{ShowsOperand, ShowsSpecified, ShowsDeclared, ShowsInitialiser, ShowsDeclaration, ShowsStatement};
+ghost use Rattle.dae_nodes.specs.Parts.{ShowsOperand, ShowsSpecified, ShowsDeclared, ShowsInitialiser, ShowsDeclaration, ShowsStatement};
 ghost use Rattle.dae_frames.specs.Frames.{is_block};
 ghost use Rattle.dae_frames.specs.States.{Stands, Follows, outside_stack};
 
@@ -22,7 +22,7 @@ use dae_expressions::{
     behind_question, behind_sizeof, in_arguments, in_index, in_parentheses,
 };
 use dae_frames::{Doing, Frame, Machine};
-use dae_parts::{Declared, Operand, Read, Specified};
+use dae_nodes::{Declared, Operand, Read, Specified};
 use dae_statements::{
     case_body, default_body, do_body, else_branch, for_body, in_case, in_evaluation, in_loop_test,
     in_return, in_start, in_statements, in_step, in_test, switch_body, then_branch, while_body,

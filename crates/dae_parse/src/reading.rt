@@ -11,7 +11,7 @@ use crate::error::ParseError;
 use crate::run::{Outcome, run};
 use dae_base::{Items, Place};
 use dae_frames::Before;
-use dae_parts::Read;
+use dae_nodes::Read;
 use dae_tree::{File, Header, Tokens};
 use std::alloc::{AllocError, Global};
 

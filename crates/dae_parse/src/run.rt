@@ -4,7 +4,7 @@ ghost use Rattle.dae_parse.specs.Reached.{Comes};
 use crate::turn::{Turn, turned};
 use dae_frames::{Before, Doing, Machine};
 use dae_front::{Rest, Scope};
-use dae_parts::no_externals;
+use dae_nodes::no_externals;
 use dae_tree::Token;
 use std::alloc::{AllocError, Global};
 

@@ -5,7 +5,8 @@ use Rattle.dae_base.specs.declared.Place.{Place}
 use Rattle.dae_tree.specs.declared.words.Keyword.TheVariants as keywords
 use Rattle.dae_tree.specs.declared.expressions.Name.{Name}
 use Rattle.dae_tree.specs.Operators.{under, strength, operand_level}
-use Rattle.dae_tree.specs.Words.{Seen, nothing_seen, has_type, admits, seen_after, is_tagged_word}
+use Rattle.dae_tree.specs.declared.seen.Seen.{Seen}
+use Rattle.dae_tree.specs.Words.{nothing_seen, has_type, admits, seen_after, is_tagged_word}
 use Rattle.dae_tree.specs.Names.{Names, is_type, after, after_specifiers, after_specifier, after_declarators, after_declarator, after_parameter, with_name}
 use Rattle.dae_tree.specs.Trees.{Expression, Expressions, Specifiers, Specifier, Members, Enumerators, Declarators, Declarator, Parameters, Identifier, Number, Literal, Parenthesised, Index, Call, Member, Postfix, Prefix, SizeofExpression, SizeofType, Cast, Binary, Conditional, Assignment, Comma, no_expressions, expression_then, no_specifiers, specifier_then, Word, TypeName, Structure, StructureBody, Enumeration, EnumerationBody, no_members, member_then, no_enumerators, plain_then, valued_then, no_declarators, declarator_then, Absent, Named, Pointer, Grouped, Unsized, Sized, Empty, Void, Function, no_parameters, parameter_then}
 

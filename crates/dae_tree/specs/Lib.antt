@@ -6,10 +6,10 @@ pub mod Forms
 pub mod Pieces
 pub mod Replacing
 pub mod Directives
-pub mod Reading
 pub mod Tokens
 pub mod Order
 pub mod Marks
+pub mod Reading
 pub mod Operators
 pub mod Trees
 pub mod Names
@@ -18,5 +18,7 @@ pub mod Spelling
 pub mod Grammar
 pub mod Statements
 pub mod Depth
+pub mod Lists
 pub mod Views
 pub mod FileViews
+pub mod Files

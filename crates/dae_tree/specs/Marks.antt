@@ -1,5 +1,5 @@
 -- Tokens as the grammar sees them: what each is, with its place. A token that only closes or parts has no place.
-use Rattle.std.specs.Prelude.{ℕ, List, map}
+use Rattle.std.specs.Prelude.{ℕ, List, [], ◌∷◌, map}
 use Rattle.dae_base.specs.declared.Place.{Place}
 use Rattle.dae_tree.specs.declared.constants.Constant.{Constant}
 use Rattle.dae_tree.specs.declared.words.Keyword.{Keyword}
@@ -52,3 +52,9 @@ mark t = mark_of t.kind t.place
 
 abbrev pub marks : List Token → List Mark
 marks tokens = map mark tokens
+
+-- the numbers of the literals among tokens, in order
+abbrev pub literal_numbers : List Mark → List ℕ
+literal_numbers [] = []
+literal_numbers (literal p n ∷ ts) = n ∷ literal_numbers ts
+literal_numbers (_ ∷ ts) = literal_numbers ts

@@ -123,6 +123,18 @@ is_bare (Named n) = true
 is_bare (Grouped p d) = is_bare d
 is_bare _ = false
 
+-- the part that makes the declared name a function
+abbrev pub function_part : Declarator → Option Declarator
+function_part Absent = None
+function_part (Named n) = None
+function_part (Pointer p qs d) = function_part d
+function_part (Grouped p d) = function_part d
+function_part (Unsized d p) = function_part d
+function_part (Sized d p e) = function_part d
+function_part (Empty d p) = if is_bare d then Some (Empty d p) else function_part d
+function_part (Void d p q) = if is_bare d then Some (Void d p q) else function_part d
+function_part (Function d p ps) = if is_bare d then Some (Function d p ps) else function_part d
+
 abbrev pub with_parameters : Declarator → Names → Names
 with_parameters Absent names = names
 with_parameters (Named n) names = names

@@ -1,6 +1,6 @@
 -- What is read of a text: its tokens, the names and literals that they number, and the headers that it includes.
-use Rattle.std.specs.Prelude.{ℕ, ◌<◌, ◌≤◌, Bool, List, [], ◌∷◌, length, All}
-use Rattle.std.specs.List.{IsDistinct}
+use Rattle.std.specs.Prelude.{◌≡◌, ℕ, ◌<◌, ◌≤◌, Bool, List, [], ◌∷◌, length, All}
+use Rattle.std.specs.List.{IsDistinct, range_with_len}
 use Rattle.std.specs.Str.{bytes_eq}
 use Rattle.dae_base.specs.declared.Place.{Place}
 use Rattle.dae_tree.specs.declared.headers.Header.{Header}
@@ -8,6 +8,7 @@ use Rattle.dae_tree.specs.declared.headers.Header.TheVariants.{Stdio, Stdlib}
 use Rattle.dae_tree.specs.declared.tokens.Kind.{Kind}
 use Rattle.dae_tree.specs.declared.tokens.Kind.TheVariants as kinds
 use Rattle.dae_tree.specs.declared.tokens.Token.{Token}
+use Rattle.dae_tree.specs.Marks.{marks, literal_numbers}
 
 pub record Reading : Type 0 where
   pub text : List ℕ
@@ -38,9 +39,10 @@ IsNumbered names literals (kinds.Literal n) = n < literals
 IsNumbered names literals _ = Unit {0}
 
 -- Spans lie within the text, and neither their starts nor their ends fall. No name stands twice in the list of names, and
--- the numbers of names and literals lie within their lists.
+-- the numbers of names and literals lie within their lists; the literals have the numbers from 0 on.
 pub record IsReading (r : Reading) : Type 0 where
   pub spans : All (IsSpan r.text) r.tokens
   pub order : AreInOrder 0 0 r.tokens
   pub distinct : IsDistinct bytes_eq r.names
   pub numbers : All (λ t. IsNumbered (length r.names) (length r.literals) t.kind) r.tokens
+  pub counted : literal_numbers (marks r.tokens) ≡ range_with_len 0 (length r.literals)

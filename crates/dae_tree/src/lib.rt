@@ -10,15 +10,17 @@ pub use expressions::{
     Declarator, Enumerator, Expression, Member, Name, Parameter, Specifier, TypeName,
 };
 pub use faults::{Construct, Fault, LexError};
+pub use files::File;
 pub use headers::{HEADERS, Header, STDIO_MACROS, STDLIB_MACROS};
 pub use literals::ESCAPES;
 pub use operators::{
     AssignmentOperator, BinaryOperator, MemberOperator, PostfixOperator, PrefixOperator,
 };
 pub use pieces::{Form, PieceKind, Spot};
+pub use seen::{Arithmetic, Seen};
 pub use signs::{SIGNS, Sign};
 pub use statements::{
-    Block, Declaration, External, File, Heading, Initialiser, Item, Statement, Test,
+    Block, Declaration, External, Heading, Initialiser, Item, Statement, Test,
 };
 pub use tokens::{Includes, Kind, Room, Token, Tokens};
 pub use words::{KEYWORDS, Keyword, REFUSED_WORDS};
@@ -26,10 +28,13 @@ pub use words::{KEYWORDS, Keyword, REFUSED_WORDS};
 mod constants;
 mod expressions;
 mod faults;
+mod files;
 mod headers;
 mod literals;
 mod operators;
 mod pieces;
+mod places;
+mod seen;
 mod signs;
 mod statements;
 mod tokens;

@@ -1,5 +1,5 @@
 use crate::expressions::{Declarator, Expression, Specifier};
-use dae_base::{Items, Place};
+use dae_base::Place;
 
 /// An initialiser (C90 6.5.7).
 #[derive(Drop)]
@@ -78,14 +78,4 @@ pub struct Heading {
 pub enum External {
     Declaration(Declaration),
     Definition(Vec<Specifier>, Declarator, Block),
-}
-
-/// A file: what it declares and defines, the bytes of its names and literals, and the headers that it includes.
-#[derive(Drop)]
-pub struct File {
-    pub externals: Items<External>,
-    pub names: Items<Items<u8>>,
-    pub literals: Items<Items<u8>>,
-    pub stdio: bool,
-    pub stdlib: bool,
 }
