@@ -6,7 +6,7 @@ use Rattle.dae_tree.specs.declared.faults.LexError.TheVariants as lex_errors
 use Rattle.dae_tree.specs.declared.tokens.Room.{Room}
 use Rattle.dae_tree.specs.Reading.{Reading}
 use Rattle.dae_tree.specs.Tokens.{tokens_of, Answers}
-use Rattle.dae_tree.specs.declared.statements.File.{File}
+use Rattle.dae_tree.specs.Files.{Contents}
 use Rattle.dae_tree.specs.FileViews.{view_externals}
 use Rattle.dae_parse.specs.Parsed.{IsFileOf}
 use Rattle.dae_straight_reader.specs.Form.{straight_of}
@@ -31,8 +31,8 @@ no_tokens name text lex_errors.Memory new short other h = absurd (other refl)
 
 -- what a file has beside its tree is what was read
 
-around_file : (r : Reading) (f : File) → IsFileOf r f → around_in f ≡ around_read r
+around_file : (r : Reading) (f : Contents) → IsFileOf r f → around_in f ≡ around_read r
 around_file r f h = rw (h.names, h.literals, h.stdio, h.stdlib) refl
 
-pub straight_file : (r : Reading) (f : File) (o : Option StraightProgram) → IsFileOf r f → straight_of (around_in f) (view_externals f.externals) ≡ o → straight_of (around_read r) (view_externals f.externals) ≡ o
+pub straight_file : (r : Reading) (f : Contents) (o : Option StraightProgram) → IsFileOf r f → straight_of (around_in f) (view_externals f.externals) ≡ o → straight_of (around_read r) (view_externals f.externals) ≡ o
 straight_file r f o h k = subst (λ around. straight_of around (view_externals f.externals) ≡ o) (around_file r f h) k

@@ -1,3 +1,5 @@
+//! Lines: what each of them is, the macros that it defines, and what it puts out.
+
 ghost use Rattle.std.specs.Prelude.{◌≡◌, ◌≤◌, ◌<◌, ◌+◌, ◌++◌, ◌||◌, ℕ, List, [], ◌∷◌, length, map, option_map, IfOk, OnOk, IfErr};
 ghost use Rattle.std.specs.List.{prefix_len};
 ghost use Rattle.dae_tree.specs.Pieces.{Cut};

@@ -1,3 +1,5 @@
+//! Tokens at the end: adjacent literals joined, names and literals numbered.
+
 ghost use Rattle.std.specs.Prelude.{◌≡◌, ◌≤◌, ◌<◌, ◌+◌, ◌-◌, ◌^◌, ◌++◌, ℕ, [], ◌∷◌, List, None, length, map, option_map, IfOk, OnOk, IfErr};
 ghost use Rattle.std.specs.List.{position_or_len};
 ghost use Rattle.std.specs.Str.{bytes_eq};

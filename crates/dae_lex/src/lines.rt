@@ -1,3 +1,5 @@
+//! Lines joined: the bytes of a text that are left, and where each of them stands.
+
 ghost use Rattle.std.specs.Prelude.{◌≡◌, ◌+◌, ◌≤◌, ◌<◌, ◌^◌, ◌++◌, [], ◌∷◌, length, IfOk, OnOk, IfErr};
 ghost use Rattle.dae_tree.specs.Lines.{bytes_of, spots_of, start_of, spot_after, spot_behind, join_length, join_left, joined_lines};
 ghost use Rattle.dae_tree.specs.declared.faults.LexError.TheVariants.{Memory};

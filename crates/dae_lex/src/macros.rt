@@ -1,3 +1,5 @@
+//! The macros that are defined so far.
+
 ghost use Rattle.std.specs.Prelude.{◌≡◌, ◌≤◌, ◌<◌, ◌^◌, ◌++◌, [], ◌∷◌, None, length, map, option_map, IfSome, OnOk, IfErr};
 ghost use Rattle.dae_tree.specs.Replacing.{Definition, body_of};
 ghost use Rattle.dae_lex.specs.Cuts.{cut_of};

@@ -1,3 +1,5 @@
+//! Tokens as they are put out, with what is left of the room.
+
 ghost use Rattle.std.specs.Prelude.{◌≡◌, ◌≤◌, ◌<◌, ◌+◌, ◌++◌, [], ◌∷◌, length, OnOk, IfErr, Result, Ok, Err};
 ghost use Rattle.dae_tree.specs.Literals.{inside};
 ghost use Rattle.dae_tree.specs.Replacing.{items_of, taken, replaced, error_at, word_meaning, literal_length};

@@ -1,3 +1,5 @@
+//! A joined text cut into its longest pieces.
+
 ghost use Rattle.std.specs.Prelude.{◌≡◌, ℕ, ◌≤◌, ◌<◌, ◌+◌, ◌^◌, ◌++◌, [], ◌∷◌, length, drop, IfOk, OnOk, IfErr, MatchOption, map, All};
 ghost use Rattle.std.specs.List.{flat_map};
 ghost use Rattle.dae_tree.specs.Forms.{IsWithin};

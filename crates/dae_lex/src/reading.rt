@@ -1,3 +1,5 @@
+//! The tokens of a text, from its bytes on.
+
 ghost use Rattle.std.specs.Prelude.{◌≡◌, ◌≤◌, ◌<◌, ◌^◌, [], length, map, IfOk, IfErr};
 ghost use Rattle.dae_tree.specs.Tokens.{reads_of, tested_in, tokens_of, joined, numbered, names_after, literals_after, Answers};
 ghost use Rattle.dae_tree.specs.declared.faults.LexError.TheVariants.{Memory};

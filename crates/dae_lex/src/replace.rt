@@ -1,3 +1,5 @@
+//! Names of macros replaced, with a stack of the replacements that are not over.
+
 ghost use Rattle.std.specs.Prelude.{◌≡◌, ◌≤◌, ◌<◌, ◌+◌, ◌^◌, ◌++◌, ℕ, [], ◌∷◌, false, nat_eq, length, map, option_map, OnOk, IfErr, IfSome, MatchOption};
 ghost use Rattle.std.specs.List.{list_any};
 ghost use Rattle.std.specs.Str.{bytes_eq};

@@ -1,5 +1,5 @@
-pub mod Places
-pub mod Values
-pub mod Faults
-pub mod Units
-pub mod Longest
+mod Places
+mod Values
+mod Faults
+mod Units
+mod Longest

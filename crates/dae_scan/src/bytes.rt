@@ -1,3 +1,5 @@
+//! Tests on bytes, and bytes past the end.
+
 ghost use Rattle.std.specs.Prelude.{◌≡◌, drop, slice_index};
 ghost use Rattle.dae_tree.specs.Literals.{is_nowhere, is_trigraph};
 ghost use Rattle.dae_tree.specs.Forms.{is_letter, is_word, is_blank};

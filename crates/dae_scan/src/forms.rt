@@ -1,3 +1,5 @@
+//! What stands at the front of some bytes: a word, a number, a literal, a comment, a sign, or a fault.
+
 ghost use Rattle.std.specs.Prelude.{◌≡◌, ◌≤◌, ◌<◌, ◌+◌, length, false, slice_index, IfSome, IsTrue};
 ghost use Rattle.std.specs.List.{prefix_len};
 ghost use Rattle.dae_tree.specs.Forms.{is_letter, is_word, begins_number, number_rest, literal_stop, front_nowhere, closes_comment, ends_line, place_of, plain, wrong, wrong_comment, word_form, number_form, literal_fault, literal_kind, literal_form, comment_form, line_comment_form, sign_form, form, IsWithin};

@@ -1,3 +1,5 @@
+//! The bytes that the inside of a literal spells, and the first fault in it.
+
 ghost use Rattle.std.specs.Prelude.{◌≡◌, ◌≤◌, ◌<◌, ◌++◌, length, IfSome, OnOk, slice_index};
 ghost use Rattle.dae_tree.specs.Constants.{value_from, limited};
 ghost use Rattle.dae_tree.specs.Literals.{letter_in, letter_of, escape_of, unit_of, values_of, checked, fault_from};

@@ -1,3 +1,5 @@
+//! What a number spells: its base, digits and suffix.
+
 ghost use Rattle.std.specs.Prelude.{◌≡◌, ◌≤◌, ◌<◌, length, slice_index, ◌==◌};
 ghost use Rattle.std.specs.List.{prefix_len, list_any};
 ghost use Rattle.std.specs.Char.{is_ascii_digit};

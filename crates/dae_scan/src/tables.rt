@@ -1,3 +1,5 @@
+//! Look-ups in the tables of signs, keywords, headers and suffixes.
+
 ghost use Rattle.std.specs.Prelude.{◌≡◌, ◌≤◌, ◌<◌, length, map, IfSome};
 ghost use Rattle.dae_tree.specs.declared.signs.TheConstants.{SIGNS};
 ghost use Rattle.dae_tree.specs.Tables.{first_row, row_of, rows_of, IsLongestRow, sign_of, keyword_of, refused_word, header_of, suffix_of};

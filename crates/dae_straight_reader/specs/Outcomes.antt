@@ -1,7 +1,7 @@
 -- What the code has beside a tree, and what a function answers beside what is defined.
 use Rattle.std.specs.Prelude.{◌≡◌, List, ◌++◌, Option, Some, None, Result, Ok, Err}
 use Rattle.dae_straight_reader.specs.declared.around.Around.{Around as Held}
-use Rattle.dae_tree.specs.declared.statements.File.{File}
+use Rattle.dae_tree.specs.Files.{Contents}
 use Rattle.dae_straight_reader.specs.Form.{Around}
 use Rattle.dae_straight_reader.specs.declared.error.ReadError.{ReadError}
 use Rattle.dae_straight_reader.specs.declared.error.ReadError.TheVariants.{NotBuilt, Memory}
@@ -9,7 +9,7 @@ use Rattle.dae_straight_reader.specs.declared.error.ReadError.TheVariants.{NotBu
 abbrev pub around_of : Held → Around
 around_of a = record { names = a.names.now; literals = a.literals.now; stdio = a.stdio; stdlib = a.stdlib }
 
-abbrev pub around_in : File → Around
+abbrev pub around_in : Contents → Around
 around_in f = record { names = f.names; literals = f.literals; stdio = f.stdio; stdlib = f.stdlib }
 
 -- where nothing is defined the error is NotBuilt; of want of memory nothing is told

@@ -18,7 +18,7 @@ mod sums;
 
 use crate::around::Around;
 use dae_straight::StraightProgram;
-use dae_tree::File;
+use dae_tree::{File, Header};
 use std::alloc::Global;
 
 /// Reads a straight program from a file: objects of type int, assignments of sums of products, and lines that print one
@@ -30,10 +30,10 @@ pub fn read(alloc: Global, file: &File) -> Result<StraightProgram, ReadError>
     ensures straight { IfOk result (λ p. IsStraight p) }
 {
     let around = Around {
-        names: file.names.as_slice(),
-        literals: file.literals.as_slice(),
-        stdio: file.stdio,
-        stdlib: file.stdlib,
+        names: file.names(),
+        literals: file.literals(),
+        stdio: file.includes(Header::Stdio),
+        stdlib: file.includes(Header::Stdlib),
     };
-    files::program_of(alloc, &around, file.externals.as_slice())
+    files::program_of(alloc, &around, file.externals())
 }
