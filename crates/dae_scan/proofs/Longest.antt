@@ -1,7 +1,7 @@
 -- In a table whose rows don't grow, the first row that begins some bytes is the longest.
 use Rattle.std.proofs.Common.{◌≡◌, ℕ, ◌≤◌, Bool, true, false, List, [], ◌∷◌, length, refl, arith}
-use Rattle.std.specs.Prelude.{◌&&◌, IsTrue, nat_le, nat_eq, if◌then◌else◌, Option, Some, None, IfSome}
-use Rattle.std.specs.List.{AllByRecursion, starts_with}
+use Rattle.std.specs.Prelude.{◌&&◌, nat_le, nat_eq, if◌then◌else◌, Option, Some, None, IfSome}
+use Rattle.std.specs.List.{starts_with}
 use Rattle.std.proofs.lemmas.Bool.Decides.{nat_tests}
 use Rattle.dae_tree.specs.Tables.{first_row, IsLongestRow}
 
