@@ -15,10 +15,10 @@ use Rattle.dae_machine.specs.Machine.{Setup, State, IsFinal}
 use Rattle.dae_machine.specs.Opened.{opened, setup_of}
 use Rattle.dae_machine.specs.Rests.{end_of}
 use Rattle.dae_machine.specs.Schedules.{word_of}
-use Rattle.dae_tree.specs.declared.Statement.{Statement}
-use Rattle.dae_tree.specs.declared.Statement.TheVariants.{Assign, PrintLine}
-use Rattle.dae_tree.specs.declared.StraightProgram.{StraightProgram}
-use Rattle.dae_tree.specs.Meaning as c
+use Rattle.dae_straight.specs.declared.Statement.{Statement}
+use Rattle.dae_straight.specs.declared.Statement.TheVariants.{Assign, PrintLine}
+use Rattle.dae_straight.specs.declared.StraightProgram.{StraightProgram}
+use Rattle.dae_straight.specs.Meaning as c
 use Rattle.dae_straight_compiler.specs.Budget.{assigns, budget_of}
 use Rattle.dae_straight_compiler.specs.Compiled.{EndsSo, IsCompiled}
 use Rattle.dae_cli.specs.declared.drive.Driven.{Driven}

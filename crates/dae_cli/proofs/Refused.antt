@@ -1,18 +1,20 @@
 -- What is due for a text that is not run.
-use Rattle.std.proofs.Common.{◌≡◌, ℕ, ◌≤◌, ◌⊎◌, inl, inr, List, [], length, map, refl, ap, sym, ◌∙◌}
+use Rattle.std.proofs.Common.{◌≡◌, ℕ, ◌≤◌, ◌⊎◌, inl, inr, List, [], length, refl, subst}
 use Rattle.std.specs.Prelude.{◌≢◌, Option, Err}
-use Rattle.dae_token.specs.declared.faults.LexError.{LexError}
-use Rattle.dae_token.specs.declared.faults.LexError.TheVariants as lex_errors
-use Rattle.dae_token.specs.declared.tokens.Room.{Room}
-use Rattle.dae_token.specs.Reading.{Reading}
-use Rattle.dae_token.specs.Tokens.{tokens_of, Answers}
-use Rattle.dae_syntax.specs.Trees.{External}
-use Rattle.dae_parse.specs.Parsed.{IsWithinLimits}
-use Rattle.dae_straight_reader.specs.Spelled.{mark_word, IsSpelled, IsTreeSpelled}
-use Rattle.dae_tree.specs.declared.StraightProgram.{StraightProgram}
+use Rattle.dae_tree.specs.declared.faults.LexError.{LexError}
+use Rattle.dae_tree.specs.declared.faults.LexError.TheVariants as lex_errors
+use Rattle.dae_tree.specs.declared.tokens.Room.{Room}
+use Rattle.dae_tree.specs.Reading.{Reading}
+use Rattle.dae_tree.specs.Tokens.{tokens_of, Answers}
+use Rattle.dae_tree.specs.Files.{Contents}
+use Rattle.dae_tree.specs.FileViews.{view_externals}
+use Rattle.dae_parse.specs.Parsed.{IsFileOf}
+use Rattle.dae_straight_reader.specs.Form.{straight_of}
+use Rattle.dae_straight_reader.specs.Outcomes.{around_in}
+use Rattle.dae_straight.specs.declared.StraightProgram.{StraightProgram}
 use Rattle.dae_cli.specs.Notes.{memory_line}
 use Rattle.dae_cli.specs.Refusals.{lex_line}
-use Rattle.dae_cli.specs.Answers.{Answer, answer, whole_room, SpellsOnly, Gives, DueOfText, due_no_tokens, due_memory_to_read}
+use Rattle.dae_cli.specs.Answers.{Answer, answer, whole_room, around_read, Gives, DueOfText, due_no_tokens, due_memory_to_read}
 use Rattle.dae_cli.proofs.Given.{gives_for}
 
 -- the line was noted, or memory was wanting for it
@@ -27,13 +29,10 @@ no_tokens name text (lex_errors.TooManyTokens p) new short other h = due_no_toke
 no_tokens name text (lex_errors.Refused construct p) new short other h = due_no_tokens _ other short h.0
 no_tokens name text lex_errors.Memory new short other h = absurd (other refl)
 
--- what the tokens spell is what their tree spells
+-- what a file has beside its tree is what was read
 
-pub tree_spelled : (r : Reading) (file : List External) (p : StraightProgram) → IsWithinLimits r.tokens file → IsSpelled r p → IsTreeSpelled r file p
-tree_spelled r file p tree h = record { straight = h.straight; words = ap (map (mark_word r.names r.literals)) (sym tree.tree.1) ∙ h.words; included = h.included }
+around_file : (r : Reading) (f : Contents) → IsFileOf r f → around_in f ≡ around_read r
+around_file r f h = rw (h.names, h.literals, h.stdio, h.stdlib) refl
 
-pub tokens_spelled : (r : Reading) (file : List External) (p : StraightProgram) → IsWithinLimits r.tokens file → IsTreeSpelled r file p → IsSpelled r p
-tokens_spelled r file p tree h = record { straight = h.straight; words = ap (map (mark_word r.names r.literals)) tree.tree.1 ∙ h.words; included = h.included }
-
-pub spells_only : (r : Reading) (file : List External) (p : StraightProgram) → IsWithinLimits r.tokens file → IsSpelled r p → ((q : StraightProgram) → IsSpelled r q → q ≡ p) → SpellsOnly r file p
-spells_only r file p tree h only = record { spells = tree_spelled r file p tree h; only = λ q k. only q (tokens_spelled r file q tree k) }
+pub straight_file : (r : Reading) (f : Contents) (o : Option StraightProgram) → IsFileOf r f → straight_of (around_in f) (view_externals f.externals) ≡ o → straight_of (around_read r) (view_externals f.externals) ≡ o
+straight_file r f o h k = subst (λ around. straight_of around (view_externals f.externals) ≡ o) (around_file r f h) k

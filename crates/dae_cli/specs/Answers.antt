@@ -15,20 +15,20 @@ use Rattle.dae_machine.specs.Machine.{Setup, State}
 use Rattle.dae_machine.specs.Opened.{opened, setup_of}
 use Rattle.dae_machine.specs.Schedules.{word_of}
 use Rattle.dae_machine.specs.declared.End.TheVariants.{Ended, Trapped}
-use Rattle.dae_tree.specs.declared.StraightProgram.{StraightProgram}
-use Rattle.dae_tree.specs.Meaning as c
-use Rattle.dae_tree.specs.Straight.{meaning}
+use Rattle.dae_straight.specs.declared.StraightProgram.{StraightProgram}
+use Rattle.dae_straight.specs.Meaning as c
+use Rattle.dae_straight.specs.Straight.{meaning}
 use Rattle.dae_straight_compiler.specs.Compiled.{IsCompiled}
-use Rattle.dae_token.specs.declared.faults.LexError.{LexError}
-use Rattle.dae_token.specs.declared.faults.LexError.TheVariants as lex_errors
-use Rattle.dae_token.specs.declared.tokens.Room.{Room}
-use Rattle.dae_token.specs.Reading.{Reading}
-use Rattle.dae_token.specs.Tokens.{tokens_of}
-use Rattle.dae_syntax.specs.Trees.{External}
+use Rattle.dae_tree.specs.declared.faults.LexError.{LexError}
+use Rattle.dae_tree.specs.declared.faults.LexError.TheVariants as lex_errors
+use Rattle.dae_tree.specs.declared.tokens.Room.{Room}
+use Rattle.dae_tree.specs.Reading.{Reading}
+use Rattle.dae_tree.specs.Tokens.{tokens_of}
+use Rattle.dae_tree.specs.Trees.{External}
 use Rattle.dae_parse.specs.declared.error.ParseError.{ParseError}
 use Rattle.dae_parse.specs.declared.error.ParseError.TheVariants as tree_errors
 use Rattle.dae_parse.specs.Parsed.{IsRefused, IsWithinLimits}
-use Rattle.dae_straight_reader.specs.Spelled.{IsTreeSpelled}
+use Rattle.dae_straight_reader.specs.Form.{Around, straight_of}
 use Rattle.dae_cli.specs.declared.drive.Driven.{Driven}
 use Rattle.dae_cli.specs.declared.drive.Driven.TheVariants.{Final, Stuck, Spent, SinkFailed}
 use Rattle.dae_cli.specs.declared.options.RunOptions.{RunOptions}
@@ -56,10 +56,9 @@ pub record IsRead (text : List ℕ) (r : Reading) : Type 0 where
   pub left : Room
   pub tokens : tokens_of 0 text whole_room ≡ Ok (r, left)
 
--- the file's tree spells this program and no other
-pub record SpellsOnly (r : Reading) (file : List External) (p : StraightProgram) : Type 0 where
-  pub spells : IsTreeSpelled r file p
-  pub only : (q : StraightProgram) → IsTreeSpelled r file q → q ≡ p
+-- what is read of a text beside its tree
+abbrev pub around_read : Reading → Around
+around_read r = record { names = r.names; literals = r.literals; stdio = r.stdio; stdlib = r.stdlib }
 
 -- the program's image, with the canonical order of its steps, and how the program ends
 pub record Run (p : StraightProgram) : Type 0 where
@@ -81,14 +80,14 @@ pub data DueOfProgram (p : StraightProgram) : Answer → Type 0 where
   due_memory_to_open : (r : Run p) → DueOfProgram p (answer 7 [] (budget_line r.image.budget ++ memory_line))
 
 -- what is due for the text of a file with this name: it is longer than a source may be; or it has no tokens, and the first
--- cause is told; or they have no tree within the limits, and the cause is told; or the tree spells a program; or it spells
--- none; or memory was wanting
+-- cause is told; or they have no tree within the limits, and the cause is told; or the tree is that of a program; or it
+-- is that of none; or memory was wanting
 pub data DueOfText (name text : List ℕ) : Answer → Type 0 where
   due_too_long : 1048576 < length text → DueOfText name text (answer 2 [] (too_long_line name))
   due_no_tokens : (e : LexError) → e ≢ lex_errors.Memory → length text ≤ 1048576 → tokens_of 0 text whole_room ≡ Err e → DueOfText name text (answer 2 [] (lex_line name e))
   due_no_tree : (r : Reading) (e : ParseError) → IsRead text r → e ≢ tree_errors.Memory → IsRefused r e → DueOfText name text (answer 2 [] (tree_line name e))
-  due_program : {a : Answer} (r : Reading) (file : List External) (p : StraightProgram) → IsRead text r → IsWithinLimits r.tokens file → SpellsOnly r file p → DueOfProgram p a → DueOfText name text a
-  due_not_built : (r : Reading) (file : List External) → IsRead text r → IsWithinLimits r.tokens file → ((p : StraightProgram) → ¬ (IsTreeSpelled r file p)) → DueOfText name text (answer 2 [] not_built_line)
+  due_program : {a : Answer} (r : Reading) (file : List External) (p : StraightProgram) → IsRead text r → IsWithinLimits r.tokens file → straight_of (around_read r) file ≡ Some p → DueOfProgram p a → DueOfText name text a
+  due_not_built : (r : Reading) (file : List External) → IsRead text r → IsWithinLimits r.tokens file → straight_of (around_read r) file ≡ None → DueOfText name text (answer 2 [] not_built_line)
   due_memory_to_read : DueOfText name text (answer 7 [] memory_line)
 
 -- what is due for a file: for the text that the shelf tells of its name; for its fetch, where that failed; or memory was

@@ -1,10 +1,10 @@
 -- The lines for a text that is not run.
 use Rattle.std.specs.Prelude.{ℕ, List, ◌++◌, codes, decimal}
 use Rattle.dae_base.specs.declared.Place.{Place}
-use Rattle.dae_token.specs.declared.faults.Construct.{Construct}
-use Rattle.dae_token.specs.declared.faults.Construct.TheVariants.{Goto, Union, Volatile, FloatType, FloatConstant, Ellipsis, Directive, FunctionMacro, HashInMacro, MacroRedefined, Trigraph, WideLiteral, LongCharacter, BadEscape, BadConstant, NumberTooLarge, Unterminated, TooManyReplacements, LiteralsTooLong}
-use Rattle.dae_token.specs.declared.faults.LexError.{LexError}
-use Rattle.dae_token.specs.declared.faults.LexError.TheVariants as lex_errors
+use Rattle.dae_tree.specs.declared.faults.Construct.{Construct}
+use Rattle.dae_tree.specs.declared.faults.Construct.TheVariants.{Goto, Union, Volatile, FloatType, FloatConstant, Ellipsis, Directive, FunctionMacro, HashInMacro, MacroRedefined, Trigraph, WideLiteral, LongCharacter, BadEscape, BadConstant, NumberTooLarge, Unterminated, TooManyReplacements, LiteralsTooLong}
+use Rattle.dae_tree.specs.declared.faults.LexError.{LexError}
+use Rattle.dae_tree.specs.declared.faults.LexError.TheVariants as lex_errors
 use Rattle.dae_parse.specs.declared.error.ParseError.{ParseError}
 use Rattle.dae_parse.specs.declared.error.ParseError.TheVariants as tree_errors
 use Rattle.dae_cli.specs.Notes.{memory_line}

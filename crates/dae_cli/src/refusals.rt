@@ -3,7 +3,7 @@ ghost use Rattle.dae_cli.specs.Refusals.{construct_name, lex_line, place_text, r
 
 use dae_base::Place;
 use dae_parse::ParseError;
-use dae_token::{Construct, LexError};
+use dae_tree::{Construct, LexError};
 use std::alloc::{AllocError, Global};
 
 /// The line that tells why a text has no tokens, and where.

@@ -1,8 +1,8 @@
-ghost use Rattle.std.specs.Prelude.{◌≡◌, ℕ, ◌≤◌, ◌⊎◌, List, [], Option, IfOk, IfErr, string_bytes};
+ghost use Rattle.std.specs.Prelude.{◌≡◌, ℕ, ◌≤◌, ◌⊎◌, List, [], Option, IfOk, string_bytes};
 ghost use Rattle.dae_io.specs.Faults.{Rose, fetch_of};
-ghost use Rattle.dae_tree.specs.Form.{IsStraight};
-ghost use Rattle.dae_syntax.specs.Trees.{External};
-ghost use Rattle.dae_parse.specs.Parsed.{IsRefused, IsWithinLimits};
+ghost use Rattle.dae_straight.specs.Form.{IsStraight};
+ghost use Rattle.dae_tree.specs.Reading.{Reading};
+ghost use Rattle.dae_parse.specs.Parsed.{IsFileOf};
 ghost use Rattle.dae_cli.specs.Notes.{memory_line};
 ghost use Rattle.dae_cli.specs.Answers.{Answer, answer, IsRead, DueOfProgram, DueOfText, DueOfFile, Gives};
 
@@ -14,10 +14,10 @@ use dae_io::{FetchError, Shelf, Sink};
 use dae_lex::tokens;
 use dae_machine::Schedule;
 use dae_parse::{ParseError, parse};
+use dae_straight::StraightProgram;
 use dae_straight_compiler::compile;
 use dae_straight_reader::{ReadError, read};
-use dae_token::{LexError, Room, Tokens};
-use dae_tree::StraightProgram;
+use dae_tree::{File, LexError, Room, Tokens};
 use std::alloc::{AllocError, Global};
 
 /// One byte more than a source may have.
@@ -87,27 +87,18 @@ fn refused<N: Sink>(line: Result<String, AllocError>, note: &mut N) -> u8
     }
 }
 
-// Runs the program that these tokens spell, which have a tree.
-fn run_tree<O: Sink, N: Sink>(alloc: Global, tokens: &Tokens<'_>, out: &mut O, note: &mut N) -> u8
-    ensures { (name text : List ℕ) (file : List External) → IsRead text tokens.now → IsWithinLimits tokens.now.tokens file → (due : Answer) × DueOfText name text due × Gives due result (O.taken out.old) (O.taken out.new) (N.taken note.old) (N.taken note.new) (Rose (O.count out.old) (O.count out.new) ⊎ Rose (N.count note.old) (N.count note.new)) }
+// Runs the program that the tree of a file is.
+fn run_tree<O: Sink, N: Sink>(alloc: Global, file: &File, out: &mut O, note: &mut N) -> u8
+    ensures { (name text : List ℕ) (r : Reading) → IsRead text r → IsFileOf r file.now → (due : Answer) × DueOfText name text due × Gives due result (O.taken out.old) (O.taken out.new) (N.taken note.old) (N.taken note.new) (Rose (O.count out.old) (O.count out.new) ⊎ Rose (N.count note.old) (N.count note.new)) }
 {
-    match read(alloc, tokens) {
+    match read(alloc, file) {
         Ok(program) => run_program(alloc, &program, out, note),
         Err(ReadError::NotBuilt) => noted(note, NOT_BUILT, 2),
         Err(ReadError::Memory) => noted(note, MEMORY, 7),
     }
 }
 
-// Whether the tokens have a tree within the limits, or why they have none. Its memory is given back.
-fn accept(alloc: Global, tokens: &Tokens<'_>) -> Result<(), ParseError>
-    ensures ok { IfOk result (λ _. (file : List External) × IsWithinLimits tokens.now.tokens file) }
-    ensures err { IfErr result (λ e. IsRefused tokens.now e) }
-{
-    let _file = parse(alloc, tokens)?;
-    Ok(())
-}
-
-// Runs the program that the tree of these tokens spells.
+// Runs the program that the tree of these tokens is.
 fn run_tokens<O: Sink, N: Sink>(
     alloc: Global,
     name: &str,
@@ -117,8 +108,8 @@ fn run_tokens<O: Sink, N: Sink>(
 ) -> u8
     ensures { (text : List ℕ) → IsRead text tokens.now → (due : Answer) × DueOfText name.now text due × Gives due result (O.taken out.old) (O.taken out.new) (N.taken note.old) (N.taken note.new) (Rose (O.count out.old) (O.count out.new) ⊎ Rose (N.count note.old) (N.count note.new)) }
 {
-    match accept(alloc, tokens) {
-        Ok(()) => run_tree(alloc, tokens, out, note),
+    match parse(alloc, tokens) {
+        Ok(file) => run_tree(alloc, &file, out, note),
         Err(ParseError::Memory) => noted(note, MEMORY, 7),
         Err(error) => refused(refusals::tree_line(alloc, name, error), note),
     }

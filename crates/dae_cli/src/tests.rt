@@ -240,6 +240,14 @@ const NOT_RUN: [Row; 18] = [
         note: b"refused source-too-long a.c\n",
     },
     Row {
+        parts: &[(
+            b"#include <stdlib.h>\nint exit;int main(void){exit=1;return 0;}",
+            1,
+        )],
+        status: 2,
+        note: b"refused not-built\n",
+    },
+    Row {
         parts: &[(b"typedef int t;int main(void){int t=3;t=4;return 0;}", 1)],
         status: 2,
         note: b"refused not-built\n",

@@ -29,7 +29,7 @@ pub fn dae_main<F: Shelf, O: Sink, N: Sink>(
 }
 
 /// The same over a shelf and sinks that never fail: what is due is always given, and it is never due for a failed fetch.
-/// So a source file whose tree spells a straight program gives 0, one that is refused or whose tree spells none gives 2,
+/// So a source file whose tree is that of a straight program gives 0, one that is refused or whose tree is none gives 2,
 /// and each may give 7 instead.
 pub fn answer_calmly(alloc: Global, words: &[String], shelf: &mut CalmShelf<'_>) -> u8
     ensures { (due : Answer) × IsDue (map string_bytes words.now) (λ name. if shelf.old.dropped then None else Some (first_text shelf.old.texts.now name)) (λ name. ⊥) due × (result ≡ due.status) }

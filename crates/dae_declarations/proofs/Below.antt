@@ -1,20 +1,20 @@
 -- What stands below the body of a function.
 use Rattle.std.proofs.Common.{◌≡◌, ℕ, length, true, List, [], ◌∷◌, Some, None, refl}
 use Rattle.dae_base.specs.declared.Place.{Place}
-use Rattle.dae_syntax.specs.Marks.{Mark}
-use Rattle.dae_syntax.specs.Names.{Names}
-use Rattle.dae_syntax.specs.Spelling.{spell_specifiers, spell_declarator}
-use Rattle.dae_syntax.specs.Statements.{spell_statement}
-use Rattle.dae_syntax.specs.declared.statements.Statement.{Statement}
-use Rattle.dae_syntax.specs.Trees as tree
+use Rattle.dae_tree.specs.Marks.{Mark}
+use Rattle.dae_tree.specs.Names.{Names}
+use Rattle.dae_tree.specs.Spelling.{spell_specifiers, spell_declarator}
+use Rattle.dae_tree.specs.Statements.{spell_statement}
+use Rattle.dae_tree.specs.declared.statements.Statement.{Statement}
+use Rattle.dae_tree.specs.Trees as tree
 use Rattle.dae_grammar.specs.Frames as plain
 use Rattle.dae_grammar.specs.Machine.{defined}
 use Rattle.dae_frames.specs.declared.frames.Before.{Before}
 use Rattle.dae_frames.specs.declared.frames.Frame.{Frame}
 use Rattle.dae_frames.specs.declared.frames.Frame.TheVariants as frame
 use Rattle.dae_grammar.specs.Taken.{stack_taken, externals_before}
-use Rattle.dae_parts.specs.declared.values.Read.{Read}
-use Rattle.dae_parts.specs.Parts.{ShowsStatement}
+use Rattle.dae_nodes.specs.declared.values.Read.{Read}
+use Rattle.dae_nodes.specs.Parts.{ShowsStatement}
 use Rattle.dae_frames.specs.States.{outside_stack}
 use Rattle.dae_declarations.specs.Bottom.{IsBottom}
 use Rattle.dae_frames.specs.Frames.{ShowsStack, ShowsFile, is_block}

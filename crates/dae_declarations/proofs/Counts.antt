@@ -2,15 +2,15 @@
 use Rattle.std.proofs.Common.{◌≡◌, ℕ, ◌+◌, ◌-◌, Bool, true, false, List, [], ◌∷◌, ◌++◌, length, Option, Some, None, ltb, refl, sym, ap, ◌∙◌, arith}
 use Rattle.std.specs.Prelude.{if◌then◌else◌}
 use Rattle.dae_base.specs.declared.Place.{Place}
-use Rattle.dae_syntax.specs.Marks.{Mark}
-use Rattle.dae_syntax.specs.Statements.{spell_external}
-use Rattle.dae_syntax.specs.Trees.{Specifiers, Declarator, Declaration, Statements, External, Declared, Defined}
-use Rattle.dae_syntax.specs.Depth.{is_too_long, place_of_external, place_of_specifiers, first_too_long}
+use Rattle.dae_tree.specs.Marks.{Mark}
+use Rattle.dae_tree.specs.Statements.{spell_external}
+use Rattle.dae_tree.specs.Trees.{Specifiers, Declarator, Declaration, Statements, External, Declared, Defined}
+use Rattle.dae_tree.specs.Depth.{is_too_long, place_of_external, place_of_specifiers, first_too_long}
 use Rattle.dae_grammar.specs.FirstPlaces.{or_else}
 use Rattle.dae_grammar.specs.Machine.{onto}
 use Rattle.dae_grammar.specs.Taken.{externals_before}
 use Rattle.dae_grammar.proofs.Lengths.{adds_external}
-use Rattle.dae_parts.proofs.Listing.{onto_last}
+use Rattle.dae_nodes.proofs.Listing.{onto_last}
 
 pub externals_add : (xs : List External) (ts : List Mark) → length (externals_before xs ts) ≡ length (externals_before xs []) + length ts
 externals_add [] ts = omega arith

@@ -1,16 +1,16 @@
 -- Where the machine goes by the token that stands next, where that is none of those that it looks for.
 use Rattle.std.proofs.Common.{◌≡◌, Bool, true, false, List, [], ◌∷◌, length, Some, None, refl, arith}
 use Rattle.dae_base.specs.declared.Place.{Place}
-use Rattle.dae_token.specs.declared.signs.Sign.TheVariants as signs
-use Rattle.dae_syntax.specs.Marks.{Mark, sign, part, close_brace, comma}
-use Rattle.dae_syntax.specs.Names.{Names}
-use Rattle.dae_syntax.specs.Words.{nothing_seen}
-use Rattle.dae_syntax.specs.Grammar.{by_name}
-use Rattle.dae_syntax.specs.Trees.{Specifiers, Declarator, Initialiser, Item, External}
+use Rattle.dae_tree.specs.declared.signs.Sign.TheVariants as signs
+use Rattle.dae_tree.specs.Marks.{Mark, sign, part, close_brace, comma}
+use Rattle.dae_tree.specs.Names.{Names}
+use Rattle.dae_tree.specs.Words.{nothing_seen}
+use Rattle.dae_tree.specs.Grammar.{by_name}
+use Rattle.dae_tree.specs.Trees.{Specifiers, Declarator, Initialiser, Item, External}
 use Rattle.dae_grammar.specs.Frames.{Frame, state, in_value, seek, in_list, initialising, declaring, of_item, specifying, for_declaration, in_file}
 use Rattle.dae_grammar.specs.Machine.{initialised, list_followed, listed, declaration_begun, definition_begun, item_given, plain_item, item_followed, external_begun}
 use Rattle.dae_front.specs.Fronts.{sign_at}
-use Rattle.dae_parts.specs.Parts.{is_some_list}
+use Rattle.dae_nodes.specs.Parts.{is_some_list}
 
 pub initialised_otherwise : (s : List Frame) (names : Names) (ts : List Mark) → ¬ (sign_at ts ≡ Some signs.LeftBrace)
     → initialised s names ts ≡ Some (state (seek 15) (in_value ∷ s) names ts)

@@ -1,27 +1,26 @@
 ghost use Rattle.std.specs.Prelude.{◌≡◌, ◌∷◌, Bool, true, false, List, [], length, Option, Some, None, IfOk};
-ghost use Rattle.dae_syntax.specs.Trees.{Specifiers, Declarator as DeclaratorTree, Initialiser as InitialiserTree, Item as ItemTree, Declaration as DeclarationTree, External as ExternalTree};
+ghost use Rattle.dae_tree.specs.Trees.{Specifiers, Declarator as DeclaratorTree, Initialiser as InitialiserTree, Item as ItemTree, Declaration as DeclarationTree, External as ExternalTree};
 ghost use Rattle.dae_grammar.specs.Frames as plain;
 ghost use Rattle.dae_grammar.specs.Frames.{Frame as PlainFrame};
 ghost use Rattle.dae_grammar.specs.Machine.{specifiers_given, declarator_given, item_given, initialiser_taken, item_followed, declaration_taken, external_begun, definition_begun};
 ghost use Rattle.dae_grammar.specs.Taken.{tokens_of};
-ghost use Rattle.dae_parts.specs.Parts.{is_some_list, ShowsSpecified, ShowsDeclared, ShowsInitialiser, ShowsItems, ShowsDeclaration};
+ghost use Rattle.dae_nodes.specs.Parts.{is_some_list, ShowsSpecified, ShowsDeclared, ShowsInitialiser, ShowsItems, ShowsDeclaration};
 ghost use Rattle.dae_front.specs.Fronts.{sign_at};
-ghost use Rattle.dae_token.specs.declared.signs.Sign.TheVariants as signs;
+ghost use Rattle.dae_tree.specs.declared.signs.Sign.TheVariants as signs;
 ghost use Rattle.dae_declarations.specs.Bottom.{IsBottom};
 ghost use Rattle.dae_frames.specs.Frames.{ShowsInside, ShowsFile};
 ghost use Rattle.dae_frames.specs.States.{Stands, Follows, outside_stack};
 
 use dae_base::Place;
-use dae_bodies::{
+use dae_nodes::{
     declaration, declared_external, with_declaration, with_external, with_plain_item,
     with_valued_item,
 };
 use dae_frames::{Before, Doing, Frame, Inside, Machine, Manner};
 use dae_front::Seen;
 use dae_nodes::no_specifiers;
-use dae_parts::{Declared, Read, Specified, has_items, no_declarations, no_items};
-use dae_syntax::{Declaration, Initialiser, Item};
-use dae_token::Sign;
+use dae_nodes::{Declared, Read, Specified, has_items, no_declarations, no_items};
+use dae_tree::{Declaration, Initialiser, Item, Sign};
 use std::alloc::AllocError;
 
 /// Behind the specifiers of a declaration, at file scope or inside (C90 6.5).

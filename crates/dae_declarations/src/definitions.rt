@@ -1,11 +1,11 @@
 ghost use Rattle.std.specs.Prelude.{◌≡◌, ◌≢◌, ◌∷◌, List, [], length, ltb, if◌then◌else◌, Option, Some, None, IfOk};
-ghost use Rattle.dae_syntax.specs.Trees.{Specifiers, Declarator, Declaration, Statements, External, Statement as StatementTree, Block, Defined};
-ghost use Rattle.dae_syntax.specs.Names.{Names};
+ghost use Rattle.dae_tree.specs.Trees.{Specifiers, Declarator, Declaration, Statements, External, Statement as StatementTree, Block, Defined};
+ghost use Rattle.dae_tree.specs.Names.{Names};
 ghost use Rattle.dae_grammar.specs.Frames as plain;
 ghost use Rattle.dae_grammar.specs.Frames.{Frame as PlainFrame};
 ghost use Rattle.dae_grammar.specs.Machine.{statement_given};
 ghost use Rattle.dae_grammar.specs.Taken.{tokens_of, externals_before};
-ghost use Rattle.dae_parts.specs.Parts.{ShowsSpecified, ShowsDeclared, ShowsStatement};
+ghost use Rattle.dae_nodes.specs.Parts.{ShowsSpecified, ShowsDeclared, ShowsStatement};
 ghost use Rattle.dae_declarations.specs.Bottom.{IsBottom};
 ghost use Rattle.dae_base.specs.declared.Place.{Place};
 ghost use Rattle.dae_frames.specs.declared.frames.Before.{Before as BeforeValue};
@@ -14,10 +14,10 @@ ghost use Rattle.dae_frames.specs.Frames.{is_block, ShowsFile};
 ghost use Rattle.dae_frames.specs.States.{Stands, Follows, outside_stack};
 
 use dae_base::Place;
-use dae_bodies::{definition, with_external};
+use dae_nodes::{definition, with_external};
 use dae_frames::{Before, Doing, Frame, Machine};
-use dae_parts::{Declared, Read, Specified};
-use dae_syntax::Statement;
+use dae_nodes::{Declared, Read, Specified};
+use dae_tree::Statement;
 use std::alloc::AllocError;
 
 /// A definition may have at most so many tokens.

@@ -1,17 +1,16 @@
 ghost use Rattle.std.specs.Prelude.{◌≡◌, ◌∷◌, List, Option, Some, None, IfOk};
-ghost use Rattle.dae_syntax.specs.Trees.{Expression, Initialiser as InitialiserTree};
+ghost use Rattle.dae_tree.specs.Trees.{Expression, Initialiser as InitialiserTree};
 ghost use Rattle.dae_grammar.specs.Frames as plain;
 ghost use Rattle.dae_grammar.specs.Frames.{Frame as PlainFrame};
 ghost use Rattle.dae_grammar.specs.Machine.{expression_given, initialised, list_followed, listed};
-ghost use Rattle.dae_parts.specs.Parts.{ShowsOperand, ShowsInitialiser, ShowsInitialisers};
+ghost use Rattle.dae_nodes.specs.Parts.{ShowsOperand, ShowsInitialiser, ShowsInitialisers};
 ghost use Rattle.dae_frames.specs.States.{Stands, Follows, outside_stack};
 
 use dae_base::Place;
-use dae_bodies::{initialiser_list, value, with_initialiser};
+use dae_nodes::{initialiser_list, value, with_initialiser};
 use dae_frames::{Doing, Frame, Machine};
-use dae_parts::{Operand, Read, no_initialisers};
-use dae_syntax::Initialiser;
-use dae_token::Sign;
+use dae_nodes::{Operand, Read, no_initialisers};
+use dae_tree::{Initialiser, Sign};
 use std::alloc::AllocError;
 
 /// Before an initialiser (C90 6.5.7).

@@ -1,15 +1,16 @@
 -- The names of the scope of parameters are those that the parameters add, whatever stands outside.
 use Rattle.std.proofs.Common.{◌≡◌, Bool, List, [], ◌∷◌, ◌++◌, refl, sym, ap, ◌∙◌, append_assoc}
 use Rattle.std.proofs.lemmas.List.{append_cancel_right}
-use Rattle.dae_syntax.specs.Marks.{Mark}
-use Rattle.dae_syntax.specs.Names.{Names, has_typedef, with_declarator, after_parameter, after_parameters}
-use Rattle.dae_syntax.specs.Trees.{Specifiers, Declarator, Parameters, no_parameters, parameter_then}
-use Rattle.dae_grammar.specs.Frames.{Frame, Open, Parameter, state, gave_declarator, of_parameter}
+use Rattle.dae_tree.specs.Marks.{Mark}
+use Rattle.dae_tree.specs.Names.{Names, has_typedef, with_declarator, after_parameter, after_parameters}
+use Rattle.dae_tree.specs.Trees.{Specifiers, Declarator, Parameters, no_parameters, parameter_then}
+use Rattle.dae_tree.specs.Lists.{Parameter}
+use Rattle.dae_grammar.specs.Frames.{Frame, Open, state, gave_declarator, of_parameter}
 use Rattle.dae_grammar.specs.Machine.{parameters_onto}
 use Rattle.dae_grammar.specs.Standing.{Holds, now_parameters}
-use Rattle.dae_front.specs.declared.scope.Binding.{Binding}
-use Rattle.dae_front.specs.Scopes.{innermost}
-use Rattle.dae_front.specs.Shown.{pair_of, bound_all}
+use Rattle.dae_scope.specs.declared.scope.Binding.{Binding}
+use Rattle.dae_scope.specs.Scopes.{innermost}
+use Rattle.dae_scope.specs.Shown.{pair_of, bound_all}
 
 bound_all_adds : (bindings : List Binding) (names : Names) → bound_all bindings names ≡ bound_all bindings [] ++ names
 bound_all_adds [] names = refl

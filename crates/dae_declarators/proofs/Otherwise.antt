@@ -1,17 +1,19 @@
 -- Where the machine goes by the token that stands next, where that is none of those that it looks for.
 use Rattle.std.proofs.Common.{◌≡◌, Bool, true, false, if◌then◌else◌, List, [], ◌∷◌, Option, Some, None, refl, sym, ap, subst, ◌∙◌}
 use Rattle.dae_base.specs.declared.Place.{Place}
-use Rattle.dae_token.specs.declared.words.Keyword.{Keyword}
-use Rattle.dae_token.specs.declared.words.Keyword.TheVariants as keywords
-use Rattle.dae_token.specs.declared.signs.Sign.{Sign}
-use Rattle.dae_token.specs.declared.signs.Sign.TheVariants as signs
-use Rattle.dae_syntax.specs.declared.expressions.Name.{Name}
-use Rattle.dae_syntax.specs.Marks.{Mark, word, sign, name, part, close_paren, close_bracket, close_brace, comma, colon, else_word, word_mark}
-use Rattle.dae_syntax.specs.Names.{Names, with_name}
-use Rattle.dae_syntax.specs.Words.{Seen, admits, with_word, with_whole, nothing_seen}
-use Rattle.dae_syntax.specs.Grammar.{Manner, by_name, without_name, either_way}
-use Rattle.dae_syntax.specs.Trees.{Specifier, Specifiers, Declarator, Absent, Word}
-use Rattle.dae_grammar.specs.Frames.{Body, MemberLine, Entry, Open, Parameter, Frame, State, state, in_size, for_member, for_parameter, behind_star, seek, specifying, entered, enumerating, declaring, suffixing}
+use Rattle.dae_tree.specs.declared.words.Keyword.{Keyword}
+use Rattle.dae_tree.specs.declared.words.Keyword.TheVariants as keywords
+use Rattle.dae_tree.specs.declared.signs.Sign.{Sign}
+use Rattle.dae_tree.specs.declared.signs.Sign.TheVariants as signs
+use Rattle.dae_tree.specs.declared.expressions.Name.{Name}
+use Rattle.dae_tree.specs.Marks.{Mark, word, sign, name, part, close_paren, close_bracket, close_brace, comma, colon, else_word, word_mark}
+use Rattle.dae_tree.specs.Names.{Names, with_name}
+use Rattle.dae_tree.specs.declared.seen.Seen.{Seen}
+use Rattle.dae_tree.specs.Words.{admits, with_word, with_whole, nothing_seen}
+use Rattle.dae_tree.specs.Grammar.{Manner, by_name, without_name, either_way}
+use Rattle.dae_tree.specs.Trees.{Specifier, Specifiers, Declarator, Absent, Word}
+use Rattle.dae_tree.specs.Lists.{MemberLine, Entry, Parameter}
+use Rattle.dae_grammar.specs.Frames.{Body, Open, Frame, State, state, in_size, for_member, for_parameter, behind_star, seek, specifying, entered, enumerating, declaring, suffixing}
 use Rattle.dae_grammar.specs.Machine.{onto, specified, specifiers_end, word_taken, tag_taken, tag_followed, tag_alone, members_followed, enumerator_named, enumerator_followed, entry_followed, comma_followed, member_given, parameter_given, declared, nothing_declared, group_opened, parenthesis_declared, bracket_declared, qualified, sized, parameters_opened}
 use Rattle.dae_front.specs.Fronts.{behind, sign_at, word_at, name_at}
 use Rattle.dae_declarators.specs.Ahead.{parameters_ahead}

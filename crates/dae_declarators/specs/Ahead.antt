@@ -1,8 +1,8 @@
 -- What a parenthesis before a declarator begins.
 use Rattle.std.specs.Prelude.{Bool, false, List}
-use Rattle.dae_syntax.specs.Marks.{Mark}
-use Rattle.dae_syntax.specs.Names.{Names}
-use Rattle.dae_syntax.specs.Grammar.{Manner, by_name}
+use Rattle.dae_tree.specs.Marks.{Mark}
+use Rattle.dae_tree.specs.Names.{Names}
+use Rattle.dae_tree.specs.Grammar.{Manner, by_name}
 use Rattle.dae_grammar.specs.Machine.{begins_parameters}
 
 -- whether parameters stand behind it, where a name may be lacking

@@ -1,9 +1,10 @@
 ghost use Rattle.std.specs.Prelude.{List, IfOk};
-ghost use Rattle.dae_syntax.specs.Trees.{Expression, Specifiers, Declarator as DeclaratorTree};
+ghost use Rattle.dae_tree.specs.Trees.{Expression, Specifiers, Declarator as DeclaratorTree};
+ghost use Rattle.dae_tree.specs.Lists as lists;
 ghost use Rattle.dae_grammar.specs.Frames as plain;
 ghost use Rattle.dae_grammar.specs.Frames.{Frame as PlainFrame};
 ghost use Rattle.dae_grammar.specs.Machine.{expression_given, declarator_given};
-ghost use Rattle.dae_parts.specs.Parts.{ShowsOperand, ShowsSpecified, ShowsDeclared, ShowsDeclarators, ShowsMembers, ShowsEnumerators};
+ghost use Rattle.dae_nodes.specs.Parts.{ShowsOperand, ShowsSpecified, ShowsDeclared, ShowsDeclarators, ShowsMembers, ShowsEnumerators};
 ghost use Rattle.dae_frames.specs.Frames.{manner_of, ShowsBody};
 ghost use Rattle.dae_frames.specs.States.{Stands, Follows, outside_stack};
 
@@ -13,9 +14,8 @@ use dae_nodes::{
     grouped, pointer, sized_array, sizeof_type, with_declarator, with_member,
     with_valued_enumerator,
 };
-use dae_parts::{Declared, Operand, Read, Specified};
-use dae_syntax::{Declarator, Enumerator, Member, Name};
-use dae_token::Sign;
+use dae_nodes::{Declared, Operand, Read, Specified};
+use dae_tree::{Declarator, Enumerator, Member, Name, Sign};
 use std::alloc::AllocError;
 
 /// Behind the size of an array (C90 6.5.4.2).
@@ -46,7 +46,7 @@ pub fn in_enumerator(
     name: Name,
     place: Place,
 ) -> Result<Option<Doing>, AllocError>
-    ensures { (e : Expression) (b : plain.Body) (es : List plain.Entry) (s : List PlainFrame) → ShowsOperand value e → ShowsBody body b → ShowsEnumerators list es → Stands machine.old s (outside_stack s)
+    ensures { (e : Expression) (b : plain.Body) (es : List lists.Entry) (s : List PlainFrame) → ShowsOperand value e → ShowsBody body b → ShowsEnumerators list es → Stands machine.old s (outside_stack s)
         → IfOk result (λ r. Follows r machine.new (expression_given e (plain.in_enumerator b es name place) s machine.old.scope.names machine.old.rest)) }
 {
     machine.scope.bind(name.number, false)?;
@@ -135,7 +135,7 @@ pub fn of_member(
     specified: Specified,
     before: Read<Vec<Declarator>>,
 ) -> Result<Option<Doing>, AllocError>
-    ensures { (d : DeclaratorTree) (b : plain.Body) (ms : List plain.MemberLine) (ws : Specifiers) (ds : List DeclaratorTree) (s : List PlainFrame) → ShowsDeclared declared d → ShowsBody body b → ShowsMembers members ms → ShowsSpecified specified ws → ShowsDeclarators before ds → Stands machine.old s (outside_stack s)
+    ensures { (d : DeclaratorTree) (b : plain.Body) (ms : List lists.MemberLine) (ws : Specifiers) (ds : List DeclaratorTree) (s : List PlainFrame) → ShowsDeclared declared d → ShowsBody body b → ShowsMembers members ms → ShowsSpecified specified ws → ShowsDeclarators before ds → Stands machine.old s (outside_stack s)
         → IfOk result (λ r. Follows r machine.new (declarator_given d (plain.of_member b ms ws ds) s machine.old.scope.names machine.old.rest)) }
 {
     let list = with_declarator(before, declared)?;

@@ -1,11 +1,12 @@
 ghost use Rattle.std.specs.Prelude.{◌∷◌, List, IfOk};
-ghost use Rattle.dae_syntax.specs.Words.{with_whole};
-ghost use Rattle.dae_syntax.specs.Trees.{Specifier, StructureBody, EnumerationBody, no_members as no_members_tree, no_enumerators as no_enumerators_tree};
+ghost use Rattle.dae_tree.specs.Words.{with_whole};
+ghost use Rattle.dae_tree.specs.Trees.{Specifier, StructureBody, EnumerationBody, no_members as no_members_tree, no_enumerators as no_enumerators_tree};
+ghost use Rattle.dae_tree.specs.Lists as lists;
 ghost use Rattle.dae_grammar.specs.Frames as plain;
 ghost use Rattle.dae_grammar.specs.Frames.{Frame as PlainFrame};
 ghost use Rattle.dae_grammar.specs.Machine.{tag_taken, tag_followed, tag_alone, body_opened, members_followed, enumerator_named, enumerator_followed, entry_followed, comma_followed, members_onto, enumerators_onto};
 ghost use Rattle.dae_front.specs.Seen.{seen_of};
-ghost use Rattle.dae_parts.specs.Parts.{ShowsMembers, ShowsEnumerators};
+ghost use Rattle.dae_nodes.specs.Parts.{ShowsMembers, ShowsEnumerators};
 ghost use Rattle.dae_frames.specs.Frames.{ShowsBefore, ShowsBody, ShowsDoing};
 ghost use Rattle.dae_frames.specs.States.{Stands, Follows, ShowsState, outside_stack};
 
@@ -16,9 +17,8 @@ use dae_nodes::{
     no_specifiers, with_enumeration, with_enumeration_body, with_plain_enumerator, with_structure,
     with_structure_body,
 };
-use dae_parts::{Read, Specified, has_members, no_enumerators, no_members};
-use dae_syntax::{Enumerator, Member, Name};
-use dae_token::Sign;
+use dae_nodes::{Read, Specified, has_members, no_enumerators, no_members};
+use dae_tree::{Enumerator, Member, Name, Sign};
 use std::alloc::{AllocError, Global};
 
 /// Behind `struct` or `enum` (C90 6.5.2).
@@ -114,7 +114,7 @@ pub fn membering(
     body: Body,
     members: Read<Vec<Member>>,
 ) -> Result<Option<Doing>, AllocError>
-    ensures { (b : plain.Body) (ms : List plain.MemberLine) (s : List PlainFrame) → ShowsBody body b → ShowsMembers members ms → Stands machine.old s (outside_stack s)
+    ensures { (b : plain.Body) (ms : List lists.MemberLine) (s : List PlainFrame) → ShowsBody body b → ShowsMembers members ms → Stands machine.old s (outside_stack s)
         → IfOk result (λ r. Follows r machine.new (members_followed b ms s machine.old.scope.names machine.old.rest)) }
 {
     if has_members(&members) && machine.rest.take_sign(Sign::RightBrace).is_some() {
@@ -131,7 +131,7 @@ fn structure_closed(
     body: Body,
     members: Read<Vec<Member>>,
 ) -> Result<Doing, AllocError>
-    ensures { (b : plain.Body) (ms : List plain.MemberLine) → ShowsBody body b → ShowsMembers members ms
+    ensures { (b : plain.Body) (ms : List lists.MemberLine) → ShowsBody body b → ShowsMembers members ms
         → IfOk result (λ d. ShowsDoing d (plain.specifying (with_whole b.seen) (StructureBody b.place b.tag b.brace (members_onto ms no_members_tree) ∷ b.before))) }
 {
     let Body {
@@ -152,7 +152,7 @@ pub fn enumerating(
     body: Body,
     list: Read<Vec<Enumerator>>,
 ) -> Result<Option<Doing>, AllocError>
-    ensures { (b : plain.Body) (es : List plain.Entry) (s : List PlainFrame) → ShowsBody body b → ShowsEnumerators list es → Stands machine.old s (outside_stack s)
+    ensures { (b : plain.Body) (es : List lists.Entry) (s : List PlainFrame) → ShowsBody body b → ShowsEnumerators list es → Stands machine.old s (outside_stack s)
         → IfOk result (λ r. Follows r machine.new (enumerator_named b es s machine.old.scope.names machine.old.rest)) }
 {
     match machine.rest.take_name() {
@@ -169,7 +169,7 @@ pub fn enumerated(
     list: Read<Vec<Enumerator>>,
     name: Name,
 ) -> Result<Option<Doing>, AllocError>
-    ensures { (b : plain.Body) (es : List plain.Entry) (s : List PlainFrame) → ShowsBody body b → ShowsEnumerators list es → Stands machine.old s (outside_stack s)
+    ensures { (b : plain.Body) (es : List lists.Entry) (s : List PlainFrame) → ShowsBody body b → ShowsEnumerators list es → Stands machine.old s (outside_stack s)
         → IfOk result (λ r. Follows r machine.new (enumerator_followed b es name s machine.old.scope.names machine.old.rest)) }
 {
     if let Some(place) = machine.rest.take_sign(Sign::Assign) {
@@ -188,7 +188,7 @@ pub fn entered(
     body: Body,
     list: Read<Vec<Enumerator>>,
 ) -> Result<Option<Doing>, AllocError>
-    ensures { (b : plain.Body) (es : List plain.Entry) (e : plain.Entry) (s : List PlainFrame) → ShowsBody body b → ShowsEnumerators list (e ∷ es) → Stands machine.old s (outside_stack s)
+    ensures { (b : plain.Body) (es : List lists.Entry) (e : lists.Entry) (s : List PlainFrame) → ShowsBody body b → ShowsEnumerators list (e ∷ es) → Stands machine.old s (outside_stack s)
         → IfOk result (λ r. Follows r machine.new (entry_followed b es e s machine.old.scope.names machine.old.rest)) }
 {
     if machine.rest.take_sign(Sign::Comma).is_some() {
@@ -207,7 +207,7 @@ pub fn entering(
     body: Body,
     list: Read<Vec<Enumerator>>,
 ) -> Result<Option<Doing>, AllocError>
-    ensures { (b : plain.Body) (es : List plain.Entry) (e : plain.Entry) (s : List PlainFrame) → ShowsBody body b → ShowsEnumerators list (e ∷ es) → Stands machine.old s (outside_stack s)
+    ensures { (b : plain.Body) (es : List lists.Entry) (e : lists.Entry) (s : List PlainFrame) → ShowsBody body b → ShowsEnumerators list (e ∷ es) → Stands machine.old s (outside_stack s)
         → IfOk result (λ r. Follows r machine.new (comma_followed b es e s machine.old.scope.names machine.old.rest)) }
 {
     if machine.rest.take_sign(Sign::RightBrace).is_some() {
@@ -223,7 +223,7 @@ fn closed(
     list: Read<Vec<Enumerator>>,
     comma: bool,
 ) -> Result<Doing, AllocError>
-    ensures { (b : plain.Body) (es : List plain.Entry) → ShowsBody body b → ShowsEnumerators list es
+    ensures { (b : plain.Body) (es : List lists.Entry) → ShowsBody body b → ShowsEnumerators list es
         → IfOk result (λ d. ShowsDoing d (plain.specifying (with_whole b.seen) (EnumerationBody b.place b.tag b.brace (enumerators_onto es no_enumerators_tree) comma ∷ b.before))) }
 {
     let Body {

@@ -1,11 +1,11 @@
 ghost use Rattle.std.specs.Prelude.{◌≡◌, [], List, Some, IfOk};
 ghost use Rattle.dae_base.specs.declared.Place.{Place};
-ghost use Rattle.dae_token.specs.declared.signs.Sign.TheVariants as signs;
+ghost use Rattle.dae_tree.specs.declared.signs.Sign.TheVariants as signs;
 ghost use Rattle.dae_front.specs.Fronts.{behind, sign_at};
-ghost use Rattle.dae_syntax.specs.Trees.{Declarator};
+ghost use Rattle.dae_tree.specs.Trees.{Declarator};
 ghost use Rattle.dae_grammar.specs.Frames.{Frame as PlainFrame};
 ghost use Rattle.dae_grammar.specs.Machine.{declared as declared_of, nothing_declared, qualified, suffixed, sized, parameters_opened, onto, begins_parameters as parameters_begin};
-ghost use Rattle.dae_parts.specs.Parts.{ShowsDeclared};
+ghost use Rattle.dae_nodes.specs.Parts.{ShowsDeclared};
 ghost use Rattle.dae_frames.specs.Frames.{manner_of};
 ghost use Rattle.dae_declarators.specs.Ahead.{parameters_ahead};
 ghost use Rattle.dae_frames.specs.States.{Stands, Follows, outside_stack};
@@ -14,8 +14,8 @@ use dae_base::Place;
 use dae_frames::{Doing, Frame, Machine, Manner, Open};
 use dae_front::{Rest, Scope, Seen, begins_specifiers};
 use dae_nodes::{absent, empty_function, named, no_parameters, no_specifiers, unsized_array};
-use dae_parts::Declared;
-use dae_token::{Keyword, Sign};
+use dae_nodes::Declared;
+use dae_tree::{Keyword, Sign};
 use std::alloc::AllocError;
 
 /// Before a declarator, of which a part must stand there or none (C90 6.5.4 and 6.5.5).

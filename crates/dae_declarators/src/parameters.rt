@@ -1,11 +1,12 @@
 ghost use Rattle.std.specs.Prelude.{◌≡◌, ◌∷◌, List, Some, IfOk};
-ghost use Rattle.dae_syntax.specs.Names.{after_parameters};
-ghost use Rattle.dae_syntax.specs.Trees.{Specifiers, Declarator, no_parameters};
+ghost use Rattle.dae_tree.specs.Names.{after_parameters};
+ghost use Rattle.dae_tree.specs.Trees.{Specifiers, Declarator, no_parameters};
+ghost use Rattle.dae_tree.specs.Lists as lists;
 ghost use Rattle.dae_grammar.specs.Frames as plain;
 ghost use Rattle.dae_grammar.specs.Frames.{Frame as PlainFrame};
 ghost use Rattle.dae_grammar.specs.Machine.{declarator_given, parameters_onto, closed};
 ghost use Rattle.dae_grammar.specs.Standing.{Holds};
-ghost use Rattle.dae_parts.specs.Parts.{ShowsSpecified, ShowsDeclared, ShowsParameters};
+ghost use Rattle.dae_nodes.specs.Parts.{ShowsSpecified, ShowsDeclared, ShowsParameters};
 ghost use Rattle.dae_frames.specs.Frames.{ShowsOpen};
 ghost use Rattle.dae_frames.specs.States.{Stands, Follows, outside_stack};
 
@@ -13,8 +14,8 @@ use dae_frames::{Doing, Frame, Machine, Open};
 use dae_front::Seen;
 use dae_grammar::parameters_add_names;
 use dae_nodes::{function, no_specifiers, with_parameter};
-use dae_parts::{Declared, ParameterList, Specified};
-use dae_token::Sign;
+use dae_nodes::{Declared, ParameterList, Specified};
+use dae_tree::Sign;
 use std::alloc::AllocError;
 
 /// Behind the declarator of a parameter, whose name is one of the scope of the parameters (C90 6.5.4.3 and 6.1.2.1).
@@ -26,7 +27,7 @@ pub fn of_parameter(
     list: ParameterList,
     specified: Specified,
 ) -> Result<Option<Doing>, AllocError>
-    ensures { (d : Declarator) (o : plain.Open) (ps : List plain.Parameter) (ws : Specifiers) (s : List PlainFrame) → ShowsDeclared declared d → ShowsOpen opened o → ShowsParameters list ps → ShowsSpecified specified ws → Holds (plain.state (plain.gave_declarator d) (plain.of_parameter o ps ws ∷ s) machine.old.scope.names machine.old.rest) → Stands machine.old s (outside_stack (plain.of_parameter o ps ws ∷ s))
+    ensures { (d : Declarator) (o : plain.Open) (ps : List lists.Parameter) (ws : Specifiers) (s : List PlainFrame) → ShowsDeclared declared d → ShowsOpen opened o → ShowsParameters list ps → ShowsSpecified specified ws → Holds (plain.state (plain.gave_declarator d) (plain.of_parameter o ps ws ∷ s) machine.old.scope.names machine.old.rest) → Stands machine.old s (outside_stack (plain.of_parameter o ps ws ∷ s))
         → IfOk result (λ r. Follows r machine.new (declarator_given d (plain.of_parameter o ps ws) s machine.old.scope.names machine.old.rest)) }
 {
     machine.bind(declared.name, specified.typedef)?;
@@ -48,7 +49,7 @@ fn parameters_closed(
     opened: Open,
     list: ParameterList,
 ) -> Result<Option<Doing>, AllocError>
-    ensures { (o : plain.Open) (ps : List plain.Parameter) (s : List PlainFrame) → ShowsOpen opened o → ShowsParameters list ps
+    ensures { (o : plain.Open) (ps : List lists.Parameter) (s : List PlainFrame) → ShowsOpen opened o → ShowsParameters list ps
         → machine.old.scope.names ≡ after_parameters (parameters_onto ps no_parameters) o.outside → Stands machine.old s (o.outside ∷ outside_stack s)
         → IfOk result (λ r. Follows r machine.new (Some (plain.state (plain.suffixing o.manner (closed o (parameters_onto ps no_parameters))) s o.outside machine.old.rest))) }
 {

@@ -1,12 +1,13 @@
 ghost use Rattle.std.specs.Prelude.{◌≡◌, ◌∷◌, List, IfOk};
-ghost use Rattle.dae_syntax.specs.Marks.{word_mark, name as name_mark};
-ghost use Rattle.dae_syntax.specs.Trees.{Specifiers, Specifier};
+ghost use Rattle.dae_tree.specs.Marks.{word_mark, name as name_mark};
+ghost use Rattle.dae_tree.specs.Trees.{Specifiers, Specifier};
+ghost use Rattle.dae_tree.specs.Lists as lists;
 ghost use Rattle.dae_grammar.specs.Frames as plain;
 ghost use Rattle.dae_grammar.specs.Frames.{Frame as PlainFrame};
 ghost use Rattle.dae_grammar.specs.Machine.{specified, specifiers_end, specifiers_given, word_taken as taken};
 ghost use Rattle.dae_front.specs.Fronts.{behind};
 ghost use Rattle.dae_front.specs.Seen.{seen_of};
-ghost use Rattle.dae_parts.specs.Parts.{ShowsSpecified, ShowsMembers, ShowsParameters};
+ghost use Rattle.dae_nodes.specs.Parts.{ShowsSpecified, ShowsMembers, ShowsParameters};
 ghost use Rattle.dae_frames.specs.Frames.{ShowsBefore, ShowsBody, ShowsOpen};
 ghost use Rattle.dae_frames.specs.States.{Stands, Follows, ShowsState, outside_stack};
 
@@ -14,9 +15,8 @@ use dae_base::Place;
 use dae_frames::{Body, Doing, Frame, Machine, Manner, Open};
 use dae_front::Seen;
 use dae_nodes::{with_type_name, with_word};
-use dae_parts::{ParameterList, Read, Specified, no_declarators};
-use dae_syntax::{Member, Name};
-use dae_token::{Keyword, Kind};
+use dae_nodes::{ParameterList, Read, Specified, no_declarators};
+use dae_tree::{Keyword, Kind, Member, Name};
 use std::alloc::AllocError;
 
 /// Behind specifiers, which others may follow (C90 6.5).
@@ -147,7 +147,7 @@ pub fn for_parameter(
     opened: Open,
     list: ParameterList,
 ) -> Result<Option<Doing>, AllocError>
-    ensures { (ws : Specifiers) (o : plain.Open) (ps : List plain.Parameter) (s : List PlainFrame) → ShowsSpecified specified ws → ShowsOpen opened o → ShowsParameters list ps → Stands machine.old s (outside_stack (plain.for_parameter o ps ∷ s))
+    ensures { (ws : Specifiers) (o : plain.Open) (ps : List lists.Parameter) (s : List PlainFrame) → ShowsSpecified specified ws → ShowsOpen opened o → ShowsParameters list ps → Stands machine.old s (outside_stack (plain.for_parameter o ps ∷ s))
         → IfOk result (λ r. Follows r machine.new (specifiers_given ws (plain.for_parameter o ps) s machine.old.scope.names machine.old.rest)) }
 {
     machine.push(Frame::OfParameter(opened, list, specified))?;
@@ -161,7 +161,7 @@ pub fn for_member(
     body: Body,
     members: Read<Vec<Member>>,
 ) -> Result<Option<Doing>, AllocError>
-    ensures { (ws : Specifiers) (b : plain.Body) (ms : List plain.MemberLine) (s : List PlainFrame) → ShowsSpecified specified ws → ShowsBody body b → ShowsMembers members ms → Stands machine.old s (outside_stack s)
+    ensures { (ws : Specifiers) (b : plain.Body) (ms : List lists.MemberLine) (s : List PlainFrame) → ShowsSpecified specified ws → ShowsBody body b → ShowsMembers members ms → Stands machine.old s (outside_stack s)
         → IfOk result (λ r. Follows r machine.new (specifiers_given ws (plain.for_member b ms) s machine.old.scope.names machine.old.rest)) }
 {
     let none = no_declarators(machine.alloc);

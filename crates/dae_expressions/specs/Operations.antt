@@ -1,9 +1,9 @@
 -- What a sign behind or before an operand begins, as the grammar's machine has it.
 use Rattle.std.specs.Prelude.{ℕ, List, Option, Some, None}
 use Rattle.dae_base.specs.declared.Place.{Place}
-use Rattle.dae_syntax.specs.declared.operators.PrefixOperator.{PrefixOperator}
-use Rattle.dae_syntax.specs.Marks.{Mark}
-use Rattle.dae_syntax.specs.Names.{Names}
+use Rattle.dae_tree.specs.declared.operators.PrefixOperator.{PrefixOperator}
+use Rattle.dae_tree.specs.Marks.{Mark}
+use Rattle.dae_tree.specs.Names.{Names}
 use Rattle.dae_grammar.specs.Frames.{Frame, State}
 use Rattle.dae_grammar.specs.Machine as machine
 use Rattle.dae_expressions.specs.declared.operations.Operation.{Operation}

@@ -1,8 +1,8 @@
 ghost use Rattle.std.specs.Prelude.{◌≡◌, List, IfOk};
-ghost use Rattle.dae_syntax.specs.Trees.{Expression as Tree, Specifiers, Declarator};
+ghost use Rattle.dae_tree.specs.Trees.{Expression as Tree, Specifiers, Declarator};
 ghost use Rattle.dae_grammar.specs.Frames.{Frame as PlainFrame, in_parentheses, in_index, in_arguments, behind_prefix, behind_sizeof, behind_cast, behind_binary, behind_question, behind_colon, behind_assignment, behind_comma};
 ghost use Rattle.dae_grammar.specs.Machine.{expression_given};
-ghost use Rattle.dae_parts.specs.Parts.{ShowsOperand, ShowsArguments, ShowsSpecified, ShowsDeclared};
+ghost use Rattle.dae_nodes.specs.Parts.{ShowsOperand, ShowsArguments, ShowsSpecified, ShowsDeclared};
 ghost use Rattle.dae_frames.specs.States.{Stands, Follows, outside_stack};
 
 use dae_base::Place;
@@ -11,9 +11,8 @@ use dae_nodes::{
     assignment, binary, call, cast, comma, conditional, index, parenthesised, prefix,
     sizeof_expression, with_argument,
 };
-use dae_parts::{Declared, Operand, Read, Specified};
-use dae_syntax::{AssignmentOperator, BinaryOperator, Expression, PrefixOperator};
-use dae_token::Sign;
+use dae_nodes::{Declared, Operand, Read, Specified};
+use dae_tree::{AssignmentOperator, BinaryOperator, Expression, PrefixOperator, Sign};
 use std::alloc::AllocError;
 
 /// Behind an expression in parentheses.

@@ -1,11 +1,11 @@
 ghost use Rattle.std.specs.Prelude.{◌≡◌, ◌∷◌, List, IfOk};
-ghost use Rattle.dae_token.specs.declared.signs.Sign.TheVariants as signs;
-ghost use Rattle.dae_syntax.specs.Marks.{sign_mark, name};
-ghost use Rattle.dae_syntax.specs.Trees.{Expression as Tree};
+ghost use Rattle.dae_tree.specs.declared.signs.Sign.TheVariants as signs;
+ghost use Rattle.dae_tree.specs.Marks.{sign_mark, name};
+ghost use Rattle.dae_tree.specs.Trees.{Expression as Tree};
 ghost use Rattle.dae_grammar.specs.Frames.{Frame as PlainFrame};
 ghost use Rattle.dae_grammar.specs.Machine.{sought as sought_of, measured as measured_of, called as called_of};
 ghost use Rattle.dae_front.specs.Fronts.{behind};
-ghost use Rattle.dae_parts.specs.Parts.{ShowsOperand};
+ghost use Rattle.dae_nodes.specs.Parts.{ShowsOperand};
 ghost use Rattle.dae_frames.specs.States.{Stands, Follows, outside_stack};
 
 use crate::operations::{operand_level, prefix_operator};
@@ -13,9 +13,8 @@ use dae_base::Place;
 use dae_frames::{Doing, Frame, Machine};
 use dae_front::{Seen, begins_specifiers};
 use dae_nodes::{call, constant, identifier, literal, no_specifiers};
-use dae_parts::{Operand, no_arguments};
-use dae_syntax::Name;
-use dae_token::{Keyword, Kind, Sign};
+use dae_nodes::{Operand, no_arguments};
+use dae_tree::{Keyword, Kind, Name, Sign};
 use std::alloc::AllocError;
 
 /// Before an operand (C90 6.3.1 to 6.3.4).

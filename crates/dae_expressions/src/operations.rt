@@ -1,18 +1,17 @@
 ghost use Rattle.std.specs.Prelude.{◌≡◌, ℕ, List, ◌∷◌, Option, Some, None};
 ghost use Rattle.dae_base.specs.declared.Place.{Place};
-ghost use Rattle.dae_syntax.specs.Marks.{Mark, sign_mark};
-ghost use Rattle.dae_token.specs.declared.signs.Sign.TheVariants as signs;
-ghost use Rattle.dae_syntax.specs.Names.{Names};
-ghost use Rattle.dae_syntax.specs.Operators.{operand_level as level_below};
+ghost use Rattle.dae_tree.specs.Marks.{Mark, sign_mark};
+ghost use Rattle.dae_tree.specs.declared.signs.Sign.TheVariants as signs;
+ghost use Rattle.dae_tree.specs.Names.{Names};
+ghost use Rattle.dae_tree.specs.Operators.{operand_level as level_below};
 ghost use Rattle.dae_grammar.specs.Frames.{Frame};
 ghost use Rattle.dae_grammar.specs.Machine.{operation as operation_at, reach as reach_of, left_level as left_level_of, sought};
 ghost use Rattle.dae_expressions.specs.Operations.{operation_of, prefixed_by};
 
 use dae_nodes::strength;
-use dae_syntax::{
-    AssignmentOperator, BinaryOperator, MemberOperator, PostfixOperator, PrefixOperator,
+use dae_tree::{
+    AssignmentOperator, BinaryOperator, MemberOperator, PostfixOperator, PrefixOperator, Sign,
 };
-use dae_token::Sign;
 
 /// What a sign behind an operand begins (C90 6.3.2 and 6.3.5 to 6.3.16).
 #[derive(Clone, Copy, PartialEq, Eq, Debug)]

@@ -1,10 +1,10 @@
 ghost use Rattle.std.specs.Prelude.{◌≡◌, ◌∷◌, List, IfOk};
-ghost use Rattle.dae_syntax.specs.Marks.{sign as sign_of, part, comma};
-ghost use Rattle.dae_syntax.specs.Trees.{Expression as Tree};
+ghost use Rattle.dae_tree.specs.Marks.{sign as sign_of, part, comma};
+ghost use Rattle.dae_tree.specs.Trees.{Expression as Tree};
 ghost use Rattle.dae_grammar.specs.Frames.{Frame as PlainFrame};
 ghost use Rattle.dae_grammar.specs.Machine.{operated_at, operate as operate_of, named_member as member_named};
 ghost use Rattle.dae_front.specs.Fronts.{behind};
-ghost use Rattle.dae_parts.specs.Parts.{ShowsOperand};
+ghost use Rattle.dae_nodes.specs.Parts.{ShowsOperand};
 ghost use Rattle.dae_expressions.specs.Operations.{operation_of};
 ghost use Rattle.dae_frames.specs.States.{Stands, Follows, outside_stack};
 
@@ -12,9 +12,8 @@ use crate::operations::{Operation, begun_by, left_level, reach};
 use dae_base::Place;
 use dae_frames::{Doing, Frame, Machine};
 use dae_nodes::{member, postfix, under};
-use dae_parts::Operand;
-use dae_syntax::MemberOperator;
-use dae_token::{Kind, Sign};
+use dae_nodes::Operand;
+use dae_tree::{Kind, MemberOperator, Sign};
 use std::alloc::AllocError;
 
 /// Behind an operand, which an operator may follow (C90 6.3.2 and 6.3.5 to 6.3.17).

@@ -1,11 +1,11 @@
 -- Where the machine goes by the token that stands next, where that is none of those that it looks for.
 use Rattle.std.proofs.Common.{◌≡◌, List, [], ◌∷◌, Option, Some, None, refl}
 use Rattle.dae_base.specs.declared.Place.{Place}
-use Rattle.dae_token.specs.declared.signs.Sign.TheVariants as signs
-use Rattle.dae_syntax.specs.Marks.{Mark, sign, part, close_paren, close_bracket, colon, comma}
-use Rattle.dae_syntax.specs.Names.{Names}
-use Rattle.dae_syntax.specs.Grammar.{Manner}
-use Rattle.dae_syntax.specs.Trees.{Expression, Declarator}
+use Rattle.dae_tree.specs.declared.signs.Sign.TheVariants as signs
+use Rattle.dae_tree.specs.Marks.{Mark, sign, part, close_paren, close_bracket, colon, comma}
+use Rattle.dae_tree.specs.Names.{Names}
+use Rattle.dae_tree.specs.Grammar.{Manner}
+use Rattle.dae_tree.specs.Trees.{Expression, Declarator}
 use Rattle.dae_grammar.specs.Frames.{Loop, Frame, State, state, gave_declarator, seek, in_start, in_loop_test, in_step}
 use Rattle.dae_grammar.specs.Machine.{suffixed, at_paren, at_bracket, at_colon, at_open, at_semicolon, argument_given, started, loop_tested, stepped}
 use Rattle.dae_front.specs.Fronts.{sign_at}

@@ -1,6 +1,6 @@
 -- What stands on the stack of the grammar's machine, by the top frame in memory.
 use Rattle.std.proofs.Common.{◌≡◌, List, [], ◌∷◌}
-use Rattle.dae_parts.specs.Parts.{ShowsOperand, ShowsArguments, ShowsOptional, ShowsSpecified, ShowsMembers, ShowsEnumerators, ShowsDeclared, ShowsDeclarators, ShowsParameters, ShowsInitialiser, ShowsInitialisers, ShowsItems, ShowsDeclaration, ShowsDeclarations, ShowsStatement, ShowsStatements, ShowsLoop, ShowsExternals}
+use Rattle.dae_nodes.specs.Parts.{ShowsOperand, ShowsArguments, ShowsOptional, ShowsSpecified, ShowsMembers, ShowsEnumerators, ShowsDeclared, ShowsDeclarators, ShowsParameters, ShowsInitialiser, ShowsInitialisers, ShowsItems, ShowsDeclaration, ShowsDeclarations, ShowsStatement, ShowsStatements, ShowsLoop, ShowsExternals}
 use Rattle.dae_grammar.specs.Frames as plain
 use Rattle.dae_frames.specs.declared.frames.Frame.{Frame}
 use Rattle.dae_frames.specs.declared.frames.Frame.TheVariants as frame

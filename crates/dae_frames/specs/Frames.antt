@@ -1,14 +1,14 @@
 -- What the machine's frames show of those of the grammar's machine.
 use Rattle.std.specs.Prelude.{◌≡◌, ℕ, Bool, true, false, List, [], ◌∷◌, Option, Some, None, length}
-use Rattle.dae_syntax.specs.Grammar as manners
-use Rattle.dae_syntax.specs.Depth.{first_too_long}
-use Rattle.dae_syntax.specs.Trees.{no_specifiers}
+use Rattle.dae_tree.specs.Grammar as manners
+use Rattle.dae_tree.specs.Depth.{first_too_long}
+use Rattle.dae_tree.specs.Trees.{no_specifiers}
 use Rattle.dae_grammar.specs.Taken.{externals_before}
-use Rattle.dae_syntax.specs.Trees as tree
+use Rattle.dae_tree.specs.Trees as tree
 use Rattle.dae_grammar.specs.Machine.{specifiers_onto, onto}
 use Rattle.dae_grammar.specs.Frames as plain
-use Rattle.dae_parts.specs.Parts.{ShowsOperand, ShowsArguments, ShowsOptional, ShowsSpecified, ShowsMembers, ShowsEnumerators, ShowsDeclared, ShowsDeclarators, ShowsParameters, ShowsInitialiser, ShowsInitialisers, ShowsItems, ShowsDeclaration, ShowsDeclarations, ShowsStatement, ShowsStatements, ShowsLoop, ShowsExternals}
-use Rattle.dae_parts.specs.declared.values.Specified.{Specified}
+use Rattle.dae_nodes.specs.Parts.{ShowsOperand, ShowsArguments, ShowsOptional, ShowsSpecified, ShowsMembers, ShowsEnumerators, ShowsDeclared, ShowsDeclarators, ShowsParameters, ShowsInitialiser, ShowsInitialisers, ShowsItems, ShowsDeclaration, ShowsDeclarations, ShowsStatement, ShowsStatements, ShowsLoop, ShowsExternals}
+use Rattle.dae_nodes.specs.declared.values.Specified.{Specified}
 use Rattle.dae_frames.specs.declared.frames.Manner.{Manner}
 use Rattle.dae_frames.specs.declared.frames.Manner.TheVariants as manner
 use Rattle.dae_front.specs.Seen.{seen_of}

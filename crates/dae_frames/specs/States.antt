@@ -1,9 +1,9 @@
 -- What the machine's state shows of a state of the grammar's machine.
 use Rattle.std.specs.Prelude.{◌≡◌, List, [], ◌∷◌, Option, Some, None, reverse}
-use Rattle.dae_syntax.specs.Marks.{Mark}
-use Rattle.dae_syntax.specs.Names.{Names}
+use Rattle.dae_tree.specs.Marks.{Mark}
+use Rattle.dae_tree.specs.Names.{Names}
 use Rattle.dae_grammar.specs.Frames as plain
-use Rattle.dae_front.specs.Scopes.{Scopes}
+use Rattle.dae_scope.specs.Scopes.{Scopes}
 use Rattle.dae_frames.specs.Frames.{ShowsDoing, ShowsStack}
 use Rattle.dae_frames.specs.declared.frames.Frame.{Frame}
 use Rattle.dae_frames.specs.declared.frames.Doing.{Doing}

@@ -1,7 +1,7 @@
 use dae_base::Place;
 use dae_front::Seen;
-use dae_parts::{Declared, Loop, Operand, ParameterList, Read, Specified};
-use dae_syntax::{
+use dae_nodes::{Declared, Loop, Operand, ParameterList, Read, Specified};
+use dae_tree::{
     AssignmentOperator, BinaryOperator, Declaration, Declarator, Enumerator, Expression, External,
     Initialiser, Item, Member, Name, PrefixOperator, Statement,
 };

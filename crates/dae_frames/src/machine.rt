@@ -1,8 +1,8 @@
 ghost use Rattle.std.specs.Prelude.{◌≡◌, ◌∷◌, List, IfOk};
-ghost use Rattle.dae_syntax.specs.Names.{with_declarator};
-ghost use Rattle.dae_syntax.specs.Trees.{Declarator};
-ghost use Rattle.dae_parts.specs.Parts.{number_of};
-ghost use Rattle.dae_syntax.specs.Names.{declared_name};
+ghost use Rattle.dae_tree.specs.Names.{with_declarator};
+ghost use Rattle.dae_tree.specs.Trees.{Declarator};
+ghost use Rattle.dae_nodes.specs.Parts.{number_of};
+ghost use Rattle.dae_tree.specs.Names.{declared_name};
 ghost use Rattle.dae_frames.specs.States.{frames_of, Popped};
 
 use crate::frames::Frame;

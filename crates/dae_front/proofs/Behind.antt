@@ -1,7 +1,7 @@
 -- The tokens behind the next.
 use Rattle.std.proofs.Common.{◌≡◌, ℕ, zero, suc, List, [], ◌∷◌, drop, refl}
-use Rattle.dae_token.specs.declared.tokens.Token.{Token}
-use Rattle.dae_syntax.specs.Marks.{marks}
+use Rattle.dae_tree.specs.declared.tokens.Token.{Token}
+use Rattle.dae_tree.specs.Marks.{marks}
 use Rattle.dae_front.specs.Fronts.{behind}
 
 pub behind_next : (i : ℕ) (xs : List Token) → marks (drop (suc i) xs) ≡ behind (marks (drop i xs))

@@ -1,16 +1,16 @@
 -- What stands at the front, by a token's kind.
 use Rattle.std.proofs.Common.{◌≡◌, Bool, false, List, [], ◌∷◌, Option, Some, None, refl, sym, ap, ◌∙◌}
 use Rattle.dae_base.specs.declared.Place.{Place}
-use Rattle.dae_token.specs.declared.words.Keyword.{Keyword}
-use Rattle.dae_token.specs.declared.words.Keyword.TheVariants as keywords
-use Rattle.dae_token.specs.declared.signs.Sign.{Sign}
-use Rattle.dae_token.specs.declared.signs.Sign.TheVariants as signs
-use Rattle.dae_token.specs.declared.tokens.Kind.{Kind}
-use Rattle.dae_token.specs.declared.tokens.Kind.TheVariants as kinds
-use Rattle.dae_syntax.specs.declared.expressions.Name.{Name}
-use Rattle.dae_syntax.specs.Marks.{Mark, word, sign, name, constant, literal, part, close_paren, close_bracket, close_brace, comma, colon, else_word, mark_of, sign_mark, word_mark}
-use Rattle.dae_syntax.specs.Names.{Names, is_type}
-use Rattle.dae_syntax.specs.Words.{nothing_seen, admits, begins_specifiers}
+use Rattle.dae_tree.specs.declared.words.Keyword.{Keyword}
+use Rattle.dae_tree.specs.declared.words.Keyword.TheVariants as keywords
+use Rattle.dae_tree.specs.declared.signs.Sign.{Sign}
+use Rattle.dae_tree.specs.declared.signs.Sign.TheVariants as signs
+use Rattle.dae_tree.specs.declared.tokens.Kind.{Kind}
+use Rattle.dae_tree.specs.declared.tokens.Kind.TheVariants as kinds
+use Rattle.dae_tree.specs.declared.expressions.Name.{Name}
+use Rattle.dae_tree.specs.Marks.{Mark, word, sign, name, constant, literal, part, close_paren, close_bracket, close_brace, comma, colon, else_word, mark_of, sign_mark, word_mark}
+use Rattle.dae_tree.specs.Names.{Names, is_type}
+use Rattle.dae_tree.specs.Words.{nothing_seen, admits, begins_specifiers}
 use Rattle.dae_front.specs.Fronts.{sign_at, word_at, name_at}
 
 pub sign_kept : (g : Sign) (p : Place) (ts : List Mark) → sign_at (sign_mark g p ∷ ts) ≡ Some g

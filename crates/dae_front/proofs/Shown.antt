@@ -1,7 +1,7 @@
 -- Tables of names as lists.
 use Rattle.std.proofs.Common.{◌≡◌, ℕ, ◌+◌, ◌-◌, ◌<◌, ◌≤◌, List, [], ◌∷◌, ◌++◌, map, length, take, drop, get_or, reverse, subst, refl, ap, sym, ◌∙◌, append_assoc, append-nil, arith}
 use Rattle.std.proofs.lemmas.List.{take_rest, get_or-reverse, reverse-append, take-append-le, take-append-drop, take_more, length-take}
-use Rattle.dae_syntax.specs.Names.{Names, is_type}
+use Rattle.dae_tree.specs.Names.{Names, is_type}
 use Rattle.dae_front.specs.declared.scope.Binding.{Binding}
 use Rattle.dae_front.specs.Scopes.{Scopes, bound, closed, innermost}
 use Rattle.dae_front.specs.Shown.{pair_of, shown, cuts, shown_outside, bound_all, Fall, AreWithin}

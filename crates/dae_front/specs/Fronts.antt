@@ -1,13 +1,13 @@
 -- What stands at the front of the tokens that are left.
 use Rattle.std.specs.Prelude.{◌≡◌, List, [], ◌∷◌, Option, Some, None}
-use Rattle.dae_token.specs.declared.tokens.Token.{Token}
+use Rattle.dae_tree.specs.declared.tokens.Token.{Token}
 use Rattle.dae_base.specs.declared.Place.{Place}
-use Rattle.dae_token.specs.declared.words.Keyword.{Keyword}
-use Rattle.dae_token.specs.declared.words.Keyword.TheVariants as keywords
-use Rattle.dae_token.specs.declared.signs.Sign.{Sign}
-use Rattle.dae_token.specs.declared.signs.Sign.TheVariants as signs
-use Rattle.dae_syntax.specs.declared.expressions.Name.{Name}
-use Rattle.dae_syntax.specs.Marks.{Mark, mark, word, sign, name, Part, part, close_paren, close_bracket, close_brace, comma, colon, else_word, word_mark, sign_mark}
+use Rattle.dae_tree.specs.declared.words.Keyword.{Keyword}
+use Rattle.dae_tree.specs.declared.words.Keyword.TheVariants as keywords
+use Rattle.dae_tree.specs.declared.signs.Sign.{Sign}
+use Rattle.dae_tree.specs.declared.signs.Sign.TheVariants as signs
+use Rattle.dae_tree.specs.declared.expressions.Name.{Name}
+use Rattle.dae_tree.specs.Marks.{Mark, mark, word, sign, name, Part, part, close_paren, close_bracket, close_brace, comma, colon, else_word, word_mark, sign_mark}
 
 abbrev pub behind : List Mark → List Mark
 behind [] = []

@@ -1,6 +1,6 @@
 -- The names in scope, with the lists of names that the open scopes go back to.
 use Rattle.std.specs.Prelude.{ℕ, Bool, List, [], ◌∷◌}
-use Rattle.dae_syntax.specs.Names.{Names}
+use Rattle.dae_tree.specs.Names.{Names}
 
 pub record Scopes : Type 0 where
   pub names : Names

@@ -1,5 +1,5 @@
 -- What was read of specifiers, as the grammar sees it.
-use Rattle.dae_syntax.specs.Words as words
+use Rattle.dae_tree.specs.Words as words
 use Rattle.dae_front.specs.declared.words.Seen.{Seen}
 
 abbrev pub seen_of : Seen → words.Seen

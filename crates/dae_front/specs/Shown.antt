@@ -1,6 +1,6 @@
 -- A table of names, the latest last, with the lengths at which its open scopes began, the innermost last.
 use Rattle.std.specs.Prelude.{ℕ, Bool, ◌≤◌, List, [], ◌∷◌, map, take, reverse}
-use Rattle.dae_syntax.specs.Names.{Names}
+use Rattle.dae_tree.specs.Names.{Names}
 use Rattle.dae_front.specs.declared.scope.Binding.{Binding}
 
 abbrev pub pair_of : Binding → ℕ × Bool

@@ -1,11 +1,10 @@
 ghost use Rattle.std.specs.Prelude.{◌≡◌, ◌∷◌, List, length, IfSome};
-ghost use Rattle.dae_syntax.specs.Marks.{Mark, marks, mark, mark_of};
+ghost use Rattle.dae_tree.specs.Marks.{Mark, marks, mark, mark_of};
 ghost use Rattle.dae_base.specs.declared.Place.{Place};
 ghost use Rattle.dae_front.specs.Fronts.{Fronts, behind, TookSign, TookWord, TookName, sign_at, word_at, name_at};
 
 use dae_base::Place;
-use dae_syntax::Name;
-use dae_token::{Keyword, Kind, Sign, Token};
+use dae_tree::{Keyword, Kind, Name, Sign, Token};
 use std::marker::Model;
 
 /// The tokens that are left, from the next on. Clauses see their marks.
@@ -17,7 +16,7 @@ pub struct Rest<'t> {
 
 impl<'t> Model for Rest<'t> {
     ghost use Rattle.std.specs.Prelude.{◌≤◌, List, drop, length};
-    ghost use Rattle.dae_syntax.specs.Marks.{Mark, marks};
+    ghost use Rattle.dae_tree.specs.Marks.{Mark, marks};
 
     ghost Value = { List Mark };
 

@@ -1,5 +1,5 @@
 ghost use Rattle.std.specs.Prelude.{◌≡◌, ◌∷◌, [], IfOk, IfSome};
-ghost use Rattle.dae_syntax.specs.Names.{is_type};
+ghost use Rattle.dae_tree.specs.Names.{is_type};
 ghost use Rattle.dae_front.specs.Scopes.{bound, opened, closed, innermost};
 ghost use Rattle.dae_front.specs.Shown.{bound_all};
 

@@ -1,10 +1,10 @@
 ghost use Rattle.std.specs.Prelude.{◌≡◌};
-ghost use Rattle.dae_syntax.specs.Words as words;
+ghost use Rattle.dae_tree.specs.Words as words;
 ghost use Rattle.dae_front.specs.Seen.{seen_of};
 
 use crate::rest::Rest;
 use crate::scope::Scope;
-use dae_token::Keyword;
+use dae_tree::Keyword;
 
 /// What was read of specifiers: a storage class; signed or unsigned; char; short or long; int; a type that stands alone.
 #[derive(Clone, Copy, PartialEq, Eq, Debug)]

@@ -1,8 +1,8 @@
 -- What a tree adds to the names does not depend on the names before.
 use Rattle.std.proofs.Common.{◌≡◌, Bool, false, [], ◌++◌, Option, Some, None, refl, sym, ap, ◌∙◌, append_assoc}
-use Rattle.dae_syntax.specs.declared.expressions.Name.{Name}
-use Rattle.dae_syntax.specs.Names.{Names, with_name, with_optional, declared_name, has_typedef, after, after_all, after_specifiers, after_specifier, after_members, after_enumerators, after_declarators, after_declarator, after_parameter, after_parameters}
-use Rattle.dae_syntax.specs.Trees.{Expression, Expressions, Specifiers, Specifier, Members, Enumerators, Declarators, Declarator, Parameters, Identifier, Number, Literal, Parenthesised, Index, Call, Member, Postfix, Prefix, SizeofExpression, SizeofType, Cast, Binary, Conditional, Assignment, Comma, no_expressions, expression_then, no_specifiers, specifier_then, Word, TypeName, Structure, StructureBody, Enumeration, EnumerationBody, no_members, member_then, no_enumerators, plain_then, valued_then, no_declarators, declarator_then, Absent, Named, Pointer, Grouped, Unsized, Sized, Empty, Void, Function, no_parameters, parameter_then}
+use Rattle.dae_tree.specs.declared.expressions.Name.{Name}
+use Rattle.dae_tree.specs.Names.{Names, with_name, with_optional, declared_name, has_typedef, after, after_all, after_specifiers, after_specifier, after_members, after_enumerators, after_declarators, after_declarator, after_parameter, after_parameters}
+use Rattle.dae_tree.specs.Trees.{Expression, Expressions, Specifiers, Specifier, Members, Enumerators, Declarators, Declarator, Parameters, Identifier, Number, Literal, Parenthesised, Index, Call, Member, Postfix, Prefix, SizeofExpression, SizeofType, Cast, Binary, Conditional, Assignment, Comma, no_expressions, expression_then, no_specifiers, specifier_then, Word, TypeName, Structure, StructureBody, Enumeration, EnumerationBody, no_members, member_then, no_enumerators, plain_then, valued_then, no_declarators, declarator_then, Absent, Named, Pointer, Grouped, Unsized, Sized, Empty, Void, Function, no_parameters, parameter_then}
 
 pub record Puts (N : Names → Names) : Type 0 where
   pub law : (names : Names) → N names ≡ N [] ++ names

@@ -1,15 +1,15 @@
 -- The machine reads each tree of the grammar: statements and files.
 use Rattle.std.proofs.Common.{◌≡◌, true, false, List, [], ◌∷◌, ◌++◌, Option, Some, None, refl, sym, ap, subst, ◌∙◌, arith}
 use Rattle.dae_base.specs.declared.Place.{Place}
-use Rattle.dae_token.specs.declared.words.Keyword.TheVariants as keywords
-use Rattle.dae_token.specs.declared.signs.Sign.TheVariants as signs
-use Rattle.dae_syntax.specs.Marks.{Mark, word, sign, part, close_paren, close_brace, colon, else_word}
-use Rattle.dae_syntax.specs.Words.{nothing_seen, begins_specifiers}
-use Rattle.dae_syntax.specs.Names.{Names, after, after_specifiers, after_parameter, after_declaration, after_declarations, after_optional, after_statement, after_external, inside_definition}
-use Rattle.dae_syntax.specs.Spelling.{spell, spell_specifiers, spell_declarator}
-use Rattle.dae_syntax.specs.Grammar.{by_name}
-use Rattle.dae_syntax.specs.Statements.{spell_declaration, spell_declarations, spell_optional, spell_statement, spell_statements, spell_external, spell_file, AreDeclarations, IsOptional, takes_else, IsStatement, AreStatements, IsExternal, AreExternals}
-use Rattle.dae_syntax.specs.Trees.{Expression, Declaration, Statement, Statements, External, Block, Nothing, Evaluate, If, IfElse, While, Do, For, Break, Continue, Return, Switch, Case, Default, no_statements, statement_then, Declared, Defined}
+use Rattle.dae_tree.specs.declared.words.Keyword.TheVariants as keywords
+use Rattle.dae_tree.specs.declared.signs.Sign.TheVariants as signs
+use Rattle.dae_tree.specs.Marks.{Mark, word, sign, part, close_paren, close_brace, colon, else_word}
+use Rattle.dae_tree.specs.Words.{nothing_seen, begins_specifiers}
+use Rattle.dae_tree.specs.Names.{Names, after, after_specifiers, after_parameter, after_declaration, after_declarations, after_optional, after_statement, after_external, inside_definition}
+use Rattle.dae_tree.specs.Spelling.{spell, spell_specifiers, spell_declarator}
+use Rattle.dae_tree.specs.Grammar.{by_name}
+use Rattle.dae_tree.specs.Statements.{spell_declaration, spell_declarations, spell_optional, spell_statement, spell_statements, spell_external, spell_file, AreDeclarations, IsOptional, takes_else, IsStatement, AreStatements, IsExternal, AreExternals}
+use Rattle.dae_tree.specs.Trees.{Expression, Declaration, Statement, Statements, External, Block, Nothing, Evaluate, If, IfElse, While, Do, For, Break, Continue, Return, Switch, Case, Default, no_statements, statement_then, Declared, Defined}
 use Rattle.dae_grammar.specs.Frames.{if_head, while_head, switch_head, do_head, Loop, Inside, Frame, in_evaluation, in_test, in_start, in_loop_test, in_step, in_return, in_case, for_declaration, of_item, in_file, in_block, then_branch, else_branch, while_body, switch_body, do_body, for_body, case_body, default_body, in_statements, in_definition, seek, specifying, gave_specifiers, externals, declarations, statements, stating, starting, testing, stepping, returning, gave_statement, State, state}
 use Rattle.dae_grammar.specs.Machine.{onto, statements_onto, block_followed, stated, started, loop_tested, stepped, returned, branched, loop_of, external_begun}
 use Rattle.dae_grammar.specs.Runs.{IsBackward}

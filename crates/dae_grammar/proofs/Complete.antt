@@ -1,18 +1,20 @@
 -- The machine reads each tree of the grammar: expressions, specifiers and declarators.
 use Rattle.std.proofs.Common.{◌≡◌, ℕ, ◌≤◌, ◌<◌, leb, Bool, true, false, List, [], ◌∷◌, Option, Some, None, refl, sym, ap, subst, arith}
 use Rattle.dae_base.specs.declared.Place.{Place}
-use Rattle.dae_token.specs.declared.words.Keyword.TheVariants as keywords
-use Rattle.dae_token.specs.declared.signs.Sign.TheVariants as signs
-use Rattle.dae_syntax.specs.declared.operators.BinaryOperator.{BinaryOperator}
-use Rattle.dae_syntax.specs.declared.operators.AssignmentOperator.{AssignmentOperator}
-use Rattle.dae_syntax.specs.Marks.{Mark, word, sign, name, part, close_paren, close_bracket, close_brace, comma, colon}
-use Rattle.dae_syntax.specs.Operators.{under, strength, operand_level, binary_sign, assignment_sign, postfix_sign, member_sign}
-use Rattle.dae_syntax.specs.Words.{Seen, nothing_seen, with_word, with_whole, seen_after}
-use Rattle.dae_syntax.specs.Names.{Names, has_typedef, with_name, with_declarator, after, after_all, after_specifiers, after_specifier, after_members, after_enumerators, after_declarators, after_declarator}
-use Rattle.dae_syntax.specs.Spelling.{spell, spell_all, spell_more, spell_specifiers, spell_specifier, spell_members, spell_enumerators, spell_more_enumerators, spell_more_declarators, spell_declarator, spell_parameters, spell_more_parameters, spell_comma}
-use Rattle.dae_syntax.specs.Grammar.{level, Manner, by_name, without_name, either_way, IsExpression, AreArguments, IsSpecifiers, IsSpecifier, AreMembers, AreEnumerators, AreDeclarators, AreParameters, IsPresent, IsGroup, HasParameter, HasEnumerator}
-use Rattle.dae_syntax.specs.Trees.{Expression, Expressions, Specifiers, Specifier, Members, Enumerators, Declarators, Declarator, Parameters, Identifier, Number, Literal, Parenthesised, Index, Call, Member, Postfix, Prefix, SizeofExpression, SizeofType, Cast, Binary, Conditional, Assignment, Comma, no_expressions, expression_then, no_specifiers, specifier_then, Word, TypeName, Structure, StructureBody, Enumeration, EnumerationBody, no_members, member_then, no_enumerators, plain_then, valued_then, no_declarators, declarator_then, Absent, Named, Pointer, Grouped, Unsized, Sized, Empty, Void, Function, no_parameters, parameter_then}
-use Rattle.dae_grammar.specs.Frames.{Body, MemberLine, Entry, Open, Parameter, Frame, in_parentheses, in_index, in_arguments, behind_prefix, behind_sizeof, behind_cast, behind_binary, behind_question, behind_colon, behind_assignment, behind_comma, in_size, in_enumerator, for_cast, for_sizeof, for_parameter, for_member, behind_star, in_group, of_cast, of_sizeof, of_parameter, of_member, seek, operated, gave, calling, measuring, specifying, tagging, tagged, membering, enumerating, entered, gave_specifiers, declaring, suffixing, gave_declarator, State, state}
+use Rattle.dae_tree.specs.declared.words.Keyword.TheVariants as keywords
+use Rattle.dae_tree.specs.declared.signs.Sign.TheVariants as signs
+use Rattle.dae_tree.specs.declared.operators.BinaryOperator.{BinaryOperator}
+use Rattle.dae_tree.specs.declared.operators.AssignmentOperator.{AssignmentOperator}
+use Rattle.dae_tree.specs.Marks.{Mark, word, sign, name, part, close_paren, close_bracket, close_brace, comma, colon}
+use Rattle.dae_tree.specs.Operators.{under, strength, operand_level, binary_sign, assignment_sign, postfix_sign, member_sign}
+use Rattle.dae_tree.specs.declared.seen.Seen.{Seen}
+use Rattle.dae_tree.specs.Words.{nothing_seen, with_word, with_whole, seen_after}
+use Rattle.dae_tree.specs.Names.{Names, has_typedef, with_name, with_declarator, after, after_all, after_specifiers, after_specifier, after_members, after_enumerators, after_declarators, after_declarator}
+use Rattle.dae_tree.specs.Spelling.{spell, spell_all, spell_more, spell_specifiers, spell_specifier, spell_members, spell_enumerators, spell_more_enumerators, spell_more_declarators, spell_declarator, spell_parameters, spell_more_parameters, spell_comma}
+use Rattle.dae_tree.specs.Grammar.{level, Manner, by_name, without_name, either_way, IsExpression, AreArguments, IsSpecifiers, IsSpecifier, AreMembers, AreEnumerators, AreDeclarators, AreParameters, IsPresent, IsGroup, HasParameter, HasEnumerator}
+use Rattle.dae_tree.specs.Trees.{Expression, Expressions, Specifiers, Specifier, Members, Enumerators, Declarators, Declarator, Parameters, Identifier, Number, Literal, Parenthesised, Index, Call, Member, Postfix, Prefix, SizeofExpression, SizeofType, Cast, Binary, Conditional, Assignment, Comma, no_expressions, expression_then, no_specifiers, specifier_then, Word, TypeName, Structure, StructureBody, Enumeration, EnumerationBody, no_members, member_then, no_enumerators, plain_then, valued_then, no_declarators, declarator_then, Absent, Named, Pointer, Grouped, Unsized, Sized, Empty, Void, Function, no_parameters, parameter_then}
+use Rattle.dae_tree.specs.Lists.{MemberLine, Entry, Parameter}
+use Rattle.dae_grammar.specs.Frames.{Body, Open, Frame, in_parentheses, in_index, in_arguments, behind_prefix, behind_sizeof, behind_cast, behind_binary, behind_question, behind_colon, behind_assignment, behind_comma, in_size, in_enumerator, for_cast, for_sizeof, for_parameter, for_member, behind_star, in_group, of_cast, of_sizeof, of_parameter, of_member, seek, operated, gave, calling, measuring, specifying, tagging, tagged, membering, enumerating, entered, gave_specifiers, declaring, suffixing, gave_declarator, State, state}
 use Rattle.dae_grammar.specs.Machine.{closed, closed_by, operation, reach, subscript, call, member_of, step_of, binary_of, choice, assignment_of, body, arguments_onto, specifiers_onto, members_onto, enumerators_onto, declarators_onto, parameters_onto, parenthesis_declared}
 use Rattle.dae_grammar.specs.Runs.{IsBackward}
 use Rattle.dae_grammar.specs.Levels.{front, tail}

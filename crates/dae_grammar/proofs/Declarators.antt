@@ -1,17 +1,19 @@
 -- Steps with declarators, specifiers and bodies.
 use Rattle.std.proofs.Common.{◌≡◌, Bool, true, false, List, [], ◌∷◌, Some, None, refl}
 use Rattle.dae_base.specs.declared.Place.{Place}
-use Rattle.dae_token.specs.declared.words.Keyword.{Keyword}
-use Rattle.dae_token.specs.declared.words.Keyword.TheVariants as keywords
-use Rattle.dae_token.specs.declared.signs.Sign.TheVariants as signs
-use Rattle.dae_syntax.specs.declared.expressions.Name.{Name}
-use Rattle.dae_syntax.specs.Marks.{Mark, word, sign, name, part, close_paren, close_brace}
-use Rattle.dae_syntax.specs.Words.{Seen, nothing_seen, has_type, with_word, is_tagged_word}
-use Rattle.dae_syntax.specs.Names.{Names, after_declarator}
-use Rattle.dae_syntax.specs.Spelling.{spell_specifiers, spell_specifier, spell_declarator, spell_qualifiers, spell_parameters, spell_more_parameters, spell_more_enumerators, spell_comma}
-use Rattle.dae_syntax.specs.Grammar.{Manner, by_name, without_name, either_way, IsSpecifiers, IsDeclarator, IsPresent, IsDirect, HasParameter, AreParameters}
-use Rattle.dae_syntax.specs.Trees.{Specifiers, Specifier, Declarator, Parameters, Enumerators, no_specifiers, specifier_then, Word, TypeName, Structure, StructureBody, Enumeration, EnumerationBody, Absent, Named, Pointer, Grouped, Unsized, Sized, Empty, Void, Function, no_parameters, parameter_then, no_enumerators, plain_then, valued_then}
-use Rattle.dae_grammar.specs.Frames.{Body, MemberLine, Entry, Frame, State, state, gave_declarator, suffixing, specifying, for_member, for_parameter, declaring, qualifying, behind_star, entered, gave_specifiers}
+use Rattle.dae_tree.specs.declared.words.Keyword.{Keyword}
+use Rattle.dae_tree.specs.declared.words.Keyword.TheVariants as keywords
+use Rattle.dae_tree.specs.declared.signs.Sign.TheVariants as signs
+use Rattle.dae_tree.specs.declared.expressions.Name.{Name}
+use Rattle.dae_tree.specs.Marks.{Mark, word, sign, name, part, close_paren, close_brace}
+use Rattle.dae_tree.specs.declared.seen.Seen.{Seen}
+use Rattle.dae_tree.specs.Words.{nothing_seen, has_type, with_word, is_tagged_word}
+use Rattle.dae_tree.specs.Names.{Names, after_declarator}
+use Rattle.dae_tree.specs.Spelling.{spell_specifiers, spell_specifier, spell_declarator, spell_qualifiers, spell_parameters, spell_more_parameters, spell_more_enumerators, spell_comma}
+use Rattle.dae_tree.specs.Grammar.{Manner, by_name, without_name, either_way, IsSpecifiers, IsDeclarator, IsPresent, IsDirect, HasParameter, AreParameters}
+use Rattle.dae_tree.specs.Trees.{Specifiers, Specifier, Declarator, Parameters, Enumerators, no_specifiers, specifier_then, Word, TypeName, Structure, StructureBody, Enumeration, EnumerationBody, Absent, Named, Pointer, Grouped, Unsized, Sized, Empty, Void, Function, no_parameters, parameter_then, no_enumerators, plain_then, valued_then}
+use Rattle.dae_tree.specs.Lists.{MemberLine, Entry}
+use Rattle.dae_grammar.specs.Frames.{Body, Frame, State, state, gave_declarator, suffixing, specifying, for_member, for_parameter, declaring, qualifying, behind_star, entered, gave_specifiers}
 use Rattle.dae_grammar.specs.Machine.{declared, qualified, begins_parameters, parameters_opened, word_taken, tag_followed, tag_alone, enumerator_followed, specified, specifiers_onto, onto, members_followed}
 use Rattle.dae_grammar.specs.Starts.{FollowsSpecifiers, FollowsDeclarator}
 use Rattle.dae_grammar.specs.Runs.{IsBackward}

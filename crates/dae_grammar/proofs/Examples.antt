@@ -1,13 +1,13 @@
 -- What the machine reads, on texts that are short enough to see.
 use Rattle.std.proofs.Common.{◌≡◌, ℕ, true, false, List, [], ◌∷◌, Some, None, refl}
 use Rattle.dae_base.specs.declared.Place.{Place}
-use Rattle.dae_token.specs.declared.words.Keyword.TheVariants as keywords
-use Rattle.dae_token.specs.declared.signs.Sign.TheVariants as signs
-use Rattle.dae_syntax.specs.declared.expressions.Name.{Name}
-use Rattle.dae_syntax.specs.declared.operators.BinaryOperator.TheVariants as binary
-use Rattle.dae_syntax.specs.Marks.{Mark, word, sign, name, part, close_paren, close_brace}
-use Rattle.dae_syntax.specs.Trees.{External, Declared, Defined, Identifier, Binary, Parenthesised, Cast, Return, Value, Word, TypeName, Absent, Named, Void, no_specifiers, specifier_then, no_statements, statement_then}
-use Rattle.dae_syntax.specs.Depth.{nodes_file, first_deeper}
+use Rattle.dae_tree.specs.declared.words.Keyword.TheVariants as keywords
+use Rattle.dae_tree.specs.declared.signs.Sign.TheVariants as signs
+use Rattle.dae_tree.specs.declared.expressions.Name.{Name}
+use Rattle.dae_tree.specs.declared.operators.BinaryOperator.TheVariants as binary
+use Rattle.dae_tree.specs.Marks.{Mark, word, sign, name, part, close_paren, close_brace}
+use Rattle.dae_tree.specs.Trees.{External, Declared, Defined, Identifier, Binary, Parenthesised, Cast, Return, Value, Word, TypeName, Absent, Named, Void, no_specifiers, specifier_then, no_statements, statement_then}
+use Rattle.dae_tree.specs.Depth.{nodes_file, first_deeper}
 use Rattle.dae_grammar.specs.Frames.{state, externals}
 use Rattle.dae_grammar.specs.Machine.{begun, ended, step}
 use Rattle.dae_grammar.specs.Runs.{run}

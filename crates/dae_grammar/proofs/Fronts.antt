@@ -1,18 +1,19 @@
 -- What stands first of a tree's tokens, and which way the machine goes there.
 use Rattle.std.proofs.Common.{◌≡◌, ℕ, ◌≤◌, true, false, List, [], ◌∷◌, Some, refl, arith}
 use Rattle.dae_base.specs.declared.Place.{Place}
-use Rattle.dae_token.specs.declared.words.Keyword.TheVariants as keywords
-use Rattle.dae_token.specs.declared.signs.Sign.TheVariants as signs
-use Rattle.dae_syntax.specs.declared.operators.PrefixOperator.{PrefixOperator}
-use Rattle.dae_syntax.specs.declared.operators.PrefixOperator.TheVariants as prefix
-use Rattle.dae_syntax.specs.Marks.{Mark, word, sign, name, part, close_paren}
-use Rattle.dae_syntax.specs.Operators.{prefix_sign}
-use Rattle.dae_syntax.specs.Words.{nothing_seen, begins_specifiers}
-use Rattle.dae_syntax.specs.Names.{Names}
-use Rattle.dae_syntax.specs.Spelling.{spell, spell_specifiers, spell_declarator}
-use Rattle.dae_syntax.specs.Grammar.{level, Manner, by_name, IsExpression, IsSpecifiers, IsDeclarator, IsPresent, IsNoType, leading_name}
-use Rattle.dae_syntax.specs.Trees.{Expression, Specifiers, Declarator, Identifier, Number, Literal, Parenthesised, Index, Call, Member, Postfix, Prefix, SizeofExpression, SizeofType, Cast, Binary, Conditional, Assignment, Comma, no_specifiers, specifier_then, Word, TypeName, Structure, StructureBody, Enumeration, EnumerationBody, Absent, Named, Pointer, Grouped, Unsized, Sized, Empty, Void, Function}
-use Rattle.dae_grammar.specs.Frames.{Body, MemberLine, Frame, state, seek, in_arguments, behind_sizeof, in_size, gave_declarator, specifying, for_member}
+use Rattle.dae_tree.specs.declared.words.Keyword.TheVariants as keywords
+use Rattle.dae_tree.specs.declared.signs.Sign.TheVariants as signs
+use Rattle.dae_tree.specs.declared.operators.PrefixOperator.{PrefixOperator}
+use Rattle.dae_tree.specs.declared.operators.PrefixOperator.TheVariants as prefix
+use Rattle.dae_tree.specs.Marks.{Mark, word, sign, name, part, close_paren}
+use Rattle.dae_tree.specs.Operators.{prefix_sign}
+use Rattle.dae_tree.specs.Words.{nothing_seen, begins_specifiers}
+use Rattle.dae_tree.specs.Names.{Names}
+use Rattle.dae_tree.specs.Spelling.{spell, spell_specifiers, spell_declarator}
+use Rattle.dae_tree.specs.Grammar.{level, Manner, by_name, IsExpression, IsSpecifiers, IsDeclarator, IsPresent, IsNoType, leading_name}
+use Rattle.dae_tree.specs.Trees.{Expression, Specifiers, Declarator, Identifier, Number, Literal, Parenthesised, Index, Call, Member, Postfix, Prefix, SizeofExpression, SizeofType, Cast, Binary, Conditional, Assignment, Comma, no_specifiers, specifier_then, Word, TypeName, Structure, StructureBody, Enumeration, EnumerationBody, Absent, Named, Pointer, Grouped, Unsized, Sized, Empty, Void, Function}
+use Rattle.dae_tree.specs.Lists.{MemberLine}
+use Rattle.dae_grammar.specs.Frames.{Body, Frame, state, seek, in_arguments, behind_sizeof, in_size, gave_declarator, specifying, for_member}
 use Rattle.dae_grammar.specs.Machine.{called, measured, sized, suffixed, begins_parameters, members_followed}
 use Rattle.dae_grammar.specs.Starts.{IsStartSign, Starts, FollowsSpecifiers, FollowsDeclarator}
 use Rattle.dae_grammar.proofs.Steps.{under_least}

@@ -1,14 +1,14 @@
 -- A tree spells as many tokens before others as alone.
 use Rattle.std.proofs.Common.{◌≡◌, ◌+◌, Bool, true, false, List, [], ◌∷◌, length, Option, Some, None, arith}
 use Rattle.dae_base.specs.declared.Place.{Place}
-use Rattle.dae_syntax.specs.Marks.{Mark, close_brace, close_bracket, close_paren, colon, comma, constant, else_word, literal, name, part, sign, word}
-use Rattle.dae_syntax.specs.Operators.{assignment_sign, binary_sign, member_sign, postfix_sign, prefix_sign}
-use Rattle.dae_syntax.specs.Spelling.{spell, spell_all, spell_comma, spell_declarator, spell_declarators, spell_enumerators, spell_members, spell_more, spell_more_declarators, spell_more_enumerators, spell_more_parameters, spell_parameters, spell_qualifiers, spell_specifier, spell_specifiers, spell_tag}
-use Rattle.dae_syntax.specs.Statements.{spell_declaration, spell_declarations, spell_external, spell_file, spell_initialiser, spell_initialisers, spell_item, spell_items, spell_more_initialisers, spell_more_items, spell_optional, spell_statement, spell_statements, spell_test, spell_value}
-use Rattle.dae_syntax.specs.Trees.{Absent, Assignment, Binary, Block, Break, Call, Case, Cast, Comma, Conditional, Continue, Declaration, Declarator, Declarators, Declared, Default, Defined, Do, Empty, Enumeration, EnumerationBody, Enumerators, Evaluate, Expression, Expressions, External, For, Function, Grouped, Identifier, If, IfElse, Index, Initialiser, Initialisers, Item, Listed, Literal, Member, Members, Named, Nothing, Number, Parameters, Parenthesised, Pointer, Postfix, Prefix, Return, Sized, SizeofExpression, SizeofType, Specifier, Specifiers, Statement, Statements, Structure, StructureBody, Switch, TypeName, Unsized, Value, Void, While, Word, declarator_then, expression_then, initialiser_then, member_then, no_declarators, no_enumerators, no_expressions, no_initialisers, no_members, no_parameters, no_specifiers, no_statements, parameter_then, plain_then, specifier_then, statement_then, valued_then}
-use Rattle.dae_syntax.specs.declared.expressions.Name.{Name}
-use Rattle.dae_token.specs.declared.signs.Sign.TheVariants as signs
-use Rattle.dae_token.specs.declared.words.Keyword.TheVariants as keywords
+use Rattle.dae_tree.specs.Marks.{Mark, close_brace, close_bracket, close_paren, colon, comma, constant, else_word, literal, name, part, sign, word}
+use Rattle.dae_tree.specs.Operators.{assignment_sign, binary_sign, member_sign, postfix_sign, prefix_sign}
+use Rattle.dae_tree.specs.Spelling.{spell, spell_all, spell_comma, spell_declarator, spell_declarators, spell_enumerators, spell_members, spell_more, spell_more_declarators, spell_more_enumerators, spell_more_parameters, spell_parameters, spell_qualifiers, spell_specifier, spell_specifiers, spell_tag}
+use Rattle.dae_tree.specs.Statements.{spell_declaration, spell_declarations, spell_external, spell_file, spell_initialiser, spell_initialisers, spell_item, spell_items, spell_more_initialisers, spell_more_items, spell_optional, spell_statement, spell_statements, spell_test, spell_value}
+use Rattle.dae_tree.specs.Trees.{Absent, Assignment, Binary, Block, Break, Call, Case, Cast, Comma, Conditional, Continue, Declaration, Declarator, Declarators, Declared, Default, Defined, Do, Empty, Enumeration, EnumerationBody, Enumerators, Evaluate, Expression, Expressions, External, For, Function, Grouped, Identifier, If, IfElse, Index, Initialiser, Initialisers, Item, Listed, Literal, Member, Members, Named, Nothing, Number, Parameters, Parenthesised, Pointer, Postfix, Prefix, Return, Sized, SizeofExpression, SizeofType, Specifier, Specifiers, Statement, Statements, Structure, StructureBody, Switch, TypeName, Unsized, Value, Void, While, Word, declarator_then, expression_then, initialiser_then, member_then, no_declarators, no_enumerators, no_expressions, no_initialisers, no_members, no_parameters, no_specifiers, no_statements, parameter_then, plain_then, specifier_then, statement_then, valued_then}
+use Rattle.dae_tree.specs.declared.expressions.Name.{Name}
+use Rattle.dae_tree.specs.declared.signs.Sign.TheVariants as signs
+use Rattle.dae_tree.specs.declared.words.Keyword.TheVariants as keywords
 
 pub record Adds (N : List Mark → List Mark) : Type 0 where
   pub law : (rest : List Mark) → length (N rest) ≡ length (N []) + length rest

@@ -1,17 +1,18 @@
-pub mod Steps
-pub mod Fronts
-pub mod Declarators
-pub mod Complete
-pub mod Statements
-pub mod Blocks
-pub mod Tokens
-pub mod Lists
-pub mod Sound
-pub mod SoundDeclarators
-pub mod SoundStatements
-pub mod Runs
-pub mod Falls
-pub mod FirstPlaces
-pub mod Lengths
-pub mod Adding
-pub mod Examples
+mod Steps
+mod Fronts
+mod Declarators
+mod Complete
+mod Statements
+mod Blocks
+mod Tokens
+mod Lists
+mod Sound
+mod SoundDeclarators
+mod SoundStatements
+mod Runs
+mod Falls
+mod FirstPlaces
+mod Lengths
+mod Adding
+mod Examples
+pub mod Laws

@@ -1,13 +1,13 @@
 -- Lists that were read, put the right way round: they are of the grammar, and leave the same names in scope.
 use Rattle.std.proofs.Common.{◌≡◌, Bool, List, [], ◌∷◌, Option, Some, None, refl, ◌∙◌}
 use Rattle.dae_base.specs.declared.Place.{Place}
-use Rattle.dae_syntax.specs.declared.expressions.Name.{Name}
-use Rattle.dae_syntax.specs.Words.{nothing_seen}
-use Rattle.dae_syntax.specs.Names.{Names, after_all, after_specifiers, after_members, after_enumerators, after_declarators, after_initialisers, after_items, after_declarations}
-use Rattle.dae_syntax.specs.Grammar.{AreArguments, IsSpecifiers, AreMembers, AreEnumerators, AreDeclarators, AreParameters, HasMember, HasEnumerator, HasDeclarator, HasParameter}
-use Rattle.dae_syntax.specs.Statements.{AreInitialisers, HasInitialiser, AreItems, AreDeclarations, AreStatements, AreExternals}
-use Rattle.dae_syntax.specs.Trees.{Expression, Expressions, Specifiers, Specifier, Members, Enumerators, Declarators, Declarator, Parameters, Initialiser, Initialisers, Item, Declaration, Statement, Statements, External, expression_then, specifier_then, member_then, declarator_then, parameter_then, initialiser_then, statement_then}
-use Rattle.dae_grammar.specs.Frames.{MemberLine, Entry, Parameter}
+use Rattle.dae_tree.specs.declared.expressions.Name.{Name}
+use Rattle.dae_tree.specs.Words.{nothing_seen}
+use Rattle.dae_tree.specs.Names.{Names, after_all, after_specifiers, after_members, after_enumerators, after_declarators, after_initialisers, after_items, after_declarations}
+use Rattle.dae_tree.specs.Grammar.{AreArguments, IsSpecifiers, AreMembers, AreEnumerators, AreDeclarators, AreParameters, HasMember, HasEnumerator, HasDeclarator, HasParameter}
+use Rattle.dae_tree.specs.Statements.{AreInitialisers, HasInitialiser, AreItems, AreDeclarations, AreStatements, AreExternals}
+use Rattle.dae_tree.specs.Trees.{Expression, Expressions, Specifiers, Specifier, Members, Enumerators, Declarators, Declarator, Parameters, Initialiser, Initialisers, Item, Declaration, Statement, Statements, External, expression_then, specifier_then, member_then, declarator_then, parameter_then, initialiser_then, statement_then}
+use Rattle.dae_tree.specs.Lists.{MemberLine, Entry, Parameter}
 use Rattle.dae_grammar.specs.Machine.{arguments_onto, specifiers_onto, members_onto, enumerators_onto, enumerator_before, declarators_onto, parameters_onto, initialisers_onto, statements_onto, onto}
 use Rattle.dae_grammar.specs.Standing.{now_arguments, now_specifiers, now_lines, now_entries, after_entry, now_declarators, now_parameters, now_initialisers, now_items, now_declarations, now_statements, now_externals, ArgumentsHold, seen_now, SpecifiersHold, LinesHold, EntryValueHolds, EntriesHold, DeclaratorsHold, ParametersHold, InitialisersHold, ItemsHold, DeclarationsHold, StatementsHold, ExternalsHold}
 

@@ -1,9 +1,9 @@
 -- Runs of the machine: they come to each tree of the grammar, and to nothing else.
 use Rattle.std.proofs.Common.{◌≡◌, ℕ, zero, suc, ◌+◌, ◌*◌, ◌≤◌, ◌<◌, List, [], length, Option, Some, None, refl, sym, ap, subst, ◌∙◌, arith}
-use Rattle.dae_syntax.specs.Marks.{Mark}
-use Rattle.dae_syntax.specs.Names.{Names}
-use Rattle.dae_syntax.specs.Statements.{IsTreeOf, spell_file}
-use Rattle.dae_syntax.specs.Trees.{External}
+use Rattle.dae_tree.specs.Marks.{Mark}
+use Rattle.dae_tree.specs.Names.{Names}
+use Rattle.dae_tree.specs.Statements.{IsTreeOf, spell_file}
+use Rattle.dae_tree.specs.Trees.{External}
 use Rattle.dae_grammar.specs.Frames.{State, state, externals}
 use Rattle.dae_grammar.specs.Machine.{step, begun, ended, onto}
 use Rattle.dae_grammar.specs.Measure.{measure}

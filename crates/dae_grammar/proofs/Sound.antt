@@ -1,17 +1,17 @@
 -- Each step keeps what holds of a state: expressions.
 use Rattle.std.proofs.Common.{◌≡◌, ℕ, ◌≤◌, leb, ◌&&◌, if◌then◌else◌, Bool, true, false, List, [], ◌∷◌, Option, Some, None, refl, sym, subst, arith}
 use Rattle.dae_base.specs.declared.Place.{Place}
-use Rattle.dae_token.specs.declared.words.Keyword.TheVariants as keywords
-use Rattle.dae_token.specs.declared.signs.Sign.{Sign}
-use Rattle.dae_token.specs.declared.signs.Sign.TheVariants as signs
-use Rattle.dae_syntax.specs.declared.operators.PrefixOperator.{PrefixOperator}
-use Rattle.dae_syntax.specs.declared.operators.PrefixOperator.TheVariants as prefix
-use Rattle.dae_syntax.specs.declared.operators.MemberOperator.{MemberOperator}
-use Rattle.dae_syntax.specs.Marks.{Mark, word, sign, name, constant, literal, part, close_paren, close_bracket, comma, colon}
-use Rattle.dae_syntax.specs.Words.{begins_specifiers}
-use Rattle.dae_syntax.specs.Names.{Names, is_type, after}
-use Rattle.dae_syntax.specs.Grammar.{level, IsExpression, Manner, by_name, without_name, either_way, IsGroup, IsNoType, leading_name}
-use Rattle.dae_syntax.specs.Trees.{Declarator, Sized, Expression, no_expressions, expression_then}
+use Rattle.dae_tree.specs.declared.words.Keyword.TheVariants as keywords
+use Rattle.dae_tree.specs.declared.signs.Sign.{Sign}
+use Rattle.dae_tree.specs.declared.signs.Sign.TheVariants as signs
+use Rattle.dae_tree.specs.declared.operators.PrefixOperator.{PrefixOperator}
+use Rattle.dae_tree.specs.declared.operators.PrefixOperator.TheVariants as prefix
+use Rattle.dae_tree.specs.declared.operators.MemberOperator.{MemberOperator}
+use Rattle.dae_tree.specs.Marks.{Mark, word, sign, name, constant, literal, part, close_paren, close_bracket, comma, colon}
+use Rattle.dae_tree.specs.Words.{begins_specifiers}
+use Rattle.dae_tree.specs.Names.{Names, is_type, after}
+use Rattle.dae_tree.specs.Grammar.{level, IsExpression, Manner, by_name, without_name, either_way, IsGroup, IsNoType, leading_name}
+use Rattle.dae_tree.specs.Trees.{Declarator, Sized, Expression, no_expressions, expression_then}
 use Rattle.dae_grammar.specs.Frames.{Head, if_head, while_head, switch_head, do_head, Frame, in_group, in_parentheses, in_index, in_arguments, behind_prefix, behind_sizeof, behind_cast, behind_binary, behind_question, behind_colon, behind_assignment, behind_comma, in_size, in_enumerator, in_value, in_evaluation, in_test, in_start, in_loop_test, in_step, in_return, in_case, operated, gave, calling, measuring, State}
 use Rattle.dae_grammar.specs.Machine.{Operation, subscript, call, member_of, step_of, binary_of, choice, assignment_of, ends, operation, reach, left_level, goes_on, operate, named_member, operated_at, prefixed, sign_sought, sought, measured, called, argument_given, tested, at_paren, at_bracket, at_colon, at_semicolon, at_open, expression_given}
 use Rattle.dae_grammar.specs.Standing.{MayStand, limit, awaited, stack_names, IsStack, IsDoing, IsHead, Holds}

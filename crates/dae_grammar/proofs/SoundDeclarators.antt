@@ -1,16 +1,18 @@
 -- Each step keeps what holds of a state: specifiers and declarators.
 use Rattle.std.proofs.Common.{◌≡◌, ◌&&◌, not, Bool, true, false, List, [], ◌∷◌, Option, Some, None, refl, sym, ap, subst}
 use Rattle.dae_base.specs.declared.Place.{Place}
-use Rattle.dae_token.specs.declared.words.Keyword.{Keyword}
-use Rattle.dae_token.specs.declared.words.Keyword.TheVariants as keywords
-use Rattle.dae_token.specs.declared.signs.Sign.TheVariants as signs
-use Rattle.dae_syntax.specs.declared.expressions.Name.{Name}
-use Rattle.dae_syntax.specs.Marks.{Mark, word, sign, name, part, close_paren, close_bracket, close_brace, comma}
-use Rattle.dae_syntax.specs.Words.{Seen, nothing_seen, has_type, admits, with_word, with_whole}
-use Rattle.dae_syntax.specs.Names.{Names, is_type, has_typedef, with_declarator, after_specifiers, after_declarator}
-use Rattle.dae_syntax.specs.Grammar.{Manner, by_name, without_name, either_way, IsSpecifiers, IsDeclarator, IsPresent, IsNoType, leading_name, void_alone, AreParameters, HasParameter}
-use Rattle.dae_syntax.specs.Trees.{Specifiers, Specifier, Declarator, Parameters, Item, no_specifiers, no_members, member_then, no_enumerators, no_declarators, declarator_then, Absent, Named, Pointer, Grouped, Unsized, Empty, Void, Function, no_parameters, parameter_then}
-use Rattle.dae_grammar.specs.Frames.{Body, MemberLine, Entry, Open, Parameter, Frame, in_group, for_cast, for_sizeof, for_parameter, for_member, for_declaration, behind_star, of_cast, of_sizeof, of_parameter, of_member, of_item, specifying, declaring, suffixing, gave_declarator, state}
+use Rattle.dae_tree.specs.declared.words.Keyword.{Keyword}
+use Rattle.dae_tree.specs.declared.words.Keyword.TheVariants as keywords
+use Rattle.dae_tree.specs.declared.signs.Sign.TheVariants as signs
+use Rattle.dae_tree.specs.declared.expressions.Name.{Name}
+use Rattle.dae_tree.specs.Marks.{Mark, word, sign, name, part, close_paren, close_bracket, close_brace, comma}
+use Rattle.dae_tree.specs.declared.seen.Seen.{Seen}
+use Rattle.dae_tree.specs.Words.{nothing_seen, has_type, admits, with_word, with_whole}
+use Rattle.dae_tree.specs.Names.{Names, is_type, has_typedef, with_declarator, after_specifiers, after_declarator}
+use Rattle.dae_tree.specs.Grammar.{Manner, by_name, without_name, either_way, IsSpecifiers, IsDeclarator, IsPresent, IsNoType, leading_name, void_alone, AreParameters, HasParameter}
+use Rattle.dae_tree.specs.Trees.{Specifiers, Specifier, Declarator, Parameters, Item, no_specifiers, no_members, member_then, no_enumerators, no_declarators, declarator_then, Absent, Named, Pointer, Grouped, Unsized, Empty, Void, Function, no_parameters, parameter_then}
+use Rattle.dae_tree.specs.Lists.{MemberLine, Entry, Parameter}
+use Rattle.dae_grammar.specs.Frames.{Body, Open, Frame, in_group, for_cast, for_sizeof, for_parameter, for_member, for_declaration, behind_star, of_cast, of_sizeof, of_parameter, of_member, of_item, specifying, declaring, suffixing, gave_declarator, state}
 use Rattle.dae_grammar.specs.Machine.{specifiers_end, word_taken, specified, body, body_opened, tag_taken, tag_alone, tag_followed, members_followed, enumerator_named, enumerator_followed, enumeration_closed, entry_followed, comma_followed, declaration_begun, specifiers_given, begins_parameters, parenthesis_declared, nothing_declared, bracket_declared, name_declared, declared, qualified, suffixed, sized, parameters_opened, closed_by, parameter_given, member_given, item_given, declarator_given, plain_item, parameters_onto}
 use Rattle.dae_grammar.specs.Standing.{manner, stack_names, now_specifiers, now_lines, now_entries, after_entry, seen_now, SpecifiersHold, LinesHold, EntriesHold, MayStand, MustStand, IsBegun, IsBody, IsOpen, IsStack, IsGroupAhead, IsNeeded, IsSuffixAhead, HasAhead, IsDoing, Holds}
 use Rattle.dae_grammar.proofs.Lists.{specifiers_hold, specifiers_now, members_hold, members_now, members_some, enumerators_hold, enumerators_now, enumerators_some, declarators_hold, declarators_now, declarators_some, parameters_hold, parameters_some}

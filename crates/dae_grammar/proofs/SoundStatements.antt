@@ -1,15 +1,15 @@
 -- Each step keeps what holds of a state: initialisers, declarations, statements, and every step.
 use Rattle.std.proofs.Common.{◌≡◌, Bool, true, false, List, [], ◌∷◌, Option, refl, sym, subst}
 use Rattle.dae_base.specs.declared.Place.{Place}
-use Rattle.dae_token.specs.declared.words.Keyword.{Keyword}
-use Rattle.dae_token.specs.declared.words.Keyword.TheVariants as keywords
-use Rattle.dae_token.specs.declared.signs.Sign.{Sign}
-use Rattle.dae_token.specs.declared.signs.Sign.TheVariants as signs
-use Rattle.dae_syntax.specs.Marks.{Mark, word, sign, part, close_paren, close_brace, comma, else_word}
-use Rattle.dae_syntax.specs.Words.{begins_specifiers}
-use Rattle.dae_syntax.specs.Names.{Names, has_typedef, after, after_specifiers, after_initialiser, after_item, after_declaration, after_optional, after_statement}
-use Rattle.dae_syntax.specs.Statements.{IsInitialiser, IsDeclaration, IsStatement, takes_else}
-use Rattle.dae_syntax.specs.Trees.{Expression, Specifiers, Declarator, Initialiser, Item, Declaration, Statement, External, no_initialisers, initialiser_then, Block, no_statements}
+use Rattle.dae_tree.specs.declared.words.Keyword.{Keyword}
+use Rattle.dae_tree.specs.declared.words.Keyword.TheVariants as keywords
+use Rattle.dae_tree.specs.declared.signs.Sign.{Sign}
+use Rattle.dae_tree.specs.declared.signs.Sign.TheVariants as signs
+use Rattle.dae_tree.specs.Marks.{Mark, word, sign, part, close_paren, close_brace, comma, else_word}
+use Rattle.dae_tree.specs.Words.{begins_specifiers}
+use Rattle.dae_tree.specs.Names.{Names, has_typedef, after, after_specifiers, after_initialiser, after_item, after_declaration, after_optional, after_statement}
+use Rattle.dae_tree.specs.Statements.{IsInitialiser, IsDeclaration, IsStatement, takes_else}
+use Rattle.dae_tree.specs.Trees.{Expression, Specifiers, Declarator, Initialiser, Item, Declaration, Statement, External, no_initialisers, initialiser_then, Block, no_statements}
 use Rattle.dae_grammar.specs.Frames.{Loop, Inside, Frame, in_list, of_value, in_file, in_block, then_branch, else_branch, while_body, switch_body, do_body, for_body, case_body, default_body, in_statements, in_definition, Doing, seek, operated, gave, calling, measuring, specifying, tagging, tagged, membering, enumerating, enumerated, entered, entering, gave_specifiers, declaring, qualifying, suffixing, sizing, parametering, gave_declarator, initialising, listing, gave_initialiser, itemed, gave_declaration, externals, declarations, statements, stating, opening, finishing, looping, starting, testing, stepping, returning, breaking, continuing, defaulting, gave_statement, state}
 use Rattle.dae_grammar.specs.Machine.{step, initialised, listed, list_followed, list_closed, initialiser_taken, item_followed, declaration_taken, external_begun, block_begun, block_followed, evaluation_begun, sign_stated, word_stated, stated, started, loop_tested, stepped, returned, branched, done_followed, defined, statement_given}
 use Rattle.dae_grammar.specs.Standing.{stack_names, doing_names, now_initialisers, now_items, now_declarations, now_statements, now_externals, InitialisersHold, StatementsHold, ExternalsHold, IsInside, IsLoop, IsStack, IsDoing, Holds}

@@ -1,14 +1,14 @@
 -- The machine reads each tree of the grammar: initialisers, declarations, statements and files.
 use Rattle.std.proofs.Common.{◌≡◌, ◌<◌, Bool, true, false, List, [], ◌∷◌, Option, Some, None, refl, arith}
 use Rattle.dae_base.specs.declared.Place.{Place}
-use Rattle.dae_token.specs.declared.signs.Sign.TheVariants as signs
-use Rattle.dae_syntax.specs.Marks.{Mark, sign, part, close_brace}
-use Rattle.dae_syntax.specs.Words.{nothing_seen}
-use Rattle.dae_syntax.specs.Names.{Names, has_typedef, with_declarator, after, after_specifiers, after_declarator, after_initialiser, after_initialisers, after_value, after_item, after_items, after_declaration}
-use Rattle.dae_syntax.specs.Spelling.{spell, spell_specifiers, spell_declarator, spell_comma}
-use Rattle.dae_syntax.specs.Grammar.{by_name, IsExpression, IsSpecifiers, IsPresent}
-use Rattle.dae_syntax.specs.Statements.{spell_initialiser, spell_more_initialisers, spell_value, spell_item, spell_items, spell_more_items, spell_declaration, IsInitialiser, AreInitialisers, IsValue, AreItems, IsDeclaration}
-use Rattle.dae_syntax.specs.Trees.{Expression, Specifiers, Declarator, Initialiser, Initialisers, Item, Declaration, Absent, Named, Pointer, Grouped, Unsized, Sized, Empty, Void, Function, Value, Listed, no_initialisers, initialiser_then}
+use Rattle.dae_tree.specs.declared.signs.Sign.TheVariants as signs
+use Rattle.dae_tree.specs.Marks.{Mark, sign, part, close_brace}
+use Rattle.dae_tree.specs.Words.{nothing_seen}
+use Rattle.dae_tree.specs.Names.{Names, has_typedef, with_declarator, after, after_specifiers, after_declarator, after_initialiser, after_initialisers, after_value, after_item, after_items, after_declaration}
+use Rattle.dae_tree.specs.Spelling.{spell, spell_specifiers, spell_declarator, spell_comma}
+use Rattle.dae_tree.specs.Grammar.{by_name, IsExpression, IsSpecifiers, IsPresent}
+use Rattle.dae_tree.specs.Statements.{spell_initialiser, spell_more_initialisers, spell_value, spell_item, spell_items, spell_more_items, spell_declaration, IsInitialiser, AreInitialisers, IsValue, AreItems, IsDeclaration}
+use Rattle.dae_tree.specs.Trees.{Expression, Specifiers, Declarator, Initialiser, Initialisers, Item, Declaration, Absent, Named, Pointer, Grouped, Unsized, Sized, Empty, Void, Function, Value, Listed, no_initialisers, initialiser_then}
 use Rattle.dae_grammar.specs.Frames.{Frame, in_value, for_declaration, of_item, in_list, of_value, seek, gave, specifying, gave_specifiers, declaring, gave_declarator, initialising, gave_initialiser, itemed, gave_declaration, State, state}
 use Rattle.dae_grammar.specs.Machine.{onto, initialisers_onto, initialised, list_followed, item_given, declaration_begun}
 use Rattle.dae_grammar.specs.Runs.{IsBackward}

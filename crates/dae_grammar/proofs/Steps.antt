@@ -1,22 +1,22 @@
 -- Steps with expressions: which go on, and which end one.
 use Rattle.std.proofs.Common.{◌≡◌, ℕ, ◌≤◌, ◌<◌, leb, true, false, List, [], ◌∷◌, Option, Some, refl, sym, subst, arith}
 use Rattle.dae_base.specs.declared.Place.{Place}
-use Rattle.dae_token.specs.declared.signs.Sign.{Sign}
-use Rattle.dae_syntax.specs.declared.operators.BinaryOperator.{BinaryOperator}
-use Rattle.dae_syntax.specs.declared.operators.BinaryOperator.TheVariants as binary
-use Rattle.dae_syntax.specs.declared.operators.AssignmentOperator.{AssignmentOperator}
-use Rattle.dae_syntax.specs.declared.operators.AssignmentOperator.TheVariants as assignment
-use Rattle.dae_syntax.specs.declared.operators.PrefixOperator.{PrefixOperator}
-use Rattle.dae_syntax.specs.declared.operators.PrefixOperator.TheVariants as prefix
-use Rattle.dae_syntax.specs.declared.operators.PostfixOperator.{PostfixOperator}
-use Rattle.dae_syntax.specs.declared.operators.PostfixOperator.TheVariants as postfix
-use Rattle.dae_syntax.specs.declared.operators.MemberOperator.{MemberOperator}
-use Rattle.dae_syntax.specs.declared.operators.MemberOperator.TheVariants as member
-use Rattle.dae_syntax.specs.Marks.{Mark, sign, part, comma}
-use Rattle.dae_syntax.specs.Operators.{under, strength, operand_level, binary_sign, assignment_sign, prefix_sign, postfix_sign, member_sign}
-use Rattle.dae_syntax.specs.Names.{Names}
-use Rattle.dae_syntax.specs.Grammar.{level}
-use Rattle.dae_syntax.specs.Trees.{Expression, Prefix, SizeofExpression, Cast, Binary, Conditional, Assignment, Comma}
+use Rattle.dae_tree.specs.declared.signs.Sign.{Sign}
+use Rattle.dae_tree.specs.declared.operators.BinaryOperator.{BinaryOperator}
+use Rattle.dae_tree.specs.declared.operators.BinaryOperator.TheVariants as binary
+use Rattle.dae_tree.specs.declared.operators.AssignmentOperator.{AssignmentOperator}
+use Rattle.dae_tree.specs.declared.operators.AssignmentOperator.TheVariants as assignment
+use Rattle.dae_tree.specs.declared.operators.PrefixOperator.{PrefixOperator}
+use Rattle.dae_tree.specs.declared.operators.PrefixOperator.TheVariants as prefix
+use Rattle.dae_tree.specs.declared.operators.PostfixOperator.{PostfixOperator}
+use Rattle.dae_tree.specs.declared.operators.PostfixOperator.TheVariants as postfix
+use Rattle.dae_tree.specs.declared.operators.MemberOperator.{MemberOperator}
+use Rattle.dae_tree.specs.declared.operators.MemberOperator.TheVariants as member
+use Rattle.dae_tree.specs.Marks.{Mark, sign, part, comma}
+use Rattle.dae_tree.specs.Operators.{under, strength, operand_level, binary_sign, assignment_sign, prefix_sign, postfix_sign, member_sign}
+use Rattle.dae_tree.specs.Names.{Names}
+use Rattle.dae_tree.specs.Grammar.{level}
+use Rattle.dae_tree.specs.Trees.{Expression, Prefix, SizeofExpression, Cast, Binary, Conditional, Assignment, Comma}
 use Rattle.dae_grammar.specs.Frames.{Frame, State, state, seek, operated, gave, behind_prefix, behind_comma}
 use Rattle.dae_grammar.specs.Machine.{step, Operation, member_of, step_of, binary_of, assignment_of, operation, reach, left_level, operate}
 use Rattle.dae_grammar.specs.Runs.{On, IsBackward}

@@ -1,22 +1,24 @@
 -- A step keeps the tokens: what it takes is spelled by what it has.
 use Rattle.std.proofs.Common.{◌≡◌, ℕ, leb, ◌&&◌, not, if◌then◌else◌, Bool, true, false, List, [], ◌∷◌, Option, Some, None, refl, ap, ◌∙◌}
 use Rattle.dae_base.specs.declared.Place.{Place}
-use Rattle.dae_token.specs.declared.words.Keyword.{Keyword}
-use Rattle.dae_token.specs.declared.words.Keyword.TheVariants as keywords
-use Rattle.dae_token.specs.declared.signs.Sign.{Sign}
-use Rattle.dae_token.specs.declared.signs.Sign.TheVariants as signs
-use Rattle.dae_syntax.specs.declared.expressions.Name.{Name}
-use Rattle.dae_syntax.specs.declared.operators.MemberOperator.{MemberOperator}
-use Rattle.dae_syntax.specs.declared.operators.MemberOperator.TheVariants as member
-use Rattle.dae_syntax.specs.Operators.{member_sign}
-use Rattle.dae_syntax.specs.Marks.{Mark, word, sign, name, constant, literal, part, close_paren, close_bracket, close_brace, comma, colon, else_word}
-use Rattle.dae_syntax.specs.Words.{Seen, has_type, admits, begins_specifiers}
-use Rattle.dae_syntax.specs.Names.{Names, is_type, has_typedef, with_declarator}
-use Rattle.dae_syntax.specs.Spelling.{spell, spell_all, spell_more, spell_specifiers, spell_specifier, spell_members, spell_enumerators, spell_more_enumerators, spell_declarators, spell_more_declarators, spell_declarator, spell_parameters, spell_more_parameters, spell_qualifiers, spell_tag}
-use Rattle.dae_syntax.specs.Statements.{spell_initialiser, spell_initialisers, spell_more_initialisers, spell_declaration, spell_optional, spell_test, spell_statement, spell_item, spell_items, spell_more_items, spell_declarations, spell_statements, spell_file}
-use Rattle.dae_syntax.specs.Grammar.{Manner, by_name, without_name, either_way}
-use Rattle.dae_syntax.specs.Trees.{Expression, Expressions, Specifiers, Specifier, Members, Enumerators, Declarators, Declarator, Parameters, Initialiser, Initialisers, Item, Declaration, Statement, Statements, External, no_expressions, expression_then, no_specifiers, specifier_then, Word, no_members, member_then, no_enumerators, no_declarators, declarator_then, Absent, no_parameters, parameter_then, no_initialisers, initialiser_then, no_statements, statement_then, Block}
-use Rattle.dae_grammar.specs.Frames.{Body, MemberLine, Entry, Open, Parameter, Head, Loop, Inside, if_head, while_head, switch_head, do_head, Frame, in_parentheses, in_index, in_arguments, behind_prefix, behind_sizeof, behind_cast, behind_binary, behind_question, behind_colon, behind_assignment, behind_comma, in_size, in_enumerator, in_value, in_evaluation, in_test, in_start, in_loop_test, in_step, in_return, in_case, for_cast, for_sizeof, for_parameter, for_member, for_declaration, behind_star, in_group, of_cast, of_sizeof, of_parameter, of_member, of_item, in_list, of_value, in_file, in_block, then_branch, else_branch, while_body, switch_body, do_body, for_body, case_body, default_body, in_statements, in_definition, Doing, seek, operated, gave, calling, measuring, specifying, tagging, tagged, membering, enumerating, enumerated, entered, entering, gave_specifiers, declaring, qualifying, suffixing, sizing, parametering, gave_declarator, initialising, listing, gave_initialiser, itemed, gave_declaration, externals, declarations, statements, stating, opening, finishing, looping, starting, testing, stepping, returning, breaking, continuing, defaulting, gave_statement, State, state}
+use Rattle.dae_tree.specs.declared.words.Keyword.{Keyword}
+use Rattle.dae_tree.specs.declared.words.Keyword.TheVariants as keywords
+use Rattle.dae_tree.specs.declared.signs.Sign.{Sign}
+use Rattle.dae_tree.specs.declared.signs.Sign.TheVariants as signs
+use Rattle.dae_tree.specs.declared.expressions.Name.{Name}
+use Rattle.dae_tree.specs.declared.operators.MemberOperator.{MemberOperator}
+use Rattle.dae_tree.specs.declared.operators.MemberOperator.TheVariants as member
+use Rattle.dae_tree.specs.Operators.{member_sign}
+use Rattle.dae_tree.specs.Marks.{Mark, word, sign, name, constant, literal, part, close_paren, close_bracket, close_brace, comma, colon, else_word}
+use Rattle.dae_tree.specs.declared.seen.Seen.{Seen}
+use Rattle.dae_tree.specs.Words.{has_type, admits, begins_specifiers}
+use Rattle.dae_tree.specs.Names.{Names, is_type, has_typedef, with_declarator}
+use Rattle.dae_tree.specs.Spelling.{spell, spell_all, spell_more, spell_specifiers, spell_specifier, spell_members, spell_enumerators, spell_more_enumerators, spell_declarators, spell_more_declarators, spell_declarator, spell_parameters, spell_more_parameters, spell_qualifiers, spell_tag}
+use Rattle.dae_tree.specs.Statements.{spell_initialiser, spell_initialisers, spell_more_initialisers, spell_declaration, spell_optional, spell_test, spell_statement, spell_item, spell_items, spell_more_items, spell_declarations, spell_statements, spell_file}
+use Rattle.dae_tree.specs.Grammar.{Manner, by_name, without_name, either_way}
+use Rattle.dae_tree.specs.Trees.{Expression, Expressions, Specifiers, Specifier, Members, Enumerators, Declarators, Declarator, Parameters, Initialiser, Initialisers, Item, Declaration, Statement, Statements, External, no_expressions, expression_then, no_specifiers, specifier_then, Word, no_members, member_then, no_enumerators, no_declarators, declarator_then, Absent, no_parameters, parameter_then, no_initialisers, initialiser_then, no_statements, statement_then, Block}
+use Rattle.dae_tree.specs.Lists.{MemberLine, Entry, Parameter}
+use Rattle.dae_grammar.specs.Frames.{Body, Open, Head, Loop, Inside, if_head, while_head, switch_head, do_head, Frame, in_parentheses, in_index, in_arguments, behind_prefix, behind_sizeof, behind_cast, behind_binary, behind_question, behind_colon, behind_assignment, behind_comma, in_size, in_enumerator, in_value, in_evaluation, in_test, in_start, in_loop_test, in_step, in_return, in_case, for_cast, for_sizeof, for_parameter, for_member, for_declaration, behind_star, in_group, of_cast, of_sizeof, of_parameter, of_member, of_item, in_list, of_value, in_file, in_block, then_branch, else_branch, while_body, switch_body, do_body, for_body, case_body, default_body, in_statements, in_definition, Doing, seek, operated, gave, calling, measuring, specifying, tagging, tagged, membering, enumerating, enumerated, entered, entering, gave_specifiers, declaring, qualifying, suffixing, sizing, parametering, gave_declarator, initialising, listing, gave_initialiser, itemed, gave_declaration, externals, declarations, statements, stating, opening, finishing, looping, starting, testing, stepping, returning, breaking, continuing, defaulting, gave_statement, State, state}
 use Rattle.dae_grammar.specs.Machine.{closed, initialised, listed, list_followed, initialiser_taken, item_followed, declaration_taken, external_begun, block_followed, sign_stated, word_stated, stated, started, loop_tested, stepped, returned, branched, done_followed, defined, statement_given, called, measured, enumerator_named, enumerator_followed, declaration_begun, specifiers_given, nothing_declared, begins_parameters, parenthesis_declared, bracket_declared, name_declared, declared, qualified, suffixed, sized, parameters_opened, parameter_given, member_given, item_given, declarator_given, at_paren, at_bracket, at_colon, at_semicolon, at_open, sign_sought, sought, named_member, operated_at, argument_given, tested, expression_given, specifiers_end, word_taken, specified, body, body_opened, tag_taken, tag_alone, tag_followed, members_followed, entry_followed, comma_followed, step, arguments_onto, specifiers_onto, members_onto, enumerators_onto, enumerator_before, declarators_onto, parameters_onto, initialisers_onto, statements_onto, onto, operation, operate, goes_on}
 use Rattle.dae_grammar.specs.Taken.{head_taken, body_begun, arguments_before, specifiers_before, lines_before, spell_entry, entries_before, open_begun, declarators_before, parameters_before, qualifiers_before, initialisers_before, items_before, block_taken, loop_begun, declarations_before, statements_before, externals_before, tag_word, stack_taken, tokens_of, frame_taken}
 

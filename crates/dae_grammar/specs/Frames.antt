@@ -2,15 +2,16 @@
 -- tokens that are left.
 use Rattle.std.specs.Prelude.{ℕ, List, Option, Bool}
 use Rattle.dae_base.specs.declared.Place.{Place}
-use Rattle.dae_syntax.specs.declared.expressions.Name.{Name}
-use Rattle.dae_syntax.specs.declared.operators.BinaryOperator.{BinaryOperator}
-use Rattle.dae_syntax.specs.declared.operators.AssignmentOperator.{AssignmentOperator}
-use Rattle.dae_syntax.specs.declared.operators.PrefixOperator.{PrefixOperator}
-use Rattle.dae_syntax.specs.Marks.{Mark}
-use Rattle.dae_syntax.specs.Names.{Names}
-use Rattle.dae_syntax.specs.Words.{Seen}
-use Rattle.dae_syntax.specs.Grammar.{Manner}
-use Rattle.dae_syntax.specs.Trees.{Expression, Specifiers, Specifier, Declarators, Declarator, Initialiser, Item, Declaration, Statement, External}
+use Rattle.dae_tree.specs.declared.expressions.Name.{Name}
+use Rattle.dae_tree.specs.declared.operators.BinaryOperator.{BinaryOperator}
+use Rattle.dae_tree.specs.declared.operators.AssignmentOperator.{AssignmentOperator}
+use Rattle.dae_tree.specs.declared.operators.PrefixOperator.{PrefixOperator}
+use Rattle.dae_tree.specs.Marks.{Mark}
+use Rattle.dae_tree.specs.Names.{Names}
+use Rattle.dae_tree.specs.declared.seen.Seen.{Seen}
+use Rattle.dae_tree.specs.Grammar.{Manner}
+use Rattle.dae_tree.specs.Lists.{MemberLine, Entry, Parameter}
+use Rattle.dae_tree.specs.Trees.{Expression, Specifiers, Specifier, Declarators, Declarator, Initialiser, Item, Declaration, Statement, External}
 
 -- the body of a structure or enumeration: its first word, tag and brace, and the specifiers before it, the last first
 pub record Body : Type 0 where
@@ -20,25 +21,12 @@ pub record Body : Type 0 where
   pub seen : Seen
   pub before : List Specifier
 
-pub record MemberLine : Type 0 where
-  pub specifiers : Specifiers
-  pub declarators : Declarators
-  pub end : Place
-
-pub record Entry : Type 0 where
-  pub name : Name
-  pub value : Option (Place × Expression)
-
 -- a function's parameters: what stands before them, and the names outside
 pub record Open : Type 0 where
   pub declarator : Declarator
   pub place : Place
   pub manner : Manner
   pub outside : Names
-
-pub record Parameter : Type 0 where
-  pub specifiers : Specifiers
-  pub declarator : Declarator
 
 -- a statement up to its test, with the place of its first word
 pub data Head : Type 0 where

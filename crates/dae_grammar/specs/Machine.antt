@@ -1,28 +1,30 @@
 -- The machine that reads trees: one step.
 use Rattle.std.specs.Prelude.{ℕ, Bool, true, false, not, ◌&&◌, leb, if◌then◌else◌, List, [], ◌∷◌, Option, Some, None}
 use Rattle.dae_base.specs.declared.Place.{Place}
-use Rattle.dae_token.specs.declared.words.Keyword.{Keyword}
-use Rattle.dae_token.specs.declared.words.Keyword.TheVariants as keywords
-use Rattle.dae_token.specs.declared.signs.Sign.{Sign}
-use Rattle.dae_token.specs.declared.signs.Sign.TheVariants as signs
-use Rattle.dae_syntax.specs.declared.expressions.Name.{Name}
-use Rattle.dae_syntax.specs.declared.operators.BinaryOperator.{BinaryOperator}
-use Rattle.dae_syntax.specs.declared.operators.BinaryOperator.TheVariants as binary
-use Rattle.dae_syntax.specs.declared.operators.AssignmentOperator.{AssignmentOperator}
-use Rattle.dae_syntax.specs.declared.operators.AssignmentOperator.TheVariants as assignment
-use Rattle.dae_syntax.specs.declared.operators.PrefixOperator.{PrefixOperator}
-use Rattle.dae_syntax.specs.declared.operators.PrefixOperator.TheVariants as prefix
-use Rattle.dae_syntax.specs.declared.operators.PostfixOperator.{PostfixOperator}
-use Rattle.dae_syntax.specs.declared.operators.PostfixOperator.TheVariants as postfix
-use Rattle.dae_syntax.specs.declared.operators.MemberOperator.{MemberOperator}
-use Rattle.dae_syntax.specs.declared.operators.MemberOperator.TheVariants as member
-use Rattle.dae_syntax.specs.Marks.{Mark, word, sign, name, constant, literal, part, close_paren, close_bracket, close_brace, comma, colon, else_word}
-use Rattle.dae_syntax.specs.Operators.{under, strength, operand_level}
-use Rattle.dae_syntax.specs.Words.{Seen, nothing_seen, has_type, admits, with_word, with_whole, begins_specifiers}
-use Rattle.dae_syntax.specs.Names.{Names, is_type, with_name, with_declarator, has_typedef, with_parameters}
-use Rattle.dae_syntax.specs.Grammar.{void_alone, Manner, by_name, without_name, either_way, level}
-use Rattle.dae_syntax.specs.Trees.{Expression, Expressions, Specifiers, Specifier, Members, Enumerators, Declarators, Declarator, Parameters, Initialiser, Initialisers, Item, Declaration, Statement, Statements, External, Identifier, Number, Literal, Parenthesised, Index, Call, Member, Postfix, Prefix, SizeofExpression, SizeofType, Cast, Binary, Conditional, Assignment, Comma, no_expressions, expression_then, no_specifiers, specifier_then, Word, TypeName, Structure, StructureBody, Enumeration, EnumerationBody, no_members, member_then, no_enumerators, plain_then, valued_then, no_declarators, declarator_then, Absent, Named, Pointer, Grouped, Unsized, Sized, Empty, Void, Function, no_parameters, parameter_then, Value, Listed, no_initialisers, initialiser_then, Block, Nothing, Evaluate, If, IfElse, While, Do, For, Break, Continue, Return, Switch, Case, Default, no_statements, statement_then, Declared, Defined}
-use Rattle.dae_grammar.specs.Frames.{Body, MemberLine, Entry, Open, Parameter, Head, Loop, Inside, if_head, while_head, switch_head, do_head, Frame, in_parentheses, in_index, in_arguments, behind_prefix, behind_sizeof, behind_cast, behind_binary, behind_question, behind_colon, behind_assignment, behind_comma, in_size, in_enumerator, in_value, in_evaluation, in_test, in_start, in_loop_test, in_step, in_return, in_case, for_cast, for_sizeof, for_parameter, for_member, for_declaration, behind_star, in_group, of_cast, of_sizeof, of_parameter, of_member, of_item, in_list, of_value, in_file, in_block, then_branch, else_branch, while_body, switch_body, do_body, for_body, case_body, default_body, in_statements, in_definition, Doing, seek, operated, gave, calling, measuring, specifying, tagging, tagged, membering, enumerating, enumerated, entered, entering, gave_specifiers, declaring, qualifying, suffixing, sizing, parametering, gave_declarator, initialising, listing, gave_initialiser, itemed, gave_declaration, externals, declarations, statements, stating, opening, finishing, looping, starting, testing, stepping, returning, breaking, continuing, defaulting, gave_statement, State, state}
+use Rattle.dae_tree.specs.declared.words.Keyword.{Keyword}
+use Rattle.dae_tree.specs.declared.words.Keyword.TheVariants as keywords
+use Rattle.dae_tree.specs.declared.signs.Sign.{Sign}
+use Rattle.dae_tree.specs.declared.signs.Sign.TheVariants as signs
+use Rattle.dae_tree.specs.declared.expressions.Name.{Name}
+use Rattle.dae_tree.specs.declared.operators.BinaryOperator.{BinaryOperator}
+use Rattle.dae_tree.specs.declared.operators.BinaryOperator.TheVariants as binary
+use Rattle.dae_tree.specs.declared.operators.AssignmentOperator.{AssignmentOperator}
+use Rattle.dae_tree.specs.declared.operators.AssignmentOperator.TheVariants as assignment
+use Rattle.dae_tree.specs.declared.operators.PrefixOperator.{PrefixOperator}
+use Rattle.dae_tree.specs.declared.operators.PrefixOperator.TheVariants as prefix
+use Rattle.dae_tree.specs.declared.operators.PostfixOperator.{PostfixOperator}
+use Rattle.dae_tree.specs.declared.operators.PostfixOperator.TheVariants as postfix
+use Rattle.dae_tree.specs.declared.operators.MemberOperator.{MemberOperator}
+use Rattle.dae_tree.specs.declared.operators.MemberOperator.TheVariants as member
+use Rattle.dae_tree.specs.Marks.{Mark, word, sign, name, constant, literal, part, close_paren, close_bracket, close_brace, comma, colon, else_word}
+use Rattle.dae_tree.specs.Operators.{under, strength, operand_level}
+use Rattle.dae_tree.specs.declared.seen.Seen.{Seen}
+use Rattle.dae_tree.specs.Words.{nothing_seen, has_type, admits, with_word, with_whole, begins_specifiers}
+use Rattle.dae_tree.specs.Names.{Names, is_type, with_name, with_declarator, has_typedef, with_parameters}
+use Rattle.dae_tree.specs.Grammar.{void_alone, Manner, by_name, without_name, either_way, level}
+use Rattle.dae_tree.specs.Trees.{Expression, Expressions, Specifiers, Specifier, Members, Enumerators, Declarators, Declarator, Parameters, Initialiser, Initialisers, Item, Declaration, Statement, Statements, External, Identifier, Number, Literal, Parenthesised, Index, Call, Member, Postfix, Prefix, SizeofExpression, SizeofType, Cast, Binary, Conditional, Assignment, Comma, no_expressions, expression_then, no_specifiers, specifier_then, Word, TypeName, Structure, StructureBody, Enumeration, EnumerationBody, no_members, member_then, no_enumerators, plain_then, valued_then, no_declarators, declarator_then, Absent, Named, Pointer, Grouped, Unsized, Sized, Empty, Void, Function, no_parameters, parameter_then, Value, Listed, no_initialisers, initialiser_then, Block, Nothing, Evaluate, If, IfElse, While, Do, For, Break, Continue, Return, Switch, Case, Default, no_statements, statement_then, Declared, Defined}
+use Rattle.dae_tree.specs.Lists.{MemberLine, Entry, Parameter}
+use Rattle.dae_grammar.specs.Frames.{Body, Open, Head, Loop, Inside, if_head, while_head, switch_head, do_head, Frame, in_parentheses, in_index, in_arguments, behind_prefix, behind_sizeof, behind_cast, behind_binary, behind_question, behind_colon, behind_assignment, behind_comma, in_size, in_enumerator, in_value, in_evaluation, in_test, in_start, in_loop_test, in_step, in_return, in_case, for_cast, for_sizeof, for_parameter, for_member, for_declaration, behind_star, in_group, of_cast, of_sizeof, of_parameter, of_member, of_item, in_list, of_value, in_file, in_block, then_branch, else_branch, while_body, switch_body, do_body, for_body, case_body, default_body, in_statements, in_definition, Doing, seek, operated, gave, calling, measuring, specifying, tagging, tagged, membering, enumerating, enumerated, entered, entering, gave_specifiers, declaring, qualifying, suffixing, sizing, parametering, gave_declarator, initialising, listing, gave_initialiser, itemed, gave_declaration, externals, declarations, statements, stating, opening, finishing, looping, starting, testing, stepping, returning, breaking, continuing, defaulting, gave_statement, State, state}
 
 -- ---- lists that were read, the last first, before the rest of the list
 

@@ -1,12 +1,13 @@
 -- What it means that the machine reads a tree: a property that holds behind it holds before it.
 use Rattle.std.specs.Prelude.{◌≡◌, Bool, List, [], ◌∷◌, Some}
-use Rattle.dae_token.specs.declared.signs.Sign.TheVariants as signs
-use Rattle.dae_syntax.specs.Marks.{Mark, word, sign, part}
-use Rattle.dae_syntax.specs.Names.{Names, after_declarator}
-use Rattle.dae_syntax.specs.Spelling.{spell_declarator}
-use Rattle.dae_syntax.specs.Grammar.{Manner, IsDeclarator, HasMember}
-use Rattle.dae_syntax.specs.Trees.{Declarator, Members, Absent, Pointer}
-use Rattle.dae_grammar.specs.Frames.{MemberLine, Frame, State, state, Doing, declaring, suffixing, gave_declarator}
+use Rattle.dae_tree.specs.declared.signs.Sign.TheVariants as signs
+use Rattle.dae_tree.specs.Marks.{Mark, word, sign, part}
+use Rattle.dae_tree.specs.Names.{Names, after_declarator}
+use Rattle.dae_tree.specs.Spelling.{spell_declarator}
+use Rattle.dae_tree.specs.Grammar.{Manner, IsDeclarator, HasMember}
+use Rattle.dae_tree.specs.Trees.{Declarator, Members, Absent, Pointer}
+use Rattle.dae_tree.specs.Lists.{MemberLine}
+use Rattle.dae_grammar.specs.Frames.{Frame, State, state, Doing, declaring, suffixing, gave_declarator}
 use Rattle.dae_grammar.specs.Machine.{declared}
 use Rattle.dae_grammar.specs.Starts.{FollowsDeclarator}
 

@@ -1,16 +1,18 @@
 -- What holds of the states of the machine: what they have read is of the grammar, with the names in scope where it stands.
 use Rattle.std.specs.Prelude.{◌≡◌, ℕ, ◌≤◌, Bool, true, false, List, [], ◌∷◌, Option, Some, None}
 use Rattle.dae_base.specs.declared.Place.{Place}
-use Rattle.dae_token.specs.declared.signs.Sign.{Sign}
-use Rattle.dae_token.specs.declared.signs.Sign.TheVariants as signs
-use Rattle.dae_syntax.specs.Marks.{Mark, sign}
-use Rattle.dae_syntax.specs.Operators.{under, strength, operand_level}
-use Rattle.dae_syntax.specs.Words.{Seen, nothing_seen, has_type, seen_after}
-use Rattle.dae_syntax.specs.Names.{Names, has_typedef, with_name, with_declarator, after, after_specifiers, after_specifier, after_declarators, after_declarator, after_parameter, after_initialiser, after_item, after_declaration, after_optional, after_statement, after_external, inside_definition}
-use Rattle.dae_syntax.specs.Grammar.{level, Manner, by_name, without_name, either_way, IsExpression, IsSpecifiers, IsSpecifier, AreDeclarators, IsDeclarator, IsDirect, IsPresent, IsGroup, HasDeclarator}
-use Rattle.dae_syntax.specs.Statements.{IsInitialiser, IsItem, IsDeclaration, IsOptional, IsStatement, IsExternal, takes_else}
-use Rattle.dae_syntax.specs.Trees.{Expression, Specifier, Declarator, Initialiser, Item, Declaration, Statement, External, Absent}
-use Rattle.dae_grammar.specs.Frames.{Body, MemberLine, Entry, Open, Parameter, Head, Loop, Inside, do_head, Frame, in_parentheses, in_index, in_arguments, behind_prefix, behind_sizeof, behind_cast, behind_binary, behind_question, behind_colon, behind_assignment, behind_comma, in_size, in_enumerator, in_value, in_test, in_loop_test, in_step, in_case, for_cast, for_sizeof, for_parameter, for_member, behind_star, in_group, of_cast, of_sizeof, of_parameter, of_member, of_item, in_list, of_value, in_file, in_block, then_branch, else_branch, while_body, switch_body, for_body, case_body, in_statements, in_definition, Doing, seek, operated, gave, calling, measuring, specifying, tagging, tagged, membering, enumerating, enumerated, entered, entering, gave_specifiers, declaring, qualifying, suffixing, sizing, parametering, gave_declarator, listing, gave_initialiser, itemed, gave_declaration, externals, declarations, statements, opening, finishing, testing, stepping, gave_statement, State, state}
+use Rattle.dae_tree.specs.declared.signs.Sign.{Sign}
+use Rattle.dae_tree.specs.declared.signs.Sign.TheVariants as signs
+use Rattle.dae_tree.specs.Marks.{Mark, sign}
+use Rattle.dae_tree.specs.Operators.{under, strength, operand_level}
+use Rattle.dae_tree.specs.declared.seen.Seen.{Seen}
+use Rattle.dae_tree.specs.Words.{nothing_seen, has_type, seen_after}
+use Rattle.dae_tree.specs.Names.{Names, has_typedef, with_name, with_declarator, after, after_specifiers, after_specifier, after_declarators, after_declarator, after_parameter, after_initialiser, after_item, after_declaration, after_optional, after_statement, after_external, inside_definition}
+use Rattle.dae_tree.specs.Grammar.{level, Manner, by_name, without_name, either_way, IsExpression, IsSpecifiers, IsSpecifier, AreDeclarators, IsDeclarator, IsDirect, IsPresent, IsGroup, HasDeclarator}
+use Rattle.dae_tree.specs.Statements.{IsInitialiser, IsItem, IsDeclaration, IsOptional, IsStatement, IsExternal, takes_else}
+use Rattle.dae_tree.specs.Trees.{Expression, Specifier, Declarator, Initialiser, Item, Declaration, Statement, External, Absent}
+use Rattle.dae_tree.specs.Lists.{MemberLine, Entry, Parameter}
+use Rattle.dae_grammar.specs.Frames.{Body, Open, Head, Loop, Inside, do_head, Frame, in_parentheses, in_index, in_arguments, behind_prefix, behind_sizeof, behind_cast, behind_binary, behind_question, behind_colon, behind_assignment, behind_comma, in_size, in_enumerator, in_value, in_test, in_loop_test, in_step, in_case, for_cast, for_sizeof, for_parameter, for_member, behind_star, in_group, of_cast, of_sizeof, of_parameter, of_member, of_item, in_list, of_value, in_file, in_block, then_branch, else_branch, while_body, switch_body, for_body, case_body, in_statements, in_definition, Doing, seek, operated, gave, calling, measuring, specifying, tagging, tagged, membering, enumerating, enumerated, entered, entering, gave_specifiers, declaring, qualifying, suffixing, sizing, parametering, gave_declarator, listing, gave_initialiser, itemed, gave_declaration, externals, declarations, statements, opening, finishing, testing, stepping, gave_statement, State, state}
 use Rattle.dae_grammar.specs.Machine.{begins_parameters}
 use Rattle.dae_grammar.specs.Starts.{IsNoElse}
 

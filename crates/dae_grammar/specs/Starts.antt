@@ -1,11 +1,11 @@
 -- What may stand first where an expression, a declarator or what follows specifiers begins.
 use Rattle.std.specs.Prelude.{◌≡◌, false, List, ◌∷◌}
-use Rattle.dae_token.specs.declared.words.Keyword.{Keyword}
-use Rattle.dae_token.specs.declared.words.Keyword.TheVariants as keywords
-use Rattle.dae_token.specs.declared.signs.Sign.{Sign}
-use Rattle.dae_token.specs.declared.signs.Sign.TheVariants as signs
-use Rattle.dae_syntax.specs.Marks.{Mark, word, sign, name, constant, literal, part, else_word}
-use Rattle.dae_syntax.specs.Names.{Names, is_type}
+use Rattle.dae_tree.specs.declared.words.Keyword.{Keyword}
+use Rattle.dae_tree.specs.declared.words.Keyword.TheVariants as keywords
+use Rattle.dae_tree.specs.declared.signs.Sign.{Sign}
+use Rattle.dae_tree.specs.declared.signs.Sign.TheVariants as signs
+use Rattle.dae_tree.specs.Marks.{Mark, word, sign, name, constant, literal, part, else_word}
+use Rattle.dae_tree.specs.Names.{Names, is_type}
 
 abbrev pub IsStartSign : Sign → Type 0
 IsStartSign signs.LeftParen = Unit {0}

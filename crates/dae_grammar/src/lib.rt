@@ -4,11 +4,11 @@
 #![tactic(auto)]
 
 ghost use Rattle.std.specs.Prelude.{◌≡◌, ℕ, suc, ◌+◌, ◌*◌, ◌<◌, ◌≤◌, ◌++◌, List, [], Some, None, length};
-ghost use Rattle.dae_syntax.specs.Depth.{first_deeper, nodes_file};
-ghost use Rattle.dae_syntax.specs.Marks.{Mark};
-ghost use Rattle.dae_syntax.specs.Names.{Names, after_parameters};
-ghost use Rattle.dae_syntax.specs.Statements.{IsTreeOf, spell_external};
-ghost use Rattle.dae_syntax.specs.Trees.{External, Parameters};
+ghost use Rattle.dae_tree.specs.Depth.{first_deeper, nodes_file};
+ghost use Rattle.dae_tree.specs.Marks.{Mark};
+ghost use Rattle.dae_tree.specs.Names.{Names, after_parameters};
+ghost use Rattle.dae_tree.specs.Statements.{IsTreeOf, spell_external};
+ghost use Rattle.dae_tree.specs.Trees.{External, Parameters};
 ghost use Rattle.dae_grammar.specs.FirstPlaces.{firsts_file};
 ghost use Rattle.dae_grammar.specs.Frames.{State};
 ghost use Rattle.dae_grammar.specs.Machine.{begun, ended, onto, step};

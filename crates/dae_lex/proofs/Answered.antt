@@ -1,17 +1,17 @@
 -- From what was read of the pieces to what is read of the text.
 use Rattle.std.proofs.Common.{◌≡◌, ℕ, Bool, List, [], map, subst, ap, sym, ◌∙◌, Result, Ok, Err}
 use Rattle.dae_base.specs.declared.Place.{Place}
-use Rattle.dae_token.specs.declared.headers.Header.TheVariants.{Stdio, Stdlib}
-use Rattle.dae_token.specs.declared.tokens.Includes.{Includes}
-use Rattle.dae_token.specs.declared.tokens.Room.{Room}
-use Rattle.dae_token.specs.declared.faults.LexError.{LexError}
-use Rattle.dae_token.specs.declared.faults.LexError.TheVariants.{BadByte, TooManyTokens, Refused, Memory}
-use Rattle.dae_token.specs.Lines.{joined_lines, start_of, spot_behind}
-use Rattle.dae_token.specs.Pieces.{Cut, cut}
-use Rattle.dae_token.specs.Replacing.{Read, Item}
-use Rattle.dae_token.specs.Directives.{lines_of, includes}
-use Rattle.dae_token.specs.Reading.{Reading}
-use Rattle.dae_token.specs.Tokens.{joined, numbered, names_after, literals_after, reads_of, room_after, with_room, tokens_of}
+use Rattle.dae_tree.specs.declared.headers.Header.TheVariants.{Stdio, Stdlib}
+use Rattle.dae_tree.specs.declared.tokens.Includes.{Includes}
+use Rattle.dae_tree.specs.declared.tokens.Room.{Room}
+use Rattle.dae_tree.specs.declared.faults.LexError.{LexError}
+use Rattle.dae_tree.specs.declared.faults.LexError.TheVariants.{BadByte, TooManyTokens, Refused, Memory}
+use Rattle.dae_tree.specs.Lines.{joined_lines, start_of, spot_behind}
+use Rattle.dae_tree.specs.Pieces.{Cut, cut}
+use Rattle.dae_tree.specs.Replacing.{Read, Item}
+use Rattle.dae_tree.specs.Directives.{lines_of, includes}
+use Rattle.dae_tree.specs.Reading.{Reading}
+use Rattle.dae_tree.specs.Tokens.{joined, numbered, names_after, literals_after, reads_of, room_after, with_room, tokens_of}
 use Rattle.dae_lex.specs.declared.output.Output.{Output}
 use Rattle.dae_lex.specs.Settling.{read_of, Fails}
 use Rattle.dae_lex.specs.Whole.{items_of_pieces, HasRead}

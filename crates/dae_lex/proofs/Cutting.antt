@@ -1,11 +1,11 @@
 -- A text cut piece by piece.
-use Rattle.std.proofs.Common.{◌≡◌, ℕ, zero, suc, pred, ◌+◌, ◌-◌, ◌<◌, ◌≤◌, List, [], ◌∷◌, map, take, drop, get_or, length, refl, ap, sym, ◌∙◌, arith, add-zero}
-use Rattle.std.proofs.lemmas.List.{get_or-drop, drop_all, drop-drop, length-drop, length-map}
-use Rattle.dae_token.specs.declared.pieces.Spot.{Spot}
-use Rattle.dae_token.specs.declared.pieces.Form.{Form}
-use Rattle.dae_token.specs.Lines.{Char, bytes_of, spots_of, start_of}
-use Rattle.dae_token.specs.Forms.{form}
-use Rattle.dae_token.specs.Pieces.{Cut, cut, piece}
+use Rattle.std.proofs.Common.{◌≡◌, ℕ, zero, suc, pred, ◌+◌, ◌-◌, ◌<◌, ◌≤◌, List, [], ◌∷◌, map, take, drop, get_or, length, ◌++◌, refl, ap, sym, ◌∙◌, append_assoc, append-nil, arith, add-zero}
+use Rattle.std.proofs.lemmas.List.{get_or-drop, drop_all, drop-drop, length-drop, length-map, take-append-drop}
+use Rattle.dae_tree.specs.declared.pieces.Spot.{Spot}
+use Rattle.dae_tree.specs.declared.pieces.Form.{Form}
+use Rattle.dae_tree.specs.Lines.{Char, bytes_of, spots_of, start_of}
+use Rattle.dae_tree.specs.Forms.{form}
+use Rattle.dae_tree.specs.Pieces.{Cut, cut, piece}
 use Rattle.dae_lex.specs.Cuts.{chars}
 
 drop_map : {A B : Type 0} (f : A → B) (n : ℕ) (xs : List A) → map f (drop n xs) ≡ drop n (map f xs)
@@ -86,6 +86,17 @@ module _ (bytes : List ℕ) (spots : List Spot) (same : length bytes ≡ length 
 
   pub cut_all : length bytes ≤ at → cut 0 (drop at (chars bytes spots)) ≡ []
   cut_all h = ap (cut 0) (drop_all at (chars bytes spots) (omega (arith, length_chars)))
+
+  -- what the pieces so far spell, and one more
+  pub spelled_more : (f : Form) (out : List ℕ) → out ++ drop at bytes ≡ bytes → (out ++ (piece f (drop at (chars bytes spots))).spelling) ++ drop (at + f.length) bytes ≡ bytes
+  spelled_more f out h =
+      append_assoc out (take f.length (bytes_of (drop at (chars bytes spots)))) (drop (at + f.length) bytes)
+      ∙ (ap (λ xs. out ++ (take f.length xs ++ drop (at + f.length) bytes)) bytes_from
+      ∙ (ap (λ ys. out ++ (take f.length (drop at bytes) ++ ys)) (sym (drop-drop f.length at bytes))
+      ∙ (ap (λ ys. out ++ ys) (take-append-drop f.length (drop at bytes)) ∙ h)))
+
+  pub spelled_all : (out : List ℕ) → length bytes ≤ at → out ++ drop at bytes ≡ bytes → out ≡ bytes
+  spelled_all out h k = sym (append-nil out) ∙ (ap (λ ys. out ++ ys) (sym (drop_all at bytes h)) ∙ k)
 
   -- where it starts and ends
   pub piece_span : (f : Form) → ((piece f (drop at (chars bytes spots))).start ≡ (get_or spots at (start_of 0)).offset)

@@ -5,8 +5,8 @@ use Rattle.std.proofs.lemmas.Bool.Decides.{eqb_tells}
 use Rattle.std.specs.List.{AllByRecursion}
 use Rattle.std.specs.Prelude.{All}
 use Rattle.std.proofs.lemmas.List.Elements.{All-from_recursion}
-use Rattle.dae_token.specs.declared.pieces.Spot.{Spot}
-use Rattle.dae_token.specs.Lines.{Char, bytes_of, spots_of, start_of, joined_lines, spot_after, placed, join_left, without_joins}
+use Rattle.dae_tree.specs.declared.pieces.Spot.{Spot}
+use Rattle.dae_tree.specs.Lines.{Char, bytes_of, spots_of, start_of, joined_lines, spot_after, placed, join_left, without_joins}
 
 pub bytes_placed : (s : Spot) (bs : List ℕ) → bytes_of (placed s bs) ≡ bs
 bytes_placed s [] = refl

@@ -1,14 +1,14 @@
-pub mod Joining
-pub mod Cutting
-pub mod Entries
-pub mod Limits
-pub mod Turns
-pub mod LineSteps
-pub mod Rows
-pub mod Whole
-pub mod Spans
-pub mod Rising
-pub mod Numbering
-pub mod Answered
-pub mod Places
-pub mod Refusals
+mod Joining
+mod Cutting
+mod Entries
+mod Limits
+mod Turns
+mod LineSteps
+mod Rows
+mod Whole
+mod Spans
+mod Rising
+mod Numbering
+mod Answered
+mod Places
+mod Refusals

@@ -2,11 +2,11 @@
 use Rattle.std.proofs.Common.{◌≡◌, ℕ, zero, suc, ◌-◌, Bool, true, false, if◌then◌else◌, nat_le, List, [], ◌∷◌, ◌++◌, length, refl, ap, ◌∙◌, arith, append_assoc, append-nil, Result, Ok, Err}
 use Rattle.std.specs.List.{sum_by}
 use Rattle.std.proofs.lemmas.List.Sums.{sum_by-append}
-use Rattle.dae_token.specs.declared.faults.LexError.{LexError}
-use Rattle.dae_token.specs.declared.faults.LexError.TheVariants.{Refused}
-use Rattle.dae_token.specs.declared.faults.Construct.TheVariants.{LiteralsTooLong}
-use Rattle.dae_token.specs.Replacing.{Read, Item, taken, replaced, refused, Tested, token, failed, tested_one, literal_length, within_replacements, within_tokens, tested, within_literals, before_all, outcome}
-use Rattle.dae_token.specs.Tokens.{count_replaced}
+use Rattle.dae_tree.specs.declared.faults.LexError.{LexError}
+use Rattle.dae_tree.specs.declared.faults.LexError.TheVariants.{Refused}
+use Rattle.dae_tree.specs.declared.faults.Construct.TheVariants.{LiteralsTooLong}
+use Rattle.dae_tree.specs.Replacing.{Read, Item, taken, replaced, refused, Tested, token, failed, tested_one, literal_length, within_replacements, within_tokens, tested, within_literals, before_all, outcome}
+use Rattle.dae_tree.specs.Tokens.{count_replaced}
 use Rattle.dae_lex.specs.Settling.{State, settle, step, keep}
 
 -- one list after another

@@ -2,11 +2,11 @@
 use Rattle.std.proofs.Common.{◌≡◌, ℕ, suc, ◌+◌, ◌<◌, Bool, true, false, ◌||◌, Option, List, [], ◌∷◌, ◌++◌, map, take, drop, get_or, length, refl, ap, sym, ◌∙◌, arith, add-one, one-add}
 use Rattle.std.specs.List.{prefix_len}
 use Rattle.std.proofs.lemmas.List.{take-map, drop-map, drop-drop, drop_more, length-map, length-drop}
-use Rattle.dae_token.specs.declared.pieces.PieceKind.TheVariants as kinds
-use Rattle.dae_token.specs.Pieces.{Cut}
-use Rattle.dae_token.specs.Replacing.{Definition, expand}
-use Rattle.dae_token.specs.Directives.{is_end_kind, goes_on, lines_of, line_of, with_first, replaced_text, inclusion_of, is_of, includes}
-use Rattle.dae_token.specs.declared.headers.Header.{Header}
+use Rattle.dae_tree.specs.declared.pieces.PieceKind.TheVariants as kinds
+use Rattle.dae_tree.specs.Pieces.{Cut}
+use Rattle.dae_tree.specs.Replacing.{Definition, expand}
+use Rattle.dae_tree.specs.Directives.{is_end_kind, goes_on, lines_of, line_of, with_first, replaced_text, inclusion_of, is_of, includes}
+use Rattle.dae_tree.specs.declared.headers.Header.{Header}
 use Rattle.dae_lex.specs.declared.pieces.Piece.{Piece}
 use Rattle.dae_lex.specs.Cuts.{cut_of}
 

@@ -3,9 +3,9 @@ use Rattle.std.proofs.Common.{◌≡◌, ℕ, zero, suc, ◌+◌, ◌-◌, ◌<�
 use Rattle.std.specs.List.{AllByRecursion}
 use Rattle.std.proofs.lemmas.Bool.Decides.{eqb_tells}
 use Rattle.dae_base.specs.declared.Place.{Place}
-use Rattle.dae_token.specs.declared.pieces.Spot.{Spot}
-use Rattle.dae_token.specs.Lines.{Char, spots_of, start_of, spot_after, placed, join_left, without_joins, joined_lines}
-use Rattle.dae_token.specs.Order.{IsNoLater}
+use Rattle.dae_tree.specs.declared.pieces.Spot.{Spot}
+use Rattle.dae_tree.specs.Lines.{Char, spots_of, start_of, spot_after, placed, join_left, without_joins, joined_lines}
+use Rattle.dae_tree.specs.Order.{IsNoLater}
 use Rattle.dae_lex.specs.Cuts.{SpotsFrom, PlacesFrom}
 use Rattle.dae_lex.proofs.Joining.{next, front}
 

@@ -5,22 +5,22 @@ use Rattle.std.specs.Prelude.{codes}
 use Rattle.std.specs.Str.{bytes_eq}
 use Rattle.std.proofs.lemmas.List.Elements.{All-from_recursion}
 use Rattle.dae_base.specs.declared.Place.{Place}
-use Rattle.dae_token.specs.declared.pieces.PieceKind.{PieceKind}
-use Rattle.dae_token.specs.declared.pieces.PieceKind.TheVariants as kinds
-use Rattle.dae_token.specs.declared.headers.Header.{Header}
-use Rattle.dae_token.specs.declared.tokens.Room.{Room}
-use Rattle.dae_token.specs.declared.faults.Fault.{Fault}
-use Rattle.dae_token.specs.declared.faults.Fault.TheVariants as faults
-use Rattle.dae_token.specs.declared.faults.Construct.{Construct}
-use Rattle.dae_token.specs.declared.faults.Construct.TheVariants.{Directive, FunctionMacro, HashInMacro, LiteralsTooLong}
-use Rattle.dae_token.specs.declared.faults.LexError.{LexError}
-use Rattle.dae_token.specs.declared.faults.LexError.TheVariants.{BadByte, TooManyTokens, Refused, Memory}
-use Rattle.dae_token.specs.Tables.{header_of}
-use Rattle.dae_token.specs.Pieces.{Cut}
-use Rattle.dae_token.specs.Replacing.{Meaning, Definition, Item, taken, replaced, refused, Read, Tested, token, failed, tested_one, error_at, items_by, items_of, replacement, expand, within_replacements, within_tokens, tested, literal_length, within_literals, before_all, outcome}
-use Rattle.dae_token.specs.Directives.{Line, text, refuse, define, include, header_definitions, is_hash_kind, is_blank_kind, is_end_kind, lines_of, with_first, from_mark, stray, stray_by, body_fault_by, first_fault, begins_call, defined_unless, definition_in, header_in, alone, inclusion_in, directive_in, line_in, line_of, known_as, conflict_items, definition_items, with_definition, replaced_text, line_items, macros_after, replaced_lines}
-use Rattle.dae_token.specs.Tokens.{tested_of}
-use Rattle.dae_token.specs.Order.{IsNoLater, place_of_error, refusals, HasLeastPlace}
+use Rattle.dae_tree.specs.declared.pieces.PieceKind.{PieceKind}
+use Rattle.dae_tree.specs.declared.pieces.PieceKind.TheVariants as kinds
+use Rattle.dae_tree.specs.declared.headers.Header.{Header}
+use Rattle.dae_tree.specs.declared.tokens.Room.{Room}
+use Rattle.dae_tree.specs.declared.faults.Fault.{Fault}
+use Rattle.dae_tree.specs.declared.faults.Fault.TheVariants as faults
+use Rattle.dae_tree.specs.declared.faults.Construct.{Construct}
+use Rattle.dae_tree.specs.declared.faults.Construct.TheVariants.{Directive, FunctionMacro, HashInMacro, LiteralsTooLong}
+use Rattle.dae_tree.specs.declared.faults.LexError.{LexError}
+use Rattle.dae_tree.specs.declared.faults.LexError.TheVariants.{BadByte, TooManyTokens, Refused, Memory}
+use Rattle.dae_tree.specs.Tables.{header_of}
+use Rattle.dae_tree.specs.Pieces.{Cut}
+use Rattle.dae_tree.specs.Replacing.{Meaning, Definition, Item, taken, replaced, refused, Read, Tested, token, failed, tested_one, error_at, items_by, items_of, replacement, expand, within_replacements, within_tokens, tested, literal_length, within_literals, before_all, outcome}
+use Rattle.dae_tree.specs.Directives.{Line, text, refuse, define, include, header_definitions, is_hash_kind, is_blank_kind, is_end_kind, lines_of, with_first, from_mark, stray, stray_by, body_fault_by, first_fault, begins_call, defined_unless, definition_in, header_in, alone, inclusion_in, directive_in, line_in, line_of, known_as, conflict_items, definition_items, with_definition, replaced_text, line_items, macros_after, replaced_lines}
+use Rattle.dae_tree.specs.Tokens.{tested_of}
+use Rattle.dae_tree.specs.Order.{IsNoLater, place_of_error, refusals, HasLeastPlace}
 use Rattle.dae_lex.specs.Cuts.{PlacesFrom}
 use Rattle.dae_lex.specs.Settling.{Fails}
 use Rattle.dae_lex.proofs.Places.{same_place, later, places_earlier, places_all}

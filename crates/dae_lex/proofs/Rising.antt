@@ -1,7 +1,7 @@
 -- The offsets of a text's characters rise.
 use Rattle.std.proofs.Common.{◌≡◌, ℕ, zero, suc, ◌+◌, ◌-◌, ◌<◌, ◌≤◌, List, [], ◌∷◌, get_or, length, refl, ap, sym, subst, arith}
-use Rattle.dae_token.specs.declared.pieces.Spot.{Spot}
-use Rattle.dae_token.specs.Lines.{Char, spots_of, start_of, spot_after, placed, join_left, without_joins, joined_lines}
+use Rattle.dae_tree.specs.declared.pieces.Spot.{Spot}
+use Rattle.dae_tree.specs.Lines.{Char, spots_of, start_of, spot_after, placed, join_left, without_joins, joined_lines}
 use Rattle.dae_lex.specs.Cuts.{Rise}
 use Rattle.dae_lex.proofs.Joining.{next, front}
 

@@ -4,14 +4,14 @@ use Rattle.std.specs.List.{flat_map}
 use Rattle.std.specs.Prelude.{codes}
 use Rattle.std.specs.Str.{bytes_eq}
 use Rattle.dae_base.specs.declared.Place.{Place}
-use Rattle.dae_token.specs.declared.pieces.PieceKind.{PieceKind}
-use Rattle.dae_token.specs.declared.pieces.PieceKind.TheVariants as kinds
-use Rattle.dae_token.specs.declared.headers.Header.{Header}
-use Rattle.dae_token.specs.declared.faults.LexError.{LexError}
-use Rattle.dae_token.specs.Pieces.{Cut}
-use Rattle.dae_token.specs.Replacing.{Definition, Item, taken, replaced, refused, Read, items_by, items_of, replacement, expand}
-use Rattle.dae_token.specs.Directives.{Line, text, is_hash_kind, is_end_kind, lines_of, with_first, from_mark, stray, stray_by, first_fault, begins_call, defined_unless, definition_in, header_in, alone, inclusion_in, directive_in, line_in, line_of, known_as, conflict_items, definition_items, with_definition, replaced_text, line_items, macros_after, replaced_lines}
-use Rattle.dae_token.specs.Tokens.{literal_of, before, before_by, joined}
+use Rattle.dae_tree.specs.declared.pieces.PieceKind.{PieceKind}
+use Rattle.dae_tree.specs.declared.pieces.PieceKind.TheVariants as kinds
+use Rattle.dae_tree.specs.declared.headers.Header.{Header}
+use Rattle.dae_tree.specs.declared.faults.LexError.{LexError}
+use Rattle.dae_tree.specs.Pieces.{Cut}
+use Rattle.dae_tree.specs.Replacing.{Definition, Item, taken, replaced, refused, Read, items_by, items_of, replacement, expand}
+use Rattle.dae_tree.specs.Directives.{Line, text, is_hash_kind, is_end_kind, lines_of, with_first, from_mark, stray, stray_by, first_fault, begins_call, defined_unless, definition_in, header_in, alone, inclusion_in, directive_in, line_in, line_of, known_as, conflict_items, definition_items, with_definition, replaced_text, line_items, macros_after, replaced_lines}
+use Rattle.dae_tree.specs.Tokens.{literal_of, before, before_by, joined}
 use Rattle.dae_lex.specs.Cuts.{FollowEachOther}
 use Rattle.dae_lex.specs.Whole.{span, origins, SpansFrom}
 

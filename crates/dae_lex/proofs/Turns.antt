@@ -3,11 +3,11 @@ use Rattle.std.proofs.Common.{◌≡◌, ℕ, zero, suc, pred, ◌+◌, ◌-◌,
 use Rattle.std.specs.List.{flat_map, sum_by}
 use Rattle.std.proofs.lemmas.List.{map-append, length-append}
 use Rattle.std.proofs.lemmas.List.Sums.{sum_by-append}
-use Rattle.dae_token.specs.declared.faults.Construct.TheVariants.{TooManyReplacements}
-use Rattle.dae_token.specs.declared.faults.LexError.{LexError}
-use Rattle.dae_token.specs.declared.faults.LexError.TheVariants.{BadByte, TooManyTokens, Refused, Memory}
-use Rattle.dae_token.specs.Pieces.{Cut}
-use Rattle.dae_token.specs.Replacing.{Definition, Item, replaced, refused, replacement, expand, items_of}
+use Rattle.dae_tree.specs.declared.faults.Construct.TheVariants.{TooManyReplacements}
+use Rattle.dae_tree.specs.declared.faults.LexError.{LexError}
+use Rattle.dae_tree.specs.declared.faults.LexError.TheVariants.{BadByte, TooManyTokens, Refused, Memory}
+use Rattle.dae_tree.specs.Pieces.{Cut}
+use Rattle.dae_tree.specs.Replacing.{Definition, Item, replaced, refused, replacement, expand, items_of}
 use Rattle.dae_lex.specs.Settling.{State, Settles, Fails, step, settle}
 use Rattle.dae_lex.specs.Pending.{Frame, Follows, names_of, pending, work_of}
 use Rattle.dae_lex.proofs.Limits.{settle_append, then_settle}

@@ -2,14 +2,14 @@
 use Rattle.std.proofs.Common.{◌≡◌, ℕ, zero, suc, ◌+◌, ◌-◌, Bool, true, false, if◌then◌else◌, nat_le, List, [], ◌∷◌, ◌++◌, map, length, refl, ap, sym, ◌∙◌, arith, append_assoc, append-nil, Result, Ok, Err}
 use Rattle.std.specs.List.{sum_by}
 use Rattle.std.proofs.lemmas.List.{length-append, map-append}
-use Rattle.dae_token.specs.declared.tokens.Room.{Room}
-use Rattle.dae_token.specs.declared.faults.Construct.{Construct}
-use Rattle.dae_token.specs.Pieces.{Cut}
-use Rattle.dae_token.specs.declared.faults.Construct.TheVariants.{LiteralsTooLong}
-use Rattle.dae_token.specs.declared.faults.LexError.{LexError}
-use Rattle.dae_token.specs.declared.faults.LexError.TheVariants.{BadByte, TooManyTokens, Refused, Memory}
-use Rattle.dae_token.specs.Replacing.{Meaning, Read, Item, taken, replaced, refused, Tested, token, failed, tested_one, literal_length}
-use Rattle.dae_token.specs.Tokens.{reads_of, room_after, count_replaced}
+use Rattle.dae_tree.specs.declared.tokens.Room.{Room}
+use Rattle.dae_tree.specs.declared.faults.Construct.{Construct}
+use Rattle.dae_tree.specs.Pieces.{Cut}
+use Rattle.dae_tree.specs.declared.faults.Construct.TheVariants.{LiteralsTooLong}
+use Rattle.dae_tree.specs.declared.faults.LexError.{LexError}
+use Rattle.dae_tree.specs.declared.faults.LexError.TheVariants.{BadByte, TooManyTokens, Refused, Memory}
+use Rattle.dae_tree.specs.Replacing.{Meaning, Read, Item, taken, replaced, refused, Tested, token, failed, tested_one, literal_length}
+use Rattle.dae_tree.specs.Tokens.{reads_of, room_after, count_replaced}
 use Rattle.dae_lex.specs.Settling.{State, Fails, settle, step, keep}
 use Rattle.dae_lex.specs.Whole.{span, origins}
 use Rattle.dae_lex.proofs.Limits.{answer, settle_is, state}

@@ -1,10 +1,10 @@
 -- What the code has of the characters and pieces of a text.
 use Rattle.std.specs.Prelude.{ℕ, ◌+◌, ◌<◌, ◌≤◌, List, [], ◌∷◌}
-use Rattle.dae_token.specs.Lines.{Char}
+use Rattle.dae_tree.specs.Lines.{Char}
 use Rattle.dae_base.specs.declared.Place.{Place}
-use Rattle.dae_token.specs.Order.{IsNoLater}
-use Rattle.dae_token.specs.Pieces.{Cut}
-use Rattle.dae_token.specs.declared.pieces.Spot.{Spot}
+use Rattle.dae_tree.specs.Order.{IsNoLater}
+use Rattle.dae_tree.specs.Pieces.{Cut}
+use Rattle.dae_tree.specs.declared.pieces.Spot.{Spot}
 use Rattle.dae_lex.specs.declared.pieces.Piece.{Piece}
 
 abbrev pub cut_of : Piece → Cut

@@ -1,8 +1,8 @@
 -- The list of tokens as it grows: the tokens, names and literals so far, and a literal that may still go on.
 use Rattle.std.specs.Prelude.{ℕ, List, [], ◌∷◌, ◌++◌, map, Option, Some, None}
-use Rattle.dae_token.specs.Replacing.{Read, literal}
-use Rattle.dae_token.specs.Tokens.{before, token_of, numbered, names_with, names_after, literals_with, literals_after}
-use Rattle.dae_token.specs.declared.tokens.Token.{Token}
+use Rattle.dae_tree.specs.Replacing.{Read, literal}
+use Rattle.dae_tree.specs.Tokens.{before, token_of, numbered, names_with, names_after, literals_with, literals_after}
+use Rattle.dae_tree.specs.declared.tokens.Token.{Token}
 use Rattle.dae_lex.specs.declared.finish.Builder.{Builder}
 use Rattle.dae_lex.specs.declared.finish.OpenLiteral.{OpenLiteral}
 

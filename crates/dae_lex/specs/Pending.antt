@@ -1,9 +1,9 @@
 -- Replacements that aren't over, the outermost first, and what they still give.
 use Rattle.std.specs.Prelude.{◌≡◌, ℕ, pred, ◌+◌, ◌*◌, ◌^◌, List, [], ◌∷◌, ◌++◌, map, length, Result, Ok, Err}
 use Rattle.std.specs.List.{flat_map, sum_by}
-use Rattle.dae_token.specs.Pieces.{Cut}
-use Rattle.dae_token.specs.Replacing.{Definition, Item, expand}
-use Rattle.dae_token.specs.declared.faults.LexError.{LexError}
+use Rattle.dae_tree.specs.Pieces.{Cut}
+use Rattle.dae_tree.specs.Replacing.{Definition, Item, expand}
+use Rattle.dae_tree.specs.declared.faults.LexError.{LexError}
 use Rattle.dae_lex.specs.declared.pieces.Piece.{Piece}
 use Rattle.dae_lex.specs.Cuts.{cut_of}
 use Rattle.dae_lex.specs.Settling.{State, Fails}

@@ -1,8 +1,8 @@
 -- What the code has of a line.
 use Rattle.std.specs.Prelude.{ℕ, List, [], map}
 use Rattle.std.specs.Borrow.{Bor}
-use Rattle.dae_token.specs.Pieces.{Cut}
-use Rattle.dae_token.specs.Directives.{Line, text, include, define, refuse, marks_of}
+use Rattle.dae_tree.specs.Pieces.{Cut}
+use Rattle.dae_tree.specs.Directives.{Line, text, include, define, refuse, marks_of}
 use Rattle.dae_lex.specs.Cuts.{cut_of}
 use Rattle.dae_lex.specs.declared.directives.ReadLine.{ReadLine}
 use Rattle.dae_lex.specs.declared.directives.ReadLine.TheVariants as read

@@ -1,12 +1,12 @@
 -- The items of a text one by one: the tokens so far, and what is left of the room.
 use Rattle.std.specs.Prelude.{◌≡◌, ℕ, zero, suc, ◌-◌, List, [], ◌∷◌, ◌++◌, map, nat_le, if◌then◌else◌, Result, Ok, Err}
-use Rattle.dae_token.specs.Literals.{values_of}
-use Rattle.dae_token.specs.Replacing.{Meaning, keyword, sign, name, constant, literal, Read, Item, taken, replaced, refused, Tested, token, failed, tested_one, literal_length}
-use Rattle.dae_token.specs.declared.tokens.Room.{Room}
-use Rattle.dae_token.specs.declared.faults.Construct.{Construct}
-use Rattle.dae_token.specs.declared.faults.Construct.TheVariants.{TooManyReplacements, LiteralsTooLong}
-use Rattle.dae_token.specs.declared.faults.LexError.{LexError}
-use Rattle.dae_token.specs.declared.faults.LexError.TheVariants as errors
+use Rattle.dae_tree.specs.Literals.{values_of}
+use Rattle.dae_tree.specs.Replacing.{Meaning, keyword, sign, name, constant, literal, Read, Item, taken, replaced, refused, Tested, token, failed, tested_one, literal_length}
+use Rattle.dae_tree.specs.declared.tokens.Room.{Room}
+use Rattle.dae_tree.specs.declared.faults.Construct.{Construct}
+use Rattle.dae_tree.specs.declared.faults.Construct.TheVariants.{TooManyReplacements, LiteralsTooLong}
+use Rattle.dae_tree.specs.declared.faults.LexError.{LexError}
+use Rattle.dae_tree.specs.declared.faults.LexError.TheVariants as errors
 use Rattle.dae_lex.specs.declared.output.Meaning.{Meaning as Meant}
 use Rattle.dae_lex.specs.declared.output.Meaning.TheVariants as meanings
 use Rattle.dae_lex.specs.declared.output.ReadToken.{ReadToken}

@@ -1,13 +1,13 @@
 -- What is read of the pieces of a text, and of the text.
 use Rattle.std.specs.Prelude.{◌≡◌, ℕ, ◌<◌, ◌≤◌, List, [], ◌∷◌, map, length, Result, Ok, Err}
-use Rattle.dae_token.specs.Pieces.{Cut}
-use Rattle.dae_token.specs.Replacing.{Item, taken, replaced, refused, Read}
-use Rattle.dae_token.specs.Directives.{lines_of, replaced_lines, includes}
-use Rattle.dae_token.specs.Tokens.{reads_of, room_after}
-use Rattle.dae_token.specs.declared.headers.Header.TheVariants.{Stdio, Stdlib}
-use Rattle.dae_token.specs.declared.tokens.Includes.{Includes}
-use Rattle.dae_token.specs.declared.tokens.Room.{Room}
-use Rattle.dae_token.specs.declared.faults.LexError.{LexError}
+use Rattle.dae_tree.specs.Pieces.{Cut}
+use Rattle.dae_tree.specs.Replacing.{Item, taken, replaced, refused, Read}
+use Rattle.dae_tree.specs.Directives.{lines_of, replaced_lines, includes}
+use Rattle.dae_tree.specs.Tokens.{reads_of, room_after}
+use Rattle.dae_tree.specs.declared.headers.Header.TheVariants.{Stdio, Stdlib}
+use Rattle.dae_tree.specs.declared.tokens.Includes.{Includes}
+use Rattle.dae_tree.specs.declared.tokens.Room.{Room}
+use Rattle.dae_tree.specs.declared.faults.LexError.{LexError}
 use Rattle.dae_lex.specs.declared.output.Output.{Output}
 use Rattle.dae_lex.specs.Settling.{read_of, Fails}
 

@@ -1,11 +1,13 @@
+//! Lines: what each of them is, the macros that it defines, and what it puts out.
+
 ghost use Rattle.std.specs.Prelude.{◌≡◌, ◌≤◌, ◌<◌, ◌+◌, ◌++◌, ◌||◌, ℕ, List, [], ◌∷◌, length, map, option_map, IfOk, OnOk, IfErr};
 ghost use Rattle.std.specs.List.{prefix_len};
-ghost use Rattle.dae_token.specs.Pieces.{Cut};
-ghost use Rattle.dae_token.specs.Replacing.{is_word_kind};
-ghost use Rattle.dae_token.specs.Directives.{is_blank_kind, is_end_kind, is_hash_kind, is_paren_kind, goes_on, from_mark, marks_of, begins_call, number_piece, first_fault, stray, definition_in, header_in, alone, inclusion_in, directive_in, line_of, lines_of, same_spellings, known_as, conflict_items, definition_items, with_definition, with_definitions, number_macro, header_definitions, replaced_text, line_items, macros_after, replaced_lines, inclusion_of, is_of, includes};
-ghost use Rattle.dae_token.specs.Directives.{include as Include, define as Define};
-ghost use Rattle.dae_token.specs.declared.headers.Header.TheVariants.{Stdio, Stdlib};
-ghost use Rattle.dae_token.specs.declared.faults.LexError.TheVariants.{Memory};
+ghost use Rattle.dae_tree.specs.Pieces.{Cut};
+ghost use Rattle.dae_tree.specs.Replacing.{is_word_kind};
+ghost use Rattle.dae_tree.specs.Directives.{is_blank_kind, is_end_kind, is_hash_kind, is_paren_kind, goes_on, from_mark, marks_of, begins_call, number_piece, first_fault, stray, definition_in, header_in, alone, inclusion_in, directive_in, line_of, lines_of, same_spellings, known_as, conflict_items, definition_items, with_definition, with_definitions, number_macro, header_definitions, replaced_text, line_items, macros_after, replaced_lines, inclusion_of, is_of, includes};
+ghost use Rattle.dae_tree.specs.Directives.{include as Include, define as Define};
+ghost use Rattle.dae_tree.specs.declared.headers.Header.TheVariants.{Stdio, Stdlib};
+ghost use Rattle.dae_tree.specs.declared.faults.LexError.TheVariants.{Memory};
 ghost use Rattle.dae_lex.specs.Cuts.{cut_of};
 ghost use Rattle.dae_lex.specs.Settling.{State, Settles, state_of, settle};
 ghost use Rattle.dae_lex.specs.Reading.{line_from, rows_of};
@@ -16,7 +18,7 @@ use crate::pieces::{Piece, next_of, push_piece};
 use crate::replace::replace_piece;
 use dae_base::Place;
 use dae_scan::{find_header, number_kind};
-use dae_token::{
+use dae_tree::{
     Construct, Header, Includes, LexError, PieceKind, STDIO_MACROS, STDLIB_MACROS, Sign,
 };
 use std::alloc::Global;

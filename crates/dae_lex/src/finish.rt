@@ -1,17 +1,19 @@
+//! Tokens at the end: adjacent literals joined, names and literals numbered.
+
 ghost use Rattle.std.specs.Prelude.{◌≡◌, ◌≤◌, ◌<◌, ◌+◌, ◌-◌, ◌^◌, ◌++◌, ℕ, [], ◌∷◌, List, None, length, map, option_map, IfOk, OnOk, IfErr};
 ghost use Rattle.std.specs.List.{position_or_len};
 ghost use Rattle.std.specs.Str.{bytes_eq};
-ghost use Rattle.dae_token.specs.Literals.{values_of};
-ghost use Rattle.dae_token.specs.Replacing.{Read, name as Name};
-ghost use Rattle.dae_token.specs.Tokens.{literal_of, names_with, kind_of, before, joined};
-ghost use Rattle.dae_token.specs.declared.faults.LexError.TheVariants.{Memory};
+ghost use Rattle.dae_tree.specs.Literals.{values_of};
+ghost use Rattle.dae_tree.specs.Replacing.{Read, name as Name};
+ghost use Rattle.dae_tree.specs.Tokens.{literal_of, names_with, kind_of, before, joined};
+ghost use Rattle.dae_tree.specs.declared.faults.LexError.TheVariants.{Memory};
 ghost use Rattle.dae_lex.specs.Settling.{meaning_of, read_of};
 ghost use Rattle.dae_lex.specs.Finishing.{Built, built_of, read_literal, longer_of, waiting, finished, added, closed};
 
 use crate::output::{Meaning, ReadToken};
 use dae_base::{Items, Place};
 use dae_scan::append_values;
-use dae_token::{Kind, LexError, Token};
+use dae_tree::{Kind, LexError, Token};
 use indexmap::IndexSet;
 use std::alloc::Global;
 

@@ -3,7 +3,7 @@
 // limits on all texts of a job: an answer lowers it by what was used, and a refusal leaves it.
 #![tactic(auto)]
 
-pub use dae_token::{LexError, Room};
+pub use dae_tree::{LexError, Room};
 pub use reading::tokens;
 
 mod directives;

@@ -1,9 +1,11 @@
+//! Lines joined: the bytes of a text that are left, and where each of them stands.
+
 ghost use Rattle.std.specs.Prelude.{◌≡◌, ◌+◌, ◌≤◌, ◌<◌, ◌^◌, ◌++◌, [], ◌∷◌, length, IfOk, OnOk, IfErr};
-ghost use Rattle.dae_token.specs.Lines.{bytes_of, spots_of, start_of, spot_after, spot_behind, join_length, join_left, joined_lines};
-ghost use Rattle.dae_token.specs.declared.faults.LexError.TheVariants.{Memory};
+ghost use Rattle.dae_tree.specs.Lines.{bytes_of, spots_of, start_of, spot_after, spot_behind, join_length, join_left, joined_lines};
+ghost use Rattle.dae_tree.specs.declared.faults.LexError.TheVariants.{Memory};
 
 use dae_base::Place;
-use dae_token::{LexError, Spot};
+use dae_tree::{LexError, Spot};
 use std::alloc::Global;
 
 /// The characters of a text with its lines joined: their bytes, and where each stands. The text ends at a place.

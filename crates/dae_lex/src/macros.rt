@@ -1,10 +1,12 @@
+//! The macros that are defined so far.
+
 ghost use Rattle.std.specs.Prelude.{◌≡◌, ◌≤◌, ◌<◌, ◌^◌, ◌++◌, [], ◌∷◌, None, length, map, option_map, IfSome, OnOk, IfErr};
-ghost use Rattle.dae_token.specs.Replacing.{Definition, body_of};
+ghost use Rattle.dae_tree.specs.Replacing.{Definition, body_of};
 ghost use Rattle.dae_lex.specs.Cuts.{cut_of};
-ghost use Rattle.dae_token.specs.declared.faults.LexError.TheVariants.{Memory};
+ghost use Rattle.dae_tree.specs.declared.faults.LexError.TheVariants.{Memory};
 
 use crate::pieces::Piece;
-use dae_token::LexError;
+use dae_tree::LexError;
 use indexmap::IndexMap;
 use std::alloc::Global;
 use std::marker::Model;
@@ -17,7 +19,7 @@ pub struct Macros<'j> {
 
 impl<'j> Model for Macros<'j> {
     ghost use Rattle.std.specs.Prelude.{List, map};
-    ghost use Rattle.dae_token.specs.Replacing.{Definition};
+    ghost use Rattle.dae_tree.specs.Replacing.{Definition};
     ghost use Rattle.dae_lex.specs.Cuts.{cut_of};
 
     ghost Value = { List Definition };

@@ -1,14 +1,16 @@
+//! Tokens as they are put out, with what is left of the room.
+
 ghost use Rattle.std.specs.Prelude.{◌≡◌, ◌≤◌, ◌<◌, ◌+◌, ◌++◌, [], ◌∷◌, length, OnOk, IfErr, Result, Ok, Err};
-ghost use Rattle.dae_token.specs.Literals.{inside};
-ghost use Rattle.dae_token.specs.Replacing.{items_of, taken, replaced, error_at, word_meaning, literal_length};
+ghost use Rattle.dae_tree.specs.Literals.{inside};
+ghost use Rattle.dae_tree.specs.Replacing.{items_of, taken, replaced, error_at, word_meaning, literal_length};
 ghost use Rattle.dae_lex.specs.Cuts.{cut_of};
 ghost use Rattle.dae_lex.specs.Settling.{State, Settles, state_of, settle, meaning_of, meant};
-ghost use Rattle.dae_token.specs.declared.faults.LexError.TheVariants.{Memory};
+ghost use Rattle.dae_tree.specs.declared.faults.LexError.TheVariants.{Memory};
 
 use crate::pieces::Piece;
 use dae_base::Place;
 use dae_scan::{find_keyword, find_refused_word, values_length};
-use dae_token::{Constant, Construct, Fault, Keyword, LexError, PieceKind, Room, Sign};
+use dae_tree::{Constant, Construct, Fault, Keyword, LexError, PieceKind, Room, Sign};
 use std::alloc::Global;
 
 /// What a token is, with the bytes of a name, or what stands between the quotes of a literal.
@@ -59,7 +61,7 @@ fn between_quotes(spelling: &[u8]) -> &[u8]
 }
 
 /// What a word is as a token, or by what name it is refused.
-#[tactic(auto, unfolding(dae_token::specs::Replacing::word_meaning))]
+#[tactic(auto, unfolding(dae_tree::specs::Replacing::word_meaning))]
 fn read_word<'j>(word: &'j [u8]) -> Result<Meaning<'j>, Construct>
     ensures { meant result ≡ word_meaning word.now }
 {

@@ -1,14 +1,17 @@
+//! A joined text cut into its longest pieces.
+
 ghost use Rattle.std.specs.Prelude.{◌≡◌, ℕ, ◌≤◌, ◌<◌, ◌+◌, ◌^◌, ◌++◌, [], ◌∷◌, length, drop, IfOk, OnOk, IfErr, MatchOption, map, All};
-ghost use Rattle.dae_token.specs.Forms.{IsWithin};
-ghost use Rattle.dae_token.specs.Pieces.{cut, piece};
+ghost use Rattle.std.specs.List.{flat_map};
+ghost use Rattle.dae_tree.specs.Forms.{IsWithin};
+ghost use Rattle.dae_tree.specs.Pieces.{cut, piece};
 ghost use Rattle.dae_lex.specs.Cuts.{cut_of, chars, Rise, FollowEachOther, SpotsFrom, PlacesFrom};
 ghost use Rattle.dae_base.specs.declared.Place.{Place as Place_};
-ghost use Rattle.dae_token.specs.declared.faults.LexError.TheVariants.{Memory};
+ghost use Rattle.dae_tree.specs.declared.faults.LexError.TheVariants.{Memory};
 
 use crate::lines::Joined;
 use dae_base::Place;
 use dae_scan::form_at;
-use dae_token::{Form, LexError, PieceKind};
+use dae_tree::{Form, LexError, PieceKind};
 use std::alloc::Global;
 
 /// What a piece is, its bytes with lines joined, and where it stands in the text.
@@ -45,6 +48,7 @@ pub fn cut_pieces<'j>(alloc: Global, joined: &'j Joined) -> Result<Vec<Piece<'j>
     requires same { length joined.now.bytes.items ≡ length joined.now.spots.items }
     requires small { All (λ s. s.offset < 2 ^ 31) joined.now.spots.items }
     ensures ok { IfOk result (λ pieces. map cut_of pieces.items ≡ cut 0 (chars joined.now.bytes.items joined.now.spots.items)) }
+    ensures spelled { IfOk result (λ pieces. flat_map (λ p. p.spelling) (map cut_of pieces.items) ≡ joined.now.bytes.items) }
     ensures order { IfOk result (λ pieces. (n : ℕ) → Rise 0 joined.now.spots.items n → FollowEachOther 0 (map cut_of pieces.items) n) }
     ensures places { IfOk result (λ pieces. (p : Place_) → SpotsFrom p joined.now.spots.items → PlacesFrom p (map (λ q. q.place) (map cut_of pieces.items))) }
     ensures err { IfErr result (λ e. e ≡ Memory) }

@@ -1,7 +1,9 @@
+//! The tokens of a text, from its bytes on.
+
 ghost use Rattle.std.specs.Prelude.{◌≡◌, ◌≤◌, ◌<◌, ◌^◌, [], length, map, IfOk, IfErr};
-ghost use Rattle.dae_token.specs.Tokens.{reads_of, tested_in, tokens_of, joined, numbered, names_after, literals_after, Answers};
-ghost use Rattle.dae_token.specs.declared.faults.LexError.TheVariants.{Memory};
-ghost use Rattle.dae_token.specs.Order.{HasLeastPlace};
+ghost use Rattle.dae_tree.specs.Tokens.{reads_of, tested_in, tokens_of, joined, numbered, names_after, literals_after, Answers};
+ghost use Rattle.dae_tree.specs.declared.faults.LexError.TheVariants.{Memory};
+ghost use Rattle.dae_tree.specs.Order.{HasLeastPlace};
 ghost use Rattle.dae_lex.specs.Cuts.{cut_of};
 ghost use Rattle.dae_lex.specs.Settling.{Fails, read_of};
 ghost use Rattle.dae_lex.specs.Whole.{items_of_pieces, HasRead, Meets, SpansFrom, span};
@@ -12,7 +14,7 @@ use crate::lines::join_lines;
 use crate::output::{Output, ReadToken};
 use crate::pieces::{Piece, cut_pieces};
 use dae_base::{Items, Place};
-use dae_token::{Includes, LexError, Room, Tokens};
+use dae_tree::{Includes, LexError, Room, Tokens};
 use std::alloc::Global;
 
 /// The tokens of the pieces of a text before literals join, with the headers that they include.

@@ -1,16 +1,18 @@
+//! Names of macros replaced, with a stack of the replacements that are not over.
+
 ghost use Rattle.std.specs.Prelude.{◌≡◌, ◌≤◌, ◌<◌, ◌+◌, ◌^◌, ◌++◌, ℕ, [], ◌∷◌, false, nat_eq, length, map, option_map, OnOk, IfErr, IfSome, MatchOption};
 ghost use Rattle.std.specs.List.{list_any};
 ghost use Rattle.std.specs.Str.{bytes_eq};
-ghost use Rattle.dae_token.specs.Replacing.{replacement, expand, replaced};
+ghost use Rattle.dae_tree.specs.Replacing.{replacement, expand, replaced};
 ghost use Rattle.dae_lex.specs.Cuts.{cut_of};
 ghost use Rattle.dae_lex.specs.Settling.{Settles, state_of, settle};
 ghost use Rattle.dae_lex.specs.Pending.{Frame, names_of, frame_by, pending, work_of, Follows};
-ghost use Rattle.dae_token.specs.declared.faults.LexError.TheVariants.{Memory};
+ghost use Rattle.dae_tree.specs.declared.faults.LexError.TheVariants.{Memory};
 
 use crate::macros::Macros;
 use crate::output::Output;
 use crate::pieces::{Piece, next_of};
-use dae_token::{LexError, PieceKind};
+use dae_tree::{LexError, PieceKind};
 use indexmap::IndexMap;
 use std::alloc::Global;
 use std::marker::Model;

@@ -3,7 +3,7 @@ ghost use Rattle.std.specs.Prelude.{◌≡◌, ◌≤◌, length};
 use crate::output::fault_at;
 use crate::reading::tokens;
 use dae_base::Place;
-use dae_token::{Constant, Construct, Fault, Header, Keyword, Kind, LexError, Room, Sign, Token};
+use dae_tree::{Constant, Construct, Fault, Header, Keyword, Kind, LexError, Room, Sign, Token};
 use std::alloc::{AllocError, Global};
 use std::process::Abort;
 use std::test::Fail;

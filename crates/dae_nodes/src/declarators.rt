@@ -1,16 +1,17 @@
 ghost use Rattle.std.specs.Prelude.{◌≡◌, true, List, [], ◌∷◌, Option, Some, None, IfOk, ◌||◌, if◌then◌else◌};
-ghost use Rattle.dae_syntax.specs.Trees as tree;
-ghost use Rattle.dae_syntax.specs.Names.{Names, is_bare, after_parameters};
-ghost use Rattle.dae_syntax.specs.Grammar.{void_alone};
+ghost use Rattle.dae_tree.specs.Trees as tree;
+ghost use Rattle.dae_tree.specs.Names.{Names, is_bare, after_parameters};
+ghost use Rattle.dae_tree.specs.Grammar.{void_alone};
+ghost use Rattle.dae_tree.specs.Lists as lists;
 ghost use Rattle.dae_grammar.specs.Frames as frames;
 ghost use Rattle.dae_grammar.specs.Machine.{closed_by, parameters_onto};
-ghost use Rattle.dae_front.specs.Shown.{bound_all};
-ghost use Rattle.dae_parts.specs.Parts.{ShowsOperand, ShowsSpecified, ShowsDeclared, ShowsParameterList, ShowsParameters};
+ghost use Rattle.dae_scope.specs.Shown.{bound_all};
+ghost use Rattle.dae_nodes.specs.Parts.{ShowsOperand, ShowsSpecified, ShowsDeclared, ShowsParameterList, ShowsParameters};
 
 use dae_base::Place;
-use dae_front::Binding;
-use dae_parts::{Declared, Operand, ParameterList, Read, Specified, beside, flat, longer, over};
-use dae_syntax::{Declarator, Name, Parameter};
+use dae_scope::Binding;
+use crate::values::{Declared, Operand, ParameterList, Read, Specified, beside, flat, longer, over};
+use dae_tree::{Declarator, Name, Parameter};
 use std::alloc::{AllocError, Global};
 
 /// No part of a declarator.
@@ -229,9 +230,9 @@ fn parameter_function(
     declared: Declared,
     place: Place,
     list: Read<Vec<Parameter>>,
-    inner: Vec<Binding>,
+    inner: Vec<Binding<bool>>,
 ) -> Result<Declared, AllocError>
-    ensures { (d : tree.Declarator) (ps : List frames.Parameter) → ShowsDeclared declared d → ShowsParameterList list ps → (is_bare d ≡ true → (names : Names) → after_parameters (parameters_onto ps tree.no_parameters) names ≡ bound_all inner.items names) → IfOk result (λ r. ShowsDeclared r (tree.Function d place (parameters_onto ps tree.no_parameters))) }
+    ensures { (d : tree.Declarator) (ps : List lists.Parameter) → ShowsDeclared declared d → ShowsParameterList list ps → (is_bare d ≡ true → (names : Names) → after_parameters (parameters_onto ps tree.no_parameters) names ≡ bound_all inner.items names) → IfOk result (λ r. ShowsDeclared r (tree.Function d place (parameters_onto ps tree.no_parameters))) }
 {
     let Declared {
         read,
@@ -264,9 +265,9 @@ pub fn function(
     declared: Declared,
     place: Place,
     list: ParameterList,
-    inner: Vec<Binding>,
+    inner: Vec<Binding<bool>>,
 ) -> Result<Declared, AllocError>
-    ensures { (d : tree.Declarator) (ps : List frames.Parameter) → ShowsDeclared declared d → ShowsParameters list ps → (is_bare d ≡ true → (names : Names) → after_parameters (parameters_onto ps tree.no_parameters) names ≡ bound_all inner.items names) → IfOk result (λ r. ShowsDeclared r (closed_by (void_alone (parameters_onto ps tree.no_parameters)) d place (parameters_onto ps tree.no_parameters))) }
+    ensures { (d : tree.Declarator) (ps : List lists.Parameter) → ShowsDeclared declared d → ShowsParameters list ps → (is_bare d ≡ true → (names : Names) → after_parameters (parameters_onto ps tree.no_parameters) names ≡ bound_all inner.items names) → IfOk result (λ r. ShowsDeclared r (closed_by (void_alone (parameters_onto ps tree.no_parameters)) d place (parameters_onto ps tree.no_parameters))) }
 {
     let ParameterList { read, any: _, void } = list;
     match void {
@@ -299,7 +300,7 @@ pub fn with_parameter(
     specified: Specified,
     declared: Declared,
 ) -> Result<ParameterList, AllocError>
-    ensures { (ps : List frames.Parameter) (ws : tree.Specifiers) (d : tree.Declarator) → ShowsParameters before ps → ShowsSpecified specified ws → ShowsDeclared declared d → IfOk result (λ r. ShowsParameters r (record { specifiers = ws; declarator = d } ∷ ps)) }
+    ensures { (ps : List lists.Parameter) (ws : tree.Specifiers) (d : tree.Declarator) → ShowsParameters before ps → ShowsSpecified specified ws → ShowsDeclared declared d → IfOk result (λ r. ShowsParameters r (record { specifiers = ws; declarator = d } ∷ ps)) }
 {
     let void = unless(before.any, declared.present, specified.void);
     let Read { tree, depths } = beside(specified.read, declared.read)?;

@@ -1,16 +1,15 @@
 ghost use Rattle.std.specs.Prelude.{◌≡◌, List, [], ◌∷◌, Option, Some, None, IfOk};
-ghost use Rattle.dae_syntax.specs.Trees as tree;
+ghost use Rattle.dae_tree.specs.Trees as tree;
 ghost use Rattle.dae_grammar.specs.Machine.{arguments_onto};
-ghost use Rattle.dae_parts.specs.Parts.{ShowsOperand, ShowsArguments, ShowsSpecified, ShowsDeclared};
+ghost use Rattle.dae_nodes.specs.Parts.{ShowsOperand, ShowsArguments, ShowsSpecified, ShowsDeclared};
 
 use crate::operators::strength;
 use dae_base::Place;
-use dae_parts::{Declared, Operand, Read, Specified, beside, flat, longer, over};
-use dae_syntax::{
-    AssignmentOperator, BinaryOperator, Expression, MemberOperator, Name, PostfixOperator,
-    PrefixOperator, TypeName,
+use crate::values::{Declared, Operand, Read, Specified, beside, flat, longer, over};
+use dae_tree::{
+    AssignmentOperator, BinaryOperator, Constant, Expression, MemberOperator, Name,
+    PostfixOperator, PrefixOperator, TypeName,
 };
-use dae_token::Constant;
 use std::alloc::{AllocError, Global};
 
 /// A name (C90 6.3.1).

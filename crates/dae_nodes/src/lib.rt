@@ -1,8 +1,17 @@
-// The nodes of expressions, specifiers and declarators. It takes the parts of a node, each with what it shows of the grammar's
-// trees. It gives the part that shows the node over them. It promises that a tree is there exactly where no node in it is too
-// deep. Nothing fails but for want of memory.
+// What a parser builds: the parts that it keeps, and one function for each node over them. A part is a tree with the places
+// of its first nodes at each depth. It takes the parts of a node, each with what it shows of the grammar's trees. It gives the
+// part that shows the node over them. It promises the places of the first nodes down to the greatest depth, and the tree
+// exactly where no node in it is too deep. Nothing fails but for want of memory.
 #![tactic(auto)]
 
+pub use depths::{Depths, GREATEST_DEPTH};
+pub use lists::{
+    has_items, has_members, no_arguments, no_declarations, no_declarators, no_enumerators,
+    no_externals, no_initialisers, no_items, no_members, no_statements,
+};
+pub use values::{
+    Declared, Loop, Operand, ParameterList, Read, Specified, beside, flat, longer, over,
+};
 pub use declarators::{
     absent, empty_function, function, grouped, named, no_parameters, pointer, sized_array,
     unsized_array, with_parameter,
@@ -17,10 +26,24 @@ pub use specifiers::{
     with_plain_enumerator, with_structure, with_structure_body, with_type_name,
     with_valued_enumerator, with_word,
 };
+pub use declarations::{
+    declaration, declared_external, definition, initialiser_list, value, with_declaration,
+    with_external, with_initialiser, with_plain_item, with_valued_item,
+};
+pub use statements::{
+    block, break_statement, case_statement, continue_statement, default_statement, do_statement,
+    empty_statement, evaluation, for_statement, if_else_statement, if_statement, return_statement,
+    switch_statement, while_statement, with_statement,
+};
 
+mod declarations;
 mod declarators;
+mod depths;
 mod expressions;
+mod lists;
 mod operators;
 mod specifiers;
+mod statements;
 #[cfg(test)]
 mod tests;
+mod values;

@@ -1,7 +1,7 @@
 ghost use Rattle.std.specs.Prelude.{◌≡◌};
-ghost use Rattle.dae_syntax.specs.Operators as operators;
+ghost use Rattle.dae_tree.specs.Operators as operators;
 
-use dae_syntax::BinaryOperator;
+use dae_tree::BinaryOperator;
 
 /// The highest level of a right operand (C90 6.3.5 to 6.3.14).
 pub fn under(operator: BinaryOperator) -> u8

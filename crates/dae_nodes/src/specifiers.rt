@@ -1,16 +1,16 @@
 ghost use Rattle.std.specs.Prelude.{◌≡◌, List, [], ◌∷◌, Option, Some, None, IfOk, ◌||◌};
-ghost use Rattle.dae_syntax.specs.Trees as tree;
-ghost use Rattle.dae_syntax.specs.Names.{is_typedef_specifier, is_typedef_word};
-ghost use Rattle.dae_syntax.specs.Depth.{place_of_specifier};
-ghost use Rattle.dae_syntax.specs.Grammar.{void_word};
+ghost use Rattle.dae_tree.specs.Trees as tree;
+ghost use Rattle.dae_tree.specs.Names.{is_typedef_specifier, is_typedef_word};
+ghost use Rattle.dae_tree.specs.Depth.{place_of_specifier};
+ghost use Rattle.dae_tree.specs.Grammar.{void_word};
+ghost use Rattle.dae_tree.specs.Lists as lists;
 ghost use Rattle.dae_grammar.specs.Frames as frames;
 ghost use Rattle.dae_grammar.specs.Machine.{specifiers_onto, members_onto, enumerators_onto, declarators_onto};
-ghost use Rattle.dae_parts.specs.Parts.{ShowsOperand, ShowsSpecifier, ShowsSpecified, ShowsDeclared, ShowsDeclarators, ShowsMembers, ShowsEnumerators};
+ghost use Rattle.dae_nodes.specs.Parts.{ShowsOperand, ShowsSpecifier, ShowsSpecified, ShowsDeclared, ShowsDeclarators, ShowsMembers, ShowsEnumerators};
 
 use dae_base::Place;
-use dae_parts::{Declared, Operand, Read, Specified, beside, flat, longer, over};
-use dae_syntax::{Declarator, Enumerator, Member, Name, Specifier};
-use dae_token::Keyword;
+use crate::values::{Declared, Operand, Read, Specified, beside, flat, longer, over};
+use dae_tree::{Declarator, Enumerator, Keyword, Member, Name, Specifier};
 use std::alloc::{AllocError, Global};
 
 /// No specifiers.
@@ -139,7 +139,7 @@ pub fn with_structure_body(
     brace: Place,
     members: Read<Vec<Member>>,
 ) -> Result<Specified, AllocError>
-    ensures { (ws : List tree.Specifier) (ms : List frames.MemberLine) → ShowsSpecified before (specifiers_onto ws tree.no_specifiers) → ShowsMembers members ms → IfOk result (λ r. ShowsSpecified r (specifiers_onto (tree.StructureBody place tag brace (members_onto ms tree.no_members) ∷ ws) tree.no_specifiers)) }
+    ensures { (ws : List tree.Specifier) (ms : List lists.MemberLine) → ShowsSpecified before (specifiers_onto ws tree.no_specifiers) → ShowsMembers members ms → IfOk result (λ r. ShowsSpecified r (specifiers_onto (tree.StructureBody place tag brace (members_onto ms tree.no_members) ∷ ws) tree.no_specifiers)) }
 {
     let Read { tree, depths } = over(alloc, place, members)?;
     let tree = match tree {
@@ -159,7 +159,7 @@ pub fn with_enumeration_body(
     enumerators: Read<Vec<Enumerator>>,
     comma: bool,
 ) -> Result<Specified, AllocError>
-    ensures { (ws : List tree.Specifier) (es : List frames.Entry) → ShowsSpecified before (specifiers_onto ws tree.no_specifiers) → ShowsEnumerators enumerators es → IfOk result (λ r. ShowsSpecified r (specifiers_onto (tree.EnumerationBody place tag brace (enumerators_onto es tree.no_enumerators) comma ∷ ws) tree.no_specifiers)) }
+    ensures { (ws : List tree.Specifier) (es : List lists.Entry) → ShowsSpecified before (specifiers_onto ws tree.no_specifiers) → ShowsEnumerators enumerators es → IfOk result (λ r. ShowsSpecified r (specifiers_onto (tree.EnumerationBody place tag brace (enumerators_onto es tree.no_enumerators) comma ∷ ws) tree.no_specifiers)) }
 {
     let Read { tree, depths } = over(alloc, place, enumerators)?;
     let tree = match tree {
@@ -192,7 +192,7 @@ pub fn with_member(
     declarators: Read<Vec<Declarator>>,
     end: Place,
 ) -> Result<Read<Vec<Member>>, AllocError>
-    ensures { (ms : List frames.MemberLine) (ws : tree.Specifiers) (ds : List tree.Declarator) → ShowsMembers before ms → ShowsSpecified specified ws → ShowsDeclarators declarators ds → IfOk result (λ r. ShowsMembers r (record { specifiers = ws; declarators = declarators_onto ds tree.no_declarators; end = end } ∷ ms)) }
+    ensures { (ms : List lists.MemberLine) (ws : tree.Specifiers) (ds : List tree.Declarator) → ShowsMembers before ms → ShowsSpecified specified ws → ShowsDeclarators declarators ds → IfOk result (λ r. ShowsMembers r (record { specifiers = ws; declarators = declarators_onto ds tree.no_declarators; end = end } ∷ ms)) }
 {
     let Read { tree, depths } = beside(specified.read, declarators)?;
     let tree = match tree {
@@ -212,7 +212,7 @@ pub fn with_plain_enumerator(
     before: Read<Vec<Enumerator>>,
     name: Name,
 ) -> Result<Read<Vec<Enumerator>>, AllocError>
-    ensures { (es : List frames.Entry) → ShowsEnumerators before es → IfOk result (λ r. ShowsEnumerators r (record { name = name; value = None } ∷ es)) }
+    ensures { (es : List lists.Entry) → ShowsEnumerators before es → IfOk result (λ r. ShowsEnumerators r (record { name = name; value = None } ∷ es)) }
 {
     longer(before, flat(alloc, Enumerator::Plain(name)))
 }
@@ -224,7 +224,7 @@ pub fn with_valued_enumerator(
     place: Place,
     value: Operand,
 ) -> Result<Read<Vec<Enumerator>>, AllocError>
-    ensures { (es : List frames.Entry) (e : tree.Expression) → ShowsEnumerators before es → ShowsOperand value e → IfOk result (λ r. ShowsEnumerators r (record { name = name; value = Some (place, e) } ∷ es)) }
+    ensures { (es : List lists.Entry) (e : tree.Expression) → ShowsEnumerators before es → ShowsOperand value e → IfOk result (λ r. ShowsEnumerators r (record { name = name; value = Some (place, e) } ∷ es)) }
 {
     let Read { tree, depths } = value.read;
     let tree = match tree {

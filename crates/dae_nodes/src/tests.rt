@@ -1,11 +1,7 @@
 use super::*;
 use dae_base::Place;
-use dae_front::Binding;
-use dae_parts::{
-    Declared, GREATEST_DEPTH, Operand, ParameterList, Specified, no_declarators, no_members,
-};
-use dae_syntax::{BinaryOperator, Name};
-use dae_token::Keyword;
+use dae_scope::Binding;
+use dae_tree::{BinaryOperator, Keyword, Name};
 use std::alloc::{AllocError, Global};
 use std::test::Fail;
 
@@ -53,10 +49,10 @@ fn parameters(alloc: Global) -> Result<ParameterList, AllocError> {
     with_parameter(no_parameters(alloc), specified, named(alloc, name(11, 1))?)
 }
 
-fn bindings(alloc: Global) -> Result<Vec<Binding>, AllocError> {
+fn bindings(alloc: Global) -> Result<Vec<Binding<bool>>, AllocError> {
     let binding = Binding {
         name: 1,
-        is_type: false,
+        bound: false,
     };
     let mut bindings = Vec::new(alloc);
     bindings.push(binding)?;

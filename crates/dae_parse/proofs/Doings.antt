@@ -1,6 +1,6 @@
 -- What the grammar's machine does, by what the machine in memory does.
 use Rattle.std.proofs.Common.{◌∷◌}
-use Rattle.dae_parts.specs.Parts.{ShowsOperand, ShowsSpecified, ShowsEnumerators, ShowsDeclared, ShowsItems, ShowsStatement}
+use Rattle.dae_nodes.specs.Parts.{ShowsOperand, ShowsSpecified, ShowsEnumerators, ShowsDeclared, ShowsItems, ShowsStatement}
 use Rattle.dae_grammar.specs.Frames as plain
 use Rattle.dae_frames.specs.declared.frames.Doing.TheVariants as doing
 use Rattle.dae_frames.specs.Frames.{ShowsBody, ShowsDoing}

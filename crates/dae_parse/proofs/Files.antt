@@ -1,19 +1,19 @@
 -- A file that was read: its tree and its limits.
 use Rattle.std.proofs.Common.{◌≡◌, ℕ, List, [], ◌∷◌, map, Option, Some, None, refl, sym, ap, subst, ◌∙◌, arith}
 use Rattle.std.specs.Prelude.{slice_get, Result, Ok, Err, IfErr}
-use Rattle.dae_token.specs.Reading.{Reading}
-use Rattle.dae_syntax.specs.declared.statements.External.{External}
-use Rattle.dae_syntax.specs.declared.statements.File.{File}
-use Rattle.dae_syntax.specs.Depth.{first_deeper, first_too_long, nodes_file, greatest_depth}
-use Rattle.dae_syntax.specs.FileViews.{view_external, view_externals}
-use Rattle.dae_syntax.specs.Trees as tree
-use Rattle.dae_syntax.specs.Marks.{marks}
+use Rattle.dae_tree.specs.Reading.{Reading}
+use Rattle.dae_tree.specs.declared.statements.External.{External}
+use Rattle.dae_tree.specs.declared.statements.File.{File}
+use Rattle.dae_tree.specs.Depth.{first_deeper, first_too_long, nodes_file, greatest_depth}
+use Rattle.dae_tree.specs.FileViews.{view_external, view_externals}
+use Rattle.dae_tree.specs.Trees as tree
+use Rattle.dae_tree.specs.Marks.{marks}
 use Rattle.dae_grammar.specs.FirstPlaces.{or_else, firsts_external, firsts_file}
 use Rattle.dae_grammar.specs.Machine.{onto}
 use Rattle.dae_grammar.proofs.Runs.{unique}
 use Rattle.dae_grammar.proofs.FirstPlaces.{says_file}
-use Rattle.dae_parts.specs.Shown.{firsts_list}
-use Rattle.dae_parts.proofs.Showing.{seen_at}
+use Rattle.dae_nodes.specs.Shown.{firsts_list}
+use Rattle.dae_nodes.proofs.Showing.{seen_at}
 use Rattle.dae_frames.specs.declared.frames.Before.{Before}
 use Rattle.dae_frames.specs.Frames.{ShowsFile}
 use Rattle.dae_parse.specs.declared.error.ParseError.{ParseError}

@@ -1,7 +1,7 @@
 -- What the machine does where a frame on top of the stack awaits something else than what was read: nothing.
 use Rattle.std.proofs.Common.{◌≡◌, List, ◌∷◌, None, refl}
-use Rattle.dae_syntax.specs.Marks.{Mark}
-use Rattle.dae_syntax.specs.Names.{Names}
+use Rattle.dae_tree.specs.Marks.{Mark}
+use Rattle.dae_tree.specs.Names.{Names}
 use Rattle.dae_grammar.specs.Frames as plain
 use Rattle.dae_grammar.specs.Machine.{given, specifiers_taken, declarator_taken, initialiser_taken, declaration_taken, statement_taken}
 use Rattle.dae_frames.specs.declared.frames.Frame.{Frame}

@@ -1,10 +1,10 @@
 -- A run of the parser's machine shows a run of the grammar's: how it goes on, and where it ends.
 use Rattle.std.proofs.Common.{◌≡◌, ℕ, suc, List, [], ◌∷◌, length, reverse, Option, Some, None, refl, sym, ap, subst, ◌∙◌}
-use Rattle.dae_token.specs.declared.tokens.Token.{Token}
-use Rattle.dae_syntax.specs.Marks.{Mark, marks}
-use Rattle.dae_syntax.specs.Names.{Names}
-use Rattle.dae_syntax.specs.Statements.{IsTreeOf}
-use Rattle.dae_syntax.specs.Trees.{External}
+use Rattle.dae_tree.specs.declared.tokens.Token.{Token}
+use Rattle.dae_tree.specs.Marks.{Mark, marks}
+use Rattle.dae_tree.specs.Names.{Names}
+use Rattle.dae_tree.specs.Statements.{IsTreeOf}
+use Rattle.dae_tree.specs.Trees.{External}
 use Rattle.dae_grammar.specs.Frames.{Frame, State, state, externals}
 use Rattle.dae_grammar.specs.Frames as plain
 use Rattle.dae_grammar.specs.Machine.{step, step_at, begun, onto}
@@ -17,7 +17,7 @@ use Rattle.dae_frames.specs.declared.frames.Doing.{Doing}
 use Rattle.dae_frames.specs.declared.machine.Machine.{Machine}
 use Rattle.dae_frames.specs.declared.frames.Doing.TheVariants as doing
 use Rattle.dae_frames.specs.declared.frames.Frame.{Frame as Top}
-use Rattle.dae_front.specs.Scopes.{Scopes}
+use Rattle.dae_scope.specs.Scopes.{Scopes}
 use Rattle.dae_frames.specs.Frames.{ShowsFile, ShowsStack}
 use Rattle.dae_frames.specs.States.{Follows}
 use Rattle.dae_parse.specs.Bottom.{IsEmptyAt, IsBottomState}

@@ -1,14 +1,14 @@
 -- What the tokens of a text are parsed into, or why they are not.
 use Rattle.std.specs.Prelude.{◌≡◌, ◌⊎◌, ℕ, List, slice_get, Some, None, Result, Ok, Err}
 use Rattle.dae_base.specs.declared.Place.{Place}
-use Rattle.dae_token.specs.declared.tokens.Token.{Token}
-use Rattle.dae_token.specs.Reading.{Reading}
-use Rattle.dae_syntax.specs.declared.statements.File.{File}
-use Rattle.dae_syntax.specs.Marks.{marks}
-use Rattle.dae_syntax.specs.Trees.{External}
-use Rattle.dae_syntax.specs.Statements.{IsTreeOf}
-use Rattle.dae_syntax.specs.Depth.{nodes_file, first_deeper, greatest_depth, first_too_long}
-use Rattle.dae_syntax.specs.FileViews.{view_externals}
+use Rattle.dae_tree.specs.declared.tokens.Token.{Token}
+use Rattle.dae_tree.specs.Reading.{Reading}
+use Rattle.dae_tree.specs.declared.statements.File.{File}
+use Rattle.dae_tree.specs.Marks.{marks}
+use Rattle.dae_tree.specs.Trees.{External}
+use Rattle.dae_tree.specs.Statements.{IsTreeOf}
+use Rattle.dae_tree.specs.Depth.{nodes_file, first_deeper, greatest_depth, first_too_long}
+use Rattle.dae_tree.specs.FileViews.{view_externals}
 use Rattle.dae_parse.specs.declared.error.ParseError.{ParseError}
 use Rattle.dae_parse.specs.declared.error.ParseError.TheVariants as errors
 

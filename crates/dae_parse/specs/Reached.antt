@@ -1,9 +1,9 @@
 -- What a turn of the parser's machine comes to, and what a run of it.
 use Rattle.std.specs.Prelude.{◌≡◌, ℕ, List, [], Option, Some, None}
-use Rattle.dae_token.specs.declared.tokens.Token.{Token}
-use Rattle.dae_syntax.specs.Marks.{Mark, marks}
-use Rattle.dae_syntax.specs.Statements.{IsTreeOf}
-use Rattle.dae_syntax.specs.Trees.{External}
+use Rattle.dae_tree.specs.declared.tokens.Token.{Token}
+use Rattle.dae_tree.specs.Marks.{Mark, marks}
+use Rattle.dae_tree.specs.Statements.{IsTreeOf}
+use Rattle.dae_tree.specs.Trees.{External}
 use Rattle.dae_grammar.specs.Frames as plain
 use Rattle.dae_grammar.specs.Machine.{begun, onto}
 use Rattle.dae_grammar.specs.Runs.{run}

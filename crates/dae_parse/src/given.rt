@@ -1,12 +1,12 @@
 ghost use Rattle.std.specs.Prelude.{◌≡◌, ◌∷◌, List, length, IfOk};
-ghost use Rattle.dae_syntax.specs.Trees.{Expression, Specifiers, Declarator, Initialiser as InitialiserTree, Declaration as DeclarationTree, Statement as StatementTree};
+ghost use Rattle.dae_tree.specs.Trees.{Expression, Specifiers, Declarator, Initialiser as InitialiserTree, Declaration as DeclarationTree, Statement as StatementTree};
 ghost use Rattle.dae_grammar.specs.Frames as plain;
 ghost use Rattle.dae_grammar.specs.Frames.{Frame as PlainFrame, state};
 ghost use Rattle.dae_grammar.specs.Machine.{given, specifiers_taken, declarator_taken, initialiser_taken, declaration_taken, statement_taken};
 ghost use Rattle.dae_grammar.specs.Standing.{Holds};
 ghost use Rattle.dae_grammar.specs.Taken.{tokens_of};
 ghost use Rattle.dae_declarations.specs.Bottom.{IsBottom};
-ghost use Rattle.dae_parts.specs.Parts.{ShowsOperand, ShowsSpecified, ShowsDeclared, ShowsInitialiser, ShowsDeclaration, ShowsStatement};
+ghost use Rattle.dae_nodes.specs.Parts.{ShowsOperand, ShowsSpecified, ShowsDeclared, ShowsInitialiser, ShowsDeclaration, ShowsStatement};
 ghost use Rattle.dae_frames.specs.Frames.{is_block};
 ghost use Rattle.dae_frames.specs.States.{Stands, Follows, outside_stack};
 
@@ -22,12 +22,12 @@ use dae_expressions::{
     behind_question, behind_sizeof, in_arguments, in_index, in_parentheses,
 };
 use dae_frames::{Doing, Frame, Machine};
-use dae_parts::{Declared, Operand, Read, Specified};
+use dae_nodes::{Declared, Operand, Read, Specified};
 use dae_statements::{
     case_body, default_body, do_body, else_branch, for_body, in_case, in_evaluation, in_loop_test,
     in_return, in_start, in_statements, in_step, in_test, switch_body, then_branch, while_body,
 };
-use dae_syntax::{Declaration, Initialiser, Statement};
+use dae_tree::{Declaration, Initialiser, Statement};
 use std::alloc::AllocError;
 
 /// Behind an expression, for what awaits it.

@@ -1,7 +1,7 @@
 ghost use Rattle.std.specs.Prelude.{◌≡◌, List, [], IfErr, IfOk};
-ghost use Rattle.dae_syntax.specs.Trees.{External};
-ghost use Rattle.dae_syntax.specs.Marks.{marks};
-ghost use Rattle.dae_syntax.specs.Statements.{IsTreeOf};
+ghost use Rattle.dae_tree.specs.Trees.{External};
+ghost use Rattle.dae_tree.specs.Marks.{marks};
+ghost use Rattle.dae_tree.specs.Statements.{IsTreeOf};
 ghost use Rattle.dae_grammar.specs.Machine.{onto};
 ghost use Rattle.dae_frames.specs.Frames.{ShowsFile};
 ghost use Rattle.dae_parse.specs.Parsed.{Answers, IsWithinLimits, IsPlaceIn};
@@ -11,9 +11,8 @@ use crate::error::ParseError;
 use crate::run::{Outcome, run};
 use dae_base::{Items, Place};
 use dae_frames::Before;
-use dae_parts::Read;
-use dae_syntax::File;
-use dae_token::{Header, Tokens};
+use dae_nodes::Read;
+use dae_tree::{File, Header, Tokens};
 use std::alloc::{AllocError, Global};
 
 /// The file of these tokens. A tree of the grammar within the limits is found, unless memory runs out.

@@ -4,8 +4,8 @@ ghost use Rattle.dae_parse.specs.Reached.{Comes};
 use crate::turn::{Turn, turned};
 use dae_frames::{Before, Doing, Machine};
 use dae_front::{Rest, Scope};
-use dae_parts::no_externals;
-use dae_token::Token;
+use dae_nodes::no_externals;
+use dae_tree::Token;
 use std::alloc::{AllocError, Global};
 
 /// What a run comes to: a whole file, or the number of the token at which it stops.

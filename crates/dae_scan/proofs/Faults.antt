@@ -1,8 +1,8 @@
 -- A literal's inside byte by byte.
 use Rattle.std.proofs.Common.{◌≡◌, ℕ, suc, ◌+◌, ◌<◌, List, ◌∷◌, drop, get_or, length, refl, ap, sym, ◌∙◌, arith, Option, Some, None, Ok, Err, option_map}
 use Rattle.std.proofs.lemmas.List.{drop_more}
-use Rattle.dae_token.specs.declared.faults.Fault.{Fault}
-use Rattle.dae_token.specs.Literals.{checked, one_on, fault_from}
+use Rattle.dae_tree.specs.declared.faults.Fault.{Fault}
+use Rattle.dae_tree.specs.Literals.{checked, one_on, fault_from}
 
 -- a fault further on
 abbrev pub on_by : ℕ → Option (Fault × ℕ) → Option (Fault × ℕ)

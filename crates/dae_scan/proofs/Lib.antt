@@ -1,4 +1,5 @@
-pub mod Places
-pub mod Values
-pub mod Faults
-pub mod Units
+mod Places
+mod Values
+mod Faults
+mod Units
+mod Longest

@@ -2,8 +2,8 @@
 use Rattle.std.proofs.Common.{◌≡◌, ℕ, suc, ◌+◌, ◌<◌, Bool, true, false, cond, nat_eq, List, [], ◌∷◌, Some, IfSome, length, drop, get_or, ap, sym, ◌∙◌, arith}
 use Rattle.std.proofs.lemmas.List.{drop_more}
 use Rattle.std.specs.List.{starts_with}
-use Rattle.dae_token.specs.Forms.{place_of}
-use Rattle.dae_token.specs.Tables.{first_row}
+use Rattle.dae_tree.specs.Forms.{place_of}
+use Rattle.dae_tree.specs.Tables.{first_row}
 
 pub place_later : (p : List ℕ → Bool) (bytes : List ℕ) (i : ℕ) → i < length bytes → p (drop i bytes) ≡ false
     → i + 1 + place_of p (drop (i + 1) bytes) ≡ i + place_of p (drop i bytes)

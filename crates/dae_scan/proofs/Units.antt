@@ -2,7 +2,7 @@
 use Rattle.std.proofs.Common.{◌≡◌, ℕ, zero, suc, pred, ◌+◌, ◌-◌, ◌<◌, List, ◌∷◌, drop, get_or, length, refl, ap, sym, ◌∙◌, arith}
 use Rattle.std.proofs.lemmas.List.{drop_more}
 use Rattle.std.specs.Prelude.{unwrap_or}
-use Rattle.dae_token.specs.Literals.{unit_of, values_from}
+use Rattle.dae_tree.specs.Literals.{unit_of, values_from}
 
 at_zero : (b : ℕ) (bs all : List ℕ) → all ≡ b ∷ bs → values_from 0 all ≡ unwrap_or (unit_of all).0 0 ∷ values_from (pred (unit_of all).1) bs
 at_zero b bs all e = rw e refl

@@ -3,7 +3,7 @@ use Rattle.std.proofs.Common.{◌≡◌, ℕ, ◌+◌, ◌*◌, ◌<◌, ◌≤�
 use Rattle.std.proofs.Math.Nat.{le-mul_of_pos_right}
 use Rattle.std.proofs.lemmas.Bool.{lt-leb}
 use Rattle.std.proofs.lemmas.List.{drop_more}
-use Rattle.dae_token.specs.Constants.{digit, value_from, limited}
+use Rattle.dae_tree.specs.Constants.{digit, value_from, limited}
 
 at_least : (base n : ℕ) → 0 < base → n ≤ n * base
 at_least base n h = le-mul_of_pos_right n h

@@ -1,6 +1,8 @@
+//! Tests on bytes, and bytes past the end.
+
 ghost use Rattle.std.specs.Prelude.{◌≡◌, drop, slice_index};
-ghost use Rattle.dae_token.specs.Literals.{is_nowhere, is_trigraph};
-ghost use Rattle.dae_token.specs.Forms.{is_letter, is_word, is_blank};
+ghost use Rattle.dae_tree.specs.Literals.{is_nowhere, is_trigraph};
+ghost use Rattle.dae_tree.specs.Forms.{is_letter, is_word, is_blank};
 
 pub fn is_letter_byte(b: u8) -> bool
     ensures { result ≡ is_letter b }

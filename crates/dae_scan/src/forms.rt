@@ -1,6 +1,8 @@
+//! What stands at the front of some bytes: a word, a number, a literal, a comment, a sign, or a fault.
+
 ghost use Rattle.std.specs.Prelude.{◌≡◌, ◌≤◌, ◌<◌, ◌+◌, length, false, slice_index, IfSome, IsTrue};
 ghost use Rattle.std.specs.List.{prefix_len};
-ghost use Rattle.dae_token.specs.Forms.{is_letter, is_word, begins_number, number_rest, literal_stop, front_nowhere, closes_comment, ends_line, place_of, plain, wrong, wrong_comment, word_form, number_form, literal_fault, literal_kind, literal_form, comment_form, line_comment_form, sign_form, form, IsWithin};
+ghost use Rattle.dae_tree.specs.Forms.{is_letter, is_word, begins_number, number_rest, literal_stop, front_nowhere, closes_comment, ends_line, place_of, plain, wrong, wrong_comment, word_form, number_form, literal_fault, literal_kind, literal_form, comment_form, line_comment_form, sign_form, form, IsWithin};
 
 use crate::bytes::{
     begins_trigraph, byte_at, is_blank_byte, is_letter_byte, is_nowhere_byte, is_word_byte,
@@ -8,7 +10,7 @@ use crate::bytes::{
 use crate::literals::{first_fault, first_value, values_length};
 use crate::numbers::number_kind;
 use crate::tables::sign_at;
-use dae_token::{Constant, Construct, Fault, Form, PieceKind};
+use dae_tree::{Constant, Construct, Fault, Form, PieceKind};
 
 fn plain_form(kind: PieceKind, length: usize) -> Form
     ensures { result ≡ plain kind length }
@@ -123,7 +125,7 @@ fn comment_close(bytes: &[u8]) -> usize
     bytes.len()
 }
 
-#[tactic(auto, unfolding(dae_token::specs::Forms::word_form))]
+#[tactic(auto, unfolding(dae_tree::specs::Forms::word_form))]
 fn word_at(bytes: &[u8]) -> Form
     requires { IsTrue (is_letter (slice_index bytes.now 0)) }
     ensures value { result ≡ word_form bytes.now }
@@ -139,7 +141,7 @@ fn word_at(bytes: &[u8]) -> Form
     plain_form(PieceKind::Word, length)
 }
 
-#[tactic(auto, unfolding(dae_token::specs::Forms::number_form))]
+#[tactic(auto, unfolding(dae_tree::specs::Forms::number_form))]
 fn number_at(bytes: &[u8]) -> Form
     requires { IsTrue (begins_number bytes.now) }
     ensures value { result ≡ number_form bytes.now }
@@ -176,7 +178,7 @@ fn kind_inside(quote: u8, inside: &[u8]) -> PieceKind
     }
 }
 
-#[tactic(auto, unfolding(dae_token::specs::Forms::literal_form))]
+#[tactic(auto, unfolding(dae_tree::specs::Forms::literal_form))]
 fn literal_at(bytes: &[u8]) -> Form
     requires some { 0 < length bytes.now }
     requires quote { 0 < slice_index bytes.now 0 }
@@ -195,7 +197,7 @@ fn literal_at(bytes: &[u8]) -> Form
     }
 }
 
-#[tactic(auto, unfolding(dae_token::specs::Forms::comment_form))]
+#[tactic(auto, unfolding(dae_tree::specs::Forms::comment_form))]
 fn comment_at(bytes: &[u8]) -> Form
     requires { 2 ≤ length bytes.now }
     ensures value { result ≡ comment_form bytes.now }
@@ -212,7 +214,7 @@ fn comment_at(bytes: &[u8]) -> Form
     plain_form(PieceKind::Blank, close + 4)
 }
 
-#[tactic(auto, unfolding(dae_token::specs::Forms::line_comment_form))]
+#[tactic(auto, unfolding(dae_tree::specs::Forms::line_comment_form))]
 fn line_comment_at(bytes: &[u8]) -> Form
     requires { 0 < place_of ends_line bytes.now }
     ensures value { result ≡ line_comment_form bytes.now }
@@ -226,7 +228,7 @@ fn line_comment_at(bytes: &[u8]) -> Form
     plain_form(PieceKind::Blank, end)
 }
 
-#[tactic(auto, unfolding(dae_token::specs::Forms::sign_form))]
+#[tactic(auto, unfolding(dae_tree::specs::Forms::sign_form))]
 fn sign_or_fault(bytes: &[u8]) -> Form
     requires { 0 < length bytes.now }
     ensures value { result ≡ sign_form bytes.now }
@@ -240,7 +242,7 @@ fn sign_or_fault(bytes: &[u8]) -> Form
 
 /// What stands at the front of the bytes: its kind and length, at least one byte. A fault takes all the bytes, and says
 /// how far on it stands.
-#[tactic(auto, unfolding(dae_token::specs::Forms::form))]
+#[tactic(auto, unfolding(dae_tree::specs::Forms::form))]
 pub fn form_at(bytes: &[u8]) -> Form
     requires { 0 < length bytes.now }
     ensures value { result ≡ form bytes.now }

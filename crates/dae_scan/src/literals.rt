@@ -1,10 +1,12 @@
+//! The bytes that the inside of a literal spells, and the first fault in it.
+
 ghost use Rattle.std.specs.Prelude.{◌≡◌, ◌≤◌, ◌<◌, ◌++◌, length, IfSome, OnOk, slice_index};
-ghost use Rattle.dae_token.specs.Constants.{value_from, limited};
-ghost use Rattle.dae_token.specs.Literals.{letter_in, letter_of, escape_of, unit_of, values_of, checked, fault_from};
+ghost use Rattle.dae_tree.specs.Constants.{value_from, limited};
+ghost use Rattle.dae_tree.specs.Literals.{letter_in, letter_of, escape_of, unit_of, values_of, checked, fault_from};
 
 use crate::bytes::{begins_trigraph, byte_at, bytes_from, is_nowhere_byte};
 use crate::numbers::{digits_length, value_of};
-use dae_token::{Construct, ESCAPES, Fault};
+use dae_tree::{Construct, ESCAPES, Fault};
 use std::alloc::AllocError;
 
 fn find_letter(rows: &[(u8, u8)], b: u8) -> Option<u8>
@@ -18,7 +20,7 @@ fn find_letter(rows: &[(u8, u8)], b: u8) -> Option<u8>
     None
 }
 
-#[tactic(auto, unfolding(dae_token::specs::Literals::letter_of))]
+#[tactic(auto, unfolding(dae_tree::specs::Literals::letter_of))]
 fn letter_at(b: u8) -> Option<u8>
     ensures { result ≡ letter_of b }
 {
@@ -37,7 +39,7 @@ fn small_value(base: u8, digits: &[u8]) -> Option<u8>
 }
 
 /// An escape, with its backslash at the front: the byte that it stands for, none where it is bad, and its length.
-#[tactic(auto, unfolding(dae_token::specs::Literals::escape_of))]
+#[tactic(auto, unfolding(dae_tree::specs::Literals::escape_of))]
 fn escape_at(bytes: &[u8]) -> (Option<u8>, usize)
     ensures value { result ≡ escape_of bytes.now }
     ensures some { 0 < result.1 }

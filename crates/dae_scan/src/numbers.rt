@@ -1,12 +1,14 @@
+//! What a number spells: its base, digits and suffix.
+
 ghost use Rattle.std.specs.Prelude.{◌≡◌, ◌≤◌, ◌<◌, length, slice_index, ◌==◌};
 ghost use Rattle.std.specs.List.{prefix_len, list_any};
 ghost use Rattle.std.specs.Char.{is_ascii_digit};
-ghost use Rattle.dae_token.specs.Constants.{digit, is_digit_in, value_from, limited, is_hex, is_plus_or_minus, begins_exponent, is_float, base_of, constant_of};
-ghost use Rattle.dae_token.specs.Forms.{number_kind};
+ghost use Rattle.dae_tree.specs.Constants.{digit, is_digit_in, value_from, limited, is_hex, is_plus_or_minus, begins_exponent, is_float, base_of, constant_of};
+ghost use Rattle.dae_tree.specs.Forms.{number_kind};
 
 use crate::bytes::byte_at;
 use crate::tables::find_suffix;
-use dae_token::{Constant, Construct, PieceKind};
+use dae_tree::{Constant, Construct, PieceKind};
 
 /// What a byte counts as a digit, and 99 for one that is none.
 fn digit_of(b: u8) -> u8
@@ -110,7 +112,7 @@ fn base_at(bytes: &[u8]) -> (u8, usize)
 }
 
 /// The constant that is spelled so, or by what name the number is refused.
-#[tactic(auto, unfolding(dae_token::specs::Constants::constant_of))]
+#[tactic(auto, unfolding(dae_tree::specs::Constants::constant_of))]
 pub fn read_constant(bytes: &[u8]) -> Result<Constant, Construct>
     ensures { result ≡ constant_of bytes.now }
 {
@@ -136,7 +138,7 @@ pub fn read_constant(bytes: &[u8]) -> Result<Constant, Construct>
 }
 
 /// What the piece is that a number's spelling makes: a constant, or one that is refused if it is left as a token.
-#[tactic(auto, unfolding(dae_token::specs::Forms::number_kind))]
+#[tactic(auto, unfolding(dae_tree::specs::Forms::number_kind))]
 pub fn number_kind(bytes: &[u8]) -> PieceKind
     ensures { result ≡ number_kind bytes.now }
 {

@@ -1,7 +1,10 @@
-ghost use Rattle.std.specs.Prelude.{◌≡◌, ◌≤◌, ◌<◌, length, IfSome};
-ghost use Rattle.dae_token.specs.Tables.{first_row, row_of, rows_of, sign_of, keyword_of, refused_word, header_of, suffix_of};
+//! Look-ups in the tables of signs, keywords, headers and suffixes.
 
-use dae_token::{
+ghost use Rattle.std.specs.Prelude.{◌≡◌, ◌≤◌, ◌<◌, length, map, IfSome};
+ghost use Rattle.dae_tree.specs.declared.signs.TheConstants.{SIGNS};
+ghost use Rattle.dae_tree.specs.Tables.{first_row, row_of, rows_of, IsLongestRow, sign_of, keyword_of, refused_word, header_of, suffix_of};
+
+use dae_tree::{
     Construct, HEADERS, Header, KEYWORDS, Keyword, PieceKind, REFUSED_WORDS, SIGNS, SUFFIXES,
 };
 
@@ -31,16 +34,17 @@ fn exact_row<T: Copy>(rows: &[(&[u8], T)], name: &[u8]) -> Option<T>
 }
 
 /// The longest sign at the front, and its length.
-#[tactic(auto, unfolding(dae_token::specs::Tables::sign_of))]
+#[tactic(auto, unfolding(dae_tree::specs::Tables::sign_of))]
 pub fn sign_at(bytes: &[u8]) -> Option<(usize, PieceKind)>
     ensures value { result ≡ sign_of bytes.now }
     ensures within { IfSome result (λ found. (0 < found.0) × (found.0 ≤ length bytes.now)) }
+    ensures longest { IfSome result (λ found. IsLongestRow (map (λ r. (r.0.now, r.1)) SIGNS) bytes.now found.0) }
 {
     find_row(&SIGNS, bytes)
 }
 
 /// The keyword that is spelled so.
-#[tactic(auto, unfolding(dae_token::specs::Tables::keyword_of))]
+#[tactic(auto, unfolding(dae_tree::specs::Tables::keyword_of))]
 pub fn find_keyword(word: &[u8]) -> Option<Keyword>
     ensures { result ≡ keyword_of word.now }
 {
@@ -48,7 +52,7 @@ pub fn find_keyword(word: &[u8]) -> Option<Keyword>
 }
 
 /// By what name a word is refused.
-#[tactic(auto, unfolding(dae_token::specs::Tables::refused_word))]
+#[tactic(auto, unfolding(dae_tree::specs::Tables::refused_word))]
 pub fn find_refused_word(word: &[u8]) -> Option<Construct>
     ensures { result ≡ refused_word word.now }
 {
@@ -56,7 +60,7 @@ pub fn find_refused_word(word: &[u8]) -> Option<Construct>
 }
 
 /// The header with this name.
-#[tactic(auto, unfolding(dae_token::specs::Tables::header_of))]
+#[tactic(auto, unfolding(dae_tree::specs::Tables::header_of))]
 pub fn find_header(name: &[u8]) -> Option<Header>
     ensures { result ≡ header_of name.now }
 {
@@ -64,7 +68,7 @@ pub fn find_header(name: &[u8]) -> Option<Header>
 }
 
 /// Whether a suffix makes a constant unsigned, and None for what is no suffix.
-#[tactic(auto, unfolding(dae_token::specs::Tables::suffix_of))]
+#[tactic(auto, unfolding(dae_tree::specs::Tables::suffix_of))]
 pub fn find_suffix(suffix: &[u8]) -> Option<bool>
     ensures { result ≡ suffix_of suffix.now }
 {

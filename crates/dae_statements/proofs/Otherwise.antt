@@ -1,12 +1,12 @@
 -- Where the machine goes by the token that stands next, where that is none of those that it looks for.
 use Rattle.std.proofs.Common.{◌≡◌, List, [], ◌∷◌, Some, None, refl}
 use Rattle.dae_base.specs.declared.Place.{Place}
-use Rattle.dae_token.specs.declared.words.Keyword.{Keyword}
-use Rattle.dae_token.specs.declared.words.Keyword.TheVariants as keywords
-use Rattle.dae_token.specs.declared.signs.Sign.TheVariants as signs
-use Rattle.dae_syntax.specs.Marks.{Mark, word, sign, part, close_brace, else_word, word_mark}
-use Rattle.dae_syntax.specs.Names.{Names}
-use Rattle.dae_syntax.specs.Trees.{Expression, Statement, If}
+use Rattle.dae_tree.specs.declared.words.Keyword.{Keyword}
+use Rattle.dae_tree.specs.declared.words.Keyword.TheVariants as keywords
+use Rattle.dae_tree.specs.declared.signs.Sign.TheVariants as signs
+use Rattle.dae_tree.specs.Marks.{Mark, word, sign, part, close_brace, else_word, word_mark}
+use Rattle.dae_tree.specs.Names.{Names}
+use Rattle.dae_tree.specs.Trees.{Expression, Statement, If}
 use Rattle.dae_grammar.specs.Frames.{Inside, Frame, state, stating, in_statements, in_return, seek, gave_statement}
 use Rattle.dae_grammar.specs.Machine.{block_followed, stated, evaluation_begun, returned, branched, done_followed}
 use Rattle.dae_front.specs.Fronts.{sign_at, word_at}

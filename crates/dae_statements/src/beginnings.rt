@@ -1,24 +1,23 @@
 ghost use Rattle.std.specs.Prelude.{◌≡◌, ◌∷◌, List, Option, Some, IfOk};
-ghost use Rattle.dae_syntax.specs.Marks.{word_mark};
-ghost use Rattle.dae_syntax.specs.Trees.{Expression, Statement as StatementTree};
+ghost use Rattle.dae_tree.specs.Marks.{word_mark};
+ghost use Rattle.dae_tree.specs.Trees.{Expression, Statement as StatementTree};
 ghost use Rattle.dae_grammar.specs.Frames as plain;
 ghost use Rattle.dae_grammar.specs.Frames.{Frame as PlainFrame};
 ghost use Rattle.dae_grammar.specs.Machine.{step_at, block_begun, block_followed, stated, started, loop_tested, stepped, returned, evaluation_begun};
 ghost use Rattle.dae_front.specs.Fronts.{behind};
-ghost use Rattle.dae_parts.specs.Parts.{ShowsOperand, ShowsOptional, ShowsLoop, ShowsStatement, ShowsStatements};
+ghost use Rattle.dae_nodes.specs.Parts.{ShowsOperand, ShowsOptional, ShowsLoop, ShowsStatement, ShowsStatements};
 ghost use Rattle.dae_frames.specs.Frames.{ShowsHead, ShowsInside};
 ghost use Rattle.dae_frames.specs.States.{Stands, Follows, outside_stack, frames_of};
 
 use dae_base::Place;
-use dae_bodies::{
+use dae_nodes::{
     block, break_statement, continue_statement, do_statement, empty_statement, return_statement,
 };
 use dae_frames::{Doing, Frame, Head, Inside, Machine};
 use dae_front::{Seen, begins_specifiers};
 use dae_nodes::no_specifiers;
-use dae_parts::{Loop, Operand, Read, no_declarations, no_statements};
-use dae_syntax::Statement;
-use dae_token::{Keyword, Sign};
+use dae_nodes::{Loop, Operand, Read, no_declarations, no_statements};
+use dae_tree::{Keyword, Sign, Statement};
 use std::alloc::AllocError;
 
 /// In a block, before a declaration or the first statement (C90 6.6.2).

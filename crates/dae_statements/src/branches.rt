@@ -1,21 +1,20 @@
 ghost use Rattle.std.specs.Prelude.{◌∷◌, List, Option, IfOk};
-ghost use Rattle.dae_syntax.specs.Trees.{Expression, Statement as StatementTree};
+ghost use Rattle.dae_tree.specs.Trees.{Expression, Statement as StatementTree};
 ghost use Rattle.dae_grammar.specs.Frames as plain;
 ghost use Rattle.dae_grammar.specs.Frames.{Frame as PlainFrame};
 ghost use Rattle.dae_grammar.specs.Machine.{statement_given};
-ghost use Rattle.dae_parts.specs.Parts.{ShowsOperand, ShowsOptional, ShowsLoop, ShowsStatement, ShowsStatements};
+ghost use Rattle.dae_nodes.specs.Parts.{ShowsOperand, ShowsOptional, ShowsLoop, ShowsStatement, ShowsStatements};
 ghost use Rattle.dae_frames.specs.Frames.{ShowsInside};
 ghost use Rattle.dae_frames.specs.States.{Stands, Follows, outside_stack};
 
 use dae_base::Place;
-use dae_bodies::{
+use dae_nodes::{
     case_statement, default_statement, for_statement, if_else_statement, if_statement,
     switch_statement, while_statement, with_statement,
 };
 use dae_frames::{Doing, Frame, Head, Inside, Machine};
-use dae_parts::{Loop, Operand, Read};
-use dae_syntax::Statement;
-use dae_token::Keyword;
+use dae_nodes::{Loop, Operand, Read};
+use dae_tree::{Keyword, Statement};
 use std::alloc::AllocError;
 
 /// Behind the first branch of an `if` (C90 6.6.4.1).

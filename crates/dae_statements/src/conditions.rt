@@ -1,17 +1,17 @@
 ghost use Rattle.std.specs.Prelude.{List, Option, IfOk};
-ghost use Rattle.dae_syntax.specs.Trees.{Expression};
+ghost use Rattle.dae_tree.specs.Trees.{Expression};
 ghost use Rattle.dae_grammar.specs.Frames as plain;
 ghost use Rattle.dae_grammar.specs.Frames.{Frame as PlainFrame};
 ghost use Rattle.dae_grammar.specs.Machine.{expression_given};
-ghost use Rattle.dae_parts.specs.Parts.{ShowsOperand, ShowsOptional, ShowsLoop};
+ghost use Rattle.dae_nodes.specs.Parts.{ShowsOperand, ShowsOptional, ShowsLoop};
 ghost use Rattle.dae_frames.specs.Frames.{ShowsHead};
 ghost use Rattle.dae_frames.specs.States.{Stands, Follows, outside_stack};
 
 use dae_base::Place;
-use dae_bodies::{evaluation, return_statement};
+use dae_nodes::{evaluation, return_statement};
 use dae_frames::{Doing, Frame, Head, Machine};
-use dae_parts::{Loop, Operand};
-use dae_token::Sign;
+use dae_nodes::{Loop, Operand};
+use dae_tree::Sign;
 use std::alloc::AllocError;
 
 /// Behind the expression of a statement (C90 6.6.3).

@@ -9,10 +9,10 @@ use Rattle.dae_base.specs.declared.Width.TheVariants.{B4}
 use Rattle.dae_base.specs.declared.Depths.{Depths}
 use Rattle.dae_encode.specs.declared.Inst.{Inst}
 use Rattle.dae_encode.specs.Processor.{is_within}
-use Rattle.dae_tree.specs.declared.Factor.{Factor}
-use Rattle.dae_tree.specs.declared.Factor.TheVariants.{Constant, Object}
-use Rattle.dae_tree.specs.Form.{IsFactorOf}
-use Rattle.dae_tree.specs.Straight.{address_of}
+use Rattle.dae_straight.specs.declared.Factor.{Factor}
+use Rattle.dae_straight.specs.declared.Factor.TheVariants.{Constant, Object}
+use Rattle.dae_straight.specs.Form.{IsFactorOf}
+use Rattle.dae_straight.specs.Straight.{address_of}
 use Rattle.dae_base.specs.declared.LoadKind.TheVariants.{I32}
 use Rattle.dae_queues.specs.declared.Slot.{Slot}
 use Rattle.dae_queues.specs.Lists.{Slots, Stores, with_address, new_slot}

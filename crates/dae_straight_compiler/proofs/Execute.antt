@@ -8,10 +8,10 @@ use Rattle.dae_base.specs.declared.LoadKind.TheVariants.{I32}
 use Rattle.dae_base.specs.declared.Depths.{Depths}
 use Rattle.dae_encode.specs.declared.Inst.{Inst}
 use Rattle.dae_encode.specs.declared.Inst.TheVariants.{Lui, Addi, Add, Sub, Mul}
-use Rattle.dae_tree.specs.declared.Factor.{Factor}
-use Rattle.dae_tree.specs.declared.Factor.TheVariants.{Constant, Object}
-use Rattle.dae_tree.specs.Form.{IsFactorOf}
-use Rattle.dae_tree.specs.Straight.{address_of}
+use Rattle.dae_straight.specs.declared.Factor.{Factor}
+use Rattle.dae_straight.specs.declared.Factor.TheVariants.{Constant, Object}
+use Rattle.dae_straight.specs.Form.{IsFactorOf}
+use Rattle.dae_straight.specs.Straight.{address_of}
 use Rattle.dae_queues.specs.Lists.{Stores}
 use Rattle.dae_straight_compiler.specs.declared.Step.{Step}
 use Rattle.dae_straight_compiler.specs.declared.Step.TheVariants.{Clear, Begin, Times, AddTerm, SubtractTerm}

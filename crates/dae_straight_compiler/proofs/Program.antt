@@ -9,7 +9,7 @@ use Rattle.dae_base.specs.declared.Depths.{Depths}
 use Rattle.dae_encode.specs.declared.Inst.TheVariants.{Ecall}
 use Rattle.dae_encode.specs.declared.Halt.TheVariants.{Plain, Status}
 use Rattle.dae_encode.specs.Processor.{Processor, request}
-use Rattle.dae_tree.specs.Straight.{address_of}
+use Rattle.dae_straight.specs.Straight.{address_of}
 use Rattle.dae_machine.specs.declared.Pick.{Pick}
 use Rattle.dae_machine.specs.declared.Pick.TheVariants.{A as MoveA, E as MoveE, Fill, Drain}
 use Rattle.dae_machine.specs.Machine.{Setup, State, step, Runs, IsQuiet, IsFinal}

@@ -7,9 +7,9 @@ use Rattle.std.proofs.lemmas.Bool.Decides.{nat_tests}
 use Rattle.dae_base.specs.Words.{word, signed}
 use Rattle.dae_encode.specs.declared.Inst.TheVariants.{Lui, Lw, Sw, Addi, Add, Sub, Mul, Ecall}
 use Rattle.dae_encode.specs.Spelling.{InRange, layout, IsSigned}
-use Rattle.dae_tree.specs.declared.Factor.{Factor}
-use Rattle.dae_tree.specs.declared.Factor.TheVariants.{Constant, Object}
-use Rattle.dae_tree.specs.Straight.{address_of}
+use Rattle.dae_straight.specs.declared.Factor.{Factor}
+use Rattle.dae_straight.specs.declared.Factor.TheVariants.{Constant, Object}
+use Rattle.dae_straight.specs.Straight.{address_of}
 use Rattle.dae_straight_compiler.specs.declared.Step.{Step}
 use Rattle.dae_straight_compiler.specs.declared.Step.TheVariants.{Clear, Begin, Times, AddTerm, SubtractTerm}
 use Rattle.dae_straight_compiler.specs.declared.Ending.{Ending}

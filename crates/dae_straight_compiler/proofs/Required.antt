@@ -7,13 +7,13 @@ use Rattle.dae_base.specs.declared.Depths.{Depths}
 use Rattle.dae_encode.specs.declared.Inst.{Inst}
 use Rattle.dae_encode.specs.Spelling.{encoded}
 use Rattle.dae_image.specs.Contents.{Contents, Fits}
-use Rattle.dae_tree.specs.declared.Factor.{Factor}
-use Rattle.dae_tree.specs.declared.Factor.TheVariants.{Constant, Object}
-use Rattle.dae_tree.specs.declared.Statement.{Statement}
-use Rattle.dae_tree.specs.declared.Statement.TheVariants.{Assign, PrintLine as Line}
-use Rattle.dae_tree.specs.declared.StraightProgram.{StraightProgram}
-use Rattle.dae_tree.specs.Form.{IsFactorOf, IsStraight, statement_words, statements_words, declarations_words, head_words, tail_words, program_words}
-use Rattle.dae_tree.specs.Straight.{literals, data_of}
+use Rattle.dae_straight.specs.declared.Factor.{Factor}
+use Rattle.dae_straight.specs.declared.Factor.TheVariants.{Constant, Object}
+use Rattle.dae_straight.specs.declared.Statement.{Statement}
+use Rattle.dae_straight.specs.declared.Statement.TheVariants.{Assign, PrintLine as Line}
+use Rattle.dae_straight.specs.declared.StraightProgram.{StraightProgram}
+use Rattle.dae_straight.specs.Form.{IsFactorOf, IsStraight, statements_size}
+use Rattle.dae_straight.specs.Straight.{literals, data_of}
 use Rattle.dae_straight_compiler.specs.declared.Step.{Step}
 use Rattle.dae_straight_compiler.specs.declared.Step.TheVariants.{Clear, Begin, Times, AddTerm, SubtractTerm}
 use Rattle.dae_straight_compiler.specs.declared.Ending.{Ending}
@@ -25,20 +25,12 @@ use Rattle.dae_straight_compiler.specs.Order.{rounds_loads}
 use Rattle.dae_straight_compiler.specs.Budget.{most_names, assigns, budget_of}
 use Rattle.dae_straight_compiler.proofs.Program.{IsRoundOf, halting}
 use Rattle.dae_straight_compiler.proofs.Statements.{all-append}
-use Rattle.dae_straight_compiler.proofs.Sizes.{program_bounded, names_few, access_code-append, execute_code-append}
+use Rattle.dae_straight_compiler.proofs.Sizes.{program_bounded, access_code-append, execute_code-append}
 use Rattle.dae_straight_compiler.proofs.Bytes.{append_bytes, zero_bytes}
 use Rattle.dae_straight_compiler.proofs.Whole.{statements_good, literals_bytes}
 
-pub words_of_parts : (p : StraightProgram) → length (program_words p) ≡ 3 * length p.names + (6 + (length (statements_words p.names p.statements) + 4))
-words_of_parts p =
-    let n = names_few p.names in
-    let w0 = length-append (declarations_words p.names) (head_words ++ (statements_words p.names p.statements ++ tail_words)) in
-    let w1 = length-append head_words (statements_words p.names p.statements ++ tail_words) in
-    let w2 = length-append (statements_words p.names p.statements) tail_words in
-    omega arith
-
-pub names_small : (p : StraightProgram) → IsStraight p → 3 * length p.names ≤ 8192
-names_small p straight = let w = words_of_parts p in let f = straight.few_tokens in omega arith
+pub objects_few : (p : StraightProgram) → IsStraight p → 3 * p.objects ≤ 8192
+objects_few p straight = let f = straight.small in omega arith
 
 -- ---- the rounds are over few objects
 
@@ -71,27 +63,21 @@ rounds_are_over n m loads stores (r ∷ rs) h all =
 
 pub rounds_over : (p : StraightProgram) → IsStraight p → AllByRecursion (IsRoundOver (2 ^ 20)) (program_rounds p)
 rounds_over p straight =
-    let few = names_small p straight in
+    let few = objects_few p straight in
     all-append (IsRoundOver (2 ^ 20)) (statements_rounds p.statements) (halting ∷ [])
-    (rounds_are_over (length p.names) (2 ^ 20) (min (most_names p.statements) 4) (assigns p.statements) (statements_rounds p.statements) (omega arith)
-    (statements_good (length p.names) (most_names p.statements) (assigns p.statements) p.statements straight.statements (omega arith) (omega arith)))
+    (rounds_are_over (p.objects) (2 ^ 20) (min (most_names p.statements) 4) (assigns p.statements) (statements_rounds p.statements) (omega arith)
+    (statements_good (p.objects) (most_names p.statements) (assigns p.statements) p.statements straight.statements (omega arith) (omega arith)))
     (record { work = tt; ending = tt }, tt)
 
 pub loads_few : (p : StraightProgram) → IsStraight p → rounds_loads (program_rounds p) < 2 ^ 64
-loads_few p straight = let b = program_bounded p in let l = b.loads in let f = straight.few_tokens in omega arith
+loads_few p straight = let b = program_bounded p in let l = b.loads in let f = straight.small in omega arith
 
 -- ---- the image's fields are in range
 
-literals_few : (names : List (List ℕ)) (ss : List Statement) → length (literals ss) ≤ length (statements_words names ss)
-literals_few names [] = omega arith
-literals_few names (Assign k sum ∷ ss) =
-    let h = literals_few names ss in
-    let l = length-append (statement_words names (Assign k sum)) (statements_words names ss) in
-    omega arith
-literals_few names (Line sum ∷ ss) =
-    let h = literals_few names ss in
-    let l = length-append (statement_words names (Line sum)) (statements_words names ss) in
-    omega arith
+literals_few : (ss : List Statement) → length (literals ss) ≤ statements_size ss
+literals_few [] = omega arith
+literals_few (Assign k sum ∷ ss) = let h = literals_few ss in omega arith
+literals_few (Line sum ∷ ss) = let h = literals_few ss in omega arith
 
 zeros_long : (n : ℕ) → length {A = ℕ} (replicate n 0) ≡ n
 zeros_long zero = refl
@@ -99,11 +85,10 @@ zeros_long (suc n) = ap suc (zeros_long n)
 
 content_small : (p : StraightProgram) → IsStraight p → length (data_of p) ≤ 65536
 content_small p straight =
-    let w = words_of_parts p in
-    let f = straight.few_tokens in
-    let l = literals_few p.names p.statements in
-    let r = zeros_long (4 * length p.names) in
-    let a = length-append (replicate (4 * length p.names) 0) (literals p.statements) in
+    let f = straight.small in
+    let l = literals_few p.statements in
+    let r = zeros_long (4 * p.objects) in
+    let a = length-append (replicate (4 * p.objects) 0) (literals p.statements) in
     omega arith
 
 assigns_at_most_one : (ss : List Statement) → assigns ss ≤ 1
@@ -174,11 +159,11 @@ execute_some rs = let e : length (execute_code (rs ++ halting ∷ [])) ≡ lengt
 pub contents_fit : (p : StraightProgram) (budget : Depths) (code_a code_e content : List ℕ) → IsStraight p → budget ≡ budget_of p.statements → code_a ≡ map encoded (access_code (program_rounds p)) → code_e ≡ map encoded (execute_code (program_rounds p)) → content ≡ data_of p → All (λ w. w < 2 ^ 32) code_a → All (λ w. w < 2 ^ 32) code_e → Fits (contents_of budget code_a code_e content)
 contents_fit p budget code_a code_e content straight is_budget is_a is_e is_content words_a words_e =
     let b = program_bounded p in
-    let f = straight.few_tokens in
+    let f = straight.small in
     let la : length code_a ≡ length (access_code (program_rounds p)) = ap length is_a ∙ encoded_long (access_code (program_rounds p)) in
     let le : length code_e ≡ length (execute_code (program_rounds p)) = ap length is_e ∙ encoded_long (execute_code (program_rounds p)) in
     let sa = access_some (statements_rounds p.statements) in
     let se = execute_some (statements_rounds p.statements) in
     let a = b.access in let e = b.execute in
-    let data_bytes : All (λ (x : ℕ). x < 256) (data_of p) = All-from_recursion (λ (x : ℕ). x < 256) (data_of p) (append_bytes (replicate (4 * length p.names) 0) (literals p.statements) (zero_bytes (4 * length p.names)) (literals_bytes p.statements)) in
+    let data_bytes : All (λ (x : ℕ). x < 256) (data_of p) = All-from_recursion (λ (x : ℕ). x < 256) (data_of p) (append_bytes (replicate (4 * p.objects) 0) (literals p.statements) (zero_bytes (4 * p.objects)) (literals_bytes p.statements)) in
     rw (is_budget, is_content) (fits_from p code_a code_e straight (omega arith) (omega arith) (omega arith) (omega arith) words_a words_e data_bytes)

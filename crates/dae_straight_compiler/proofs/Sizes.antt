@@ -1,17 +1,17 @@
--- The code of a straight program is bounded by its words.
+-- The code of a straight program is bounded by its size.
 use Rattle.std.proofs.Common.{◌≡◌, ℕ, zero, suc, ◌+◌, ◌*◌, ◌≤◌, Bool, true, false, List, [], ◌∷◌, ◌++◌, length, refl, ap, sym, ◌∙◌, append_assoc, append-nil, length-append, add-zero, zero-add, arith}
 use Rattle.std.specs.Prelude.{replicate, nat_lt, if◌then◌else◌}
 use Rattle.dae_encode.specs.declared.Inst.{Inst}
-use Rattle.dae_tree.specs.declared.BinaryOperator.{BinaryOperator}
-use Rattle.dae_tree.specs.declared.BinaryOperator.TheVariants.{Add, Subtract, Multiply}
-use Rattle.dae_tree.specs.declared.Factor.{Factor}
-use Rattle.dae_tree.specs.declared.Factor.TheVariants.{Constant, Object}
-use Rattle.dae_tree.specs.declared.Link.{Link}
-use Rattle.dae_tree.specs.declared.Sum.{Sum}
-use Rattle.dae_tree.specs.declared.Statement.{Statement}
-use Rattle.dae_tree.specs.declared.Statement.TheVariants.{Assign, PrintLine as Line}
-use Rattle.dae_tree.specs.declared.StraightProgram.{StraightProgram}
-use Rattle.dae_tree.specs.Form.{link_words, sum_words, statement_words, statements_words, declarations_words, head_words, tail_words, program_words}
+use Rattle.dae_straight.specs.declared.BinaryOperator.{BinaryOperator}
+use Rattle.dae_straight.specs.declared.BinaryOperator.TheVariants.{Add, Subtract, Multiply}
+use Rattle.dae_straight.specs.declared.Factor.{Factor}
+use Rattle.dae_straight.specs.declared.Factor.TheVariants.{Constant, Object}
+use Rattle.dae_straight.specs.declared.Link.{Link}
+use Rattle.dae_straight.specs.declared.Sum.{Sum}
+use Rattle.dae_straight.specs.declared.Statement.{Statement}
+use Rattle.dae_straight.specs.declared.Statement.TheVariants.{Assign, PrintLine as Line}
+use Rattle.dae_straight.specs.declared.StraightProgram.{StraightProgram}
+use Rattle.dae_straight.specs.Form.{sum_size, statement_size, statements_size, program_size}
 use Rattle.dae_straight_compiler.specs.declared.Step.{Step}
 use Rattle.dae_straight_compiler.specs.declared.Step.TheVariants.{Clear, Begin, Times, AddTerm, SubtractTerm}
 use Rattle.dae_straight_compiler.specs.declared.Ending.{Ending}
@@ -107,70 +107,59 @@ link_small Multiply factor pending = omega arith
 link_small Add factor pending = omega arith
 link_small Subtract factor pending = omega arith
 
-links_small : (names : List (List ℕ)) (links : List Link) (pending : Step) → length (link_steps pending links) ≤ length (link_words names links) + 1
-links_small names [] pending = omega arith
-links_small names (link ∷ links) pending =
+links_small : (links : List Link) (pending : Step) → length (link_steps pending links) ≤ 2 * length links + 1
+links_small [] pending = omega arith
+links_small (link ∷ links) pending =
     let one = link_small link.operator link.factor pending in
-    let more = links_small names links (pending_after link.operator pending) in
+    let more = links_small links (pending_after link.operator pending) in
     let l = length-append (step_of_link link.operator link.factor pending) (link_steps (pending_after link.operator pending) links) in
     omega arith
 
-sum_small : (names : List (List ℕ)) (sum : Sum) → length (sum_steps sum) ≤ length (sum_words names sum) + 2
-sum_small names sum = let l = links_small names sum.rest AddTerm in omega arith
+sum_small : (sum : Sum) → length (sum_steps sum) ≤ sum_size sum + 2
+sum_small sum = let l = links_small sum.rest AddTerm in omega arith
 
-pub record Bounded (words : ℕ) (rs : List Round) : Type 0 where
-  pub access : length (access_code rs) ≤ 4 * words
-  pub execute : length (execute_code rs) ≤ 6 * words
-  pub loads : rounds_loads rs ≤ 2 * words
+pub record Bounded (size : ℕ) (rs : List Round) : Type 0 where
+  pub access : length (access_code rs) ≤ 4 * size
+  pub execute : length (execute_code rs) ≤ 6 * size
+  pub loads : rounds_loads rs ≤ 2 * size
 
-statement_bounded : (names : List (List ℕ)) (s : Statement) → Bounded (length (statement_words names s)) (statement_rounds s)
-statement_bounded names (Assign k sum) =
+statement_bounded : (s : Statement) → Bounded (statement_size s) (statement_rounds s)
+statement_bounded (Assign k sum) =
     let same = rounds_same [] 0 (sum_steps sum) (Store k) in
     let a = same.access in let e = same.execute in let l = same.loads in
     let small = steps_small (sum_steps sum) in
     let x = small.0 in let y = small.1 in let z = small.2 in
-    let n = sum_small names sum in
-    let w = length-append (sum_words names sum) ((59 ∷ []) ∷ []) in
+    let n = sum_small sum in
     record { access = omega arith; execute = omega arith; loads = omega arith }
-statement_bounded names (Line sum) =
+statement_bounded (Line sum) =
     let same = rounds_same [] 0 (sum_steps sum) PrintLine in
     let a = same.access in let e = same.execute in let l = same.loads in
     let small = steps_small (sum_steps sum) in
     let x = small.0 in let y = small.1 in let z = small.2 in
-    let n = sum_small names sum in
-    let w = length-append (sum_words names sum) ((41 ∷ []) ∷ ((59 ∷ []) ∷ [])) in
+    let n = sum_small sum in
     record { access = omega arith; execute = omega arith; loads = omega arith }
 
-statements_bounded : (names : List (List ℕ)) (ss : List Statement) → Bounded (length (statements_words names ss)) (statements_rounds ss)
-statements_bounded names [] = record { access = omega arith; execute = omega arith; loads = omega arith }
-statements_bounded names (s ∷ ss) =
-    let one = statement_bounded names s in
-    let more = statements_bounded names ss in
+statements_bounded : (ss : List Statement) → Bounded (statements_size ss) (statements_rounds ss)
+statements_bounded [] = record { access = omega arith; execute = omega arith; loads = omega arith }
+statements_bounded (s ∷ ss) =
+    let one = statement_bounded s in
+    let more = statements_bounded ss in
     let a = one.access in let b = one.execute in let c = one.loads in
     let x = more.access in let y = more.execute in let z = more.loads in
     let la : length (access_code (statement_rounds s ++ statements_rounds ss)) ≡ length (access_code (statement_rounds s)) + length (access_code (statements_rounds ss)) = ap length (access_code-append (statement_rounds s) (statements_rounds ss)) ∙ length-append (access_code (statement_rounds s)) (access_code (statements_rounds ss)) in
     let le : length (execute_code (statement_rounds s ++ statements_rounds ss)) ≡ length (execute_code (statement_rounds s)) + length (execute_code (statements_rounds ss)) = ap length (execute_code-append (statement_rounds s) (statements_rounds ss)) ∙ length-append (execute_code (statement_rounds s)) (execute_code (statements_rounds ss)) in
     let ll = rounds_loads-append (statement_rounds s) (statements_rounds ss) in
-    let w = length-append (statement_words names s) (statements_words names ss) in
     record { access = omega arith; execute = omega arith; loads = omega arith }
 
-pub program_bounded : (p : StraightProgram) → Bounded (length (program_words p)) (program_rounds p)
+pub program_bounded : (p : StraightProgram) → Bounded (program_size p) (program_rounds p)
 program_bounded p =
-    let more = statements_bounded p.names p.statements in
+    let more = statements_bounded p.statements in
     let x = more.access in let y = more.execute in let z = more.loads in
     let last = round_of [] Halt ∷ [] in
     let la : length (access_code (statements_rounds p.statements ++ last)) ≡ length (access_code (statements_rounds p.statements)) + length (access_code last) = ap length (access_code-append (statements_rounds p.statements) last) ∙ length-append (access_code (statements_rounds p.statements)) (access_code last) in
     let le : length (execute_code (statements_rounds p.statements ++ last)) ≡ length (execute_code (statements_rounds p.statements)) + length (execute_code last) = ap length (execute_code-append (statements_rounds p.statements) last) ∙ length-append (execute_code (statements_rounds p.statements)) (execute_code last) in
     let ll = rounds_loads-append (statements_rounds p.statements) last in
-    let w0 = length-append (declarations_words p.names) (head_words ++ (statements_words p.names p.statements ++ tail_words)) in
-    let w1 = length-append head_words (statements_words p.names p.statements ++ tail_words) in
-    let w2 = length-append (statements_words p.names p.statements) tail_words in
     record { access = omega arith; execute = omega arith; loads = omega arith }
-
--- a declaration has three words, and a line that is printed at least seven
-pub names_few : (names : List (List ℕ)) → 3 * length names ≡ length (declarations_words names)
-names_few [] = omega arith
-names_few (name ∷ names) = let h = names_few names in omega arith
 
 -- ---- the canonical order is no longer than the code that it runs
 

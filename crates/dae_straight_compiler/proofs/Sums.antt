@@ -2,15 +2,15 @@
 use Rattle.std.proofs.Common.{◌≡◌, ℕ, ◌*◌, ◌%◌, ◌^◌, ◌<◌, List, [], ◌∷◌, ◌++◌, refl, ap₂, ◌∙◌, arith}
 use Rattle.std.specs.List.{AllByRecursion}
 use Rattle.dae_base.specs.Words.{plus, times, loaded}
-use Rattle.dae_tree.specs.declared.BinaryOperator.{BinaryOperator}
-use Rattle.dae_tree.specs.declared.BinaryOperator.TheVariants.{Add, Subtract, Multiply}
-use Rattle.dae_tree.specs.declared.Factor.{Factor}
-use Rattle.dae_tree.specs.declared.Factor.TheVariants.{Constant as ConstantFactor, Object}
-use Rattle.dae_tree.specs.declared.Link.{Link}
-use Rattle.dae_tree.specs.declared.Sum.{Sum}
-use Rattle.dae_tree.specs.Form.{IsFactorOf, IsSumOf}
-use Rattle.dae_tree.specs.Meaning.{State, Expression, Constant, Read, Binary, Gives, evaluate, applied}
-use Rattle.dae_tree.specs.Straight.{address_of, factor_of, Hand, Alone, After, whole, extended_by, grouped, expression_of}
+use Rattle.dae_straight.specs.declared.BinaryOperator.{BinaryOperator}
+use Rattle.dae_straight.specs.declared.BinaryOperator.TheVariants.{Add, Subtract, Multiply}
+use Rattle.dae_straight.specs.declared.Factor.{Factor}
+use Rattle.dae_straight.specs.declared.Factor.TheVariants.{Constant as ConstantFactor, Object}
+use Rattle.dae_straight.specs.declared.Link.{Link}
+use Rattle.dae_straight.specs.declared.Sum.{Sum}
+use Rattle.dae_straight.specs.Form.{IsFactorOf, IsSumOf}
+use Rattle.dae_straight.specs.Meaning.{State, Expression, Constant, Read, Binary, Gives, evaluate, applied}
+use Rattle.dae_straight.specs.Straight.{address_of, factor_of, Hand, Alone, After, whole, extended_by, grouped, expression_of}
 use Rattle.dae_straight_compiler.specs.declared.Step.{Step}
 use Rattle.dae_straight_compiler.specs.declared.Step.TheVariants.{AddTerm, SubtractTerm}
 use Rattle.dae_straight_compiler.specs.Plan.{step_of_link, pending_after, link_steps, sum_steps}

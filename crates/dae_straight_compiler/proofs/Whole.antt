@@ -12,18 +12,18 @@ use Rattle.dae_machine.specs.declared.Pick.{Pick}
 use Rattle.dae_machine.specs.Machine.{Runs, IsCounted}
 use Rattle.dae_machine.specs.Opened.{setup_of, opened}
 use Rattle.dae_machine.proofs.LawsOfRuns.{can_only_end}
-use Rattle.dae_tree.specs.declared.Factor.{Factor}
-use Rattle.dae_tree.specs.declared.Factor.TheVariants.{Constant, Object}
-use Rattle.dae_tree.specs.declared.BinaryOperator.{BinaryOperator}
-use Rattle.dae_tree.specs.declared.BinaryOperator.TheVariants.{Add, Subtract, Multiply}
-use Rattle.dae_tree.specs.declared.Link.{Link}
-use Rattle.dae_tree.specs.declared.Sum.{Sum}
-use Rattle.dae_tree.specs.declared.Statement.{Statement}
-use Rattle.dae_tree.specs.declared.Statement.TheVariants.{Assign, PrintLine as Line}
-use Rattle.dae_tree.specs.declared.StraightProgram.{StraightProgram}
-use Rattle.dae_tree.specs.Form.{IsStatementOf, IsStraight}
-use Rattle.dae_tree.specs.Meaning as c
-use Rattle.dae_tree.specs.Straight.{literals, data_of, memory_of, meaning}
+use Rattle.dae_straight.specs.declared.Factor.{Factor}
+use Rattle.dae_straight.specs.declared.Factor.TheVariants.{Constant, Object}
+use Rattle.dae_straight.specs.declared.BinaryOperator.{BinaryOperator}
+use Rattle.dae_straight.specs.declared.BinaryOperator.TheVariants.{Add, Subtract, Multiply}
+use Rattle.dae_straight.specs.declared.Link.{Link}
+use Rattle.dae_straight.specs.declared.Sum.{Sum}
+use Rattle.dae_straight.specs.declared.Statement.{Statement}
+use Rattle.dae_straight.specs.declared.Statement.TheVariants.{Assign, PrintLine as Line}
+use Rattle.dae_straight.specs.declared.StraightProgram.{StraightProgram}
+use Rattle.dae_straight.specs.Form.{IsStatementOf, IsStraight}
+use Rattle.dae_straight.specs.Meaning as c
+use Rattle.dae_straight.specs.Straight.{literals, data_of, memory_of, meaning}
 use Rattle.dae_straight_compiler.specs.declared.Step.{Step}
 use Rattle.dae_straight_compiler.specs.declared.Step.TheVariants.{Begin, AddTerm}
 use Rattle.dae_straight_compiler.specs.declared.Ending.TheVariants.{Store, PrintLine}
@@ -72,7 +72,7 @@ literals_bytes (Line sum ∷ ss) = (omega arith, (omega arith, (omega arith, (om
 memory_bytes : (p : StraightProgram) (size : ℕ) → AllBytes (memory_of size (data_of p))
 memory_bytes p size =
     append_bytes (replicate 16 0) _ (zero_bytes 16)
-    (append_bytes (data_of p) _ (append_bytes (replicate (4 * length p.names) 0) (literals p.statements) (zero_bytes (4 * length p.names)) (literals_bytes p.statements))
+    (append_bytes (data_of p) _ (append_bytes (replicate (4 * p.objects) 0) (literals p.statements) (zero_bytes (4 * p.objects)) (literals_bytes p.statements))
     (zero_bytes (size - (16 + length (data_of p)))))
 
 -- ---- the rounds are within the budget
@@ -169,31 +169,31 @@ start p = record { values = zeros; memory = memory_of 1048576 (data_of p); print
 abbrev finish : StraightProgram → Point
 finish p = after_rounds (statements_rounds p.statements) (start p)
 
-finished : (p : StraightProgram) (image : Image) (depths : Depths) → IsStraight p → 3 * length p.names ≤ 8192 → IsImageOf p image → Reaches depths image.budget →
+finished : (p : StraightProgram) (image : Image) (depths : Depths) → IsStraight p → 3 * p.objects ≤ 8192 → IsImageOf p image → Reaches depths image.budget →
     Finished (setup_of image depths) (opened image) (picks_from 0 (program_rounds p)) (finish p).memory (finish p).printed
 finished p image depths straight few is reaches =
     let bounded = program_bounded p in
-    let short = straight.few_tokens in
+    let short = straight.small in
     let a = bounded.access in
     let e = bounded.execute in
-    let lies : Lies (length p.names) (setup_of image depths).memory = record { high = rw is.memory (omega arith); small = rw is.memory (omega arith) } in
+    let lies : Lies (p.objects) (setup_of image depths).memory = record { high = rw is.memory (omega arith); small = rw is.memory (omega arith) } in
     let at_a : CodeAt (setup_of image depths).code_a 0 (access_code (program_rounds p)) = rw is.code_a (code_at (access_code (program_rounds p)) (access_fits (program_rounds p))) in
     let at_e : CodeAt (setup_of image depths).code_e 0 (execute_code (program_rounds p)) = rw is.code_e (code_at (execute_code (program_rounds p)) (execute_fits (program_rounds p))) in
-    rw (opened_is p image is) (rounds_run (setup_of image depths) (length p.names) (min (most_names p.statements) 4) (assigns p.statements) lies (deep_is p image depths is reaches) (statements_rounds p.statements)
-    (statements_good (length p.names) (most_names p.statements) (assigns p.statements) p.statements straight.statements (omega arith) (omega arith))
+    rw (opened_is p image is) (rounds_run (setup_of image depths) (p.objects) (min (most_names p.statements) 4) (assigns p.statements) lies (deep_is p image depths is reaches) (statements_rounds p.statements)
+    (statements_good (p.objects) (most_names p.statements) (assigns p.statements) p.statements straight.statements (omega arith) (omega arith))
     0 0 0 0 0 (start p) 0 (memory_bytes p 1048576) (omega arith) (omega arith) at_a (omega arith) at_e)
 
 opened_counted : (image : Image) → IsCounted (opened image)
 opened_counted image = record { ld = record { numbers = refl; stamps = tt }; al = record { numbers = refl; stamps = tt }; sa = refl }
 
 means_so : (p : StraightProgram) (image : Image) (bound : ℕ) → IsStraight p → image.memory ≡ 1048576 → meaning p image.memory bound ≡ (c.Halt 0, state_at (finish p))
-means_so p image bound straight memory = rw (memory, statements_done (length p.names) p.statements (start p) straight.statements (memory_bytes p 1048576)) refl
+means_so p image bound straight memory = rw (memory, statements_done (p.objects) p.statements (start p) straight.statements (memory_bytes p 1048576)) refl
 
-pub whole : (p : StraightProgram) (image : Image) (picks : List Pick) → IsStraight p → 3 * length p.names ≤ 8192 → IsImageOf p image → picks ≡ picks_from 0 (program_rounds p) → IsCompiled p image picks
+pub whole : (p : StraightProgram) (image : Image) (picks : List Pick) → IsStraight p → 3 * p.objects ≤ 8192 → IsImageOf p image → picks ≡ picks_from 0 (program_rounds p) → IsCompiled p image picks
 whole p image picks straight few is order = record {
   memory = is.memory;
   budget = is.budget;
-  short = (let b = program_bounded p in let a = b.access in let e = b.execute in let l = b.loads in let s = picks_short 0 (program_rounds p) in let f = straight.few_tokens in let same : length picks ≡ length (picks_from 0 (program_rounds p)) = ap length order in omega arith);
+  short = (let b = program_bounded p in let a = b.access in let e = b.execute in let l = b.loads in let s = picks_short 0 (program_rounds p) in let f = straight.small in let same : length picks ≡ length (picks_from 0 (program_rounds p)) = ap length order in omega arith);
   ends = λ depths reaches.
       let f = finished p image depths straight few is reaches in
       let runs : Runs (setup_of image depths) (opened image) picks f.state = rw order f.runs in

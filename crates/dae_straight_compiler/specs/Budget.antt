@@ -1,12 +1,12 @@
 -- How deep the queues must be for a straight program.
 use Rattle.std.specs.Prelude.{ℕ, ◌+◌, max, min, List, [], ◌∷◌}
 use Rattle.dae_base.specs.declared.Depths.{Depths}
-use Rattle.dae_tree.specs.declared.Factor.{Factor}
-use Rattle.dae_tree.specs.declared.Factor.TheVariants.{Constant, Object}
-use Rattle.dae_tree.specs.declared.Link.{Link}
-use Rattle.dae_tree.specs.declared.Sum.{Sum}
-use Rattle.dae_tree.specs.declared.Statement.{Statement}
-use Rattle.dae_tree.specs.declared.Statement.TheVariants.{Assign, PrintLine}
+use Rattle.dae_straight.specs.declared.Factor.{Factor}
+use Rattle.dae_straight.specs.declared.Factor.TheVariants.{Constant, Object}
+use Rattle.dae_straight.specs.declared.Link.{Link}
+use Rattle.dae_straight.specs.declared.Sum.{Sum}
+use Rattle.dae_straight.specs.declared.Statement.{Statement}
+use Rattle.dae_straight.specs.declared.Statement.TheVariants.{Assign, PrintLine}
 
 -- how many names stand among the factors of a sum
 abbrev pub names_in_factor : Factor → ℕ

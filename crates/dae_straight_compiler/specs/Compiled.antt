@@ -8,9 +8,9 @@ use Rattle.dae_machine.specs.declared.Pick.{Pick}
 use Rattle.dae_machine.specs.Machine.{State, Runs, IsFinal}
 use Rattle.dae_machine.specs.Opened.{setup_of, opened}
 use Rattle.dae_machine.specs.Ends.{CanOnlyEnd}
-use Rattle.dae_tree.specs.declared.StraightProgram.{StraightProgram}
-use Rattle.dae_tree.specs.Meaning as c
-use Rattle.dae_tree.specs.Straight.{meaning}
+use Rattle.dae_straight.specs.declared.StraightProgram.{StraightProgram}
+use Rattle.dae_straight.specs.Meaning as c
+use Rattle.dae_straight.specs.Straight.{meaning}
 use Rattle.dae_straight_compiler.specs.Budget.{budget_of}
 
 -- with these depths the picks lead to the program's end: a final state with its status, its output and its memory, and

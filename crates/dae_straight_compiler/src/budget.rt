@@ -2,7 +2,7 @@ ghost use Rattle.std.specs.Prelude.{◌≡◌, ℕ, ◌+◌, ◌≤◌, length};
 ghost use Rattle.dae_straight_compiler.specs.Budget.{names_in_factor, names_in, most_names, assigns, budget_of};
 
 use dae_base::Depths;
-use dae_tree::{Factor, Statement, Sum};
+use dae_straight::{Factor, Statement, Sum};
 
 /// How deep the queues must be for these statements.
 pub fn budget(statements: &[Statement]) -> Depths

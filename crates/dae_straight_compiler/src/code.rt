@@ -1,13 +1,13 @@
 ghost use Rattle.std.specs.Prelude.{◌≡◌, ℕ, ◌≤◌, ◌<◌, ◌^◌, ℤ, List, [], ◌∷◌, ◌++◌, IfOk, OnOk, map};
 ghost use Rattle.std.specs.List.{All, AllByRecursion};
 ghost use Rattle.dae_encode.specs.Spelling.{InRange, encoded};
-ghost use Rattle.dae_tree.specs.Straight.{address_of};
+ghost use Rattle.dae_straight.specs.Straight.{address_of};
 ghost use Rattle.dae_straight_compiler.specs.Plan.{IsStepOf, IsEndingOf, IsRoundOver};
 ghost use Rattle.dae_straight_compiler.specs.Code.{upper, lower, load_code, store_code, factor_access, step_access, ending_access, constant_code, begin_code, times_code, step_execute, ending_execute, steps_access, steps_execute, round_access, round_execute, access_code, execute_code};
 
 use crate::{Ending, Round, Step};
 use dae_encode::{Inst, encode};
-use dae_tree::Factor;
+use dae_straight::Factor;
 use std::alloc::{AllocError, Global};
 
 /// The access processor's instructions.

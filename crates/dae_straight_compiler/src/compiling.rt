@@ -1,6 +1,6 @@
 ghost use Rattle.std.specs.Prelude.{◌≡◌, ℕ, ◌^◌, ◌<◌, ◌++◌, List, length, replicate, IfOk, OnOk};
-ghost use Rattle.dae_tree.specs.Form.{IsStraight};
-ghost use Rattle.dae_tree.specs.Straight.{literals, data_of};
+ghost use Rattle.dae_straight.specs.Form.{IsStraight};
+ghost use Rattle.dae_straight.specs.Straight.{literals, data_of};
 ghost use Rattle.dae_straight_compiler.specs.Compiled.{IsCompiled};
 
 use crate::budget::budget;
@@ -8,7 +8,7 @@ use crate::{code, order, plan};
 use dae_base::Items;
 use dae_image::Image;
 use dae_machine::Pick;
-use dae_tree::{Statement, StraightProgram};
+use dae_straight::{Statement, StraightProgram};
 use std::alloc::{AllocError, Global};
 
 /// A compiled program: its image, and the canonical order of its steps.
@@ -51,11 +51,11 @@ pub fn compile(alloc: Global, program: &StraightProgram) -> Result<Compiled, All
 // The objects, all zero, and then the format of each line that is printed.
 #[tactic(auto, using(crate::proofs::Counting::replicate_last))]
 fn content(alloc: Global, program: &StraightProgram) -> Result<Vec<u8>, AllocError>
-    requires { length program.now.names < 2 ^ 20 }
+    requires { program.now.objects < 2 ^ 20 }
     ensures { IfOk result (λ content. content.items ≡ data_of program.now) }
 {
     let mut content = Vec::new(alloc);
-    for _ in 0..4 * program.names.len() {
+    for _ in 0..4 * program.objects {
         content.push(0)?;
     }
     add_formats(&mut content, program.statements.as_slice())?;

@@ -10,7 +10,7 @@ mod order;
 mod plan;
 
 use dae_base::Items;
-use dae_tree::Factor;
+use dae_straight::Factor;
 
 /// One step of computing a sum on the execute processor, with the load that it takes on the access processor.
 #[derive(Clone, Copy, PartialEq, Eq, Debug)]

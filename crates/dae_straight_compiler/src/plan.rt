@@ -4,7 +4,7 @@ ghost use Rattle.dae_straight_compiler.specs.Plan.{step_of_link, link_steps, sum
 
 use crate::{Ending, Round, Step};
 use dae_base::Items;
-use dae_tree::{BinaryOperator, Factor, Link, Statement, StraightProgram, Sum};
+use dae_straight::{BinaryOperator, Factor, Link, Statement, StraightProgram, Sum};
 use std::alloc::{AllocError, Global};
 
 /// The largest number of loads in a round.

@@ -1,10 +1,4 @@
-mod Numbers
-mod NameLaws
+mod Straight
+mod Rows
 mod Loops
-mod Sound
-mod Files
-mod SoundFiles
-mod Again
-mod AgainFiles
-mod Whole
-mod Alone
+mod Shapes

@@ -1,2 +1,2 @@
-pub mod Reading
-pub mod Spelled
+pub mod Form
+pub mod Outcomes

@@ -1,124 +1,136 @@
-//! Factors and sums.
+//! Factors and sums: expressions without parentheses over constants and objects.
 
-ghost use Rattle.std.specs.Prelude.{◌≡◌, ◌≤◌, ◌<◌, ◌+◌, ◌^◌, length, option_map};
-ghost use Rattle.dae_straight_reader.specs.Reading.{Gives, texts, factor_of, factor_at, operator_of, operator_at, links_from, sum_at, sum_of, constant_of, is_plain, place_from};
+ghost use Rattle.std.specs.Prelude.{◌≡◌, ◌≤◌, ◌++◌, length, Some, OnOk, IfErr};
+ghost use Rattle.dae_tree.specs.Views.{view};
+ghost use Rattle.dae_straight_reader.specs.Form.{place_from, constant_of, factor_of, alone, joined, product_of, sum_of, small, greatest_objects};
+ghost use Rattle.dae_straight_reader.specs.Outcomes.{Gives};
+ghost use Rattle.dae_straight_reader.specs.declared.error.ReadError.TheVariants.{Memory};
 
 use crate::error::ReadError;
-use crate::words::{next, same};
-use dae_base::{Items, Text};
-use dae_tree::{BinaryOperator, Factor, Link, Sum};
+use dae_base::Items;
+use dae_straight::{BinaryOperator, Factor, Link, Sum};
+use dae_tree::{BinaryOperator as Operator, Constant, Expression};
 use std::alloc::Global;
-use std::str;
 
 /// A sum has at most 64 factors: the first, and these.
 const MAX_LINKS: usize = 63;
 
-/// Whether a text of digits has no leading zero and no sign.
-fn is_plain(word: &[u8]) -> bool
-    ensures { result ≡ is_plain word.now }
+/// The place of a name's number among the numbers of objects.
+pub fn place_of(objects: &[u32], number: u32) -> Option<u32>
+    requires { length objects.now ≤ greatest_objects }
+    ensures { result ≡ place_from 0 objects.now number }
 {
-    !matches!(word, [b'0' | b'+', _, ..])
-}
-
-/// The constant of type int that a word spells: decimal digits without a leading zero, below 2^31.
-fn constant(word: &[u8]) -> Option<u32>
-    ensures { result ≡ constant_of word.now }
-{
-    let Ok(digits) = str::from_utf8(word) else {
-        return None;
-    };
-    let Ok(value) = digits.parse::<u32>() else {
-        return None;
-    };
-    if is_plain(word) && value < 1 << 31 {
-        Some(value)
-    } else {
-        None
-    }
-}
-
-/// The place of a name among names.
-pub fn place(names: &[Text], name: &[u8]) -> Option<u32>
-    requires { length names.now ≤ 8192 }
-    ensures { result ≡ place_from 0 names.now name.now }
-{
-    for (place, known) in names.iter().enumerate() {
-        if same(known.as_str().as_bytes(), name) {
+    for (place, object) in objects.iter().enumerate() {
+        if *object == number {
             return Some(place as u32);
         }
     }
     None
 }
 
-/// The factor that a word spells.
-#[tactic(auto, unfolding(crate::specs::Reading::factor_of))]
-fn factor_of(names: &[Text], word: &[u8]) -> Option<Factor>
-    requires { length names.now ≤ 8192 }
-    ensures { result ≡ factor_of names.now word.now }
+/// The constant of type int.
+fn constant_of(constant: Constant) -> Option<Factor>
+    ensures { result ≡ constant_of constant }
 {
-    match constant(word) {
-        Some(value) => Some(Factor::Constant(value)),
-        None => place(names, word).map(Factor::Object),
-    }
-}
-
-#[tactic(auto, unfolding(crate::specs::Reading::factor_at))]
-fn factor<'w, 't>(
-    names: &[Text],
-    words: &'w [&'t [u8]],
-) -> Result<(Factor, &'w [&'t [u8]]), ReadError>
-    requires { length names.now ≤ 8192 }
-    ensures { Gives (λ x. (x.0, texts x.1.now)) result (factor_at names.now (texts words.now)) }
-{
-    let (word, rest) = next(words)?;
-    let factor = factor_of(names, word).ok_or(ReadError::NotBuilt)?;
-    Ok((factor, rest))
-}
-
-#[tactic(auto, unfolding(crate::specs::Reading::operator_of))]
-fn operator_of(word: &[u8]) -> Option<BinaryOperator>
-    ensures { result ≡ operator_of word.now }
-{
-    if same(word, b"+") {
-        Some(BinaryOperator::Add)
-    } else if same(word, b"-") {
-        Some(BinaryOperator::Subtract)
-    } else if same(word, b"*") {
-        Some(BinaryOperator::Multiply)
+    if !constant.unsigned && constant.value < 1 << 31 {
+        Some(Factor::Constant(constant.value))
     } else {
         None
     }
 }
 
-/// The operator that words begin with, and the words after it.
-fn operator<'w, 't>(words: &'w [&'t [u8]]) -> Option<(BinaryOperator, &'w [&'t [u8]])>
-    ensures { option_map (λ x. (x.0, texts x.1.now)) result ≡ operator_at (texts words.now) }
+/// The factor that an expression is.
+fn factor_of(objects: &[u32], expression: &Expression) -> Option<Factor>
+    requires { length objects.now ≤ greatest_objects }
+    ensures { result ≡ factor_of objects.now (view expression.now) }
 {
-    match words {
-        [word, rest @ ..] => Some((operator_of(word)?, rest)),
-        [] => None,
+    match expression {
+        Expression::Constant(_, constant) => constant_of(*constant),
+        Expression::Identifier(name) => place_of(objects, name.number).map(Factor::Object),
+        _ => None,
     }
 }
 
-/// The sum that words begin with, and the words after it.
-#[tactic(auto, unfolding(crate::specs::Reading::sum_at))]
-pub fn sum<'w, 't>(
-    alloc: Global,
-    names: &[Text],
-    words: &'w [&'t [u8]],
-) -> Result<(Sum, &'w [&'t [u8]]), ReadError>
-    requires { length names.now ≤ 8192 }
-    ensures { Gives (λ x. (x.0, texts x.1.now)) result (sum_at names.now (texts words.now)) }
+/// A sum with one factor.
+fn alone(alloc: Global, objects: &[u32], expression: &Expression) -> Result<Sum, ReadError>
+    requires { length objects.now ≤ greatest_objects }
+    ensures { Gives result (alone (factor_of objects.now (view expression.now))) }
 {
-    let (first, mut words) = factor(names, words)?;
-    let mut rest = Items::new(alloc);
-    for _ in 0..MAX_LINKS {
-        let Some((operator, after)) = operator(words) else {
-            return Ok((Sum { first, rest }, words));
-        };
-        let (factor, after) = factor(names, after)?;
-        rest.push(Link { operator, factor })?;
-        words = after;
+    let first = factor_of(objects, expression).ok_or(ReadError::NotBuilt)?;
+    Ok(Sum {
+        first,
+        rest: Items::new(alloc),
+    })
+}
+
+/// A sum before another one behind an operator.
+fn joined(left: Sum, operator: BinaryOperator, right: Sum) -> Result<Sum, ReadError>
+    ensures { Gives result (joined operator (Some left) (Some right)) }
+{
+    let Sum { first, mut rest } = left;
+    rest.push(Link {
+        operator,
+        factor: right.first,
+    })?;
+    append(&mut rest, right.rest.as_slice())?;
+    Ok(Sum { first, rest })
+}
+
+/// Appends links.
+fn append(links: &mut Items<Link>, more: &[Link]) -> Result<(), ReadError>
+    ensures ok { OnOk result (links.new ≡ links.old ++ more.now) }
+    ensures err { IfErr result (λ e. e ≡ Memory) }
+{
+    for link in more {
+        links.push(*link)?;
     }
-    Ok((Sum { first, rest }, words))
+    Ok(())
+}
+
+/// The product that an expression is.
+fn product_of(alloc: Global, objects: &[u32], expression: &Expression) -> Result<Sum, ReadError>
+    requires { length objects.now ≤ greatest_objects }
+    ensures { Gives result (product_of objects.now (view expression.now)) }
+{
+    match expression {
+        Expression::Binary(left, _, Operator::Multiply, right) => {
+            let left = product_of(alloc, objects, left)?;
+            let right = alone(alloc, objects, right)?;
+            joined(left, BinaryOperator::Multiply, right)
+        }
+        _ => alone(alloc, objects, expression),
+    }
+}
+
+/// The sum of products that an expression is.
+fn sum_of(alloc: Global, objects: &[u32], expression: &Expression) -> Result<Sum, ReadError>
+    requires { length objects.now ≤ greatest_objects }
+    ensures { Gives result (sum_of objects.now (view expression.now)) }
+{
+    match expression {
+        Expression::Binary(left, _, Operator::Add, right) => {
+            let left = sum_of(alloc, objects, left)?;
+            let right = product_of(alloc, objects, right)?;
+            joined(left, BinaryOperator::Add, right)
+        }
+        Expression::Binary(left, _, Operator::Subtract, right) => {
+            let left = sum_of(alloc, objects, left)?;
+            let right = product_of(alloc, objects, right)?;
+            joined(left, BinaryOperator::Subtract, right)
+        }
+        _ => product_of(alloc, objects, expression),
+    }
+}
+
+/// The sum that an expression is, of at most 64 factors.
+pub fn small_sum(alloc: Global, objects: &[u32], expression: &Expression) -> Result<Sum, ReadError>
+    requires { length objects.now ≤ greatest_objects }
+    ensures { Gives result (small (sum_of objects.now (view expression.now))) }
+{
+    let sum = sum_of(alloc, objects, expression)?;
+    if sum.rest.len() <= MAX_LINKS {
+        Ok(sum)
+    } else {
+        Err(ReadError::NotBuilt)
+    }
 }

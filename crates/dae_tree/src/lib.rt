@@ -1,52 +1,41 @@
-// Trees of programs, and what they mean. Types and definitions only: the reader makes the trees, the compiler keeps
-// their meaning.
+// Tokens and trees of C. What a text is cut into: signs, keywords, names, constants and literals, each with its place, and
+// the definition of the tokens of a text with all that it is refused for. And what tokens spell: expressions,
+// declarators, declarations, statements and files, with the grammar that says which tokens a tree spells. The tables
+// here serve the definitions and the code alike. A tree keeps the place of each token but of those that only close or
+// part.
 #![tactic(auto)]
 
-use dae_base::{Items, Text};
+pub use constants::{Constant, SUFFIXES};
+pub use expressions::{
+    Declarator, Enumerator, Expression, Member, Name, Parameter, Specifier, TypeName,
+};
+pub use faults::{Construct, Fault, LexError};
+pub use files::File;
+pub use headers::{HEADERS, Header, STDIO_MACROS, STDLIB_MACROS};
+pub use literals::ESCAPES;
+pub use operators::{
+    AssignmentOperator, BinaryOperator, MemberOperator, PostfixOperator, PrefixOperator,
+};
+pub use pieces::{Form, PieceKind, Spot};
+pub use seen::{Arithmetic, Seen};
+pub use signs::{SIGNS, Sign};
+pub use statements::{
+    Block, Declaration, External, Heading, Initialiser, Item, Statement, Test,
+};
+pub use tokens::{Includes, Kind, Room, Token, Tokens};
+pub use words::{KEYWORDS, Keyword, REFUSED_WORDS};
 
-/// A binary operator (C90 6.3.5 and 6.3.6).
-#[derive(Clone, Copy, PartialEq, Eq, Debug)]
-pub enum BinaryOperator {
-    Add,
-    Subtract,
-    Multiply,
-}
-
-/// What stands between the operators of a sum: a decimal constant, or an object by its place in the list of
-/// declarations.
-#[derive(Clone, Copy, PartialEq, Eq, Debug)]
-pub enum Factor {
-    Constant(u32),
-    Object(u32),
-}
-
-/// A further factor of a sum, with the operator before it.
-#[derive(Clone, Copy, PartialEq, Eq, Debug)]
-pub struct Link {
-    pub operator: BinaryOperator,
-    pub factor: Factor,
-}
-
-/// A sum of products, as its factors and the operators between them.
-#[derive(Drop)]
-pub struct Sum {
-    pub first: Factor,
-    pub rest: Items<Link>,
-}
-
-/// A statement of a straight program: an assignment to an object, or a line that prints a value in decimal.
-#[derive(Drop)]
-pub enum Statement {
-    Assign(u32, Sum),
-    PrintLine(Sum),
-}
-
-/// A straight program: objects of type int with file scope, and a main that assigns, prints and returns 0.
-#[derive(Drop)]
-pub struct StraightProgram {
-    /// Whether the file includes `<stdio.h>`.
-    pub has_stdio: bool,
-    /// The objects' names, in the order of their declarations.
-    pub names: Items<Text>,
-    pub statements: Items<Statement>,
-}
+mod constants;
+mod expressions;
+mod faults;
+mod files;
+mod headers;
+mod literals;
+mod operators;
+mod pieces;
+mod places;
+mod seen;
+mod signs;
+mod statements;
+mod tokens;
+mod words;

@@ -1,6 +1,6 @@
 use Rattle.std.proofs.Common.{◌≡◌, List, [], ◌∷◌, length, refl, subst, arith}
-use Rattle.dae_syntax.specs.Statements.{spell_declaration}
-use Rattle.dae_syntax.specs.Trees as tree
+use Rattle.dae_tree.specs.Statements.{spell_declaration}
+use Rattle.dae_tree.specs.Trees as tree
 use Rattle.dae_grammar.specs.Frames as plain
 use Rattle.dae_grammar.specs.Taken.{stack_taken, externals_before}
 use Rattle.dae_declarations.proofs.Counts.{taken_of, declared_too_long}

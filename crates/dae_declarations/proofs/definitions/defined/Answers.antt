@@ -1,9 +1,9 @@
 use Rattle.std.proofs.Common.{◌≡◌, ◌∷◌, [], length, Some, refl, ap, ◌∙◌, arith}
-use Rattle.dae_syntax.specs.Depth.{place_of_specifiers}
-use Rattle.dae_syntax.specs.Statements.{spell_external}
-use Rattle.dae_syntax.specs.Trees as tree
+use Rattle.dae_tree.specs.Depth.{place_of_specifiers}
+use Rattle.dae_tree.specs.Statements.{spell_external}
+use Rattle.dae_tree.specs.Trees as tree
 use Rattle.dae_grammar.specs.Taken.{externals_before}
-use Rattle.dae_front.specs.Scopes.{Scopes, closed_to}
+use Rattle.dae_scope.specs.Scopes.{Scopes, closed_to}
 use Rattle.dae_declarations.proofs.Counts.{taken_of, length_of, defined_too_long}
 use Rattle.dae_declarations.proofs.definitions.defined.Goals as goal
 

@@ -1,10 +1,10 @@
 use Rattle.std.proofs.Common.{◌≡◌, List, ◌∷◌, length, refl, sym, ap, subst, ◌∙◌}
-use Rattle.dae_syntax.specs.Marks.{Mark}
-use Rattle.dae_syntax.specs.Spelling.{spell_specifiers, spell_declarator}
-use Rattle.dae_syntax.specs.Statements.{spell_statement}
+use Rattle.dae_tree.specs.Marks.{Mark}
+use Rattle.dae_tree.specs.Spelling.{spell_specifiers, spell_declarator}
+use Rattle.dae_tree.specs.Statements.{spell_statement}
 use Rattle.dae_grammar.specs.Machine.{defined}
 use Rattle.dae_grammar.specs.Taken.{stack_taken}
-use Rattle.dae_front.specs.Scopes.{Scopes}
+use Rattle.dae_scope.specs.Scopes.{Scopes}
 use Rattle.dae_frames.specs.declared.frames.Frame.{Frame}
 use Rattle.dae_frames.specs.declared.frames.Frame.TheVariants as frame
 use Rattle.dae_frames.specs.Frames.{ShowsStack}

@@ -1,6 +1,6 @@
 use Rattle.std.proofs.Common.{◌≡◌, true, sym, ◌∙◌, arith}
 use Rattle.std.proofs.lemmas.Grind.{common_steps}
-use Rattle.dae_parts.specs.Parts.{is_some_list}
+use Rattle.dae_nodes.specs.Parts.{is_some_list}
 use Rattle.dae_declarators.proofs.Structures.{members_closed}
 use Rattle.dae_declarators.proofs.bodies.membering.Goals as goal
 

@@ -1,7 +1,7 @@
 use Rattle.std.proofs.Common.{◌≡◌, List, ◌∷◌, sym, subst, ◌∙◌, rules, arith}
 use Rattle.std.proofs.lemmas.Grind.{common_steps}
 use Rattle.std.specs.Prelude.{IfOk}
-use Rattle.dae_syntax.specs.Marks.{Mark, part, close_paren}
+use Rattle.dae_tree.specs.Marks.{Mark, part, close_paren}
 use Rattle.dae_grammar.specs.Frames.{of_parameter}
 use Rattle.dae_grammar.specs.Machine.{declarator_given}
 use Rattle.dae_frames.specs.declared.frames.Frame.{Frame as Kept}

@@ -1,12 +1,12 @@
 use Rattle.std.proofs.Common.{List, refl, ap, subst, ◌∙◌}
 use Rattle.dae_base.specs.declared.Place.{Place}
-use Rattle.dae_syntax.specs.Grammar.{void_alone}
-use Rattle.dae_syntax.specs.Names.{Names}
-use Rattle.dae_syntax.specs.Trees.{no_parameters}
+use Rattle.dae_tree.specs.Grammar.{void_alone}
+use Rattle.dae_tree.specs.Names.{Names}
+use Rattle.dae_tree.specs.Trees.{no_parameters}
 use Rattle.dae_grammar.specs.Machine.{parameters_onto, closed_by}
-use Rattle.dae_front.specs.Scopes.{Scopes, innermost, closed_to}
-use Rattle.dae_front.specs.Shown.{bound_all}
-use Rattle.dae_parts.specs.Parts.{ShowsDeclared}
+use Rattle.dae_scope.specs.Scopes.{Scopes, innermost, closed_to}
+use Rattle.dae_scope.specs.Shown.{bound_all}
+use Rattle.dae_nodes.specs.Parts.{ShowsDeclared}
 use Rattle.dae_frames.specs.States.{outside_stack}
 use Rattle.dae_declarators.proofs.Inner.{same_names}
 use Rattle.dae_declarators.proofs.parameters.parameters_closed.Goals as goal

@@ -1,5 +1,5 @@
 use Rattle.std.proofs.Common.{◌+◌, map, ap, sym, ◌∙◌, drop, arith}
-use Rattle.dae_token.specs.Directives.{known_as, conflict_items, definition_items, with_definition, with_definitions, number_macro}
+use Rattle.dae_tree.specs.Directives.{known_as, conflict_items, definition_items, with_definition, with_definitions, number_macro}
 use Rattle.dae_lex.specs.Settling.{settle}
 use Rattle.dae_lex.specs.Reading.{rows_of}
 use Rattle.dae_lex.proofs.Rows.{row, items_more, macros_more}

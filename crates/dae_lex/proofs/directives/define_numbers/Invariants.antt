@@ -1,5 +1,5 @@
 use Rattle.std.proofs.Common.{◌≡◌, drop, map}
-use Rattle.dae_token.specs.Directives.{definition_items, with_definitions, number_macro}
+use Rattle.dae_tree.specs.Directives.{definition_items, with_definitions, number_macro}
 use Rattle.dae_lex.specs.Settling.{State, settle}
 use Rattle.dae_lex.specs.Reading.{rows_of}
 use Rattle.dae_lex.proofs.directives.define_numbers.Given as goal

@@ -1,5 +1,5 @@
 use Rattle.std.proofs.Common.{◌≡◌, drop, map}
-use Rattle.dae_token.specs.Directives.{first_fault}
+use Rattle.dae_tree.specs.Directives.{first_fault}
 use Rattle.dae_lex.specs.Cuts.{cut_of}
 use Rattle.dae_lex.proofs.directives.fault_in_body.Given as goal
 

@@ -1,6 +1,6 @@
 use Rattle.std.proofs.Common.{◌≡◌, ◌++◌, drop, map}
 use Rattle.dae_lex.specs.Cuts.{cut_of}
-use Rattle.dae_token.specs.Directives.{marks_of}
+use Rattle.dae_tree.specs.Directives.{marks_of}
 use Rattle.dae_lex.proofs.directives.marks.Given as goal
 
 abbrev pub invariant-loop-piece : goal.invariant-loop-piece

@@ -2,9 +2,9 @@ use Rattle.std.proofs.Common.{◌≡◌, suc, List, [], ◌∷◌, length, map, 
 use Rattle.std.proofs.lemmas.Bool.{and_right}
 use Rattle.std.proofs.lemmas.List.{length-map}
 use Rattle.std.specs.Str.{bytes_eq}
-use Rattle.dae_token.specs.Pieces.{Cut}
+use Rattle.dae_tree.specs.Pieces.{Cut}
 use Rattle.dae_lex.specs.Cuts.{cut_of}
-use Rattle.dae_token.specs.Directives.{same_spellings}
+use Rattle.dae_tree.specs.Directives.{same_spellings}
 use Rattle.dae_lex.proofs.directives.same_body.Goals as goal
 
 differ : (xs ys : List Cut) → (length xs ≡ length ys → ⊥) → same_spellings xs ys ≡ false

@@ -1,6 +1,6 @@
 use Rattle.std.proofs.Common.{◌+◌, [], map, ap, sym, ◌∙◌, drop, get_or, arith}
-use Rattle.dae_token.specs.Replacing.{expand}
-use Rattle.dae_token.specs.Directives.{replaced_text}
+use Rattle.dae_tree.specs.Replacing.{expand}
+use Rattle.dae_tree.specs.Directives.{replaced_text}
 use Rattle.dae_lex.specs.Cuts.{cut_of}
 use Rattle.dae_lex.specs.Settling.{state_of, settle}
 use Rattle.dae_lex.proofs.LineSteps.{nowhere, text_more}

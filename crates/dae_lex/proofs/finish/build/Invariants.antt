@@ -1,5 +1,5 @@
 use Rattle.std.proofs.Common.{◌≡◌, ◌≤◌, [], drop, map, length}
-use Rattle.dae_token.specs.Tokens.{joined}
+use Rattle.dae_tree.specs.Tokens.{joined}
 use Rattle.dae_lex.specs.Settling.{read_of}
 use Rattle.dae_lex.specs.Finishing.{built_of, waiting, finished}
 use Rattle.dae_lex.proofs.finish.build.Given as goal

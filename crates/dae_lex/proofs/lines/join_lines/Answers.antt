@@ -1,7 +1,7 @@
 use Rattle.std.proofs.Common.{◌≡◌, ◌+◌, ◌-◌, suc, ap, sym, ◌∙◌, refl, drop, ◌++◌, slice_index_or, arith, append-nil}
 use Rattle.std.proofs.lemmas.List.{take_rest, drop_more, drop_all}
-use Rattle.dae_token.specs.Lines.{bytes_of, spots_of, start_of, spot_behind, join_left}
-use Rattle.dae_token.specs.declared.pieces.Spot.{Spot}
+use Rattle.dae_tree.specs.Lines.{bytes_of, spots_of, start_of, spot_behind, join_left}
+use Rattle.dae_tree.specs.declared.pieces.Spot.{Spot}
 use Rattle.dae_lex.proofs.Joining.{Within, within_more, keeps, skips, from_start, at_end}
 use Rattle.dae_lex.proofs.lines.join_lines.Goals as goal
 use Rattle.dae_lex.proofs.lines.join_lines.Goals.{then-joining-eq0+in_ok-push_byte+in_ok-push_spot, else-joining-eq0}

@@ -1,5 +1,5 @@
 use Rattle.std.proofs.Common.{◌≡◌, ◌++◌, drop}
-use Rattle.dae_token.specs.Lines.{bytes_of, spots_of, start_of, spot_behind, joined_lines}
+use Rattle.dae_tree.specs.Lines.{bytes_of, spots_of, start_of, spot_behind, joined_lines}
 use Rattle.dae_lex.proofs.Joining.{from, Within}
 use Rattle.dae_lex.proofs.lines.join_lines.Given as goal
 

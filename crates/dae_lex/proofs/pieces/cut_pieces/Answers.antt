@@ -1,10 +1,14 @@
-use Rattle.std.proofs.Common.{◌≡◌, ◌+◌, ◌-◌, ◌<◌, length, get_or, ◌++◌, map, drop, arith, ap, sym, ◌∙◌, append-nil, append_assoc}
+use Rattle.std.proofs.Common.{◌+◌, ◌-◌, ◌<◌, length, get_or, ◌++◌, map, drop, arith, ap, sym, ◌∙◌, append-nil, append_assoc}
+use Rattle.std.specs.Prelude.{List, ℕ, [], ◌∷◌, ◌≡◌}
+use Rattle.std.specs.List.{flat_map}
 use Rattle.std.proofs.lemmas.List.{take_rest, length-drop, map-append}
-use Rattle.dae_token.specs.Forms.{form}
+use Rattle.std.proofs.lemmas.Grind.{flat_map-append}
+use Rattle.dae_tree.specs.Forms.{form}
 use Rattle.dae_lex.specs.Cuts.{cut_of}
-use Rattle.dae_token.specs.Pieces.{Cut}
-use Rattle.dae_lex.proofs.Cutting.{cut_more, cut_all, piece_span, piece_place}
-use Rattle.dae_token.specs.Lines.{start_of}
+use Rattle.dae_lex.specs.Cuts.{chars}
+use Rattle.dae_tree.specs.Pieces.{Cut, piece}
+use Rattle.dae_lex.proofs.Cutting.{cut_more, cut_all, piece_span, piece_place, spelled_more, spelled_all}
+use Rattle.dae_tree.specs.Lines.{start_of}
 use Rattle.dae_lex.proofs.Places.{place_before, before_low, before_next, spots_within, places_push, places_wider, places_from}
 use Rattle.dae_lex.proofs.Rising.{bound, bound_below, bound_next, bound_end, rise_within}
 use Rattle.dae_lex.proofs.Spans.{follow_push, follow_wider}
@@ -19,6 +23,13 @@ loop-at-preserved c =
     let formed = rw (take_rest c.deref.result.now l.at) at c.form_at-form.ensures.value in
     let more = cut_more j.bytes.items j.spots.items c.requires.same l.at f (omega arith) (formed ∙ whole) (omega (arith, c.form_at-form.ensures.within)) in
     record {
+      spelled =
+          let p = cut_of c.piece_at.result in
+          let word : p.spelling ≡ (piece f (drop l.at (chars j.bytes.items j.spots.items))).spelling = ap (λ (q : Cut). q.spelling) c.piece_at.ensures in
+          let pieces = map cut_of l.pieces.items in
+          let out : flat_map (λ (q : Cut). q.spelling) (pieces ++ p ∷ []) ≡ flat_map (λ (q : Cut). q.spelling) pieces ++ p.spelling =
+          flat_map-append (λ (q : Cut). q.spelling) pieces (p ∷ []) ∙ ap (λ ys. flat_map (λ (q : Cut). q.spelling) pieces ++ ys) (append-nil p.spelling) in
+          rw (c.in_ok-push_piece.ensures.ok, map-append, out, word) (spelled_more j.bytes.items j.spots.items c.requires.same l.at f (flat_map (λ (q : Cut). q.spelling) pieces) l.invariant.spelled);
       order = λ n h.
           let spots = j.spots.items in
           let p = cut_of c.piece_at.result in
@@ -57,6 +68,12 @@ returns-clause-ok c =
     let l = c.loop-at in
     sym (append-nil _) ∙ ap (λ rest. map cut_of l.pieces.items ++ rest)
     (sym (cut_all j.bytes.items j.spots.items c.requires.same l.at (omega arith))) ∙ l.invariant.so_far
+
+pub returns-clause-spelled : goal.returns-clause-spelled
+returns-clause-spelled c =
+    let j = c.args.joined.now in
+    let l = c.loop-at in
+    spelled_all j.bytes.items j.spots.items c.requires.same l.at (flat_map (λ (q : Cut). q.spelling) (map cut_of l.pieces.items)) (omega arith) l.invariant.spelled
 
 pub returns-clause-order : goal.returns-clause-order
 returns-clause-order c = λ n h.

@@ -1,5 +1,5 @@
 use Rattle.std.proofs.Common.{◌≡◌, [], map, ap}
-use Rattle.dae_token.specs.Tokens.{joined, numbered, names_after, literals_after}
+use Rattle.dae_tree.specs.Tokens.{joined, numbered, names_after, literals_after}
 use Rattle.dae_lex.specs.Settling.{read_of}
 use Rattle.dae_lex.specs.Finishing.{Built}
 use Rattle.dae_lex.proofs.Entries.{now_of}

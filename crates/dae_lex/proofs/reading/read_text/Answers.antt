@@ -1,10 +1,10 @@
 use Rattle.std.proofs.Common.{map, length, ap, sym, ◌∙◌, subst, Err}
-use Rattle.dae_token.specs.Lines.{bytes_of, joined_lines, start_of}
-use Rattle.dae_token.specs.Pieces.{Cut, cut}
-use Rattle.dae_token.specs.Tokens.{tested_of}
-use Rattle.dae_token.specs.Order.{HasLeastPlace}
-use Rattle.dae_token.specs.Reading.{Reading}
-use Rattle.dae_token.specs.declared.tokens.Room.{Room}
+use Rattle.dae_tree.specs.Lines.{bytes_of, joined_lines, start_of}
+use Rattle.dae_tree.specs.Pieces.{Cut, cut}
+use Rattle.dae_tree.specs.Tokens.{tested_of}
+use Rattle.dae_tree.specs.Order.{HasLeastPlace}
+use Rattle.dae_tree.specs.Reading.{Reading}
+use Rattle.dae_tree.specs.declared.tokens.Room.{Room}
 use Rattle.dae_lex.specs.Cuts.{cut_of, chars, Rise, FollowEachOther, SpotsFrom, PlacesFrom}
 use Rattle.dae_lex.specs.Settling.{read_of}
 use Rattle.dae_lex.specs.Whole.{SpansFrom, span, items_of_pieces}

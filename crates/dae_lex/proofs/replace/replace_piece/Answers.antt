@@ -1,7 +1,7 @@
 use Rattle.std.proofs.Common.{◌++◌, [], ◌∷◌, length, map, ap, sym, ◌∙◌, arith}
 use Rattle.std.proofs.lemmas.List.{nil_from_length}
 use Rattle.std.proofs.lemmas.Bool.{eqb-true}
-use Rattle.dae_token.specs.Replacing.{replacement}
+use Rattle.dae_tree.specs.Replacing.{replacement}
 use Rattle.dae_lex.specs.Cuts.{cut_of}
 use Rattle.dae_lex.specs.Settling.{state_of, settle}
 use Rattle.dae_lex.specs.Pending.{pending, frame_by, names_of}

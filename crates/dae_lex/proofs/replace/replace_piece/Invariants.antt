@@ -1,5 +1,5 @@
 use Rattle.std.proofs.Common.{◌≡◌, ◌≤◌, ◌+◌, ℕ, [], length}
-use Rattle.dae_token.specs.Replacing.{expand}
+use Rattle.dae_tree.specs.Replacing.{expand}
 use Rattle.dae_lex.specs.Cuts.{cut_of}
 use Rattle.dae_lex.specs.Settling.{state_of, settle}
 use Rattle.dae_lex.specs.Pending.{pending, work_of}

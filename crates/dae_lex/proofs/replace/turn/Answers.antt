@@ -2,9 +2,9 @@ use Rattle.std.proofs.Common.{◌<◌, ◌+◌, [], ◌∷◌, length, map, ◌+
 use Rattle.std.proofs.lemmas.Result.{on_ok_weaker}
 use Rattle.std.proofs.lemmas.List.{length-append, length-map}
 use Rattle.std.proofs.lemmas.Bool.{cases_eq}
-use Rattle.dae_token.specs.declared.faults.Construct.TheVariants.{TooManyReplacements}
-use Rattle.dae_token.specs.declared.faults.LexError.TheVariants.{Refused}
-use Rattle.dae_token.specs.Replacing.{replacement, items_of, replaced}
+use Rattle.dae_tree.specs.declared.faults.Construct.TheVariants.{TooManyReplacements}
+use Rattle.dae_tree.specs.declared.faults.LexError.TheVariants.{Refused}
+use Rattle.dae_tree.specs.Replacing.{replacement, items_of, replaced}
 use Rattle.dae_lex.specs.Cuts.{cut_of}
 use Rattle.dae_lex.specs.Settling.{state_of, settle}
 use Rattle.dae_lex.specs.Pending.{pending, frame_by, names_of, Frame}

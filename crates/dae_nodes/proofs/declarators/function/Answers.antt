@@ -1,10 +1,10 @@
 use Rattle.std.proofs.Common.{Option, sym, ◌∙◌}
 use Rattle.dae_base.specs.declared.Place.{Place}
-use Rattle.dae_syntax.specs.Trees as tree
+use Rattle.dae_tree.specs.Trees as tree
 use Rattle.std.proofs.Common.{subst}
 use Rattle.std.specs.Prelude.{IfOk}
 use Rattle.dae_grammar.specs.Machine.{closed_by, parameters_onto}
-use Rattle.dae_parts.specs.Parts.{ShowsDeclared}
+use Rattle.dae_nodes.specs.Parts.{ShowsDeclared}
 use Rattle.dae_nodes.proofs.declarators.function.Goals as goal
 
 pub returns-in-Some : goal.returns-in-Some

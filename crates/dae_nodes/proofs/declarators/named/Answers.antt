@@ -1,10 +1,10 @@
 use Rattle.std.proofs.Common.{List, refl, sym, ap}
-use Rattle.dae_syntax.specs.Trees as tree
-use Rattle.dae_front.specs.declared.scope.Binding.{Binding}
+use Rattle.dae_tree.specs.Trees as tree
+use Rattle.dae_scope.specs.declared.scope.Binding.{Binding}
 use Rattle.dae_grammar.specs.FirstPlaces.{firsts_declarator}
-use Rattle.dae_parts.proofs.Showing.{shows_leaf}
-use Rattle.dae_front.specs.Shown.{bound_all}
-use Rattle.dae_syntax.specs.Views.{view_declarator}
+use Rattle.dae_nodes.proofs.Showing.{shows_leaf}
+use Rattle.dae_scope.specs.Shown.{bound_all}
+use Rattle.dae_tree.specs.Views.{view_declarator}
 use Rattle.dae_nodes.proofs.declarators.named.Goals as goal
 
 pub returns : goal.returns

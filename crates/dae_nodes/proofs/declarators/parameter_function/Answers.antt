@@ -1,17 +1,17 @@
 use Rattle.std.proofs.Common.{◌≡◌, refl, sym, ap, ◌∙◌}
 use Rattle.dae_base.specs.declared.Place.{Place}
-use Rattle.dae_syntax.specs.Trees as tree
-use Rattle.dae_parts.proofs.Declaring.{place_at_first, chosen_then, chosen_else}
+use Rattle.dae_tree.specs.Trees as tree
+use Rattle.dae_nodes.proofs.Declaring.{place_at_first, chosen_then, chosen_else}
 use Rattle.dae_nodes.proofs.declarators.parameter_function.Goals.{then-bare, else-bare}
-use Rattle.dae_front.specs.Shown.{bound_all}
-use Rattle.dae_syntax.specs.Names.{is_bare}
+use Rattle.dae_scope.specs.Shown.{bound_all}
+use Rattle.dae_tree.specs.Names.{is_bare}
 use Rattle.std.specs.Prelude.{true, false}
 use Rattle.dae_grammar.specs.Machine.{parameters_onto}
-use Rattle.dae_syntax.specs.Views.{view_declarator}
+use Rattle.dae_tree.specs.Views.{view_declarator}
 use Rattle.dae_grammar.specs.FirstPlaces.{firsts_declarator, both, over, firsts_parameters}
-use Rattle.dae_parts.proofs.Listing.{shows_parameters}
-use Rattle.dae_parts.proofs.Rows.{view_function}
-use Rattle.dae_parts.proofs.Showing.{shows_over, shows_made, shows_absent, shows_pair, ap_two}
+use Rattle.dae_nodes.proofs.Listing.{shows_parameters}
+use Rattle.dae_nodes.proofs.Rows.{view_function}
+use Rattle.dae_nodes.proofs.Showing.{shows_over, shows_made, shows_absent, shows_pair, ap_two}
 use Rattle.dae_nodes.proofs.declarators.parameter_function.Goals as goal
 use Rattle.dae_nodes.proofs.declarators.parameter_function.Goals.{in-Some+in_ok-new-in-Some, in-None}
 

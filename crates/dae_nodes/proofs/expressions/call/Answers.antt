@@ -1,12 +1,12 @@
 use Rattle.std.proofs.Common.{refl, ap, ◌∙◌}
 use Rattle.dae_base.specs.declared.Place.{Place}
-use Rattle.dae_syntax.specs.Trees as tree
+use Rattle.dae_tree.specs.Trees as tree
 use Rattle.dae_grammar.specs.Machine.{arguments_onto}
-use Rattle.dae_syntax.specs.Views.{view}
+use Rattle.dae_tree.specs.Views.{view}
 use Rattle.dae_grammar.specs.FirstPlaces.{firsts, both, over, firsts_all}
-use Rattle.dae_parts.proofs.Listing.{shows_arguments}
-use Rattle.dae_parts.proofs.Rows.{view_call}
-use Rattle.dae_parts.proofs.Showing.{shows_over, shows_made, shows_absent, shows_pair, ap_two}
+use Rattle.dae_nodes.proofs.Listing.{shows_arguments}
+use Rattle.dae_nodes.proofs.Rows.{view_call}
+use Rattle.dae_nodes.proofs.Showing.{shows_over, shows_made, shows_absent, shows_pair, ap_two}
 use Rattle.dae_nodes.proofs.expressions.call.Goals as goal
 use Rattle.dae_nodes.proofs.expressions.call.Goals.{in-Some+in_ok-new-in-Some, in-None}
 

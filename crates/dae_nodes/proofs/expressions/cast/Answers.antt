@@ -1,10 +1,10 @@
 use Rattle.std.proofs.Common.{refl, ap, ◌∙◌}
-use Rattle.dae_syntax.specs.Trees as tree
-use Rattle.dae_syntax.specs.declared.expressions.TypeName.{TypeName}
-use Rattle.dae_syntax.specs.Views.{view, views_specifiers, view_declarator}
+use Rattle.dae_tree.specs.Trees as tree
+use Rattle.dae_tree.specs.declared.expressions.TypeName.{TypeName}
+use Rattle.dae_tree.specs.Views.{view, views_specifiers, view_declarator}
 use Rattle.dae_grammar.specs.FirstPlaces.{firsts}
-use Rattle.dae_parts.proofs.Rows.{view_cast}
-use Rattle.dae_parts.proofs.Showing.{shows_over, shows_made, shows_absent, shows_pair, ap_three}
+use Rattle.dae_nodes.proofs.Rows.{view_cast}
+use Rattle.dae_nodes.proofs.Showing.{shows_over, shows_made, shows_absent, shows_pair, ap_three}
 use Rattle.dae_nodes.proofs.expressions.cast.Goals as goal
 use Rattle.dae_nodes.proofs.expressions.cast.Goals.{in-Some+in_ok-new-in-Some+in_ok-new-in-Some-2, in-None}
 

@@ -1,6 +1,6 @@
 use Rattle.dae_grammar.specs.FirstPlaces.{firsts_declarator}
-use Rattle.dae_parts.proofs.Listing.{shows_longer}
-use Rattle.dae_syntax.specs.Views.{view_declarator}
+use Rattle.dae_nodes.proofs.Listing.{shows_longer}
+use Rattle.dae_tree.specs.Views.{view_declarator}
 use Rattle.dae_nodes.proofs.specifiers.with_declarator.Goals as goal
 
 pub returns : goal.returns

@@ -1,17 +1,18 @@
 use Rattle.std.proofs.Common.{refl, ap}
-use Rattle.dae_syntax.specs.Trees as tree
+use Rattle.dae_tree.specs.Trees as tree
+use Rattle.dae_tree.specs.Lists as lists
 use Rattle.dae_grammar.specs.Frames as frames
 use Rattle.dae_grammar.specs.Machine.{declarators_onto}
-use Rattle.dae_parts.proofs.Listing.{shows_declarators, shows_longer}
-use Rattle.dae_parts.proofs.Making.{line_of}
-use Rattle.dae_parts.proofs.Showing.{ap_two, shows_absent, shows_made, shows_pair}
-use Rattle.dae_parts.specs.Parts.{firsts_line, view_line}
+use Rattle.dae_nodes.proofs.Listing.{shows_declarators, shows_longer}
+use Rattle.dae_nodes.proofs.Making.{line_of}
+use Rattle.dae_nodes.proofs.Showing.{ap_two, shows_absent, shows_made, shows_pair}
+use Rattle.dae_nodes.specs.Parts.{firsts_line, view_line}
 use Rattle.dae_nodes.proofs.specifiers.with_member.Goals as goal
 use Rattle.dae_nodes.proofs.specifiers.with_member.Goals.{in-Some, in-None}
 
 pub returns : goal.returns
 returns c = λ ms ws ds h k l.
-    let target : frames.MemberLine = record { specifiers = ws; declarators = declarators_onto ds tree.no_declarators; end = c.args.end } in
+    let target : lists.MemberLine = record { specifiers = ws; declarators = declarators_onto ds tree.no_declarators; end = c.args.end } in
     let pair = shows_pair _ _ _ _ c.args.specified.read c.args.declarators c.in_ok-tree.field-0 ws (declarators_onto ds tree.no_declarators) k.read (shows_declarators c.args.declarators ds l) c.in_ok-tree.ensures in
     shows_longer view_line firsts_line c.args.before (record { tree = c.match-tree.tree; depths = c.in_ok-tree.field-0.depths }) ms target c.longer.result h
     (elim c.match-tree.branch [

@@ -1,11 +1,12 @@
 use Rattle.std.proofs.Common.{None, refl}
+use Rattle.dae_tree.specs.Lists as lists
 use Rattle.dae_grammar.specs.Frames as frames
-use Rattle.dae_parts.proofs.Listing.{shows_longer}
-use Rattle.dae_parts.proofs.Showing.{shows_flat}
-use Rattle.dae_parts.specs.Parts.{firsts_entry, view_entry}
+use Rattle.dae_nodes.proofs.Listing.{shows_longer}
+use Rattle.dae_nodes.proofs.Showing.{shows_flat}
+use Rattle.dae_nodes.specs.Parts.{firsts_entry, view_entry}
 use Rattle.dae_nodes.proofs.specifiers.with_plain_enumerator.Goals as goal
 
 pub returns : goal.returns
 returns c = λ es h.
-    let target : frames.Entry = record { name = c.args.name; value = None } in
+    let target : lists.Entry = record { name = c.args.name; value = None } in
     shows_longer view_entry firsts_entry c.args.before c.flat.result es target c.longer.result h (shows_flat view_entry firsts_entry c.flat.result _ target c.flat.ensures.tree c.flat.ensures.places refl refl) c.longer.ensures

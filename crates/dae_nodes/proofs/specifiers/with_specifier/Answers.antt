@@ -1,12 +1,12 @@
 use Rattle.std.proofs.Common.{Option, Some, sym, ap, ◌∙◌}
 use Rattle.dae_base.specs.declared.Place.{Place}
-use Rattle.dae_syntax.specs.Trees as tree
+use Rattle.dae_tree.specs.Trees as tree
 use Rattle.std.specs.Prelude.{Bool, ◌||◌}
-use Rattle.dae_parts.proofs.Showing.{ap_two}
-use Rattle.dae_parts.proofs.Specifying.{place_last, shows_joined, typedef_last, void_first, void_last}
+use Rattle.dae_nodes.proofs.Showing.{ap_two}
+use Rattle.dae_nodes.proofs.Specifying.{place_last, shows_joined, typedef_last, void_first, void_last}
 use Rattle.std.specs.Option.{unwrap_or}
 use Rattle.dae_grammar.specs.Machine.{specifiers_onto}
-use Rattle.dae_parts.specs.Parts.{first_place}
+use Rattle.dae_nodes.specs.Parts.{first_place}
 use Rattle.dae_nodes.proofs.specifiers.with_specifier.Goals as goal
 
 pub returns-in-Some : goal.returns-in-Some

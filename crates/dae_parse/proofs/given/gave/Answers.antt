@@ -1,9 +1,9 @@
 use Rattle.std.proofs.Common.{rules, ◌≡◌, List, ◌∷◌, Option, refl, ap, subst, ◌∙◌}
 use Rattle.dae_frames.specs.declared.frames.Frame.{Frame}
-use Rattle.dae_syntax.specs.Trees.{Expression}
+use Rattle.dae_tree.specs.Trees.{Expression}
 use Rattle.dae_grammar.specs.Frames as plain
-use Rattle.dae_front.specs.Scopes.{Scopes}
-use Rattle.dae_parts.specs.Parts.{ShowsOptional}
+use Rattle.dae_scope.specs.Scopes.{Scopes}
+use Rattle.dae_nodes.specs.Parts.{ShowsOptional}
 use Rattle.dae_frames.specs.Frames.{ShowsStack, ShowsHead}
 use Rattle.dae_frames.specs.States.{frames_of, outside_stack}
 use Rattle.dae_frames.proofs.Popped.{popped_in_test, popped_in_start, popped_in_loop_test, popped_in_return}

@@ -1,7 +1,7 @@
 use Rattle.std.proofs.Common.{rules, ◌≡◌, List, ◌∷◌, refl, ap, subst, ◌∙◌}
 use Rattle.dae_frames.specs.declared.frames.Frame.{Frame}
 use Rattle.dae_grammar.specs.Frames as plain
-use Rattle.dae_front.specs.Scopes.{Scopes}
+use Rattle.dae_scope.specs.Scopes.{Scopes}
 use Rattle.dae_frames.specs.Frames.{ShowsStack, manner_of}
 use Rattle.dae_frames.specs.States.{frames_of, outside_stack}
 use Rattle.dae_frames.proofs.Popped.{popped_in_group}

@@ -1,12 +1,12 @@
 use Rattle.std.proofs.Common.{rules, ◌≡◌, List, ◌∷◌, Option, length, refl, sym, ap, subst, ◌∙◌}
 use Rattle.dae_frames.specs.declared.frames.Frame.{Frame}
-use Rattle.dae_syntax.specs.Trees.{Expression, Specifiers, Declarator}
-use Rattle.dae_syntax.specs.Names.{Names}
-use Rattle.dae_syntax.specs.Marks.{Mark}
+use Rattle.dae_tree.specs.Trees.{Expression, Specifiers, Declarator}
+use Rattle.dae_tree.specs.Names.{Names}
+use Rattle.dae_tree.specs.Marks.{Mark}
 use Rattle.dae_grammar.specs.Taken.{tokens_of}
 use Rattle.dae_grammar.specs.Frames as plain
-use Rattle.dae_front.specs.Scopes.{Scopes}
-use Rattle.dae_parts.specs.Parts.{ShowsOptional, ShowsLoop, ShowsSpecified, ShowsDeclared}
+use Rattle.dae_scope.specs.Scopes.{Scopes}
+use Rattle.dae_nodes.specs.Parts.{ShowsOptional, ShowsLoop, ShowsSpecified, ShowsDeclared}
 use Rattle.dae_frames.specs.Frames.{ShowsStack}
 use Rattle.dae_frames.specs.States.{frames_of, outside_stack}
 use Rattle.dae_frames.proofs.Popped.{popped_for_body, popped_in_definition}

@@ -1,6 +1,6 @@
 use Rattle.std.proofs.Common.{subst, []}
-use Rattle.dae_syntax.specs.Marks.{marks}
-use Rattle.dae_syntax.specs.Statements.{IsTreeOf}
+use Rattle.dae_tree.specs.Marks.{marks}
+use Rattle.dae_tree.specs.Statements.{IsTreeOf}
 use Rattle.dae_grammar.specs.Machine.{onto}
 use Rattle.dae_parse.specs.Reached.{Comes}
 use Rattle.dae_parse.proofs.Files.{found}

@@ -1,5 +1,5 @@
 use Rattle.std.proofs.Common.{sym, subst, ◌∙◌, ap, []}
-use Rattle.dae_syntax.specs.FileViews.{view_externals}
+use Rattle.dae_tree.specs.FileViews.{view_externals}
 use Rattle.dae_parse.specs.Parsed.{IsWithinLimits}
 use Rattle.dae_grammar.specs.Machine.{onto}
 use Rattle.dae_parse.proofs.Files.{deep_at, none_of, seen_file}

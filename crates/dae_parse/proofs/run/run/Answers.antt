@@ -1,5 +1,5 @@
 use Rattle.std.proofs.Common.{refl, subst}
-use Rattle.dae_syntax.specs.Marks.{marks}
+use Rattle.dae_tree.specs.Marks.{marks}
 use Rattle.dae_parse.specs.declared.turn.Turn.{Turn}
 use Rattle.dae_parse.specs.Reached.{TurnFollows}
 use Rattle.dae_grammar.specs.Machine.{step_at}

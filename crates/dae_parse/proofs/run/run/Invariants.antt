@@ -1,4 +1,4 @@
-use Rattle.dae_syntax.specs.Marks.{marks}
+use Rattle.dae_tree.specs.Marks.{marks}
 use Rattle.dae_parse.specs.Reached.{Reached}
 use Rattle.dae_parse.proofs.run.run.Given as goal
 

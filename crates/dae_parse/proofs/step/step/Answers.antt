@@ -1,7 +1,8 @@
 use Rattle.std.proofs.Common.{◌≡◌, List, ◌∷◌, refl, subst}
-use Rattle.dae_syntax.specs.Trees.{Expression, Specifiers, Declarator, Item, Statement}
+use Rattle.dae_tree.specs.Trees.{Expression, Specifiers, Declarator, Item, Statement}
+use Rattle.dae_tree.specs.Lists as lists
 use Rattle.dae_grammar.specs.Frames as plain
-use Rattle.dae_parts.specs.Parts.{ShowsOperand, ShowsSpecified, ShowsEnumerators, ShowsDeclared, ShowsItems, ShowsStatement}
+use Rattle.dae_nodes.specs.Parts.{ShowsOperand, ShowsSpecified, ShowsEnumerators, ShowsDeclared, ShowsItems, ShowsStatement}
 use Rattle.dae_frames.specs.declared.frames.Doing.{Doing}
 use Rattle.dae_frames.specs.Frames.{ShowsBody, ShowsDoing}
 use Rattle.dae_parse.proofs.Doings.{does_enumerated, does_gave_declarator, does_itemed, does_finishing}
@@ -9,7 +10,7 @@ use Rattle.dae_parse.proofs.step.step.Goals as goal
 
 pub returns-in-Enumerated : goal.returns-in-Enumerated
 returns-in-Enumerated c = λ d s shows.
-    let i = does_enumerated c.in-Enumerated.body c.in-Enumerated.list c.in-Enumerated.name (λ (u : plain.Doing). (a : plain.Body) × (es : List plain.Entry) × (u ≡ plain.enumerated a es c.in-Enumerated.name) × ShowsBody c.in-Enumerated.body a × ShowsEnumerators c.in-Enumerated.list es) d (subst (λ (g : Doing). ShowsDoing g d) c.in-Enumerated.is shows) (λ a es x0 x1. (a, es, refl, x0, x1)) in
+    let i = does_enumerated c.in-Enumerated.body c.in-Enumerated.list c.in-Enumerated.name (λ (u : plain.Doing). (a : plain.Body) × (es : List lists.Entry) × (u ≡ plain.enumerated a es c.in-Enumerated.name) × ShowsBody c.in-Enumerated.body a × ShowsEnumerators c.in-Enumerated.list es) d (subst (λ (g : Doing). ShowsDoing g d) c.in-Enumerated.is shows) (λ a es x0 x1. (a, es, refl, x0, x1)) in
     rw i.2 (λ stands holds bottom count. c.enumerated.ensures i.0 i.1 s i.3 i.4 stands)
 
 pub returns-in-GaveDeclarator : goal.returns-in-GaveDeclarator

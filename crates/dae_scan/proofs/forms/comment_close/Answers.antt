@@ -1,6 +1,6 @@
 use Rattle.std.proofs.Common.{◌≡◌, arith, sym, ◌∙◌, false, drop}
 use Rattle.std.proofs.lemmas.List.{take_rest}
-use Rattle.dae_token.specs.Forms.{closes_comment}
+use Rattle.dae_tree.specs.Forms.{closes_comment}
 use Rattle.dae_scan.proofs.Places.{place_later}
 use Rattle.dae_scan.proofs.forms.comment_close.Goals as goal
 

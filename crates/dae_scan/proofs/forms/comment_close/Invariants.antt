@@ -1,5 +1,5 @@
 use Rattle.std.proofs.Common.{◌≡◌, ◌+◌, drop}
-use Rattle.dae_token.specs.Forms.{place_of, closes_comment}
+use Rattle.dae_tree.specs.Forms.{place_of, closes_comment}
 use Rattle.dae_scan.proofs.forms.comment_close.Given as goal
 
 abbrev pub invariant-loop-i : goal.invariant-loop-i

@@ -1,5 +1,5 @@
 use Rattle.std.proofs.Common.{◌≡◌, ◌+◌, drop}
-use Rattle.dae_token.specs.Forms.{place_of, ends_line}
+use Rattle.dae_tree.specs.Forms.{place_of, ends_line}
 use Rattle.dae_scan.proofs.forms.line_end_place.Given as goal
 
 abbrev pub invariant-loop-i : goal.invariant-loop-i

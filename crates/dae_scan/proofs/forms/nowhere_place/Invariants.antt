@@ -1,5 +1,5 @@
 use Rattle.std.proofs.Common.{◌≡◌, ◌+◌, drop}
-use Rattle.dae_token.specs.Forms.{place_of, front_nowhere}
+use Rattle.dae_tree.specs.Forms.{place_of, front_nowhere}
 use Rattle.dae_scan.proofs.forms.nowhere_place.Given as goal
 
 abbrev pub invariant-loop-i : goal.invariant-loop-i

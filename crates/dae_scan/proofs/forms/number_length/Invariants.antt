@@ -1,5 +1,5 @@
 use Rattle.std.proofs.Common.{◌≡◌, ◌+◌, false, drop}
-use Rattle.dae_token.specs.Forms.{number_rest}
+use Rattle.dae_tree.specs.Forms.{number_rest}
 use Rattle.dae_scan.proofs.forms.number_length.Given as goal
 
 abbrev pub invariant-loop-i : goal.invariant-loop-i

@@ -1,5 +1,5 @@
 use Rattle.std.proofs.Common.{◌≡◌, ◌+◌, false, drop}
-use Rattle.dae_token.specs.Forms.{literal_stop}
+use Rattle.dae_tree.specs.Forms.{literal_stop}
 use Rattle.dae_scan.proofs.forms.stop_of_literal.Given as goal
 
 abbrev pub invariant-loop-i : goal.invariant-loop-i

@@ -1,5 +1,5 @@
 use Rattle.std.proofs.Common.{◌≡◌, drop}
-use Rattle.dae_token.specs.Literals.{letter_in}
+use Rattle.dae_tree.specs.Literals.{letter_in}
 use Rattle.dae_scan.proofs.literals.find_letter.Given as goal
 
 abbrev pub invariant-loop-letter : goal.invariant-loop-letter

@@ -1,5 +1,5 @@
 use Rattle.std.proofs.Common.{◌≡◌, drop}
-use Rattle.dae_token.specs.Literals.{fault_from}
+use Rattle.dae_tree.specs.Literals.{fault_from}
 use Rattle.dae_scan.proofs.Faults.{on_by}
 use Rattle.dae_scan.proofs.literals.first_fault.Given as goal
 

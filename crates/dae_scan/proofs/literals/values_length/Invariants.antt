@@ -1,5 +1,5 @@
 use Rattle.std.proofs.Common.{◌≡◌, ◌≤◌, ◌+◌, drop, length}
-use Rattle.dae_token.specs.Literals.{values_from, values_of}
+use Rattle.dae_tree.specs.Literals.{values_from, values_of}
 use Rattle.dae_scan.proofs.literals.values_length.Given as goal
 
 abbrev pub invariant-loop-i : goal.invariant-loop-i

@@ -1,6 +1,6 @@
 use Rattle.std.proofs.Common.{◌≡◌, ◌+◌, drop}
 use Rattle.std.specs.List.{prefix_len}
-use Rattle.dae_token.specs.Constants.{is_digit_in}
+use Rattle.dae_tree.specs.Constants.{is_digit_in}
 use Rattle.dae_scan.proofs.numbers.digits_length.Given as goal
 
 abbrev pub invariant-loop-i : goal.invariant-loop-i

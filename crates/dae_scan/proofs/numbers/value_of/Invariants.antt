@@ -1,5 +1,5 @@
 use Rattle.std.proofs.Common.{◌≡◌, ◌≤◌, drop}
-use Rattle.dae_token.specs.Constants.{value_from}
+use Rattle.dae_tree.specs.Constants.{value_from}
 use Rattle.dae_scan.proofs.numbers.value_of.Given as goal
 
 abbrev pub invariant-loop-d : goal.invariant-loop-d

@@ -1,6 +1,6 @@
 use Rattle.std.proofs.Common.{◌≡◌, drop}
-use Rattle.dae_token.specs.Tables.{row_of}
-use Rattle.dae_token.specs.Tables.{rows_of}
+use Rattle.dae_tree.specs.Tables.{row_of}
+use Rattle.dae_tree.specs.Tables.{rows_of}
 use Rattle.dae_scan.proofs.tables.exact_row.Given as goal
 
 abbrev pub invariant-loop-spelling : goal.invariant-loop-spelling

@@ -1,5 +1,5 @@
 use Rattle.std.proofs.Common.{◌≡◌, drop}
-use Rattle.dae_token.specs.Tables.{first_row, rows_of}
+use Rattle.dae_tree.specs.Tables.{first_row, rows_of}
 use Rattle.dae_scan.proofs.tables.find_row.Given as goal
 
 abbrev pub invariant-loop-spelling : goal.invariant-loop-spelling

@@ -1,5 +1,5 @@
 use Rattle.std.proofs.Common.{◌≡◌, ◌++◌, drop}
-use Rattle.dae_tree.specs.Straight.{literals}
+use Rattle.dae_straight.specs.Straight.{literals}
 use Rattle.dae_straight_compiler.proofs.compiling.add_formats.Given as goal
 
 abbrev pub invariant-loop-statement : goal.invariant-loop-statement

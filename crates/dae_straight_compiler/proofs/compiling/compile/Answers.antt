@@ -1,11 +1,11 @@
 use Rattle.std.proofs.Common.{rules, ◌≡◌, [], map, refl, arith}
 use Rattle.dae_encode.specs.Spelling.{encoded}
-use Rattle.dae_tree.specs.Straight.{data_of}
+use Rattle.dae_straight.specs.Straight.{data_of}
 use Rattle.dae_straight_compiler.specs.Budget.{budget_of}
 use Rattle.dae_straight_compiler.specs.Code.{access_code, execute_code}
 use Rattle.dae_straight_compiler.specs.Order.{picks_from}
 use Rattle.dae_straight_compiler.specs.Plan.{program_rounds}
-use Rattle.dae_straight_compiler.proofs.Required.{rounds_over, loads_few, names_small, contents_fit}
+use Rattle.dae_straight_compiler.proofs.Required.{rounds_over, loads_few, objects_few, contents_fit}
 use Rattle.dae_straight_compiler.proofs.Ranges.{access_fits, execute_fits}
 use Rattle.dae_straight_compiler.proofs.Whole.{whole}
 use Rattle.dae_straight_compiler.proofs.compiling.compile.Goals as goal
@@ -20,7 +20,7 @@ pub picks-requires-clause-few : goal.picks-requires-clause-few
 picks-requires-clause-few c = let r : c.as_slice-3.result.now ≡ program_rounds c.args.program.now = search rules in rw r (loads_few c.args.program.now c.requires)
 
 pub content-requires : goal.content-requires
-content-requires c = let h = names_small c.args.program.now c.requires in omega arith
+content-requires c = let h = objects_few c.args.program.now c.requires in omega arith
 
 pub encode_all-requires : goal.encode_all-requires
 encode_all-requires c = let r : c.as_slice-5.result.now ≡ access_code (program_rounds c.args.program.now) = search rules in rw r (access_fits (program_rounds c.args.program.now))
@@ -45,5 +45,5 @@ returns c =
     let code_e : c.from_vec-2.result ≡ map encoded (execute_code (program_rounds c.args.program.now)) = search rules in
     let content : c.from_vec-3.result ≡ data_of c.args.program.now = search rules in
     let order : c.from_vec-4.result ≡ picks_from 0 (program_rounds c.args.program.now) = search rules in
-    whole c.args.program.now _ c.from_vec-4.result c.requires (names_small c.args.program.now c.requires)
+    whole c.args.program.now _ c.from_vec-4.result c.requires (objects_few c.args.program.now c.requires)
     (record { budget = budget; memory = refl; private_a = refl; private_e = refl; entry_a = refl; entry_e = refl; code_a = code_a; code_e = code_e; content = content }) order

@@ -1,5 +1,5 @@
 use Rattle.std.proofs.Common.{◌≡◌, ◌≤◌, length, take}
-use Rattle.dae_syntax.specs.Names.{is_type}
+use Rattle.dae_tree.specs.Names.{is_type}
 use Rattle.dae_front.specs.Shown.{shown}
 use Rattle.dae_front.proofs.scope.Scope.is_type.Given as goal
 

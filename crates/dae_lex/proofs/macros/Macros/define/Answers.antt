@@ -1,7 +1,7 @@
 use Rattle.std.proofs.Common.{List, [], ◌∷◌, ◌++◌, map, ap, sym, ◌∙◌, is_some}
 use Rattle.std.specs.Global.{Vec}
-use Rattle.dae_token.specs.Pieces.{Cut}
-use Rattle.dae_token.specs.Replacing.{body_of}
+use Rattle.dae_tree.specs.Pieces.{Cut}
+use Rattle.dae_tree.specs.Replacing.{body_of}
 use Rattle.dae_lex.specs.declared.pieces.Piece.{Piece}
 use Rattle.dae_lex.specs.Cuts.{cut_of}
 use Rattle.dae_lex.proofs.Entries.{body_named, defined, insert_last, mapped_some}

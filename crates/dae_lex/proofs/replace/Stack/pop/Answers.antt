@@ -1,6 +1,6 @@
 use Rattle.std.proofs.Common.{List, map, ap, ◌∙◌, is_some}
 use Rattle.std.specs.Borrow.{Bor}
-use Rattle.dae_token.specs.Pieces.{Cut}
+use Rattle.dae_tree.specs.Pieces.{Cut}
 use Rattle.dae_lex.specs.declared.pieces.Piece.{Piece}
 use Rattle.dae_lex.specs.Cuts.{cut_of}
 use Rattle.dae_lex.proofs.Entries.{any_named}

@@ -2,7 +2,7 @@ use Rattle.std.proofs.Common.{List, ◌++◌, [], ◌∷◌, map, ap, sym, ◌�
 use Rattle.std.specs.List.{list_any}
 use Rattle.std.specs.Str.{bytes_eq}
 use Rattle.std.specs.Borrow.{Bor}
-use Rattle.dae_token.specs.Pieces.{Cut}
+use Rattle.dae_tree.specs.Pieces.{Cut}
 use Rattle.dae_lex.specs.declared.pieces.Piece.{Piece}
 use Rattle.dae_lex.specs.Cuts.{cut_of}
 use Rattle.dae_lex.specs.Pending.{names_of, frame_by}

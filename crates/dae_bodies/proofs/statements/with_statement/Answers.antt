@@ -1,8 +1,0 @@
-use Rattle.dae_grammar.specs.FirstPlaces.{firsts_statement}
-use Rattle.dae_parts.proofs.Listing.{shows_longer}
-use Rattle.dae_syntax.specs.FileViews.{view_statement}
-use Rattle.dae_bodies.proofs.statements.with_statement.Goals as goal
-
-pub returns : goal.returns
-returns c = λ xs x h k.
-    shows_longer view_statement firsts_statement c.args.before c.args.statement xs x c.longer.result h k c.longer.ensures

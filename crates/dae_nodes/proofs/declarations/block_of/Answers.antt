@@ -1,0 +1,5 @@
+use Rattle.dae_nodes.proofs.Blocks.{not_block}
+use Rattle.dae_nodes.proofs.declarations.block_of.Goals as goal
+
+pub returns : goal.returns
+returns c = record { some = λ b e. cc; none = λ p ds ss e never. not_block c.args.statement p ds ss c.in_default.not-Block e }

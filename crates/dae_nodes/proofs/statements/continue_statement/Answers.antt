@@ -1,0 +1,10 @@
+use Rattle.std.proofs.Common.{refl}
+use Rattle.dae_tree.specs.Trees as tree
+use Rattle.dae_grammar.specs.FirstPlaces.{firsts_statement}
+use Rattle.dae_nodes.proofs.Showing.{leaf_shown}
+use Rattle.dae_tree.specs.FileViews.{view_statement}
+use Rattle.dae_nodes.proofs.statements.continue_statement.Goals as goal
+
+pub returns : goal.returns
+returns c =
+    leaf_shown view_statement firsts_statement c.args.place c.flat.result c.over.result _ (tree.Continue c.args.place c.args.end) c.flat.ensures.tree c.flat.ensures.places c.over.ensures refl refl

@@ -1,0 +1,336 @@
+ghost use Rattle.std.specs.Prelude.{◌≡◌, List, [], ◌∷◌, Option, Some, None, IfOk};
+ghost use Rattle.dae_tree.specs.Trees as tree;
+ghost use Rattle.dae_grammar.specs.Frames as frames;
+ghost use Rattle.dae_grammar.specs.Machine.{for_of, onto, statements_onto};
+ghost use Rattle.dae_tree.specs.Views.{view_optional};
+ghost use Rattle.dae_grammar.specs.FirstPlaces.{firsts_optional};
+ghost use Rattle.dae_nodes.specs.Shown.{Shows};
+ghost use Rattle.dae_nodes.specs.Parts.{ShowsOperand, ShowsOptional, ShowsDeclarations, ShowsStatement, ShowsStatements, ShowsLoop};
+
+use dae_base::Place;
+use crate::values::{Loop, Operand, Read, beside, flat, longer, over};
+use dae_tree::{Block, Declaration, Expression, Heading, Statement, Test};
+use std::alloc::{AllocError, Global};
+
+/// A statement more.
+pub fn with_statement(
+    before: Read<Vec<Statement>>,
+    statement: Read<Statement>,
+) -> Result<Read<Vec<Statement>>, AllocError>
+    ensures { (ss : List tree.Statement) (s : tree.Statement) → ShowsStatements before ss → ShowsStatement statement s → IfOk result (λ r. ShowsStatements r (s ∷ ss)) }
+{
+    longer(before, statement)
+}
+
+/// A block (C90 6.6.2).
+pub fn block(
+    alloc: Global,
+    place: Place,
+    declarations: Read<Vec<Declaration>>,
+    statements: Read<Vec<Statement>>,
+) -> Result<Read<Statement>, AllocError>
+    ensures { (ds : List tree.Declaration) (ss : List tree.Statement) → ShowsDeclarations declarations ds → ShowsStatements statements ss → IfOk result (λ r. ShowsStatement r (tree.Block place (onto ds []) (statements_onto ss tree.no_statements))) }
+{
+    let parts = beside(declarations, statements)?;
+    let Read { tree, depths } = over(alloc, place, parts)?;
+    let tree = match tree {
+        Some((declarations, statements)) => Some(Statement::Block(Block {
+            place,
+            declarations,
+            statements,
+        })),
+        None => None,
+    };
+    Ok(Read { tree, depths })
+}
+
+/// A semicolon alone (C90 6.6.3).
+pub fn empty_statement(alloc: Global, place: Place) -> Result<Read<Statement>, AllocError>
+    ensures { IfOk result (λ r. ShowsStatement r (tree.Nothing place)) }
+{
+    over(alloc, place, flat(alloc, Statement::Empty(place)))
+}
+
+/// An expression, with the semicolon behind it (C90 6.6.3).
+pub fn evaluation(
+    alloc: Global,
+    operand: Operand,
+    end: Place,
+) -> Result<Read<Statement>, AllocError>
+    ensures { (e : tree.Expression) → ShowsOperand operand e → IfOk result (λ r. ShowsStatement r (tree.Evaluate e end)) }
+{
+    let Read { tree, depths } = over(alloc, operand.place, operand.read)?;
+    let tree = match tree {
+        Some(expression) => Some(Statement::Evaluate(expression, end)),
+        None => None,
+    };
+    Ok(Read { tree, depths })
+}
+
+/// `if` without `else` (C90 6.6.4.1).
+pub fn if_statement(
+    alloc: Global,
+    place: Place,
+    paren: Place,
+    test: Operand,
+    body: Read<Statement>,
+) -> Result<Read<Statement>, AllocError>
+    ensures { (e : tree.Expression) (s : tree.Statement) → ShowsOperand test e → ShowsStatement body s → IfOk result (λ r. ShowsStatement r (tree.If place paren e s)) }
+{
+    let parts = beside(test.read, body)?;
+    let Read { tree, depths } = over(alloc, place, parts)?;
+    let tree = match tree {
+        Some((expression, body)) => Some(Statement::If(
+            place,
+            Test {
+                place: paren,
+                expression,
+            },
+            Box::new(alloc, body)?,
+        )),
+        None => None,
+    };
+    Ok(Read { tree, depths })
+}
+
+/// `if` with `else` (C90 6.6.4.1).
+pub fn if_else_statement(
+    alloc: Global,
+    place: Place,
+    paren: Place,
+    test: Operand,
+    then: Read<Statement>,
+    other: Read<Statement>,
+) -> Result<Read<Statement>, AllocError>
+    ensures { (e : tree.Expression) (s u : tree.Statement) → ShowsOperand test e → ShowsStatement then s → ShowsStatement other u → IfOk result (λ r. ShowsStatement r (tree.IfElse place paren e s u)) }
+{
+    let rest = beside(then, other)?;
+    let parts = beside(test.read, rest)?;
+    let Read { tree, depths } = over(alloc, place, parts)?;
+    let tree = match tree {
+        Some((expression, rest)) => {
+            let (then, other) = rest;
+            let test = Test {
+                place: paren,
+                expression,
+            };
+            Some(Statement::IfElse(place, test, Box::new(alloc, then)?, Box::new(alloc, other)?))
+        }
+        None => None,
+    };
+    Ok(Read { tree, depths })
+}
+
+/// `switch` (C90 6.6.4.2).
+pub fn switch_statement(
+    alloc: Global,
+    place: Place,
+    paren: Place,
+    test: Operand,
+    body: Read<Statement>,
+) -> Result<Read<Statement>, AllocError>
+    ensures { (e : tree.Expression) (s : tree.Statement) → ShowsOperand test e → ShowsStatement body s → IfOk result (λ r. ShowsStatement r (tree.Switch place paren e s)) }
+{
+    let parts = beside(test.read, body)?;
+    let Read { tree, depths } = over(alloc, place, parts)?;
+    let tree = match tree {
+        Some((expression, body)) => Some(Statement::Switch(
+            place,
+            Test {
+                place: paren,
+                expression,
+            },
+            Box::new(alloc, body)?,
+        )),
+        None => None,
+    };
+    Ok(Read { tree, depths })
+}
+
+/// `while` before its body (C90 6.6.5.1).
+pub fn while_statement(
+    alloc: Global,
+    place: Place,
+    paren: Place,
+    test: Operand,
+    body: Read<Statement>,
+) -> Result<Read<Statement>, AllocError>
+    ensures { (e : tree.Expression) (s : tree.Statement) → ShowsOperand test e → ShowsStatement body s → IfOk result (λ r. ShowsStatement r (tree.While place paren e s)) }
+{
+    let parts = beside(test.read, body)?;
+    let Read { tree, depths } = over(alloc, place, parts)?;
+    let tree = match tree {
+        Some((expression, body)) => Some(Statement::While(
+            place,
+            Test {
+                place: paren,
+                expression,
+            },
+            Box::new(alloc, body)?,
+        )),
+        None => None,
+    };
+    Ok(Read { tree, depths })
+}
+
+/// `do` with `while` behind its body, at the places of the two words, the parenthesis and the semicolon (C90 6.6.5.2).
+pub fn do_statement(
+    alloc: Global,
+    place: Place,
+    body: Read<Statement>,
+    word: Place,
+    paren: Place,
+    test: Operand,
+    end: Place,
+) -> Result<Read<Statement>, AllocError>
+    ensures { (s : tree.Statement) (e : tree.Expression) → ShowsStatement body s → ShowsOperand test e → IfOk result (λ r. ShowsStatement r (tree.Do place s word paren e end)) }
+{
+    let parts = beside(body, test.read)?;
+    let Read { tree, depths } = over(alloc, place, parts)?;
+    let tree = match tree {
+        Some((body, expression)) => Some(Statement::Do(
+            place,
+            Box::new(alloc, body)?,
+            word,
+            Test {
+                place: paren,
+                expression,
+            },
+            end,
+        )),
+        None => None,
+    };
+    Ok(Read { tree, depths })
+}
+
+/// An operand that may be lacking, as a part.
+fn optional(alloc: Global, operand: Option<Operand>) -> Read<Option<Expression>>
+    ensures { (e : Option tree.Expression) → ShowsOptional operand e → Shows view_optional firsts_optional result e }
+{
+    match operand {
+        Some(operand) => {
+            let Read { tree, depths } = operand.read;
+            let tree = match tree {
+                Some(expression) => Some(Some(expression)),
+                None => None,
+            };
+            Read { tree, depths }
+        }
+        None => flat(alloc, None),
+    }
+}
+
+/// `for` (C90 6.6.5.3).
+pub fn for_statement(
+    alloc: Global,
+    parts: Loop,
+    step: Option<Operand>,
+    body: Read<Statement>,
+) -> Result<Read<Statement>, AllocError>
+    ensures { (l : frames.Loop) (e : Option tree.Expression) (s : tree.Statement) → ShowsLoop parts l → ShowsOptional step e → ShowsStatement body s → IfOk result (λ r. ShowsStatement r (for_of l e s)) }
+{
+    let Loop {
+        word,
+        paren,
+        start,
+        first,
+        test,
+        second,
+    } = parts;
+    let start = optional(alloc, start);
+    let test = optional(alloc, test);
+    let step = optional(alloc, step);
+    let last = beside(step, body)?;
+    let rest = beside(test, last)?;
+    let parts = beside(start, rest)?;
+    let Read { tree, depths } = over(alloc, word, parts)?;
+    let tree = match tree {
+        Some((start, rest)) => {
+            let (test, last) = rest;
+            let (step, body) = last;
+            let header = Heading {
+                start,
+                after_start: first,
+                test,
+                after_test: second,
+                step,
+            };
+            Some(Statement::For(word, paren, header, Box::new(alloc, body)?))
+        }
+        None => None,
+    };
+    Ok(Read { tree, depths })
+}
+
+/// `break` (C90 6.6.6.3).
+pub fn break_statement(
+    alloc: Global,
+    place: Place,
+    end: Place,
+) -> Result<Read<Statement>, AllocError>
+    ensures { IfOk result (λ r. ShowsStatement r (tree.Break place end)) }
+{
+    over(alloc, place, flat(alloc, Statement::Break(place, end)))
+}
+
+/// `continue` (C90 6.6.6.2).
+pub fn continue_statement(
+    alloc: Global,
+    place: Place,
+    end: Place,
+) -> Result<Read<Statement>, AllocError>
+    ensures { IfOk result (λ r. ShowsStatement r (tree.Continue place end)) }
+{
+    over(alloc, place, flat(alloc, Statement::Continue(place, end)))
+}
+
+/// `return`, with a value or without (C90 6.6.6.4).
+pub fn return_statement(
+    alloc: Global,
+    place: Place,
+    value: Option<Operand>,
+    end: Place,
+) -> Result<Read<Statement>, AllocError>
+    ensures { (e : Option tree.Expression) → ShowsOptional value e → IfOk result (λ r. ShowsStatement r (tree.Return place e end)) }
+{
+    let Read { tree, depths } = over(alloc, place, optional(alloc, value))?;
+    let tree = match tree {
+        Some(value) => Some(Statement::Return(place, value, end)),
+        None => None,
+    };
+    Ok(Read { tree, depths })
+}
+
+/// `case` and its statement (C90 6.6.1).
+pub fn case_statement(
+    alloc: Global,
+    place: Place,
+    value: Operand,
+    body: Read<Statement>,
+) -> Result<Read<Statement>, AllocError>
+    ensures { (e : tree.Expression) (s : tree.Statement) → ShowsOperand value e → ShowsStatement body s → IfOk result (λ r. ShowsStatement r (tree.Case place e s)) }
+{
+    let parts = beside(value.read, body)?;
+    let Read { tree, depths } = over(alloc, place, parts)?;
+    let tree = match tree {
+        Some((value, body)) => Some(Statement::Case(place, value, Box::new(alloc, body)?)),
+        None => None,
+    };
+    Ok(Read { tree, depths })
+}
+
+/// `default` and its statement (C90 6.6.1).
+pub fn default_statement(
+    alloc: Global,
+    place: Place,
+    body: Read<Statement>,
+) -> Result<Read<Statement>, AllocError>
+    ensures { (s : tree.Statement) → ShowsStatement body s → IfOk result (λ r. ShowsStatement r (tree.Default place s)) }
+{
+    let Read { tree, depths } = over(alloc, place, body)?;
+    let tree = match tree {
+        Some(body) => Some(Statement::Default(place, Box::new(alloc, body)?)),
+        None => None,
+    };
+    Ok(Read { tree, depths })
+}

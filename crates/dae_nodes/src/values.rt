@@ -1,0 +1,128 @@
+ghost use Rattle.std.specs.Prelude.{◌≡◌, ℕ, List, Option, Some, None, IfOk};
+ghost use Rattle.dae_grammar.specs.FirstPlaces.{Places, nowhere, both, over};
+ghost use Rattle.dae_nodes.specs.Shown.{Holds, IsFrom, IsPair, IsLonger};
+
+use crate::depths::Depths;
+use dae_base::Place;
+use dae_scope::Binding;
+use dae_tree::{Declarator, Expression, Parameter, Specifier};
+use std::alloc::{AllocError, Global};
+
+/// A part that was read: its tree, where no node in it is too deep, and the places of its first nodes.
+#[derive(Drop)]
+pub struct Read<T> {
+    pub tree: Option<T>,
+    pub depths: Depths,
+}
+
+/// An expression that was read, its level, and the place of its first token.
+#[derive(Drop)]
+pub struct Operand {
+    pub read: Read<Expression>,
+    pub level: u8,
+    pub place: Place,
+}
+
+/// Specifiers that were read.
+#[derive(Drop)]
+pub struct Specified {
+    pub read: Read<Vec<Specifier>>,
+    pub typedef: bool,
+    /// The place of the first.
+    pub place: Option<Place>,
+    /// The place of `void`, where it stands alone.
+    pub void: Option<Place>,
+}
+
+/// A declarator that was read.
+#[derive(Drop)]
+pub struct Declared {
+    pub read: Read<Declarator>,
+    pub name: Option<u32>,
+    pub present: bool,
+    /// A name with nothing but parentheses round it.
+    pub bare: bool,
+    /// The parameters of the part that makes the name a function, in their order.
+    pub parameters: Vec<Binding<bool>>,
+}
+
+/// The parameters of a function while they are read.
+#[derive(Drop)]
+pub struct ParameterList {
+    pub read: Read<Vec<Parameter>>,
+    pub any: bool,
+    /// The place of `void`, where it stands alone.
+    pub void: Option<Place>,
+}
+
+/// The parts of a `for` before its step: its word, its parenthesis, and the expressions with the semicolons behind them.
+#[derive(Drop)]
+pub struct Loop {
+    pub word: Place,
+    pub paren: Place,
+    pub start: Option<Operand>,
+    pub first: Place,
+    pub test: Option<Operand>,
+    pub second: Place,
+}
+
+/// A tree without nodes.
+pub fn flat<T: Drop>(alloc: Global, tree: T) -> Read<T>
+    ensures tree { result.tree ≡ Some tree }
+    ensures places { Holds result nowhere }
+{
+    Read {
+        tree: Some(tree),
+        depths: Depths::none(alloc),
+    }
+}
+
+/// A node at this place over a part.
+pub fn over<T: Drop>(alloc: Global, place: Place, part: Read<T>) -> Result<Read<T>, AllocError>
+    ensures { (f : Places) → Holds part f → IfOk result (λ r. Holds r (over place f) × IsFrom part.tree r.tree) }
+{
+    let Read { tree, depths } = part;
+    let depths = depths.under(alloc, place)?;
+    if depths.fits() {
+        Ok(Read { tree, depths })
+    } else {
+        Ok(Read { tree: None, depths })
+    }
+}
+
+/// Two parts, one behind the other.
+pub fn beside<T: Drop, U: Drop>(left: Read<T>, right: Read<U>) -> Result<Read<(T, U)>, AllocError>
+    ensures { (f g : Places) → Holds left f → Holds right g → IfOk result (λ r. Holds r (both f g) × IsPair left.tree right.tree r.tree) }
+{
+    let Read { tree, depths } = left;
+    let Read {
+        tree: other,
+        depths: others,
+    } = right;
+    let depths = depths.beside(&others)?;
+    match (tree, other) {
+        (Some(tree), Some(other)) => Ok(Read {
+            tree: Some((tree, other)),
+            depths,
+        }),
+        _ => Ok(Read { tree: None, depths }),
+    }
+}
+
+/// A list with a tree more.
+pub fn longer<T: Drop>(before: Read<Vec<T>>, item: Read<T>) -> Result<Read<Vec<T>>, AllocError>
+    ensures { (f g : Places) → Holds before f → Holds item g → IfOk result (λ r. Holds r (both f g) × IsLonger before.tree item.tree r.tree) }
+{
+    let Read { tree, depths } = beside(before, item)?;
+    match tree {
+        Some((list, item)) => {
+            let mut list = list;
+            list.push(item)?;
+            Ok(Read {
+                tree: Some(list),
+                depths,
+            })
+        }
+        None => Ok(Read { tree: None, depths }),
+    }
+}

@@ -1,0 +1,3 @@
+pub mod Form
+pub mod Meaning
+pub mod Straight

@@ -1,0 +1,81 @@
+use crate::expressions::{Declarator, Expression, Specifier};
+use dae_base::Place;
+
+/// An initialiser (C90 6.5.7).
+#[derive(Drop)]
+pub enum Initialiser {
+    Value(Expression),
+    /// `{`, the initialisers, and whether a comma stands behind the last.
+    List(Place, Vec<Initialiser>, bool),
+}
+
+/// A declarator of a declaration, with the place of `=` and the initialiser or without.
+#[derive(Drop)]
+pub struct Item {
+    pub declarator: Declarator,
+    pub initialiser: Option<(Place, Initialiser)>,
+}
+
+/// A declaration, with the place of its semicolon (C90 6.5).
+#[derive(Drop)]
+pub struct Declaration {
+    pub specifiers: Vec<Specifier>,
+    pub items: Vec<Item>,
+    pub end: Place,
+}
+
+/// `{`, declarations, and statements up to `}` (C90 6.6.2).
+#[cycle(statement)]
+#[derive(Drop)]
+pub struct Block {
+    pub place: Place,
+    pub declarations: Vec<Declaration>,
+    pub statements: Vec<Statement>,
+}
+
+/// The test of a statement: an expression in parentheses, with the place of `(`.
+#[derive(Drop)]
+pub struct Test {
+    pub place: Place,
+    pub expression: Expression,
+}
+
+/// A statement (C90 6.6). The first place is that of the first word, the last that of the semicolon.
+#[cycle(statement)]
+#[derive(Drop)]
+pub enum Statement {
+    Block(Block),
+    /// A semicolon alone.
+    Empty(Place),
+    Evaluate(Expression, Place),
+    If(Place, Test, Box<Statement>),
+    IfElse(Place, Test, Box<Statement>, Box<Statement>),
+    While(Place, Test, Box<Statement>),
+    /// The second place is that of `while`.
+    Do(Place, Box<Statement>, Place, Test, Place),
+    /// The other places are those of `(` and of the two semicolons.
+    For(Place, Place, Heading, Box<Statement>),
+    Break(Place, Place),
+    Continue(Place, Place),
+    Return(Place, Option<Expression>, Place),
+    Switch(Place, Test, Box<Statement>),
+    Case(Place, Expression, Box<Statement>),
+    Default(Place, Box<Statement>),
+}
+
+/// What stands in the parentheses of a `for`, with the places of the two semicolons.
+#[derive(Drop)]
+pub struct Heading {
+    pub start: Option<Expression>,
+    pub after_start: Place,
+    pub test: Option<Expression>,
+    pub after_test: Place,
+    pub step: Option<Expression>,
+}
+
+/// A declaration at file scope, or the definition of a function (C90 6.7).
+#[derive(Drop)]
+pub enum External {
+    Declaration(Declaration),
+    Definition(Vec<Specifier>, Declarator, Block),
+}
