@@ -1,6 +1,6 @@
 -- The numbers of names and literals lie within their lists, and the spans of the tokens are those that were read.
-use Rattle.std.proofs.Common.{◌≡◌, ℕ, ◌+◌, ◌<◌, ◌≤◌, Bool, true, false, not, cond, ◌||◌, if◌then◌else◌, List, [], ◌∷◌, ◌++◌, map, length, refl, arith}
-use Rattle.std.specs.List.{list_any, position_or_len, AllByRecursion}
+use Rattle.std.proofs.Common.{◌≡◌, ℕ, suc, ◌+◌, ◌-◌, ◌∙◌, ap, ◌<◌, ◌≤◌, Bool, true, false, not, cond, ◌||◌, if◌then◌else◌, List, [], ◌∷◌, ◌++◌, map, length, refl, arith}
+use Rattle.std.specs.List.{list_any, position_or_len, range_with_len, AllByRecursion}
 use Rattle.std.specs.Str.{bytes_eq}
 use Rattle.std.proofs.lemmas.List.{length-append}
 use Rattle.std.specs.List.{IsDistinct}
@@ -8,7 +8,12 @@ use Rattle.std.proofs.lemmas.Map.Keys.{IsDistinct-push}
 use Rattle.std.proofs.lemmas.Cmp.{nat_list_eq_equiv}
 use Rattle.std.proofs.lemmas.List.Elements.{All-from_recursion}
 use Rattle.dae_base.specs.declared.Place.{Place}
+use Rattle.dae_tree.specs.declared.signs.Sign.{Sign}
+use Rattle.dae_tree.specs.declared.signs.Sign.TheVariants as signs
 use Rattle.dae_tree.specs.declared.tokens.Token.{Token}
+use Rattle.dae_tree.specs.declared.words.Keyword.{Keyword}
+use Rattle.dae_tree.specs.declared.words.Keyword.TheVariants as keywords
+use Rattle.dae_tree.specs.Marks.{Mark, marks, mark_of, word_mark, sign_mark, literal_numbers}
 use Rattle.dae_tree.specs.Replacing.{Meaning, keyword, sign, name, constant, literal, Read}
 use Rattle.dae_tree.specs.Reading.{IsSpan, IsNumbered, AreInOrder, IsReading}
 use Rattle.dae_tree.specs.Tokens.{joined, names_with, names_after, literals_with, literals_after, kind_of, numbered}
@@ -79,6 +84,38 @@ numbered_within (t ∷ ts) ns ls N L h l =
       numbered_within ts ns1 ls1 N L h l,
     )
 
+-- ---- the literals have the numbers from 0 on
+
+word_passed : (k : Keyword) (p : Place) (ts : List Mark) → literal_numbers (word_mark k p ∷ ts) ≡ literal_numbers ts
+word_passed keywords.Else p ts = refl
+word_passed _ p ts = refl
+
+sign_passed : (s : Sign) (p : Place) (ts : List Mark) → literal_numbers (sign_mark s p ∷ ts) ≡ literal_numbers ts
+sign_passed signs.RightParen p ts = refl
+sign_passed signs.RightBracket p ts = refl
+sign_passed signs.RightBrace p ts = refl
+sign_passed signs.Comma p ts = refl
+sign_passed signs.Colon p ts = refl
+sign_passed _ p ts = refl
+
+literals_next : (m : Meaning) (p : Place) (ns ls : List (List ℕ)) (ts : List Mark) (end : ℕ) → length (literals_with ls m) ≤ end → literal_numbers ts ≡ range_with_len (length (literals_with ls m)) (end - length (literals_with ls m))
+    → literal_numbers (mark_of (kind_of ns ls m) p ∷ ts) ≡ range_with_len (length ls) (end - length ls)
+literals_next (keyword k) p ns ls ts end le h = word_passed k p ts ∙ h
+literals_next (sign s) p ns ls ts end le h = sign_passed s p ts ∙ h
+literals_next (name n) p ns ls ts end le h = h
+literals_next (constant c) p ns ls ts end le h = h
+literals_next (literal bs) p ns ls ts end le h =
+    let more = length-append ls (bs ∷ []) in
+    let left : suc (end - length (ls ++ bs ∷ [])) ≡ end - length ls = omega arith in
+    let next : length (ls ++ bs ∷ []) ≡ length ls + 1 = omega arith in
+    ap (λ (ks : List ℕ). length ls ∷ ks) (h ∙ ap (λ (k : ℕ). range_with_len k (end - length (ls ++ bs ∷ []))) next) ∙ ap (range_with_len (length ls)) left
+
+literals_counted : (ts : List Read) (ns ls : List (List ℕ)) → literal_numbers (marks (numbered ns ls ts)) ≡ range_with_len (length ls) (length (literals_after ls ts) - length ls)
+literals_counted [] ns ls = let none : 0 ≡ length ls - length ls = omega arith in ap (range_with_len (length ls)) none
+literals_counted (t ∷ ts) ns ls =
+    let ls1 = literals_with ls t.meaning in
+    literals_next t.meaning t.place ns ls (marks (numbered (names_with ns t.meaning) ls1 ts)) (length (literals_after ls1 ts)) (literals_last ts ls1) (literals_counted ts (names_with ns t.meaning) ls1)
+
 nil_distinct : IsDistinct bytes_eq []
 unfolding IsDistinct
 nil_distinct = tt
@@ -126,4 +163,5 @@ is_reading text reads stdio stdlib end h =
       distinct = distinct_after ts [] nil_distinct;
       numbers = All-from_recursion (λ (t : Token). IsNumbered (length (names_after [] ts)) (length (literals_after [] ts)) t.kind) (numbered [] [] ts)
           (numbered_within ts [] [] (length (names_after [] ts)) (length (literals_after [] ts)) (omega arith) (omega arith));
+      counted = let all : length (literals_after [] ts) - 0 ≡ length (literals_after [] ts) = omega arith in literals_counted ts [] [] ∙ ap (range_with_len 0) all;
     }
