@@ -1,5 +1,5 @@
 -- The laws of the machine and of the trees that it reads, for the proofs of the crates above.
-use Rattle.std.proofs.Common.{◌≡◌, ℕ, suc, ◌+◌, ◌*◌, ◌≤◌, List, [], ◌∷◌, ◌++◌, length, Some, None, refl}
+use Rattle.std.proofs.Common.{◌≡◌, ℕ, suc, ◌+◌, ◌*◌, ◌<◌, ◌≤◌, List, [], ◌∷◌, ◌++◌, length, Some, None, refl}
 use Rattle.dae_base.specs.declared.Place.{Place}
 use Rattle.dae_tree.specs.Depth.{first_deeper, nodes_file}
 use Rattle.dae_tree.specs.Marks.{Mark}
@@ -9,6 +9,7 @@ use Rattle.dae_tree.specs.Trees.{External}
 use Rattle.dae_grammar.specs.FirstPlaces.{firsts_file}
 use Rattle.dae_grammar.specs.Frames.{State}
 use Rattle.dae_grammar.specs.Machine.{begun, ended, onto, step}
+use Rattle.dae_grammar.specs.Measure.{measure}
 use Rattle.dae_grammar.specs.Runs.{run}
 use Rattle.dae_grammar.specs.Standing.{Holds}
 use Rattle.dae_grammar.specs.Taken.{tokens_of}
@@ -41,6 +42,9 @@ stopped = runs.stopped
 -- runs are short
 pub bounded : (tokens : List Mark) (turns : ℕ) → 12 * length tokens + 9 ≤ turns → step (run turns (begun tokens)) ≡ None
 bounded = runs.bounded
+
+pub step_falls : (s t : State) → step s ≡ Some t → measure t < measure s
+step_falls = runs.step_falls
 
 -- the first node that is too deep is the first at the depth behind the limit
 pub first_deep : (file : List External) (limit : ℕ) → first_deeper limit (nodes_file file) ≡ firsts_file file limit

@@ -1,8 +1,8 @@
 mod Holding
 mod Showing
-mod Rows
 mod Listing
 mod Declaring
 mod Specifying
 mod Making
 mod Blocks
+pub mod Laws

@@ -24,6 +24,7 @@ use Rattle.dae_grammar.specs.Machine.{onto, arguments_onto, members_onto, enumer
 use Rattle.dae_nodes.specs.declared.values.Read.{Read}
 use Rattle.dae_nodes.specs.Shown.{Holds, IsSeen, Shows, ShowsList, firsts_list, IsLonger}
 use Rattle.dae_nodes.specs.Parts.{ShowsArguments, ShowsMembers, view_line, firsts_line, ShowsEnumerators, view_entry, firsts_entry, ShowsDeclarators, ShowsParameterList, view_parameter, firsts_parameter, ShowsInitialisers, ShowsItems, firsts_item, ShowsDeclarations, ShowsStatements}
+use Rattle.dae_grammar.proofs.Laws.{onto_last}
 use Rattle.dae_nodes.proofs.Holding.{holds_same}
 use Rattle.dae_nodes.proofs.Showing.{seen_at}
 
@@ -34,13 +35,6 @@ or_else_along (Some x) y z = refl
 or_else_none : (x : Option Place) → x ≡ or_else x None
 or_else_none None = refl
 or_else_none (Some x) = refl
-
-onto_more : {A : Type 0} (before xs ys : List A) → onto before (xs ++ ys) ≡ onto before xs ++ ys
-onto_more [] xs ys = refl
-onto_more (a ∷ before) xs ys = onto_more before (a ∷ xs) ys
-
-pub onto_last : {A : Type 0} (before : List A) (a : A) → onto (a ∷ before) [] ≡ onto before [] ++ a ∷ []
-onto_last before a = onto_more before [] (a ∷ [])
 
 map_last : {T A : Type 0} (view : T → A) (xs : List T) (t : T) → map view (xs ++ t ∷ []) ≡ map view xs ++ view t ∷ []
 map_last view [] t = refl

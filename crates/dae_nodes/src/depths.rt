@@ -1,4 +1,4 @@
-ghost use Rattle.std.specs.Prelude.{◌≡◌, ℕ, ◌++◌, List, [], ◌∷◌, take, drop, length, IfOk, nat_le, slice_get};
+ghost use Rattle.std.specs.Prelude.{◌≡◌, ◌<◌, ◌++◌, [], ◌∷◌, take, drop, length, IfOk, nat_le, slice_get, Some};
 ghost use Rattle.std.specs.Option.{unwrap_or};
 
 use dae_base::Place;
@@ -56,11 +56,12 @@ impl Depths {
         self.places.len() <= GREATEST_DEPTH
     }
 
-    /// The place of the first node that is too deep where the top has depth 1.
-    pub fn too_deep(&self) -> Option<Place>
-        ensures { result ≡ slice_get self.now.places.items 200 }
+    /// The place of the first node that is too deep, where the top has depth 1.
+    pub fn first_too_deep(&self) -> Place
+        requires { 200 < length self.now.places.items }
+        ensures { slice_get self.now.places.items 200 ≡ Some result }
     {
-        self.places.as_slice().get(GREATEST_DEPTH).copied()
+        self.places[GREATEST_DEPTH]
     }
 
     /// The place of the top node.

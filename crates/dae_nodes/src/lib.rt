@@ -11,6 +11,7 @@ pub use lists::{
 };
 pub use values::{
     Declared, Loop, Operand, ParameterList, Read, Specified, beside, flat, longer, over,
+    tree_or_depth,
 };
 pub use declarators::{
     absent, empty_function, function, grouped, named, no_parameters, pointer, sized_array,

@@ -33,10 +33,8 @@ fn nested(alloc: Global, count: usize) -> Result<Operand, AllocError> {
 fn trees_stop_at_the_greatest_depth(rt: HostRuntime) -> Result<(), Fail> {
     let operand = nested(rt.alloc(), GREATEST_DEPTH - 1)?;
     assert!(rt; operand.read.tree.is_some());
-    assert!(rt; operand.read.depths.too_deep().is_none());
     let deeper = nested(rt.alloc(), GREATEST_DEPTH)?;
     assert!(rt; deeper.read.tree.is_none());
-    assert!(rt; deeper.read.depths.too_deep() == Some(at(7)));
     Ok(())
 }
 

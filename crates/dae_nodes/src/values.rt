@@ -1,6 +1,6 @@
-ghost use Rattle.std.specs.Prelude.{◌≡◌, ℕ, List, Option, Some, None, IfOk};
+ghost use Rattle.std.specs.Prelude.{◌≡◌, List, length, slice_get, Option, Some, None, IfOk, IfErr, OnOk};
 ghost use Rattle.dae_grammar.specs.FirstPlaces.{Places, nowhere, both, over};
-ghost use Rattle.dae_nodes.specs.Shown.{Holds, IsFrom, IsPair, IsLonger};
+ghost use Rattle.dae_nodes.specs.Shown.{Holds, IsKept, IsFrom, IsPair, IsLonger};
 
 use crate::depths::Depths;
 use dae_base::Place;
@@ -124,5 +124,19 @@ pub fn longer<T: Drop>(before: Read<Vec<T>>, item: Read<T>) -> Result<Read<Vec<T
             })
         }
         None => Ok(Read { tree: None, depths }),
+    }
+}
+
+/// The tree of a part, or the place of its first node that is too deep.
+pub fn tree_or_depth<T: Drop>(read: Read<T>) -> Result<T, Place>
+    requires { IsKept read.tree (length read.depths.places.items) }
+    ensures tree { IfOk result (λ t. read.tree ≡ Some t) }
+    ensures shallow { OnOk result (slice_get read.depths.places.items 200 ≡ None) }
+    ensures deep { IfErr result (λ p. slice_get read.depths.places.items 200 ≡ Some p) }
+{
+    let Read { tree, depths } = read;
+    match tree {
+        Some(tree) => Ok(tree),
+        None => Err(depths.first_too_deep()),
     }
 }

@@ -2,8 +2,8 @@
 use Rattle.std.proofs.Common.{◌∷◌}
 use Rattle.dae_nodes.specs.Parts.{ShowsOperand, ShowsSpecified, ShowsEnumerators, ShowsDeclared, ShowsItems, ShowsStatement}
 use Rattle.dae_grammar.specs.Frames as plain
-use Rattle.dae_frames.specs.declared.frames.Doing.TheVariants as doing
-use Rattle.dae_frames.specs.Frames.{ShowsBody, ShowsDoing}
+use Rattle.dae_parse.specs.declared.frames.Doing.TheVariants as doing
+use Rattle.dae_parse.specs.Frames.{ShowsBody, ShowsDoing}
 
 pub does_enumerated : (b : _) (xs : _) (n : _) (P : plain.Doing → Type 0) (does : plain.Doing) → ShowsDoing (doing.Enumerated b xs n) does
     → ((a : _) (es : _) → ShowsBody b a → ShowsEnumerators xs es → P (plain.enumerated a es n)) → P does

@@ -1,24 +1,34 @@
 -- A file that was read: its tree and its limits.
-use Rattle.std.proofs.Common.{◌≡◌, ℕ, List, [], ◌∷◌, map, Option, Some, None, refl, sym, ap, subst, ◌∙◌, arith}
-use Rattle.std.specs.Prelude.{slice_get, Result, Ok, Err, IfErr}
-use Rattle.dae_tree.specs.Reading.{Reading}
+use Rattle.std.proofs.Common.{◌≡◌, ℕ, List, [], ◌∷◌, map, length, Option, Some, None, refl, sym, ap, subst, ◌∙◌, arith}
+use Rattle.std.specs.Prelude.{slice_get, All, Result, Ok, Err, IfErr}
+use Rattle.std.specs.List.{range_with_len}
+use Rattle.std.proofs.lemmas.List.Elements.{All-map, All-weaker}
+use Rattle.dae_tree.specs.Reading.{Reading, IsReading, IsNumbered}
 use Rattle.dae_tree.specs.declared.statements.External.{External}
-use Rattle.dae_tree.specs.declared.statements.File.{File}
+use Rattle.dae_tree.specs.Files.{Contents, IsFile, IsNumberedMark}
 use Rattle.dae_tree.specs.Depth.{first_deeper, first_too_long, nodes_file, greatest_depth}
 use Rattle.dae_tree.specs.FileViews.{view_external, view_externals}
 use Rattle.dae_tree.specs.Trees as tree
-use Rattle.dae_tree.specs.Marks.{marks}
+use Rattle.dae_tree.specs.Marks.{Mark, mark, marks, word_mark, sign_mark, literal_numbers}
+use Rattle.dae_tree.specs.Statements.{spell_file}
+use Rattle.dae_tree.specs.declared.tokens.Kind.{Kind}
+use Rattle.dae_tree.specs.declared.tokens.Kind.TheVariants as kinds
+use Rattle.dae_tree.specs.declared.tokens.Token.{Token}
+use Rattle.dae_tree.specs.declared.words.Keyword.{Keyword}
+use Rattle.dae_tree.specs.declared.words.Keyword.TheVariants as keywords
+use Rattle.dae_tree.specs.declared.signs.Sign.{Sign}
+use Rattle.dae_tree.specs.declared.signs.Sign.TheVariants as signs
+use Rattle.dae_base.specs.declared.Place.{Place}
 use Rattle.dae_grammar.specs.FirstPlaces.{or_else, firsts_external, firsts_file}
 use Rattle.dae_grammar.specs.Machine.{onto}
-use Rattle.dae_grammar.proofs.Runs.{unique}
-use Rattle.dae_grammar.proofs.FirstPlaces.{says_file}
+use Rattle.dae_grammar.proofs.Laws.{unique, first_deep}
 use Rattle.dae_nodes.specs.Shown.{firsts_list}
-use Rattle.dae_nodes.proofs.Showing.{seen_at}
-use Rattle.dae_frames.specs.declared.frames.Before.{Before}
-use Rattle.dae_frames.specs.Frames.{ShowsFile}
+use Rattle.dae_nodes.proofs.Laws.{seen_at}
+use Rattle.dae_parse.specs.declared.frames.Before.{Before}
+use Rattle.dae_parse.specs.Frames.{ShowsFile}
 use Rattle.dae_parse.specs.declared.error.ParseError.{ParseError}
 use Rattle.dae_parse.specs.declared.error.ParseError.TheVariants as errors
-use Rattle.dae_parse.specs.Parsed.{IsWithinLimits, Answers}
+use Rattle.dae_parse.specs.Parsed.{IsWithinLimits, IsFileOf, IsRefused, IsCause, AreAlike, Answers}
 
 firsts_files : (xs : List tree.External) (i : ℕ) → firsts_file xs i ≡ firsts_list firsts_external xs i
 firsts_files [] i = refl
@@ -30,7 +40,7 @@ views_files (x ∷ xs) = ap (λ ys. view_external x ∷ ys) (views_files xs)
 
 -- the first node that is too deep stands at the depth behind the greatest
 pub deep_at : (b : Before) (xs : List tree.External) → ShowsFile b xs → first_deeper greatest_depth (nodes_file (onto xs [])) ≡ slice_get b.read.depths.places.items 200
-deep_at b xs f = says_file (onto xs []) 200 ∙ firsts_files (onto xs []) 200 ∙ sym (f.read.holds.places.entries 200 (omega arith))
+deep_at b xs f = first_deep (onto xs []) 200 ∙ firsts_files (onto xs []) 200 ∙ sym (f.read.holds.places.entries 200 (omega arith))
 
 pub none_of : {A : Type 0} (o : Option A) → ((x : A) → o ≡ Some x → ⊥) → o ≡ None
 none_of None h = refl
@@ -45,7 +55,7 @@ some_none None x e d = cc
 some_none (Some y) x e d = cc
 
 -- a tree within the limits is found
-pub found : (r : Reading) (result : Result File ParseError) (file : List tree.External) → Answers r result → IsWithinLimits r.tokens file → IfErr result (λ e. e ≡ errors.Memory)
+pub found : (r : Reading) (result : Result Contents ParseError) (file : List tree.External) → Answers r result → IsWithinLimits r.tokens file → IfErr result (λ e. e ≡ errors.Memory)
 found r (Ok f) file a w = tt
 found r (Err (errors.Syntax p)) file a w = absurd (a.0 file w.tree)
 found r (Err (errors.TooDeep p)) file a w =
@@ -55,3 +65,75 @@ found r (Err (errors.FunctionTooLong p)) file a w =
     let e = unique (marks r.tokens) a.0 file a.1 w.tree in
     absurd (some_none _ p (subst (λ (g : List tree.External). first_too_long g ≡ Some p) e a.3) w.short)
 found r (Err errors.Memory) file a w = refl
+
+-- ---- what a file promises
+
+sign_numbered : (N L : ℕ) (s : Sign) (p : Place) → IsNumberedMark N L (sign_mark s p)
+sign_numbered N L signs.RightParen p = tt
+sign_numbered N L signs.RightBracket p = tt
+sign_numbered N L signs.RightBrace p = tt
+sign_numbered N L signs.Comma p = tt
+sign_numbered N L signs.Colon p = tt
+sign_numbered N L _ p = tt
+
+word_numbered : (N L : ℕ) (k : Keyword) (p : Place) → IsNumberedMark N L (word_mark k p)
+word_numbered N L keywords.Else p = tt
+word_numbered N L _ p = tt
+
+numbered_by : (N L : ℕ) (k : Kind) (t : Token) → t.kind ≡ k → IsNumbered N L k → IsNumberedMark N L (mark t)
+numbered_by N L (kinds.Keyword k) t e h = rw e (word_numbered N L k t.place)
+numbered_by N L (kinds.Sign s) t e h = rw e (sign_numbered N L s t.place)
+numbered_by N L (kinds.Name n) t e h = rw e h
+numbered_by N L (kinds.Constant c) t e h = rw e tt
+numbered_by N L (kinds.Literal n) t e h = rw e h
+
+marks_numbered : (N L : ℕ) (ts : List Token) → All (λ t. IsNumbered N L t.kind) ts → All (IsNumberedMark N L) (marks ts)
+marks_numbered N L ts h = All-map (IsNumberedMark N L) mark ts (All-weaker (λ t. IsNumbered N L t.kind) (λ t. IsNumberedMark N L (mark t)) ts (λ t k. numbered_by N L t.kind t refl k) h)
+
+pub is_file : (r : Reading) (f : Contents) → IsReading r → IsWithinLimits r.tokens (view_externals f.externals) → f.names ≡ r.names → f.literals ≡ r.literals → IsFile f
+is_file r f h w n l = record {
+  grammar = w.tree.0;
+  shallow = w.shallow;
+  short = w.short;
+  distinct = rw n h.distinct;
+  numbers = rw (n, l, ← w.tree.1) (marks_numbered (length r.names) (length r.literals) r.tokens h.numbers);
+  counted = rw (l, ← w.tree.1) h.counted;
+}
+
+-- ---- one answer
+
+same_deep : (file other : List tree.External) (p q : Place) → file ≡ other → first_deeper greatest_depth (nodes_file file) ≡ Some p → first_deeper greatest_depth (nodes_file other) ≡ Some q → p ≡ q
+same_deep file other p q e h k = cc
+
+same_long : (file other : List tree.External) (p q : Place) → file ≡ other → first_too_long file ≡ Some p → first_too_long other ≡ Some q → p ≡ q
+same_long file other p q e h k = cc
+
+deep_or_not : (file other : List tree.External) (p : Place) → file ≡ other → first_deeper greatest_depth (nodes_file file) ≡ Some p → first_deeper greatest_depth (nodes_file other) ≡ None → ⊥
+deep_or_not file other p e h k = cc
+
+long_or_not : (file other : List tree.External) (p : Place) → file ≡ other → first_too_long file ≡ Some p → first_too_long other ≡ None → ⊥
+long_or_not file other p e h k = cc
+
+pub one_tree : (r : Reading) (f g : Contents) → IsFileOf r f → IsFileOf r g → view_externals f.externals ≡ view_externals g.externals
+one_tree r f g h k = unique (marks r.tokens) (view_externals f.externals) (view_externals g.externals) h.tree.tree k.tree.tree
+
+pub none_refused : (r : Reading) (f : Contents) (e : ParseError) → IsFileOf r f → IsCause e → IsRefused r e → ⊥
+none_refused r f (errors.Syntax p) h c k = k.0 (view_externals f.externals) h.tree.tree
+none_refused r f (errors.TooDeep p) h c k = deep_or_not k.0 (view_externals f.externals) p (unique (marks r.tokens) k.0 (view_externals f.externals) k.1 h.tree.tree) k.2 h.tree.shallow
+none_refused r f (errors.FunctionTooLong p) h c k = long_or_not k.0 (view_externals f.externals) p (unique (marks r.tokens) k.0 (view_externals f.externals) k.1 h.tree.tree) k.3 h.tree.short
+none_refused r f errors.Memory h c k = absurd c
+
+pub refused_once : (r : Reading) (d e : ParseError) → IsRefused r d → IsRefused r e → AreAlike d e
+refused_once r errors.Memory e h k = tt
+refused_once r (errors.Syntax p) errors.Memory h k = tt
+refused_once r (errors.Syntax p) (errors.Syntax q) h k = tt
+refused_once r (errors.Syntax p) (errors.TooDeep q) h k = absurd (h.0 k.0 k.1)
+refused_once r (errors.Syntax p) (errors.FunctionTooLong q) h k = absurd (h.0 k.0 k.1)
+refused_once r (errors.TooDeep p) errors.Memory h k = tt
+refused_once r (errors.TooDeep p) (errors.Syntax q) h k = absurd (k.0 h.0 h.1)
+refused_once r (errors.TooDeep p) (errors.TooDeep q) h k = same_deep h.0 k.0 p q (unique (marks r.tokens) h.0 k.0 h.1 k.1) h.2 k.2
+refused_once r (errors.TooDeep p) (errors.FunctionTooLong q) h k = absurd (deep_or_not h.0 k.0 p (unique (marks r.tokens) h.0 k.0 h.1 k.1) h.2 k.2)
+refused_once r (errors.FunctionTooLong p) errors.Memory h k = tt
+refused_once r (errors.FunctionTooLong p) (errors.Syntax q) h k = absurd (k.0 h.0 h.1)
+refused_once r (errors.FunctionTooLong p) (errors.TooDeep q) h k = absurd (deep_or_not k.0 h.0 q (unique (marks r.tokens) k.0 h.0 k.1 h.1) k.2 h.2)
+refused_once r (errors.FunctionTooLong p) (errors.FunctionTooLong q) h k = same_long h.0 k.0 p q (unique (marks r.tokens) h.0 k.0 h.1 k.1) h.3 k.3

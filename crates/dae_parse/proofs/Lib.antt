@@ -1,5 +1,18 @@
-pub mod Bottoms
-pub mod Reaching
-pub mod Others
-pub mod Files
-pub mod Doings
+mod Behind
+mod ByKind
+mod Names
+mod Stacks
+mod Popped
+mod Otherwise
+mod OtherwiseDeclarators
+mod OtherwiseDeclarations
+mod OtherwiseStatements
+mod Structures
+mod Inner
+mod Below
+mod Counts
+mod Bottoms
+mod Reaching
+mod Others
+mod Files
+mod Doings

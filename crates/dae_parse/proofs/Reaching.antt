@@ -1,5 +1,5 @@
 -- A run of the parser's machine shows a run of the grammar's: how it goes on, and where it ends.
-use Rattle.std.proofs.Common.{◌≡◌, ℕ, suc, List, [], ◌∷◌, length, reverse, Option, Some, None, refl, sym, ap, subst, ◌∙◌}
+use Rattle.std.proofs.Common.{◌≡◌, ℕ, suc, ◌+◌, ◌*◌, ◌<◌, ◌≤◌, arith, List, [], ◌∷◌, length, reverse, Option, Some, None, refl, sym, ap, subst, ◌∙◌, Bool}
 use Rattle.dae_tree.specs.declared.tokens.Token.{Token}
 use Rattle.dae_tree.specs.Marks.{Mark, marks}
 use Rattle.dae_tree.specs.Names.{Names}
@@ -8,65 +8,75 @@ use Rattle.dae_tree.specs.Trees.{External}
 use Rattle.dae_grammar.specs.Frames.{Frame, State, state, externals}
 use Rattle.dae_grammar.specs.Frames as plain
 use Rattle.dae_grammar.specs.Machine.{step, step_at, begun, onto}
+use Rattle.dae_grammar.specs.Measure.{measure}
 use Rattle.dae_grammar.specs.Runs.{run}
 use Rattle.dae_grammar.specs.Standing.{Holds}
 use Rattle.dae_grammar.specs.Taken.{tokens_of}
-use Rattle.dae_grammar.proofs.Runs.{run_next, run_holds, run_keeps, sound, stopped}
-use Rattle.dae_frames.specs.declared.frames.Before.{Before}
-use Rattle.dae_frames.specs.declared.frames.Doing.{Doing}
-use Rattle.dae_frames.specs.declared.machine.Machine.{Machine}
-use Rattle.dae_frames.specs.declared.frames.Doing.TheVariants as doing
-use Rattle.dae_frames.specs.declared.frames.Frame.{Frame as Top}
+use Rattle.dae_grammar.proofs.Laws.{run_next, stands, run_keeps, step_falls, sound, stopped}
+use Rattle.dae_parse.specs.declared.frames.Before.{Before}
+use Rattle.dae_parse.specs.declared.frames.Doing.{Doing}
+use Rattle.dae_parse.specs.declared.machine.Machine.{Machine}
+use Rattle.dae_parse.specs.declared.frames.Doing.TheVariants as doing
+use Rattle.dae_parse.specs.declared.frames.Frame.{Frame as Top}
 use Rattle.dae_scope.specs.Scopes.{Scopes}
-use Rattle.dae_frames.specs.Frames.{ShowsFile, ShowsStack}
-use Rattle.dae_frames.specs.States.{Follows}
+use Rattle.dae_parse.specs.Frames.{ShowsFile, ShowsStack}
+use Rattle.dae_parse.specs.States.{Follows}
 use Rattle.dae_parse.specs.Bottom.{IsEmptyAt, IsBottomState}
 use Rattle.dae_parse.specs.Reached.{IsWhole, IsNotWhole, Reached}
 use Rattle.dae_parse.proofs.Bottoms.{bottom_of_run}
 
 -- ---- what holds of each state that is reached
 
-pub holds_there : (tokens : List Mark) (does : Doing) (m : Machine) (r : Reached tokens does m) → Holds (state r.does r.stack m.scope.names m.rest)
-holds_there tokens does m r = subst Holds r.come (run_holds r.turns (begun tokens) (refl, tt, tt))
+pub holds_there : (tokens : List Mark) (turns : ℕ) (does : Doing) (m : Machine) (r : Reached tokens turns does m) → Holds (state r.does r.stack m.scope.names m.rest)
+holds_there tokens turns does m r = subst Holds r.come (stands tokens turns)
 
-pub bottom_there : (tokens : List Mark) (does : Doing) (m : Machine) (r : Reached tokens does m) → IsBottomState (state r.does r.stack m.scope.names m.rest)
-bottom_there tokens does m r = subst IsBottomState r.come (bottom_of_run r.turns tokens)
+pub bottom_there : (tokens : List Mark) (turns : ℕ) (does : Doing) (m : Machine) (r : Reached tokens turns does m) → IsBottomState (state r.does r.stack m.scope.names m.rest)
+bottom_there tokens turns does m r = subst IsBottomState r.come (bottom_of_run turns tokens)
 
 pub length_marks : (tokens : List Token) → length (marks tokens) ≡ length tokens
 length_marks [] = refl
 length_marks (t ∷ tokens) = ap suc (length_marks tokens)
 
-pub count_there : (tokens : List Token) (does : Doing) (m : Machine) (r : Reached (marks tokens) does m) → length (tokens_of (state r.does r.stack m.scope.names m.rest)) ≡ length tokens
-count_there tokens does m r =
-    ap (λ (s : State). length (tokens_of s)) (sym r.come) ∙ ap length (run_keeps r.turns (begun (marks tokens))) ∙ length_marks tokens
+pub count_there : (tokens : List Token) (turns : ℕ) (does : Doing) (m : Machine) (r : Reached (marks tokens) turns does m) → length (tokens_of (state r.does r.stack m.scope.names m.rest)) ≡ length tokens
+count_there tokens turns does m r =
+    ap (λ (s : State). length (tokens_of s)) (sym r.come) ∙ ap length (run_keeps turns (begun (marks tokens))) ∙ length_marks tokens
 
 -- ---- the first state
 
-pub start : (tokens : List Mark) (m : Machine) (b : Before) → ShowsFile b [] → m.stack.items ≡ [] → m.scope ≡ record { names = []; outside = [] } → m.rest ≡ tokens → Reached tokens (doing.Externals b) m
+pub start : (tokens : List Mark) (m : Machine) (b : Before) → ShowsFile b [] → m.stack.items ≡ [] → m.scope ≡ record { names = []; outside = [] } → m.rest ≡ tokens → Reached tokens 0 (doing.Externals b) m
 start tokens m b f e g h = record {
-  turns = 0;
   does = externals [];
   stack = [];
-  come = ap (state (externals []) [] []) (sym h) ∙ ap (λ (n : Names). state (externals []) [] n m.rest) (sym (ap (λ (s : Scopes). s.names) g));
+  come = ap (state (externals []) [] []) (sym h) ∙ ap (λ (n : Names). state (externals []) [] n m.rest) (sym (ap (λ (s : Scopes Bool). s.names) g));
   shown = f;
-  stands = (subst (λ (fs : List Top). ShowsStack (reverse fs) []) (sym e) tt, ap (λ (s : Scopes). s.outside) g);
+  stands = (subst (λ (fs : List Top). ShowsStack (reverse fs) []) (sym e) tt, ap (λ (s : Scopes Bool). s.outside) g);
+  spent = omega (arith, ap length h);
 }
 
 -- ---- the next state
 
-go_on : (tokens : List Mark) (turns : ℕ) (s : State) (next : Doing) (m : Machine) → run turns (begun tokens) ≡ s → (r : Option State) → step s ≡ r → Follows (Some next) m r → Reached tokens next m
-go_on tokens turns s next m come None e f = absurd f
-go_on tokens turns s next m come (Some (state d t names rest)) e f = record {
-  turns = suc turns;
-  does = d;
-  stack = t;
-  come = run_next turns (begun tokens) (state d t names rest) (ap step come ∙ e) ∙ ap (λ (n : Names). state d t n rest) (sym f.2) ∙ ap (state d t m.scope.names) (sym f.3);
-  shown = f.0;
-  stands = (f.1, f.4);
-}
+lower : (a b n bound : ℕ) → b < a → a + n ≤ bound → b + suc n ≤ bound
+lower a b n bound h k = omega arith
 
-pub next_reached : (tokens : List Mark) (does next : Doing) (m n : Machine) (r : Reached tokens does m) → Follows (Some next) n (step_at r.does r.stack m.scope.names m.rest) → Reached tokens next n
-next_reached tokens does next m n r f = go_on tokens r.turns (state r.does r.stack m.scope.names m.rest) next n r.come (step_at r.does r.stack m.scope.names m.rest) refl f
+go_on : (tokens : List Mark) (turns : ℕ) (s : State) (next : Doing) (m : Machine) → run turns (begun tokens) ≡ s → measure s + turns ≤ 12 * length tokens + 9 → (r : Option State) → step s ≡ r → Follows (Some next) m r → Reached tokens (suc turns) next m
+go_on tokens turns s next m come spent None e f = absurd f
+go_on tokens turns s next m come spent (Some (state d t names rest)) e f =
+    let same : state d t names rest ≡ state d t m.scope.names m.rest = ap (λ (n : Names). state d t n rest) (sym f.2) ∙ ap (state d t m.scope.names) (sym f.3) in
+    record {
+      does = d;
+      stack = t;
+      come = run_next turns (begun tokens) (state d t names rest) (ap step come ∙ e) ∙ same;
+      shown = f.0;
+      stands = (f.1, f.4);
+      spent = subst (λ (u : State). measure u + suc turns ≤ 12 * length tokens + 9) same (lower (measure s) (measure (state d t names rest)) turns (12 * length tokens + 9) (step_falls s (state d t names rest) e) spent);
+    }
+
+pub next_reached : (tokens : List Mark) (turns : ℕ) (does next : Doing) (m n : Machine) (r : Reached tokens turns does m) → Follows (Some next) n (step_at r.does r.stack m.scope.names m.rest) → Reached tokens (suc turns) next n
+next_reached tokens turns does next m n r f = go_on tokens turns (state r.does r.stack m.scope.names m.rest) next n r.come r.spent (step_at r.does r.stack m.scope.names m.rest) refl f
+
+-- no run takes all turns
+pub no_more : (tokens : List Token) (turns : ℕ) (does : Doing) (m : Machine) → Reached (marks tokens) turns does m → 12 * length tokens + 10 ≤ turns → ⊥
+no_more tokens turns does m r h = omega (arith, h, length_marks tokens, r.spent)
 
 -- ---- the end
 
@@ -76,13 +86,13 @@ ends_whole tokens turns (externals xs) s names [] b come e w = (xs, w, sound tok
 ends_whole tokens turns (externals xs) s names (t ∷ rest) b come e w = absurd w
 ends_whole tokens turns _ s names rest b come e w = absurd w
 
-pub whole_reached : (tokens : List Mark) (does : Doing) (m : Machine) (r : Reached tokens does m) (b : Before) → IsWhole b r.does m.rest → (xs : List External) × ShowsFile b xs × IsTreeOf tokens (onto xs [])
-whole_reached tokens does m r b w = ends_whole tokens r.turns r.does r.stack m.scope.names m.rest b r.come (bottom_there tokens does m r).1 w
+pub whole_reached : (tokens : List Mark) (turns : ℕ) (does : Doing) (m : Machine) (r : Reached tokens turns does m) (b : Before) → IsWhole b r.does m.rest → (xs : List External) × ShowsFile b xs × IsTreeOf tokens (onto xs [])
+whole_reached tokens turns does m r b w = ends_whole tokens turns r.does r.stack m.scope.names m.rest b r.come (bottom_there tokens turns does m r).1 w
 
 abbrev NotEnded : State → Type 0
 NotEnded (state d s names rest) = IsNotWhole d rest
 
-pub none_reached : (tokens : List Mark) (does : Doing) (m : Machine) (r : Reached tokens does m) → step_at r.does r.stack m.scope.names m.rest ≡ None → IsNotWhole r.does m.rest → (file : List External) → ¬ IsTreeOf tokens file
-none_reached tokens does m r e w file i =
-    let k = stopped tokens r.turns (state r.does r.stack m.scope.names m.rest) r.come e file i in
+pub none_reached : (tokens : List Mark) (turns : ℕ) (does : Doing) (m : Machine) (r : Reached tokens turns does m) → step_at r.does r.stack m.scope.names m.rest ≡ None → IsNotWhole r.does m.rest → (file : List External) → ¬ IsTreeOf tokens file
+none_reached tokens turns does m r e w file i =
+    let k = stopped tokens turns (state r.does r.stack m.scope.names m.rest) r.come e file i in
     subst NotEnded k.1 w

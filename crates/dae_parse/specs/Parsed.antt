@@ -3,7 +3,7 @@ use Rattle.std.specs.Prelude.{◌≡◌, ◌⊎◌, ℕ, List, slice_get, Some, 
 use Rattle.dae_base.specs.declared.Place.{Place}
 use Rattle.dae_tree.specs.declared.tokens.Token.{Token}
 use Rattle.dae_tree.specs.Reading.{Reading}
-use Rattle.dae_tree.specs.declared.statements.File.{File}
+use Rattle.dae_tree.specs.Files.{Contents}
 use Rattle.dae_tree.specs.Marks.{marks}
 use Rattle.dae_tree.specs.Trees.{External}
 use Rattle.dae_tree.specs.Statements.{IsTreeOf}
@@ -18,8 +18,8 @@ pub record IsWithinLimits (tokens : List Token) (file : List External) : Type 0 
   pub shallow : first_deeper greatest_depth (nodes_file file) ≡ None
   pub short : first_too_long file ≡ None
 
--- a file in memory: that tree, with the names, literals and headers that were read
-pub record IsFileOf (r : Reading) (f : File) : Type 0 where
+-- a file: that tree, with the names, literals and headers that were read
+pub record IsFileOf (r : Reading) (f : Contents) : Type 0 where
   pub tree : IsWithinLimits r.tokens (view_externals f.externals)
   pub names : f.names ≡ r.names
   pub literals : f.literals ≡ r.literals
@@ -39,6 +39,22 @@ IsRefused r (errors.FunctionTooLong p) =
     (file : List External) × IsTreeOf (marks r.tokens) file × (first_deeper greatest_depth (nodes_file file) ≡ None) × (first_too_long file ≡ Some p)
 IsRefused r errors.Memory = Unit {0}
 
-abbrev pub Answers : Reading → Result File ParseError → Type 0
+abbrev pub Answers : Reading → Result Contents ParseError → Type 0
 Answers r (Ok f) = IsFileOf r f
 Answers r (Err e) = IsRefused r e
+
+-- ---- refusals beside one another
+
+-- a refusal that has a cause in the text
+abbrev pub IsCause : ParseError → Type 0
+IsCause errors.Memory = ⊥
+IsCause _ = Unit {0}
+
+-- two refusals of one text, where neither is want of memory: of one kind, and of one place where a limit is passed
+abbrev pub AreAlike : ParseError → ParseError → Type 0
+AreAlike errors.Memory e = Unit {0}
+AreAlike d errors.Memory = Unit {0}
+AreAlike (errors.Syntax p) (errors.Syntax q) = Unit {0}
+AreAlike (errors.TooDeep p) (errors.TooDeep q) = p ≡ q
+AreAlike (errors.FunctionTooLong p) (errors.FunctionTooLong q) = p ≡ q
+AreAlike _ _ = ⊥

@@ -1,17 +1,18 @@
 -- What a turn of the parser's machine comes to, and what a run of it.
-use Rattle.std.specs.Prelude.{◌≡◌, ℕ, List, [], Option, Some, None}
+use Rattle.std.specs.Prelude.{◌≡◌, ℕ, ◌+◌, ◌*◌, ◌≤◌, List, [], length, Option, Some, None}
 use Rattle.dae_tree.specs.declared.tokens.Token.{Token}
 use Rattle.dae_tree.specs.Marks.{Mark, marks}
 use Rattle.dae_tree.specs.Statements.{IsTreeOf}
 use Rattle.dae_tree.specs.Trees.{External}
 use Rattle.dae_grammar.specs.Frames as plain
 use Rattle.dae_grammar.specs.Machine.{begun, onto}
+use Rattle.dae_grammar.specs.Measure.{measure}
 use Rattle.dae_grammar.specs.Runs.{run}
-use Rattle.dae_frames.specs.declared.frames.Before.{Before}
-use Rattle.dae_frames.specs.declared.frames.Doing.{Doing}
-use Rattle.dae_frames.specs.declared.machine.Machine.{Machine}
-use Rattle.dae_frames.specs.Frames.{ShowsDoing, ShowsFile}
-use Rattle.dae_frames.specs.States.{Stands, Follows, outside_stack, outside_doing}
+use Rattle.dae_parse.specs.declared.frames.Before.{Before}
+use Rattle.dae_parse.specs.declared.frames.Doing.{Doing}
+use Rattle.dae_parse.specs.declared.machine.Machine.{Machine}
+use Rattle.dae_parse.specs.Frames.{ShowsDoing, ShowsFile}
+use Rattle.dae_parse.specs.States.{Stands, Follows, outside_stack, outside_doing}
 use Rattle.dae_parse.specs.declared.turn.Turn.{Turn}
 use Rattle.dae_parse.specs.declared.turn.Turn.TheVariants as turn
 use Rattle.dae_parse.specs.declared.run.Outcome.{Outcome}
@@ -32,14 +33,14 @@ TurnFollows (turn.Next next) m d rest t = Follows (Some next) m t
 TurnFollows (turn.Whole b) m d rest t = IsWhole b d rest
 TurnFollows turn.Stopped m d rest t = (t ≡ None) × IsNotWhole d rest
 
--- the machine shows a state that the grammar's machine comes to
-pub record Reached (tokens : List Mark) (doing : Doing) (m : Machine) : Type 0 where
-  pub turns : ℕ
+-- The machine shows a state that the grammar's machine comes to in so many turns, which have spent what the tokens allow.
+pub record Reached (tokens : List Mark) (turns : ℕ) (doing : Doing) (m : Machine) : Type 0 where
   pub does : plain.Doing
   pub stack : List plain.Frame
   pub come : run turns (begun tokens) ≡ plain.state does stack m.scope.names m.rest
   pub shown : ShowsDoing doing does
   pub stands : Stands m stack (outside_doing does (outside_stack stack))
+  pub spent : measure (plain.state does stack m.scope.names m.rest) + turns ≤ 12 * length tokens + 9
 
 -- the tree of the tokens was read, or there is none
 abbrev pub Comes : List Token → Outcome → Type 0

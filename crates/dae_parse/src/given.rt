@@ -5,35 +5,37 @@ ghost use Rattle.dae_grammar.specs.Frames.{Frame as PlainFrame, state};
 ghost use Rattle.dae_grammar.specs.Machine.{given, specifiers_taken, declarator_taken, initialiser_taken, declaration_taken, statement_taken};
 ghost use Rattle.dae_grammar.specs.Standing.{Holds};
 ghost use Rattle.dae_grammar.specs.Taken.{tokens_of};
-ghost use Rattle.dae_declarations.specs.Bottom.{IsBottom};
+ghost use Rattle.dae_parse.specs.Bottom.{IsBottom};
 ghost use Rattle.dae_nodes.specs.Parts.{ShowsOperand, ShowsSpecified, ShowsDeclared, ShowsInitialiser, ShowsDeclaration, ShowsStatement};
-ghost use Rattle.dae_frames.specs.Frames.{is_block};
-ghost use Rattle.dae_frames.specs.States.{Stands, Follows, outside_stack};
+ghost use Rattle.dae_parse.specs.Frames.{is_block};
+ghost use Rattle.dae_parse.specs.States.{Stands, Follows, outside_stack, Steps};
 
-use dae_declarations::{
-    for_declaration, in_block, in_definition, in_file, in_list, in_value, of_item, of_value,
+use crate::behind::{behind_star, in_enumerator, in_group, in_size, of_cast, of_member, of_sizeof};
+use crate::branches::{
+    case_body, default_body, do_body, else_branch, for_body, in_statements, switch_body,
+    then_branch, while_body,
 };
-use dae_declarators::{
-    behind_star, for_cast, for_member, for_parameter, for_sizeof, in_enumerator, in_group, in_size,
-    of_cast, of_member, of_parameter, of_sizeof,
+use crate::conditions::{
+    in_case, in_evaluation, in_loop_test, in_return, in_start, in_step, in_test,
 };
-use dae_expressions::{
+use crate::declarations::{for_declaration, in_block, in_file, of_item, of_value};
+use crate::definitions::in_definition;
+use crate::expressions::{
     behind_assignment, behind_binary, behind_cast, behind_colon, behind_comma, behind_prefix,
     behind_question, behind_sizeof, in_arguments, in_index, in_parentheses,
 };
-use dae_frames::{Doing, Frame, Machine};
+use crate::frames::{Doing, Frame};
+use crate::initialisers::{in_list, in_value};
+use crate::machine::Machine;
+use crate::parameters::of_parameter;
+use crate::specifiers::{for_cast, for_member, for_parameter, for_sizeof};
 use dae_nodes::{Declared, Operand, Read, Specified};
-use dae_statements::{
-    case_body, default_body, do_body, else_branch, for_body, in_case, in_evaluation, in_loop_test,
-    in_return, in_start, in_statements, in_step, in_test, switch_body, then_branch, while_body,
-};
 use dae_tree::{Declaration, Initialiser, Statement};
 use std::alloc::AllocError;
 
 /// Behind an expression, for what awaits it.
 pub fn gave(machine: &mut Machine<'_>, a: Operand) -> Result<Option<Doing>, AllocError>
-    ensures { (e : Expression) (s : List PlainFrame) → ShowsOperand a e → Stands machine.old s (outside_stack s)
-        → IfOk result (λ r. Follows r machine.new (given e s machine.old.scope.names machine.old.rest)) }
+    ensures { (e : Expression) → ShowsOperand a e → Steps machine.old result machine.new (given e) }
 {
     let Some(frame) = machine.pop() else {
         return Ok(None);
@@ -87,8 +89,8 @@ pub fn gave_specifiers(
     machine: &mut Machine<'_>,
     specified: Specified,
 ) -> Result<Option<Doing>, AllocError>
-    ensures { (ws : Specifiers) (s : List PlainFrame) → ShowsSpecified specified ws → Stands machine.old s (outside_stack s)
-        → IfOk result (λ r. Follows r machine.new (specifiers_taken ws s machine.old.scope.names machine.old.rest)) }
+    ensures { (ws : Specifiers) → ShowsSpecified specified ws →
+        Steps machine.old result machine.new (specifiers_taken ws) }
 {
     let Some(frame) = machine.pop() else {
         return Ok(None);
@@ -144,8 +146,8 @@ pub fn gave_initialiser(
     machine: &mut Machine<'_>,
     initialiser: Read<Initialiser>,
 ) -> Result<Option<Doing>, AllocError>
-    ensures { (x : InitialiserTree) (s : List PlainFrame) → ShowsInitialiser initialiser x → Stands machine.old s (outside_stack s)
-        → IfOk result (λ r. Follows r machine.new (initialiser_taken x s machine.old.scope.names machine.old.rest)) }
+    ensures { (x : InitialiserTree) → ShowsInitialiser initialiser x →
+        Steps machine.old result machine.new (initialiser_taken x) }
 {
     let Some(frame) = machine.pop() else {
         return Ok(None);

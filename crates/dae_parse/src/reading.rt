@@ -1,18 +1,17 @@
 ghost use Rattle.std.specs.Prelude.{◌≡◌, List, [], IfErr, IfOk};
 ghost use Rattle.dae_tree.specs.Trees.{External};
-ghost use Rattle.dae_tree.specs.Marks.{marks};
-ghost use Rattle.dae_tree.specs.Statements.{IsTreeOf};
-ghost use Rattle.dae_grammar.specs.Machine.{onto};
-ghost use Rattle.dae_frames.specs.Frames.{ShowsFile};
+ghost use Rattle.dae_tree.specs.Reading.{IsReading};
+ghost use Rattle.dae_parse.specs.Reached.{Comes};
+ghost use Rattle.dae_parse.specs.declared.run.Outcome.TheVariants as outcomes;
 ghost use Rattle.dae_parse.specs.Parsed.{Answers, IsWithinLimits, IsPlaceIn};
 ghost use Rattle.dae_parse.specs.declared.error.ParseError.TheVariants as errors;
 
 use crate::error::ParseError;
+use crate::frames::Before;
 use crate::run::{Outcome, run};
 use dae_base::{Items, Place};
-use dae_frames::Before;
-use dae_nodes::Read;
-use dae_tree::{File, Header, Tokens};
+use dae_nodes::tree_or_depth;
+use dae_tree::{File, Header, Includes, Tokens};
 use std::alloc::{AllocError, Global};
 
 /// The file of these tokens. A tree of the grammar within the limits is found, unless memory runs out.
@@ -44,30 +43,29 @@ fn place_at(tokens: &Tokens<'_>, at: usize) -> Place
 
 /// The file of a tree that was read, where it is within the limits.
 fn whole(alloc: Global, tokens: &Tokens<'_>, before: Before) -> Result<File, ParseError>
-    ensures { (xs : List External) → ShowsFile before xs → IsTreeOf (marks tokens.now.tokens) (onto xs []) → Answers tokens.now result }
+    requires reading { IsReading tokens.now }
+    requires tree { Comes tokens.now.tokens (outcomes.Whole before) }
+    ensures { Answers tokens.now result }
 {
     let Before {
         read,
         taken: _,
         too_long,
     } = before;
-    let Read { tree, depths } = read;
-    if let Some(place) = depths.too_deep() {
-        return Err(ParseError::TooDeep(place));
-    }
+    let externals = match tree_or_depth(read) {
+        Ok(externals) => externals,
+        Err(place) => return Err(ParseError::TooDeep(place)),
+    };
     if let Some(place) = too_long {
         return Err(ParseError::FunctionTooLong(place));
     }
-    let Some(externals) = tree else {
-        return Err(ParseError::Memory);
-    };
-    Ok(File {
-        externals: Items::from_vec(externals),
-        names: copied(alloc, tokens.names())?,
-        literals: copied(alloc, tokens.literals())?,
+    let names = copied(alloc, tokens.names())?;
+    let literals = copied(alloc, tokens.literals())?;
+    let includes = Includes {
         stdio: tokens.includes(Header::Stdio),
         stdlib: tokens.includes(Header::Stdlib),
-    })
+    };
+    Ok(File::new(Items::from_vec(externals), names, literals, includes))
 }
 
 /// A copy of lists of bytes.

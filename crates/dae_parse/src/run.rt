@@ -1,10 +1,12 @@
 ghost use Rattle.std.specs.Prelude.{IfOk};
 ghost use Rattle.dae_parse.specs.Reached.{Comes};
 
+use crate::frames::{Before, Doing};
+use crate::machine::Machine;
+use crate::rest::Rest;
 use crate::turn::{Turn, turned};
-use dae_frames::{Before, Doing, Machine};
-use dae_front::{Rest, Scope};
 use dae_nodes::no_externals;
+use dae_scope::Scope;
 use dae_tree::Token;
 use std::alloc::{AllocError, Global};
 
@@ -15,7 +17,7 @@ pub enum Outcome {
     Stopped(usize),
 }
 
-/// Reads the tree of tokens. The machine takes at most twelve turns a token and nine.
+/// Reads the tree of tokens. The machine stops within twelve turns a token and nine.
 pub fn run(alloc: Global, tokens: &[Token]) -> Result<Outcome, AllocError>
     ensures { IfOk result (λ o. Comes tokens.now o) }
 {
@@ -32,7 +34,7 @@ pub fn run(alloc: Global, tokens: &[Token]) -> Result<Outcome, AllocError>
         taken: 0,
         too_long: None,
     });
-    for _turn in 0..total.saturating_mul(12).saturating_add(10) {
+    for _turn in 0..12 * (total as u128) + 10 {
         match turned(&mut machine, doing, total)? {
             Turn::Next(next) => doing = next,
             Turn::Whole(before) => return Ok(Outcome::Whole(before)),
@@ -41,5 +43,5 @@ pub fn run(alloc: Global, tokens: &[Token]) -> Result<Outcome, AllocError>
             }
         }
     }
-    Err(AllocError)
+    unreachable!()
 }

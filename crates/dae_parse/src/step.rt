@@ -4,24 +4,26 @@ ghost use Rattle.dae_grammar.specs.Frames.{Frame as PlainFrame, state};
 ghost use Rattle.dae_grammar.specs.Machine.{step_at};
 ghost use Rattle.dae_grammar.specs.Standing.{Holds};
 ghost use Rattle.dae_grammar.specs.Taken.{tokens_of};
-ghost use Rattle.dae_declarations.specs.Bottom.{IsBottom};
-ghost use Rattle.dae_frames.specs.Frames.{ShowsDoing};
-ghost use Rattle.dae_frames.specs.States.{Stands, Follows, outside_stack, outside_doing};
+ghost use Rattle.dae_parse.specs.Bottom.{IsBottom};
+ghost use Rattle.dae_parse.specs.Frames.{ShowsDoing};
+ghost use Rattle.dae_parse.specs.States.{Stands, Follows, outside_stack, outside_doing};
 
-use crate::given::{
-    gave, gave_declaration, gave_declarator, gave_initialiser, gave_specifiers, gave_statement,
-};
-use dae_declarations::{externals, initialising, itemed, listing};
-use dae_declarators::{
-    declaring, entered, entering, enumerated, enumerating, membering, parametering, qualifying,
-    sizing, specifying, suffixing, tagged, tagging,
-};
-use dae_expressions::{called, measured, operated, sought};
-use dae_frames::{Doing, Machine};
-use dae_statements::{
+use crate::beginnings::{
     breaking, continuing, declarations, defaulting, finishing, looping, opening, returning,
     starting, statements, stating, stepping, testing,
 };
+use crate::bodies::{entered, entering, enumerated, enumerating, membering, tagged, tagging};
+use crate::declarations::{externals, itemed};
+use crate::declarators::{declaring, parametering, qualifying, sizing, suffixing};
+use crate::frames::Doing;
+use crate::given::{
+    gave, gave_declaration, gave_declarator, gave_initialiser, gave_specifiers, gave_statement,
+};
+use crate::initialisers::{initialising, listing};
+use crate::machine::Machine;
+use crate::operands::{called, measured, sought};
+use crate::operators::operated;
+use crate::specifiers::specifying;
 use std::alloc::AllocError;
 
 /// One step of the machine, in a file of so many tokens: what it does next, or none where the tokens go no further.

@@ -4,13 +4,14 @@ ghost use Rattle.dae_grammar.specs.Frames.{Frame as PlainFrame, state};
 ghost use Rattle.dae_grammar.specs.Machine.{step_at};
 ghost use Rattle.dae_grammar.specs.Standing.{Holds};
 ghost use Rattle.dae_grammar.specs.Taken.{tokens_of};
-ghost use Rattle.dae_frames.specs.Frames.{ShowsDoing};
-ghost use Rattle.dae_frames.specs.States.{Stands, outside_stack, outside_doing};
-ghost use Rattle.dae_declarations.specs.Bottom.{IsBottom};
+ghost use Rattle.dae_parse.specs.Frames.{ShowsDoing};
+ghost use Rattle.dae_parse.specs.States.{Stands, outside_stack, outside_doing};
+ghost use Rattle.dae_parse.specs.Bottom.{IsBottom};
 ghost use Rattle.dae_parse.specs.Reached.{TurnFollows, IsNotWhole};
 
+use crate::frames::{Before, Doing};
+use crate::machine::Machine;
 use crate::step::step;
-use dae_frames::{Before, Doing, Machine};
 use std::alloc::AllocError;
 
 /// What a turn comes to: what the machine does next, a whole file, or tokens that go no further.

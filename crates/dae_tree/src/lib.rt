@@ -19,9 +19,7 @@ pub use operators::{
 pub use pieces::{Form, PieceKind, Spot};
 pub use seen::{Arithmetic, Seen};
 pub use signs::{SIGNS, Sign};
-pub use statements::{
-    Block, Declaration, External, Heading, Initialiser, Item, Statement, Test,
-};
+pub use statements::{Block, Declaration, External, Heading, Initialiser, Item, Statement, Test};
 pub use tokens::{Includes, Kind, Room, Token, Tokens};
 pub use words::{KEYWORDS, Keyword, REFUSED_WORDS};
 

@@ -196,7 +196,10 @@ impl External {
     {
         match self {
             External::Declaration(declaration) => declaration.place(),
-            External::Definition(specifiers, _, block) => place_of_first(specifiers.as_slice(), block.place),
+            External::Definition(specifiers, _, block) => place_of_first(
+                specifiers.as_slice(),
+                block.place,
+            ),
         }
     }
 }

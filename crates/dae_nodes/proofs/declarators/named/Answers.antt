@@ -1,4 +1,4 @@
-use Rattle.std.proofs.Common.{List, refl, sym, ap}
+use Rattle.std.proofs.Common.{Bool, List, refl, sym, ap}
 use Rattle.dae_tree.specs.Trees as tree
 use Rattle.dae_scope.specs.declared.scope.Binding.{Binding}
 use Rattle.dae_grammar.specs.FirstPlaces.{firsts_declarator}
@@ -14,5 +14,5 @@ returns c =
       name = refl;
       present = refl;
       bare = refl;
-      parameters = λ names. ap (λ (list : List Binding). bound_all list names) (sym c.new.ensures.items);
+      parameters = λ names. ap (λ (list : List (Binding Bool)). bound_all list names) (sym c.new.ensures.items);
     }

@@ -1,6 +1,6 @@
 use Rattle.std.proofs.Common.{List, subst}
-use Rattle.dae_frames.specs.declared.frames.Frame.{Frame}
-use Rattle.dae_frames.specs.Frames.{ShowsStack}
+use Rattle.dae_parse.specs.declared.frames.Frame.{Frame}
+use Rattle.dae_parse.specs.Frames.{ShowsStack}
 use Rattle.dae_parse.proofs.Others.{other_declaration}
 use Rattle.dae_parse.proofs.given.gave_declaration.Goals as goal
 

@@ -14,20 +14,20 @@ pub returns-in-Whole : goal.returns-in-Whole
 returns-in-Whole c =
     let m = c.loop-turn.machine in
     let r = c.loop-turn.invariant in
-    let f = c.in_ok-next.ensures r.does r.stack r.shown r.stands (holds_there _ _ m r) (bottom_there _ _ m r).0 (count_there c.args.tokens.now _ m r) in
-    whole_reached _ _ m r c.in-Whole.before (subst (λ (t : Turn). TurnFollows t c.turned.new.machine r.does m.rest (step_at r.does r.stack m.scope.names m.rest)) c.in-Whole.is f)
+    let f = c.in_ok-next.ensures r.does r.stack r.shown r.stands (holds_there _ _ _ m r) (bottom_there _ _ _ m r).0 (count_there c.args.tokens.now _ _ m r) in
+    whole_reached _ _ _ m r c.in-Whole.before (subst (λ (t : Turn). TurnFollows t c.turned.new.machine r.does m.rest (step_at r.does r.stack m.scope.names m.rest)) c.in-Whole.is f)
 
 pub returns-in-Stopped : goal.returns-in-Stopped
 returns-in-Stopped c =
     let m = c.loop-turn.machine in
     let r = c.loop-turn.invariant in
-    let f = c.in_ok-next.ensures r.does r.stack r.shown r.stands (holds_there _ _ m r) (bottom_there _ _ m r).0 (count_there c.args.tokens.now _ m r) in
+    let f = c.in_ok-next.ensures r.does r.stack r.shown r.stands (holds_there _ _ _ m r) (bottom_there _ _ _ m r).0 (count_there c.args.tokens.now _ _ m r) in
     let g = subst (λ (t : Turn). TurnFollows t c.turned.new.machine r.does m.rest (step_at r.does r.stack m.scope.names m.rest)) c.in-Stopped.is f in
-    none_reached _ _ m r g.0 g.1
+    none_reached _ _ _ m r g.0 g.1
 
 pub loop-turn-preserved : goal.loop-turn-preserved
 loop-turn-preserved c =
     let m = c.loop-turn.machine in
     let r = c.loop-turn.invariant in
-    let f = c.in_ok-next.ensures r.does r.stack r.shown r.stands (holds_there _ _ m r) (bottom_there _ _ m r).0 (count_there c.args.tokens.now _ m r) in
-    next_reached _ _ c.in-Next.next m c.turned.new.machine r (subst (λ (t : Turn). TurnFollows t c.turned.new.machine r.does m.rest (step_at r.does r.stack m.scope.names m.rest)) c.in-Next.is f)
+    let f = c.in_ok-next.ensures r.does r.stack r.shown r.stands (holds_there _ _ _ m r) (bottom_there _ _ _ m r).0 (count_there c.args.tokens.now _ _ m r) in
+    next_reached _ _ _ c.in-Next.next m c.turned.new.machine r (subst (λ (t : Turn). TurnFollows t c.turned.new.machine r.does m.rest (step_at r.does r.stack m.scope.names m.rest)) c.in-Next.is f)

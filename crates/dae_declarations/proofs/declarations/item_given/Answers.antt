@@ -1,8 +1,0 @@
-use Rattle.std.proofs.Common.{rules}
-use Rattle.dae_declarations.proofs.declarations.item_given.Goals as goal
-
-pub returns-then-has_items : goal.returns-then-has_items
-returns-then-has_items c = λ d ws is s a b k m. let e = c.if-has_items.ensures is k in let h = c.later_given.ensures c.args.outer d ws is s in search rules
-
-pub returns : goal.returns
-returns c = λ d ws is s a b k m. let e = c.if-has_items.ensures is k in let h = c.first_given.ensures d ws is s in search rules

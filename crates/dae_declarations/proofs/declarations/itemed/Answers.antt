@@ -1,5 +1,0 @@
-use Rattle.std.proofs.Common.{◌∷◌, rules}
-use Rattle.dae_declarations.proofs.declarations.itemed.Goals as goal
-
-pub returns : goal.returns
-returns c = λ ws i is s a b k. let h = c.in_ok-whole.ensures ws (i ∷ is) a b in search rules

@@ -1,3 +1,0 @@
-pub mod Otherwise
-pub mod Inner
-pub mod Structures

@@ -1,4 +1,0 @@
-pub mod Fronts
-pub mod Scopes
-pub mod Shown
-pub mod Seen
