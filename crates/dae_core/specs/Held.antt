@@ -1,5 +1,5 @@
 -- What contracts see of a processor and of the queues.
-use Rattle.std.specs.Prelude.{◌≡◌, ℕ, ◌<◌, ◌^◌, Bool, List, Option, option_map, replicate, None}
+use Rattle.std.specs.Prelude.{◌≡◌, ℕ, ◌<◌, ◌^◌, Bool, List, Option, option_map, replicate, Some, None, [], if◌then◌else◌}
 use Rattle.dae_base.specs.declared.Side.{Side}
 use Rattle.dae_base.specs.declared.Depths.{Depths}
 use Rattle.dae_encode.specs.Processor.{Processor, After}
@@ -25,6 +25,10 @@ fresh entry private = record { registers = replicate 32 0; counter = entry; priv
 -- what an instruction comes to, from what was printed and the processor after it
 abbrev pub came_to : Processor → Option (List ℕ) → Option After
 came_to p r = option_map (λ piece. (p, piece)) r
+
+-- what an instruction that prints nothing printed, where it was done
+abbrev pub said_nothing : Bool → Option (List ℕ)
+said_nothing done = if done then Some [] else None
 
 -- the queues with their depths
 pub record HeldQueues : Type 0 where

@@ -1,9 +1,10 @@
-ghost use Rattle.std.specs.Prelude.{◌≡◌, ℕ, ◌<◌, ◌^◌, Bool, true, length, slice_index, Option, None, is_some, IfOk, IfErr, Some, [], option_map, slice_get, if◌then◌else◌};
+ghost use Rattle.std.specs.Prelude.{◌≡◌, ◌≢◌, ℕ, ◌<◌, ◌^◌, Bool, true, false, length, slice_index, Option, None, is_some, IfOk, IfErr, Some, [], option_map, slice_get, if◌then◌else◌};
 ghost use Rattle.dae_base.specs.Words.{plus, stored, loaded, width_of};
 ghost use Rattle.dae_encode.specs.Instructions.{form};
 ghost use Rattle.dae_encode.specs.Processor.{held, operand, address, is_good_private, is_shared, goes_on, bad_address, early_fault, put_word, decoded, with_result, called, finish, halts, prints, request};
 ghost use Rattle.dae_core.specs.Codes.{asked, legal_word};
-ghost use Rattle.dae_core.specs.Held.{IsSame, came_to, fresh};
+ghost use Rattle.dae_core.specs.Held.{IsSame, came_to, fresh, said_nothing};
+ghost use Rattle.dae_encode.specs.declared.Form.TheVariants.{Calls};
 ghost use Rattle.dae_encode.specs.declared.Request.TheVariants.{Faulty};
 ghost use Rattle.dae_core.specs.Moves.{answered_by, granted_by, unprinted, Tells};
 
@@ -233,27 +234,27 @@ impl Core {
         self.counter = next;
     }
 
-    fn halt(&mut self, halt: Halt) -> Option<Piece>
+    fn halt(&mut self, halt: Halt) -> Piece
         ensures held { IsSame self.old self.new }
-        ensures came { came_to self.new.processor result ≡ halts self.old.processor halt }
+        ensures came { Some (self.new.processor, result) ≡ halts self.old.processor halt }
     {
         self.counter = self.counter.wrapping_add(4);
         self.halted = Some(halt);
-        Some(Piece::empty())
+        Piece::empty()
     }
 
-    fn print(&mut self, piece: Piece) -> Option<Piece>
+    fn print(&mut self, piece: Piece) -> Piece
         ensures held { IsSame self.old self.new }
-        ensures came { came_to self.new.processor result ≡ prints self.old.processor piece }
+        ensures came { Some (self.new.processor, result) ≡ prints self.old.processor piece }
     {
         self.counter = self.counter.wrapping_add(4);
-        Some(piece)
+        piece
     }
 
     /// The environment call, whose selector was found good.
-    fn call(&mut self) -> Option<Piece>
+    fn call(&mut self) -> Piece
         ensures held { IsSame self.old self.new }
-        ensures came { came_to self.new.processor result ≡ called self.old.side self.old.processor (slice_index self.old.processor.registers 17) (slice_index self.old.processor.registers 10) }
+        ensures came { Some (self.new.processor, result) ≡ called self.old.side self.old.processor (slice_index self.old.processor.registers 17) (slice_index self.old.processor.registers 10) }
     {
         let word = self.registers[10];
         if let Side::A = self.side {
@@ -269,12 +270,14 @@ impl Core {
         }
     }
 
-    /// Does an instruction, where its access gives this word, or nothing where a private address is bad.
+    /// Does an instruction that is no call, where its access gives this word, or false where a private address is bad,
+    /// and then nothing changes.
     #[tactic(auto, unfolding(dae_encode::specs::Processor::finish))]
-    fn finish(&mut self, access: QueueUse, inst: &Inst, form: &Form, given: u32) -> Option<Piece>
+    fn finish(&mut self, access: QueueUse, inst: &Inst, form: &Form, given: u32) -> bool
+        requires { form.now ≢ Calls }
         ensures held { IsSame self.old self.new }
-        ensures came { finish self.old.side self.old.processor access inst.now form.now given ≡ came_to self.new.processor result }
-        ensures none { result ≡ None → self.new ≡ self.old }
+        ensures came { finish self.old.side self.old.processor access inst.now form.now given ≡ came_to self.new.processor (said_nothing result) }
+        ensures none { result ≡ false → self.new ≡ self.old }
     {
         match *form {
             Form::Computes(rd, x, y) => {
@@ -283,7 +286,7 @@ impl Core {
                 let result = value(inst, counter, first, second);
                 let after = next(inst, counter, first, second);
                 self.go_on(rd, result, after);
-                Some(Piece::empty())
+                true
             }
             Form::Loads(kind, rd, base, offset) => {
                 let addr = self.address(given, base, offset);
@@ -294,49 +297,43 @@ impl Core {
                 let datum = self.read(given, source);
                 self.finish_store(access, width, addr, datum)
             }
-            Form::Calls => self.call(),
+            Form::Calls => unreachable!(),
         }
     }
 
-    fn finish_load(&mut self, access: QueueUse, kind: LoadKind, rd: u8, addr: u32) -> Option<Piece>
+    fn finish_load(&mut self, access: QueueUse, kind: LoadKind, rd: u8, addr: u32) -> bool
         ensures held { IsSame self.old self.new }
-        ensures came { came_to self.new.processor result ≡ (if is_shared access then goes_on self.old.processor 0 0 (plus self.old.processor.counter 4) else (if is_good_private self.old.processor (width_of kind) addr then goes_on self.old.processor rd (loaded kind addr self.old.processor.private) (plus self.old.processor.counter 4) else None)) }
-        ensures none { result ≡ None → self.new ≡ self.old }
+        ensures came { came_to self.new.processor (said_nothing result) ≡ (if is_shared access then goes_on self.old.processor 0 0 (plus self.old.processor.counter 4) else (if is_good_private self.old.processor (width_of kind) addr then goes_on self.old.processor rd (loaded kind addr self.old.processor.private) (plus self.old.processor.counter 4) else None)) }
+        ensures none { result ≡ false → self.new ≡ self.old }
     {
         let past = self.counter.wrapping_add(4);
         if is_shared(access) {
             self.go_on(0, 0, past);
-            return Some(Piece::empty());
+            return true;
         }
         if !self.holds(kind.width(), addr) {
-            return None;
+            return false;
         }
         let found = self.find(kind, addr);
         self.go_on(rd, found, past);
-        Some(Piece::empty())
+        true
     }
 
-    fn finish_store(
-        &mut self,
-        access: QueueUse,
-        width: Width,
-        addr: u32,
-        datum: u32,
-    ) -> Option<Piece>
+    fn finish_store(&mut self, access: QueueUse, width: Width, addr: u32, datum: u32) -> bool
         ensures held { IsSame self.old self.new }
-        ensures came { came_to self.new.processor result ≡ (if is_shared access then goes_on self.old.processor 0 0 (plus self.old.processor.counter 4) else (if is_good_private self.old.processor width addr then Some (record self.old.processor { counter = plus self.old.processor.counter 4; private = stored width addr datum self.old.processor.private }, []) else None)) }
-        ensures none { result ≡ None → self.new ≡ self.old }
+        ensures came { came_to self.new.processor (said_nothing result) ≡ (if is_shared access then goes_on self.old.processor 0 0 (plus self.old.processor.counter 4) else (if is_good_private self.old.processor width addr then Some (record self.old.processor { counter = plus self.old.processor.counter 4; private = stored width addr datum self.old.processor.private }, []) else None)) }
+        ensures none { result ≡ false → self.new ≡ self.old }
     {
         if is_shared(access) {
             let past = self.counter.wrapping_add(4);
             self.go_on(0, 0, past);
-            return Some(Piece::empty());
+            return true;
         }
         if !self.holds(width, addr) {
-            return None;
+            return false;
         }
         self.put(width, addr, datum);
-        Some(Piece::empty())
+        true
     }
 
     /// Whether an instruction whose access gives this word has a good private address, or none.
@@ -372,6 +369,7 @@ impl Core {
         }
     }
 
+    #[tactic(auto, unfolding(dae_encode::specs::Processor::finish))]
     fn step_legal<P: Ports>(&mut self, memory: u32, legal: &Legal, ports: &mut P) -> CoreAnswer
         requires count { P.can_count ports.old }
         requires form { legal.now.form ≡ form legal.now.inst }
@@ -387,14 +385,17 @@ impl Core {
             return waits(access);
         }
         let word = self.put_word(access, &legal.inst, &legal.form);
-        let given = given(ports, access);
-        match self.finish(access, &legal.inst, &legal.form, given) {
-            None => CoreAnswer::Faulted(Fault::Private),
-            Some(piece) => {
-                ports.commit(access, word);
-                CoreAnswer::Did(piece)
-            }
+        if let Form::Calls = legal.form {
+            let piece = self.call();
+            ports.commit(access, word);
+            return CoreAnswer::Did(piece);
         }
+        let given = given(ports, access);
+        if !self.finish(access, &legal.inst, &legal.form, given) {
+            return CoreAnswer::Faulted(Fault::Private);
+        }
+        ports.commit(access, word);
+        CoreAnswer::Did(Piece::empty())
     }
 
     /// What a step would answer now, with an empty piece in place of what it would print.

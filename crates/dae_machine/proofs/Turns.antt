@@ -25,6 +25,19 @@ use Rattle.dae_machine.specs.Turns.{alone, chosen, fills_of, is_enabled, kind_at
 chosen_some : (n : ℕ) (p : Pick) (ps : List Pick) → (q : Pick) × (chosen n (p ∷ ps) ≡ Some q)
 chosen_some n p ps = let below = mod_below n (length (p ∷ ps)) (omega arith) in (_, slice_get-get_or (p ∷ ps) (n % length (p ∷ ps)) p below)
 
+-- the first one
+pub chosen_first : (ps : List Pick) → chosen 0 ps ≡ slice_get ps 0
+chosen_first [] = refl
+chosen_first (p ∷ ps) = let z : 0 % length (p ∷ ps) ≡ 0 = omega arith in ap (slice_get (p ∷ ps)) z
+
+pub first_left : (ps qs : List Pick) (p : Pick) → slice_get ps 0 ≡ Some p → slice_get (ps ++ qs) 0 ≡ Some p
+first_left [] qs p h = cc
+first_left (q ∷ ps) qs p h = h
+
+pub first_right : (ps qs : List Pick) → slice_get ps 0 ≡ None → slice_get (ps ++ qs) 0 ≡ slice_get qs 0
+first_right [] qs h = refl
+first_right (q ∷ ps) qs h = cc
+
 pub chosen_none : (n : ℕ) (ps : List Pick) → chosen n ps ≡ None → ps ≡ []
 chosen_none n [] h = refl
 chosen_none n (p ∷ ps) h = let some = chosen_some n p ps in absurd (cc (h, some.1))

@@ -57,8 +57,30 @@ impl Machine {
         if self.enabled(pick) { Some(pick) } else { None }
     }
 
-    #[tactic(auto, using(crate::proofs::Turns::chosen_neither, crate::proofs::Turns::chosen_left, crate::proofs::Turns::chosen_right))]
+    /// The enabled fill that a choice selects. The first one is found without a count of all.
+    #[tactic(auto, using(crate::proofs::Turns::chosen_first))]
     fn pick_of_fills(&self, choice: u32) -> Option<Pick>
+        ensures { result ≡ chosen choice (fills_of A self.now.state ++ fills_of E self.now.state) }
+    {
+        if choice == 0 {
+            self.first_fill()
+        } else {
+            self.counted_fill(choice)
+        }
+    }
+
+    #[tactic(auto, using(crate::proofs::Turns::first_left, crate::proofs::Turns::first_right))]
+    fn first_fill(&self) -> Option<Pick>
+        ensures { result ≡ slice_get (fills_of A self.now.state ++ fills_of E self.now.state) 0 }
+    {
+        match self.nth_fill(Side::A, 0) {
+            Some(pick) => Some(pick),
+            None => self.nth_fill(Side::E, 0),
+        }
+    }
+
+    #[tactic(auto, using(crate::proofs::Turns::chosen_neither, crate::proofs::Turns::chosen_left, crate::proofs::Turns::chosen_right))]
+    fn counted_fill(&self, choice: u32) -> Option<Pick>
         ensures { result ≡ chosen choice (fills_of A self.now.state ++ fills_of E self.now.state) }
     {
         let of_a = u32::from(self.fills(Side::A));
@@ -182,6 +204,10 @@ impl Machine {
         ensures { Tried result (if is_some (step self.old.setup self.old.state Pick.E) then Some Pick.E else None) self.old self.new }
     {
         let piece = self.try_e()?;
+        // Nearly every piece is empty, and a new one costs less than the move of one.
+        if piece.is_empty() {
+            return Some((Pick::E, Piece::empty()));
+        }
         Some((Pick::E, piece))
     }
 

@@ -1,8 +1,6 @@
 -- A processor that halted asks nothing.
-use Rattle.std.proofs.Common.{◌≡◌, true, refl, ap, subst, sym, ◌∙◌}
-use Rattle.std.specs.Prelude.{is_some}
+use Rattle.std.proofs.Common.{refl, ap, sym, ◌∙◌}
 use Rattle.dae_encode.specs.declared.Request.{Request}
-use Rattle.dae_core.specs.Held.{HeldCore}
 use Rattle.dae_core.specs.Moves.{answered_by, granted_by}
 use Rattle.dae_core.proofs.Fetches.{halted_asks}
 use Rattle.dae_core.proofs.processor.Core.step.Goals as goal
