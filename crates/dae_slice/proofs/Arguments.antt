@@ -1,7 +1,6 @@
 -- The links of a call's arguments, from one on.
-use Rattle.std.proofs.Common.{◌≡◌, ◌↔◌, ℕ, suc, ◌+◌, ◌<◌, ◌≤◌, true, List, ◌∷◌, length, drop, get_or, drop-cons, add-one, ap, sym}
+use Rattle.std.proofs.Common.{◌≡◌, ◌↔◌, ℕ, ◌+◌, ◌<◌, ◌≤◌, true, List, ◌∷◌, length, drop, get_or, drop-cons, add-one}
 use Rattle.std.proofs.lemmas.List.{drop_all}
-use Rattle.dae_base.proofs.Laws.{drop_at}
 use Rattle.dae_ir.specs.Classes.{has, ArgumentsKept, CallKept}
 use Rattle.dae_ir.specs.declared.form.Operand.{Operand}
 use Rattle.dae_slice.specs.Graphs.{Family, Keeps, IsLike, Adds}
