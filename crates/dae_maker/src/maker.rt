@@ -64,8 +64,9 @@ fn is_checked(operator: Operator, y: Operand) -> bool
 impl Maker {
     ghost use Rattle.std.specs.Prelude.{◌+◌, ◌++◌};
     ghost use Rattle.dae_ir.specs.Code.{Done};
-    ghost use Rattle.dae_lower.specs.Lowering.{advanced, checks, fetched, held, narrowed, one, only, operated, put_in, set, variable, Placed};
-    ghost use Rattle.dae_maker.specs.Making.{Appends, loaded_next, so_far, spot_of};
+    ghost use Rattle.dae_lower.specs.Lowering.{checks, fetched, narrowed, one, only, operated};
+    ghost use Rattle.dae_lower.specs.Lowering.{put_in, set, variable, Placed};
+    ghost use Rattle.dae_maker.specs.Making.{Appends, advanced_in, held_in, loaded_next, so_far, spot_of};
 
     /// No statements yet, of a function with so many variables.
     pub fn new(alloc: Global, variables: u32) -> Maker
@@ -231,7 +232,7 @@ impl Maker {
         copied: &[bool],
         spot: Spot,
     ) -> Result<Operand, AllocError>
-        ensures { IfOk result (Appends (held place kind (among copied.now) (spot_of spot)) self.old self.new) }
+        ensures { IfOk result (Appends (held_in place kind copied.now spot) self.old self.new) }
     {
         match spot {
             Spot::Variable(v) => {
@@ -255,7 +256,7 @@ impl Maker {
         spot: Spot,
         x: Operand,
     ) -> Result<Operand, AllocError>
-        ensures { IfOk result (Appends (advanced place kind change (spot_of spot) x) self.old self.new) }
+        ensures { IfOk result (Appends (advanced_in place kind change spot x) self.old self.new) }
     {
         let z = self.set(
             place,
