@@ -1,5 +1,6 @@
 -- What is appended stands behind.
-use Rattle.std.proofs.Common.{◌≡◌, ℕ, ◌+◌, Bool, true, false, List, [], ◌∷◌, ◌++◌, refl, ap, sym, ◌∙◌}
+use Rattle.std.proofs.Common.{◌≡◌, ℕ, zero, suc, ◌+◌, ◌<◌, ◌≤◌, Bool, true, false, List, [], ◌∷◌, ◌++◌, refl, ap, sym, ◌∙◌, length, arith}
+use Rattle.std.specs.Prelude.{slice_index_or}
 use Rattle.dae_base.specs.declared.Place.{Place}
 use Rattle.dae_ir.specs.Code.{Done, Do, If, Loop}
 use Rattle.dae_ir.specs.Form.{Form, form_of, before}
@@ -7,7 +8,8 @@ use Rattle.dae_ir.specs.declared.form.Item.{Item}
 use Rattle.dae_ir.specs.declared.form.Operand.{Operand}
 use Rattle.dae_ir.specs.declared.form.Operand.TheVariants.{Variable}
 use Rattle.dae_ir.specs.declared.form.Statement.{Statement, Simple, If', Loop'}
-use Rattle.dae_lower.specs.Lowering.{nothing, only, one, checks, ◌⨾◌}
+use Rattle.dae_maker.specs.Assigned.{among}
+use Rattle.dae_lower.specs.Lowering.{Made, ◌≫◌, nothing, only, one, checks, ◌⨾◌}
 use Rattle.dae_maker.specs.Making.{Written, Writes}
 
 pub behind_behind : (a b c : Form) → ((a ⨾ b) ⨾ c) ≡ (a ⨾ (b ⨾ c))
@@ -62,3 +64,24 @@ checked_item f place check last a b c x z y h i = record {
 -- an item that gives something
 pub item_given : {Y : Type 0} (place : Place) (item : Item) (a b : Written) (x : Unit {0}) (y : Y) → Writes (only (one place item) x a.next) a b x → Writes (only (one place item) y a.next) a b y
 item_given place item a b x y h = record { code = h.code; given = refl; next = h.next }
+
+-- one after the other
+pub written_on : {X Y : Type 0} (made : Made X) (f : X → ℕ → Made Y) (a b c : Written) (x : X) (y : Y) → Writes made a b x → Writes (f x b.next) b c y → Writes (made ≫ f) a c y
+written_on {X} {Y} made f a b c x y g h = record {
+  code = h.code ∙ ap (λ k. k ⨾ (f x b.next).code) g.code ∙ behind_behind a.code made.code (f x b.next).code ∙ ap (λ k. a.code ⨾ (made.code ⨾ k)) (both (λ x n. (f x n).code));
+  given = h.given ∙ both (λ x n. (f x n).given);
+  next = h.next ∙ both (λ x n. (f x n).next);
+} where
+  both : {A : Type 0} (k : X → ℕ → A) → k x b.next ≡ k made.given made.next
+  both k = ap (λ z. k z b.next) g.given ∙ ap (λ z. k made.given z) g.next
+
+-- a flag in a list is that of its variable
+pub among_read : (bs : List Bool) (v : ℕ) (d : Bool) → v < length bs → slice_index_or bs v d ≡ among bs v
+among_read [] v d h = absurd (omega (arith, h))
+among_read (b ∷ bs) zero d h = refl
+among_read (b ∷ bs) (suc v) d h = among_read bs v d (omega (arith, h))
+
+pub among_past : (bs : List Bool) (v : ℕ) → length bs ≤ v → among bs v ≡ false
+among_past [] v h = refl
+among_past (b ∷ bs) zero h = absurd (omega (arith, h))
+among_past (b ∷ bs) (suc v) h = among_past bs v (omega (arith, h))

@@ -1,5 +1,5 @@
 -- What a maker has written so far, and how it goes on.
-use Rattle.std.specs.Prelude.{◌≡◌, ℕ, ◌+◌}
+use Rattle.std.specs.Prelude.{◌≡◌, ℕ, ◌+◌, Bool, List}
 use Rattle.dae_ir.specs.Form.{Form, form_of}
 use Rattle.dae_maker.specs.declared.maker.Maker.{Maker}
 use Rattle.dae_maker.specs.declared.maker.Spot.{Spot}
@@ -11,6 +11,7 @@ use Rattle.dae_ir.specs.declared.form.Operand.{Operand}
 use Rattle.dae_ir.specs.declared.form.Operand.TheVariants.{Variable}
 use Rattle.dae_lower.specs.Lowering.{Made, only, one, ◌⨾◌}
 use Rattle.dae_lower.specs.Lowering as form
+use Rattle.dae_maker.specs.Assigned.{among}
 
 -- the form so far, and the next variable
 pub record Written : Type 0 where
@@ -37,3 +38,11 @@ spot_of (spot.Object checked x) = form.Placed checked x
 -- a load into the next variable
 abbrev pub loaded_next : Place → LoadKind → Operand → ℕ → Made Operand
 loaded_next place kind x n = only (one place (Load n kind x)) (Variable n) (n + 1)
+
+-- what an assigned place holds, where the flags say which variables are copied
+abbrev pub held_in : Place → LoadKind → List Bool → Spot → ℕ → Made Operand
+held_in place kind flags spot = form.held place kind (among flags) (spot_of spot)
+
+-- an assigned place gets an operand and a number
+abbrev pub advanced_in : Place → LoadKind → (change : ℕ) → Spot → Operand → ℕ → Made Operand
+advanced_in place kind change spot x = form.advanced place kind change (spot_of spot) x

@@ -34,6 +34,7 @@ fn divides(operator: Operator) -> bool
 ghost use Rattle.std.specs.Prelude.{◌≡◌, ◌&&◌, IfOk};
 ghost use Rattle.dae_program.specs.Expressions.{divides};
 ghost use Rattle.dae_lower.specs.Lowering.{may_be_zero};
+ghost use Rattle.dae_maker.specs.Assigned.{among};
 
 fn may_be_zero(x: Operand) -> bool
     ensures { result ≡ may_be_zero x }
@@ -41,6 +42,16 @@ fn may_be_zero(x: Operand) -> bool
     match x {
         Operand::Variable(_) => true,
         Operand::Number(number) => number == 0,
+    }
+}
+
+/// Whether a variable's flag is set.
+fn is_among(flags: &[bool], v: u32) -> bool
+    ensures { result ≡ among flags.now v }
+{
+    match flags.get(v as usize) {
+        Some(flag) => *flag,
+        None => false,
     }
 }
 
@@ -53,9 +64,9 @@ fn is_checked(operator: Operator, y: Operand) -> bool
 impl Maker {
     ghost use Rattle.std.specs.Prelude.{◌+◌, ◌++◌};
     ghost use Rattle.dae_ir.specs.Code.{Done};
-    ghost use Rattle.dae_lower.specs.Lowering.{advanced, checks, fetched, held, narrowed, one, only, operated, put_in, set, variable, Placed};
-    ghost use Rattle.dae_maker.specs.Making.{Appends, loaded_next, so_far, spot_of};
-    ghost use Rattle.dae_maker.specs.Assigned.{among};
+    ghost use Rattle.dae_lower.specs.Lowering.{checks, fetched, narrowed, one, only, operated};
+    ghost use Rattle.dae_lower.specs.Lowering.{put_in, set, variable, Placed};
+    ghost use Rattle.dae_maker.specs.Making.{Appends, advanced_in, held_in, loaded_next, so_far, spot_of};
 
     /// No statements yet, of a function with so many variables.
     pub fn new(alloc: Global, variables: u32) -> Maker
@@ -211,5 +222,48 @@ impl Maker {
                 Ok(z)
             }
         }
+    }
+
+    /// What an assigned place holds. A variable's value is a copy where its flag says so.
+    pub fn held(
+        &mut self,
+        place: Place,
+        kind: LoadKind,
+        copied: &[bool],
+        spot: Spot,
+    ) -> Result<Operand, AllocError>
+        ensures { IfOk result (Appends (held_in place kind copied.now spot) self.old self.new) }
+    {
+        match spot {
+            Spot::Variable(v) => {
+                let flag = is_among(copied, v);
+                let x = self.variable(flag, place, v)?;
+                Ok(x)
+            }
+            Spot::Object(checked, x) => {
+                let z = self.fetched(place, kind, checked, x)?;
+                Ok(z)
+            }
+        }
+    }
+
+    /// What is assigned gets an operand and a number, narrowed to its type.
+    pub fn advanced(
+        &mut self,
+        place: Place,
+        kind: LoadKind,
+        change: u32,
+        spot: Spot,
+        x: Operand,
+    ) -> Result<Operand, AllocError>
+        ensures { IfOk result (Appends (advanced_in place kind change spot x) self.old self.new) }
+    {
+        let z = self.set(
+            place,
+            Value::Binary(Operator::Add, x, Operand::Number(change)),
+        )?;
+        let w = self.narrowed(place, kind, z)?;
+        let y = self.put_in(place, kind, spot, w)?;
+        Ok(y)
     }
 }

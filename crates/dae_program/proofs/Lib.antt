@@ -13,3 +13,4 @@ mod ObjectsExamples
 mod StatementsExamples
 mod CallsExamples
 mod PrintingExamples
+mod LawfulExamples

@@ -1,0 +1,81 @@
+-- A program in memory that is lawful, and some that aren't.
+use Rattle.std.proofs.Common.{◌≡◌, ℕ, Bool, true, false, List, [], ◌∷◌, Option, Some, None, refl}
+use Rattle.dae_base.specs.declared.LoadKind.TheVariants as kind
+use Rattle.dae_base.specs.declared.Width.TheVariants as width
+use Rattle.dae_program.specs.declared.expressions.Expression.TheVariants as expression
+use Rattle.dae_program.specs.declared.expressions.Target.TheVariants as target
+use Rattle.dae_program.specs.declared.program.Function.{Function}
+use Rattle.dae_program.specs.declared.program.Links.{Links}
+use Rattle.dae_program.specs.declared.program.Slot.{Slot}
+use Rattle.dae_program.specs.declared.statements.Statement.{Statement}
+use Rattle.dae_program.specs.declared.statements.Statement.TheVariants as statement
+use Rattle.dae_program.specs.Lawful.{is_lawful}
+use Rattle.dae_program.proofs.Seen.{here}
+
+-- the file's function 0 is function 1 of the program
+abbrev links : List Links
+links = record { addresses = 16 ∷ []; functions = 1 ∷ [] } ∷ []
+
+abbrev function : List (Option Slot) → ℕ → List Statement → Function
+function parameters frame body = record {
+  name = [];
+  place = here;
+  file = 0;
+  parameters = parameters;
+  variables = 3;
+  frame = frame;
+  body = body;
+}
+
+abbrev program : List Statement → List (Option Slot) → ℕ → List Statement → Bool
+program main parameters frame body = is_lawful 64 20 (1 ∷ (2 ∷ (3 ∷ (4 ∷ [])))) links (function [] 0 main ∷ (function parameters frame body ∷ [])) 0
+
+abbrev stops : List Statement
+stops = statement.Evaluate here (expression.Abort here) ∷ []
+
+abbrev steps : ℕ → List Statement
+steps v = statement.Evaluate here (expression.Step here kind.I32 (target.Variable v) 1 true) ∷ []
+
+abbrev slot : ℕ → List (Option Slot)
+slot offset = Some (record { offset = offset; width = width.B4 }) ∷ []
+
+lawful : program stops (slot 4) 8 (steps 2) ≡ true
+lawful = refl
+
+-- the result is set by a return alone, and there is no variable 3
+result_set : program stops (slot 4) 8 (steps 0) ≡ false
+result_set = refl
+
+no_variable : program stops (slot 4) 8 (steps 3) ≡ false
+no_variable = refl
+
+-- a parameter past the frame's end, or not at a multiple of its width, and a frame of 6 bytes
+past_frame : program stops (slot 8) 8 (steps 2) ≡ false
+past_frame = refl
+
+uneven : program stops (slot 2) 8 (steps 2) ≡ false
+uneven = refl
+
+uneven_frame : program stops (slot 0) 6 (steps 2) ≡ false
+uneven_frame = refl
+
+-- a break outside of a loop, and a return in main
+break_outside : program stops (slot 4) 8 (statement.Break here ∷ []) ≡ false
+break_outside = refl
+
+return_in_main : program (statement.Return here None ∷ []) (slot 4) 8 (steps 2) ≡ false
+return_in_main = refl
+
+-- a main with a parameter, and none
+main_with_parameter : is_lawful 64 20 [] links (function (None ∷ []) 0 stops ∷ []) 0 ≡ false
+main_with_parameter = refl
+
+no_main : is_lawful 64 20 [] links (function [] 0 stops ∷ []) 1 ≡ false
+no_main = refl
+
+-- a file that can call main, and data that reach into the frames
+main_called : is_lawful 64 20 [] links (function [] 0 stops ∷ (function [] 0 stops ∷ [])) 1 ≡ false
+main_called = refl
+
+data_too_long : is_lawful 64 16 (0 ∷ []) links (function [] 0 stops ∷ []) 0 ≡ false
+data_too_long = refl
