@@ -87,8 +87,8 @@ numbered_by N L (kinds.Name n) t e h = rw e h
 numbered_by N L (kinds.Constant c) t e h = rw e tt
 numbered_by N L (kinds.Literal n) t e h = rw e h
 
-marks_numbered : (N L : ℕ) (ts : List Token) → All (λ t. IsNumbered N L t.kind) ts → All (IsNumberedMark N L) (marks ts)
-marks_numbered N L ts h = All-map (IsNumberedMark N L) mark ts (All-weaker (λ t. IsNumbered N L t.kind) (λ t. IsNumberedMark N L (mark t)) ts (λ t k. numbered_by N L t.kind t refl k) h)
+marks_numbered : (N L : ℕ) (ts : List Token) → All (λ (t : Token). IsNumbered N L t.kind) ts → All (IsNumberedMark N L) (marks ts)
+marks_numbered N L ts h = All-map (IsNumberedMark N L) mark ts (All-weaker (λ (t : Token). IsNumbered N L t.kind) (λ (t : Token). IsNumberedMark N L (mark t)) (λ t k. numbered_by N L t.kind t refl k) ts h)
 
 pub is_file : (r : Reading) (f : Contents) → IsReading r → IsWithinLimits r.tokens (view_externals f.externals) → f.names ≡ r.names → f.literals ≡ r.literals → IsFile f
 is_file r f h w n l = record {

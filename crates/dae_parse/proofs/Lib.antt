@@ -1,6 +1,6 @@
-mod Behind
+mod LeftBehind
 mod ByKind
-mod Names
+mod TypesFound
 mod Stacks
 mod Popped
 mod Otherwise

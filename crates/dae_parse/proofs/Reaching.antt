@@ -55,23 +55,26 @@ start tokens m b f e g h = record {
 
 -- ---- the next state
 
-lower : (a b n bound : ℕ) → b < a → a + n ≤ bound → b + suc n ≤ bound
+lower : (a b n bound : ℕ) → b < a → a + n ≤ bound → b + (n + 1) ≤ bound
 lower a b n bound h k = omega arith
 
-go_on : (tokens : List Mark) (turns : ℕ) (s : State) (next : Doing) (m : Machine) → run turns (begun tokens) ≡ s → measure s + turns ≤ 12 * length tokens + 9 → (r : Option State) → step s ≡ r → Follows (Some next) m r → Reached tokens (suc turns) next m
+one_more : (n : ℕ) → suc n ≡ n + 1
+one_more n = omega arith
+
+go_on : (tokens : List Mark) (turns : ℕ) (s : State) (next : Doing) (m : Machine) → run turns (begun tokens) ≡ s → measure s + turns ≤ 12 * length tokens + 9 → (r : Option State) → step s ≡ r → Follows (Some next) m r → Reached tokens (turns + 1) next m
 go_on tokens turns s next m come spent None e f = absurd f
 go_on tokens turns s next m come spent (Some (state d t names rest)) e f =
     let same : state d t names rest ≡ state d t m.scope.names m.rest = ap (λ (n : Names). state d t n rest) (sym f.2) ∙ ap (state d t m.scope.names) (sym f.3) in
     record {
       does = d;
       stack = t;
-      come = run_next turns (begun tokens) (state d t names rest) (ap step come ∙ e) ∙ same;
+      come = subst (λ (n : ℕ). run n (begun tokens) ≡ state d t m.scope.names m.rest) (one_more turns) (run_next turns (begun tokens) (state d t names rest) (ap step come ∙ e) ∙ same);
       shown = f.0;
       stands = (f.1, f.4);
-      spent = subst (λ (u : State). measure u + suc turns ≤ 12 * length tokens + 9) same (lower (measure s) (measure (state d t names rest)) turns (12 * length tokens + 9) (step_falls s (state d t names rest) e) spent);
+      spent = subst (λ (u : State). measure u + (turns + 1) ≤ 12 * length tokens + 9) same (lower (measure s) (measure (state d t names rest)) turns (12 * length tokens + 9) (step_falls s (state d t names rest) e) spent);
     }
 
-pub next_reached : (tokens : List Mark) (turns : ℕ) (does next : Doing) (m n : Machine) (r : Reached tokens turns does m) → Follows (Some next) n (step_at r.does r.stack m.scope.names m.rest) → Reached tokens (suc turns) next n
+pub next_reached : (tokens : List Mark) (turns : ℕ) (does next : Doing) (m n : Machine) (r : Reached tokens turns does m) → Follows (Some next) n (step_at r.does r.stack m.scope.names m.rest) → Reached tokens (turns + 1) next n
 next_reached tokens turns does next m n r f = go_on tokens turns (state r.does r.stack m.scope.names m.rest) next n r.come r.spent (step_at r.does r.stack m.scope.names m.rest) refl f
 
 -- no run takes all turns

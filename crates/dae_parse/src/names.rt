@@ -7,7 +7,7 @@ use dae_scope::Scope;
 use dae_tree::Seen;
 
 /// Whether a name is the name of a type.
-#[tactic(auto, using(crate::proofs::Names::type_found))]
+#[tactic(auto, using(crate::proofs::TypesFound::type_found))]
 pub fn is_type(names: &Scope<bool>, name: u32) -> bool
     ensures { result ≡ is_type names.now.names name }
 {

@@ -1,5 +1,5 @@
 use Rattle.std.proofs.Common.{add-one}
-use Rattle.dae_parse.proofs.Behind.{behind_next}
+use Rattle.dae_parse.proofs.LeftBehind.{behind_next}
 use Rattle.dae_parse.proofs.rest.Rest.behind.Goals as goal
 
 pub returns-then-self : goal.returns-then-self
