@@ -1,6 +1,6 @@
 use Rattle.std.proofs.Common.{◌≡◌, ◌∷◌, [], ◌++◌, List, ℕ, take, IfSome, Option, None, Some, rules}
 use Rattle.std.specs.Io.KnownBytes.{Appends}
-use Rattle.dae_io.specs.Taken.{AppendsPrefix}
+use Rattle.dae_io.specs.Sinks.{AppendsPrefix}
 use Rattle.dae_io.proofs.Growth.{AppendsPrefix-then, AppendsPrefix-of_more}
 use Rattle.dae_io.proofs.tests.pass_on.Goals as goal
 
