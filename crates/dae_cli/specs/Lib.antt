@@ -1,6 +1,11 @@
 pub mod Options
 pub mod Words
+pub mod Lines
+pub mod Puts
+pub mod Pieces
 pub mod Notes
 pub mod Refusals
-pub mod Answers
 pub mod Driving
+pub mod Images
+pub mod Sources
+pub mod Answers

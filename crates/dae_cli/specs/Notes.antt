@@ -20,18 +20,8 @@ use Rattle.dae_machine.specs.Machine.{Setup, State}
 use Rattle.dae_cli.specs.declared.drive.Driven.{Driven}
 use Rattle.dae_cli.specs.declared.drive.Driven.TheVariants.{Final, Stuck, Spent, SinkFailed}
 use Rattle.dae_cli.specs.declared.options.Shown.{Shown}
-
-abbrev pub words_line : List ℕ
-words_line = codes "words\n"
-
-abbrev pub memory_line : List ℕ
-memory_line = codes "memory\n"
-
-abbrev pub not_built_line : List ℕ
-not_built_line = codes "refused not-built\n"
-
-abbrev pub read_line : List ℕ → List ℕ
-read_line name = codes "read " ++ (name ++ codes "\n")
+use Rattle.dae_cli.specs.Lines.{memory_line}
+use Rattle.dae_cli.specs.Puts.{Put, Note}
 
 abbrev pub budget_line : Depths → List ℕ
 budget_line d =
@@ -107,10 +97,10 @@ shown_byte b = 32 ∷ (digit_glyph false (b / 16) ∷ (digit_glyph false (b % 16
 abbrev pub shown_line : Shown → List ℕ → List ℕ
 shown_line s memory = codes "memory " ++ (decimal s.address ++ (codes ":" ++ (flat_map shown_byte (take s.count (drop s.address memory)) ++ codes "\n")))
 
-abbrev pub show_line : Option Shown → List ℕ → List ℕ
-show_line None memory = []
-show_line (Some s) memory = shown_line s memory
+abbrev pub show_puts : Option Shown → List ℕ → List Put
+show_puts None memory = []
+show_puts (Some s) memory = Note (shown_line s memory) ∷ []
 
--- the lines after a run
-abbrev pub end_lines : Driven → Setup → State → Option Shown → List ℕ
-end_lines how setup s show = outcome_line how setup s ++ (steps_line s.steps ++ show_line show s.memory)
+-- what is noted after a run, each line in a put of its own
+abbrev pub end_puts : Driven → Setup → State → Option Shown → List Put
+end_puts how setup s show = Note (outcome_line how setup s) ∷ (Note (steps_line s.steps) ∷ show_puts show s.memory)

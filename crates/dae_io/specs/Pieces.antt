@@ -1,5 +1,5 @@
 -- The pieces that a sink was given.
-use Rattle.std.specs.Prelude.{ℕ, List, [], ◌∷◌, ◌++◌}
+use Rattle.std.specs.Prelude.{ℕ, List}
 use Rattle.std.specs.Coded.{Coded, coded_ℕ, coded_list}
 
 -- how the logic stores them
