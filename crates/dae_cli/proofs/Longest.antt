@@ -12,8 +12,9 @@ use Rattle.dae_image.specs.Images.{contents}
 use Rattle.dae_image.specs.Ranges.{is_in, name_range}
 use Rattle.dae_image.specs.Spelling.{Spells, body, head_1, head_2, line, name, number, numbers}
 use Rattle.dae_image.proofs.FieldLaws.{IsIn-from_test}
-use Rattle.dae_cli.specs.declared.options.RunOptions.{RunOptions}
-use Rattle.dae_cli.specs.Answers.{Answer, DueOfBytes, due_image, due_no_image, due_memory_to_decode, DueOfImageFile, due_bytes}
+use Rattle.dae_drive.specs.declared.options.RunOptions.{RunOptions}
+use Rattle.dae_drive.specs.Puts.{Answer}
+use Rattle.dae_cli.specs.ImageFiles.{DueOfBytes, due_image, due_no_image, due_memory_to_decode, DueOfImageFile, due_bytes}
 
 numbers_size : (ws : List ℕ) → length (numbers ws) ≡ 4 * length ws
 numbers_size [] = refl
@@ -91,6 +92,3 @@ read_due held text e due_memory_to_decode = due_memory_to_decode
 pub fetched_bytes : {a : Answer} {name : List ℕ} {failed : Type 0} {o : RunOptions} (told : Option (List ℕ)) (text : List ℕ) → IfSome told (λ held. text ≡ take 536870912 held) → DueOfBytes text o a → DueOfImageFile name told failed o a
 fetched_bytes None text e d = due_bytes text tt d
 fetched_bytes (Some held) text e d = due_bytes held refl (read_due held text e d)
-
-pub same_bytes : {a : Answer} {o : RunOptions} (bytes held : List ℕ) → bytes ≡ held → DueOfBytes bytes o a → DueOfBytes held o a
-same_bytes {a} {o} bytes held e d = subst (λ (b : List ℕ). DueOfBytes b o a) e d

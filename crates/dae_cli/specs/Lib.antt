@@ -1,11 +1,6 @@
 pub mod Options
 pub mod Words
-pub mod Lines
-pub mod Puts
-pub mod Pieces
-pub mod Notes
 pub mod Refusals
-pub mod Driving
-pub mod Images
+pub mod ImageFiles
 pub mod Sources
 pub mod Answers

@@ -19,13 +19,13 @@ use Rattle.dae_parse.specs.declared.error.ParseError.{ParseError}
 use Rattle.dae_parse.specs.declared.error.ParseError.TheVariants as tree_errors
 use Rattle.dae_parse.specs.Parsed.{IsRefused, IsWithinLimits}
 use Rattle.dae_straight_reader.specs.Spelled.{IsTreeSpelled}
-use Rattle.dae_cli.specs.declared.options.RunOptions.{RunOptions}
-use Rattle.dae_cli.specs.declared.options.TheConstants.{USUAL}
-use Rattle.dae_cli.specs.Lines.{memory_line, not_built_line, read_line}
-use Rattle.dae_cli.specs.Notes.{budget_line, ended_line, steps_line}
+use Rattle.dae_drive.specs.declared.options.RunOptions.{RunOptions}
+use Rattle.dae_drive.specs.declared.options.TheConstants.{USUAL}
+use Rattle.dae_drive.specs.Lines.{memory_line, not_built_line, read_line}
+use Rattle.dae_drive.specs.Notes.{budget_line, ended_line, steps_line}
 use Rattle.dae_cli.specs.Refusals.{too_long_line, lex_line, tree_line}
-use Rattle.dae_cli.specs.Pieces.{pieces}
-use Rattle.dae_cli.specs.Puts.{Answer, answer, told, Put, Out, Note}
+use Rattle.dae_drive.specs.Pieces.{pieces}
+use Rattle.dae_drive.specs.Puts.{Answer, answer, told, Put, Out, Note}
 
 -- the limits on what is read of a job
 abbrev pub whole_room : Room

@@ -1,0 +1,6 @@
+mod Puts
+mod Printed
+mod OnTheWay
+mod Outcome
+mod Executed
+pub mod Laws
