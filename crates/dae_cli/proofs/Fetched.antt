@@ -1,11 +1,14 @@
 -- What is due for a file by what was fetched of it, and what is due where nothing fails.
-use Rattle.std.proofs.Common.{◌≡◌, ℕ, ◌≤◌, ◌⊎◌, inl, inr, ◌<◌, zero, suc, List, [], ◌∷◌, length, refl, ap, ◌∙◌, subst, take_all, arith}
+use Rattle.std.proofs.Common.{◌≡◌, ℕ, ◌≤◌, ◌⊎◌, inl, inr, ◌<◌, zero, suc, List, [], ◌∷◌, length, refl, ap, sym, ◌∙◌, subst, take_all, arith}
 use Rattle.std.specs.Prelude.{Option, Some, None, IfSome, take}
 use Rattle.std.proofs.lemmas.Bool.Decides.{leb_tells}
 use Rattle.dae_drive.specs.declared.options.RunOptions.{RunOptions}
-use Rattle.dae_drive.specs.Puts.{Answer, Sinks, Gives, gives_whole, gives_part, AreCut}
+use Rattle.dae_io.specs.Faults.{Rose}
+use Rattle.dae_io.proofs.Laws.{never_rises}
+use Rattle.dae_drive.specs.Lines.{memory_line, read_line}
+use Rattle.dae_drive.specs.Puts.{Put, Out, Note, Answer, told, Sinks, IsFailed, Gives, gives_whole, gives_part}
 use Rattle.dae_cli.specs.Sources.{DueOfText, due_too_long, due_no_tokens, due_no_tree, due_program, due_not_built, due_memory_to_read, DueOfFile, due_text, due_read, due_memory_to_fetch}
-use Rattle.dae_cli.specs.ImageFiles.{DueOfImageFile, due_bytes, due_no_bytes, due_memory_for_bytes}
+use Rattle.dae_cli.specs.ImageFiles.{DueOfBytes, due_memory_to_decode, DueOfImageFile, due_bytes, due_no_bytes, due_memory_for_bytes}
 use Rattle.dae_cli.specs.Answers.{IsDue, due_file, due_image_file, due_words}
 
 take_long : (n : ℕ) (xs : List ℕ) → n ≤ length xs → length (take n xs) ≡ n
@@ -52,7 +55,34 @@ due_calm never (due_file name spelled d) = due_file name spelled (file_calm (nev
 due_calm never (due_image_file options name spelled d) = due_image_file options name spelled (image_calm (never name) d)
 due_calm never (due_words none others) = due_words none others
 
--- a put that fails raises the count of its sink, which never fails
-failed_calm : (p : Put) (a b : Sinks) → b.out.count ≡ 0 → b.note.count ≡ 0 → a.out.count ≡ 0 → a.note.count ≡ 0 → IsFailed p a b → ⊥
-failed_calm (Out piece) a b o n o' n' f = Rose-never (subst (λ (k : ℕ). Rose k 0) o' (subst (λ (k : ℕ). Rose a.out.count k) o f.0.rose))
-failed_calm (Note line) a b o n o' n' f = Rose-never (subst (λ (k : ℕ). Rose k 0) n' (subst (λ (k : ℕ). Rose a.note.count k) n f.0.rose))
+-- no put fails on sinks that never count a fault
+failed_calm : (p : Put) (a b : Sinks) → b.out.count ≡ 0 → b.note.count ≡ 0 → IsFailed p a b → ⊥
+failed_calm (Out piece) a b o n f = never_rises a.out.count (subst (λ (k : ℕ). Rose a.out.count k) o f.0.rose)
+failed_calm (Note line) a b o n f = never_rises a.note.count (subst (λ (k : ℕ). Rose a.note.count k) n f.0.rose)
+
+pub status_calm : {due : Answer} {status : ℕ} (a b : Sinks) → b.out.count ≡ 0 → b.note.count ≡ 0 → Gives due status a b → status ≡ due.status
+status_calm a b o n (gives_whole s w) = s
+status_calm a b o n (gives_part s cut) = absurd (failed_calm cut.failed cut.between b o n cut.is_failed)
+
+-- ---- what is due for a stop
+
+pub text_due : {name text : List ℕ} {x y : Answer} → (x ≡ y) ⊎ (x ≡ told 7 memory_line) → DueOfText name text y → DueOfText name text x
+text_due {name} {text} (inl e) d = subst (λ (a : Answer). DueOfText name text a) (sym e) d
+text_due {name} {text} (inr e) d = subst (λ (a : Answer). DueOfText name text a) (sym e) due_memory_to_read
+
+pub bytes_due : {bytes : List ℕ} {o : RunOptions} {x y : Answer} → (x ≡ y) ⊎ (x ≡ told 7 memory_line) → DueOfBytes bytes o y → DueOfBytes bytes o x
+bytes_due {bytes} {o} (inl e) d = subst (λ (a : Answer). DueOfBytes bytes o a) (sym e) d
+bytes_due {bytes} {o} (inr e) d = subst (λ (a : Answer). DueOfBytes bytes o a) (sym e) due_memory_to_decode
+
+pub fetch_due : {name : List ℕ} {held : Option (List ℕ)} {failed : Type 0} {x : Answer} → (x ≡ told 7 memory_line) ⊎ ((x ≡ told 5 (read_line name)) × failed) → DueOfFile name held failed x
+fetch_due {name} {held} {failed} (inl e) = subst (λ (a : Answer). DueOfFile name held failed a) (sym e) due_memory_to_fetch
+fetch_due {name} {held} {failed} (inr f) = subst (λ (a : Answer). DueOfFile name held failed a) (sym f.0) (due_read f.1)
+
+pub fetch_image_due : {name : List ℕ} {held : Option (List ℕ)} {failed : Type 0} {o : RunOptions} {x : Answer} → (x ≡ told 7 memory_line) ⊎ ((x ≡ told 5 (read_line name)) × failed) → DueOfImageFile name held failed o x
+fetch_image_due {name} {held} {failed} {o} (inl e) = subst (λ (a : Answer). DueOfImageFile name held failed o a) (sym e) due_memory_for_bytes
+fetch_image_due {name} {held} {failed} {o} (inr f) = subst (λ (a : Answer). DueOfImageFile name held failed o a) (sym f.0) (due_no_bytes f.1)
+
+-- ---- the same text, written otherwise
+
+pub due_at : {a : Answer} {name : List ℕ} (text t : List ℕ) → text ≡ t → DueOfText name text a → DueOfText name t a
+due_at {a} {name} text t e d = subst (λ (x : List ℕ). DueOfText name x a) e d

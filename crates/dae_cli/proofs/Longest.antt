@@ -92,3 +92,6 @@ read_due held text e due_memory_to_decode = due_memory_to_decode
 pub fetched_bytes : {a : Answer} {name : List ℕ} {failed : Type 0} {o : RunOptions} (told : Option (List ℕ)) (text : List ℕ) → IfSome told (λ held. text ≡ take 536870912 held) → DueOfBytes text o a → DueOfImageFile name told failed o a
 fetched_bytes None text e d = due_bytes text tt d
 fetched_bytes (Some held) text e d = due_bytes held refl (read_due held text e d)
+
+pub same_bytes : {a : Answer} {o : RunOptions} (bytes held : List ℕ) → bytes ≡ held → DueOfBytes bytes o a → DueOfBytes held o a
+same_bytes {a} {o} bytes held e d = subst (λ (b : List ℕ). DueOfBytes b o a) e d

@@ -54,20 +54,15 @@ pub fn run<F: Shelf, O: Sink, N: Sink>(
     match fetched(alloc, name, MOST, shelf) {
         Ok(text) => {
             let text = text.as_slice();
-            run_source(alloc, Source { name, text }, out, note)
+            run_source(alloc, &Source { name, text }, out, note)
         }
         Err(stop) => stop.tell(note),
     }
 }
 
 // Runs the program of a source.
-fn run_source<O: Sink, N: Sink>(
-    alloc: Global,
-    source: Source<'_>,
-    out: &mut O,
-    note: &mut N,
-) -> u8
-    ensures { GivesDue (DueOfText source.name.now source.text.now) result
+fn run_source<O: Sink, N: Sink>(alloc: Global, source: &Source<'_>, out: &mut O, note: &mut N) -> u8
+    ensures { GivesDue (DueOfText source.now.name.now source.now.text.now) result
         (sinks (O.seen out.old) (N.seen note.old)) (sinks (O.seen out.new) (N.seen note.new)) }
 {
     match compiled(alloc, source) {
@@ -78,10 +73,10 @@ fn run_source<O: Sink, N: Sink>(
 
 // The image of a source: its tokens, their tree, the program that the tree spells, and that program's image. What is due
 // for the image is due for the source.
-fn compiled(alloc: Global, source: Source<'_>) -> Result<Compiled, Stop>
+fn compiled(alloc: Global, source: &Source<'_>) -> Result<Compiled, Stop>
     ensures ok { IfOk result (λ compiled. (a : Answer) → DueOfImage compiled.image USUAL a
-        → DueOfText source.name.now source.text.now a) }
-    ensures err { IfErr result (λ stop. DueOfText source.name.now source.text.now (stop_answer stop)) }
+        → DueOfText source.now.name.now source.now.text.now a) }
+    ensures err { IfErr result (λ stop. DueOfText source.now.name.now source.now.text.now (stop_answer stop)) }
 {
     let tokens = tokens_of(alloc, source.name, source.text)?;
     accept(alloc, source, &tokens)?;
@@ -109,10 +104,10 @@ fn tokens_of<'t>(alloc: Global, name: &str, text: &'t [u8]) -> Result<Tokens<'t>
 }
 
 // Whether the tokens of a source have a tree within the limits. Its memory is given back.
-fn accept(alloc: Global, source: Source<'_>, tokens: &Tokens<'_>) -> Result<(), Stop>
-    requires { IsRead source.text.now tokens.now }
+fn accept(alloc: Global, source: &Source<'_>, tokens: &Tokens<'_>) -> Result<(), Stop>
+    requires { IsRead source.now.text.now tokens.now }
     ensures ok { IfOk result (λ _. (file : List External) × IsWithinLimits tokens.now.tokens file) }
-    ensures err { IfErr result (λ stop. DueOfText source.name.now source.text.now (stop_answer stop)) }
+    ensures err { IfErr result (λ stop. DueOfText source.now.name.now source.now.text.now (stop_answer stop)) }
 {
     match parse(alloc, tokens) {
         Ok(_) => Ok(()),
@@ -127,15 +122,15 @@ fn accept(alloc: Global, source: Source<'_>, tokens: &Tokens<'_>) -> Result<(), 
 // The program that the tree of these tokens spells. What is due for it is due for the source.
 fn program_of(
     alloc: Global,
-    source: Source<'_>,
+    source: &Source<'_>,
     tokens: &Tokens<'_>,
 ) -> Result<StraightProgram, Stop>
-    requires read { IsRead source.text.now tokens.now }
+    requires read { IsRead source.now.text.now tokens.now }
     requires tree { (file : List External) × IsWithinLimits tokens.now.tokens file }
     ensures straight { IfOk result (λ program. IsStraight program) }
     ensures ok { IfOk result (λ program. (a : Answer) → DueOfProgram program a
-        → DueOfText source.name.now source.text.now a) }
-    ensures err { IfErr result (λ stop. DueOfText source.name.now source.text.now (stop_answer stop)) }
+        → DueOfText source.now.name.now source.now.text.now a) }
+    ensures err { IfErr result (λ stop. DueOfText source.now.name.now source.now.text.now (stop_answer stop)) }
 {
     match read(alloc, tokens) {
         Ok(program) => Ok(program),

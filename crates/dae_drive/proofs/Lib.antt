@@ -3,4 +3,5 @@ mod Printed
 mod OnTheWay
 mod Outcome
 mod Executed
+mod OneAnswer
 pub mod Laws

@@ -2,6 +2,7 @@
 // and the run of an image, turn by turn, with its notes. All memory is taken before the first step.
 #![tactic(auto)]
 
+pub use answers::one_answer;
 pub use driving::{Driven, drive};
 pub use fetch::fetched;
 pub use image::run_image;
@@ -9,6 +10,7 @@ pub use notes::image_line;
 pub use options::{RunOptions, Shown, USUAL};
 pub use stop::{Stop, noted};
 
+mod answers;
 mod driving;
 mod fetch;
 mod image;

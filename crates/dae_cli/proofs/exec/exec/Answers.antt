@@ -1,7 +1,6 @@
-use Rattle.std.proofs.Common.{inl, inr, rules}
+use Rattle.std.proofs.Common.{rules}
 use Rattle.dae_drive.specs.Puts.{stop_answer}
-use Rattle.dae_cli.specs.ImageFiles.{due_memory_for_bytes, due_no_bytes}
-use Rattle.dae_cli.proofs.Fetched.{stop_due}
+use Rattle.dae_cli.proofs.Fetched.{fetch_image_due}
 use Rattle.dae_cli.proofs.Longest.{fetched_bytes, same_bytes}
 use Rattle.dae_cli.proofs.exec.exec.Goals as goal
 
@@ -13,9 +12,6 @@ returns-in-Ok-clause-gives g c =
 pub returns-in-Err-clause-gives : goal.returns-in-Err-clause-gives
 returns-in-Err-clause-gives g c = (
   stop_answer c.in-Err.stop,
-  elim c.in-Err.ensures.err [
-    | inl memory ↦ stop_due memory due_memory_for_bytes
-    | inr fault ↦ stop_due fault.0 (due_no_bytes fault.1)
-  ],
+  fetch_image_due c.in-Err.ensures.err,
   c.tell.ensures (g.O.Sink.seen c.args.out.now),
 )

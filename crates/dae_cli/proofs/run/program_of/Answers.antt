@@ -1,7 +1,7 @@
 use Rattle.std.proofs.Common.{ap, Err}
 use Rattle.dae_drive.specs.Lines.{not_built_line}
 use Rattle.dae_cli.specs.Sources.{due_memory_to_read, due_not_built, due_program}
-use Rattle.dae_cli.proofs.Fetched.{either_due}
+use Rattle.dae_cli.proofs.Fetched.{text_due}
 use Rattle.dae_cli.proofs.Refused.{spells_only, tokens_spelled}
 use Rattle.dae_cli.proofs.run.program_of.Goals as goal
 
@@ -13,8 +13,8 @@ returns-in-Ok-clause-ok c = λ a due.
 pub returns-in-Err-NotBuilt-clause-err : goal.returns-in-Err-NotBuilt-clause-err
 returns-in-Err-NotBuilt-clause-err c =
     let tree = c.requires.tree in
-    either_due (c.told.ensures not_built_line c.not_built_line.ensures)
-    (due_not_built _ tree.0 c.requires.read tree.1 (λ p h. c.in-Err-NotBuilt.ensures.not_built (ap Err c.in-Err-NotBuilt.field-0-is) p (tokens_spelled _ tree.0 p tree.1 h))) due_memory_to_read
+    text_due (c.told.ensures not_built_line c.not_built_line.ensures)
+    (due_not_built _ tree.0 c.requires.read tree.1 (λ p h. c.in-Err-NotBuilt.ensures.not_built (ap Err c.in-Err-NotBuilt.field-0-is) p (tokens_spelled _ tree.0 p tree.1 h)))
 
 pub returns-clause-err : goal.returns-clause-err
 returns-clause-err c = due_memory_to_read

@@ -1,7 +1,6 @@
-use Rattle.std.proofs.Common.{inl, inr, rules, ◌≡◌}
-use Rattle.dae_drive.specs.Puts.{Answer, stop_answer, told}
-use Rattle.dae_cli.specs.Sources.{DueOfFile, due_memory_to_fetch, due_read}
-use Rattle.dae_cli.proofs.Fetched.{due_at, fetched_text, stop_due}
+use Rattle.std.proofs.Common.{rules}
+use Rattle.dae_drive.specs.Puts.{stop_answer}
+use Rattle.dae_cli.proofs.Fetched.{due_at, fetch_due, fetched_text}
 use Rattle.dae_cli.proofs.run.run.Goals as goal
 
 pub returns-in-Ok-clause-gives : goal.returns-in-Ok-clause-gives
@@ -12,9 +11,6 @@ returns-in-Ok-clause-gives g c =
 pub returns-in-Err-clause-gives : goal.returns-in-Err-clause-gives
 returns-in-Err-clause-gives g c = (
   stop_answer c.in-Err.stop,
-  elim c.in-Err.ensures.err [
-    | inl memory ↦ stop_due memory due_memory_to_fetch
-    | inr fault ↦ stop_due fault.0 (due_read fault.1)
-  ],
+  fetch_due c.in-Err.ensures.err,
   c.tell.ensures (g.O.Sink.seen c.args.out.now),
 )
