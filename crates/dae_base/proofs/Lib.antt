@@ -1,1 +1,5 @@
 mod Hex
+mod Options
+mod Lists
+mod Budgets
+pub mod Laws

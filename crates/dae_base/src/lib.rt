@@ -2,8 +2,9 @@
 // that all layers share. Nothing here takes memory but the two small containers, and nothing fails without memory.
 #![tactic(auto)]
 
-ghost use Rattle.std.specs.Prelude.{◌≡◌, ◌<◌, ◌≤◌, ◌^◌};
-ghost use Rattle.dae_base.specs.Budgets.{first_below, last_below};
+ghost use Rattle.std.specs.Prelude.{◌≡◌, ◌↔◌, ◌<◌, ◌≤◌, ◌^◌, [], ◌∷◌, None};
+ghost use Rattle.std.specs.List.{find};
+ghost use Rattle.dae_base.specs.Budgets.{Reaches, first_below, is_below};
 ghost use Rattle.dae_base.specs.Words.{extended, sign_extend, size, width_of};
 
 pub use items::{Items, Text};
@@ -127,8 +128,15 @@ fn sign_extend(bits: u32, low: u32) -> u32
 }
 
 impl Depths {
-    /// The first queue, in the order of the fields, whose depth is below the budget, or None where there is none.
+    /// The first queue, in the order of the fields, whose depth is below the budget, or None exactly where no depth is.
     pub fn first_below(&self, budget: &Depths) -> Option<Queue>
+        ensures first { result ≡ first_below self.now budget.now }
+        ensures none { (result ≡ None) ↔ Reaches self.now budget.now }
+    {
+        self.below(budget)
+    }
+
+    fn below(&self, budget: &Depths) -> Option<Queue>
         ensures { result ≡ first_below self.now budget.now }
     {
         if self.ld < budget.ld {
@@ -145,7 +153,7 @@ impl Depths {
     }
 
     fn last_below(&self, budget: &Depths) -> Option<Queue>
-        ensures { result ≡ last_below self.now budget.now }
+        ensures { result ≡ find (is_below self.now budget.now) (Queue.Ab ∷ Queue.Eb ∷ Queue.Cq ∷ []) }
     {
         if self.ab < budget.ab {
             Some(Queue::Ab)

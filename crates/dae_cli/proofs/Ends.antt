@@ -1,12 +1,11 @@
 -- How a straight program ends, and what is due for it.
-use Rattle.std.proofs.Common.{◌≡◌, ℕ, ◌+◌, ◌<◌, ◌≤◌, Bool, true, false, List, [], ◌∷◌, ◌++◌, length, map, refl, ap, sym, ◌∙◌, subst, arith}
+use Rattle.std.proofs.Common.{◌≡◌, ℕ, ◌+◌, ◌≤◌, List, [], ◌∷◌, ◌++◌, length, map, refl, ap, sym, ◌∙◌, subst, arith}
 use Rattle.std.specs.Prelude.{Some, None}
-use Rattle.std.specs.List.{concat, find}
-use Rattle.std.proofs.lemmas.Bool.{ltb-true}
-use Rattle.dae_base.specs.declared.Queue.{Queue}
+use Rattle.std.specs.List.{concat}
 use Rattle.dae_base.specs.declared.Queue.TheVariants.{Ld, Al, Sa, Sd, Ab, Eb, Cq}
 use Rattle.dae_base.specs.declared.Depths.{Depths}
-use Rattle.dae_base.specs.Budgets.{depth, first_below, is_below}
+use Rattle.dae_base.specs.Budgets.{Reaches}
+use Rattle.dae_base.proofs.Laws.{none_below}
 use Rattle.dae_encode.specs.declared.Halt.TheVariants.{Status}
 use Rattle.dae_image.specs.declared.Image.{Image}
 use Rattle.dae_machine.specs.declared.End.{End}
@@ -22,7 +21,7 @@ use Rattle.dae_tree.specs.declared.Statement.TheVariants.{Assign, PrintLine}
 use Rattle.dae_tree.specs.declared.StraightProgram.{StraightProgram}
 use Rattle.dae_tree.specs.Meaning as c
 use Rattle.dae_straight_compiler.specs.Budget.{assigns, budget_of}
-use Rattle.dae_straight_compiler.specs.Compiled.{EndsSo, IsCompiled, Reaches}
+use Rattle.dae_straight_compiler.specs.Compiled.{EndsSo, IsCompiled}
 use Rattle.dae_drive.specs.declared.driving.Driven.{Driven}
 use Rattle.dae_drive.specs.declared.driving.Driven.TheVariants.{Final, Stuck, Spent, SinkFailed}
 use Rattle.dae_drive.specs.declared.options.TheConstants.{USUAL}
@@ -52,21 +51,6 @@ reaches_budget ss Cq = omega arith
 
 pub reaches : (budget : Depths) (ss : List Statement) → budget ≡ budget_of ss → Reaches USUAL.depths budget
 reaches budget ss e = subst (λ (b : Depths). Reaches USUAL.depths b) (sym e) (reaches_budget ss)
-
--- a queue that is found to be less deep is less deep
-find_tells : {X : Type 0} (f : X → Bool) (xs : List X) (x : X) → find f xs ≡ Some x → f x ≡ true
-find_tells f [] x h = cc
-find_tells {X} f (y ∷ ys) x h = by_test (f y) refl (find_tells f ys x) where
-  by_test : (b : Bool) → f y ≡ b → (find f ys ≡ Some x → f x ≡ true) → f x ≡ true
-  by_test true e later = let same : find f (y ∷ ys) ≡ Some y = rw e refl in let is : y ≡ x = some_is y x (sym same ∙ h) in subst (λ (z : X). f z ≡ true) is e
-  by_test false e later = later (rw e at h)
-
-none_below : (depths budget : Depths) (queue : Queue) → Reaches depths budget → first_below depths budget ≡ Some queue → ⊥
-none_below depths budget queue reaches found =
-    let below = find_tells (is_below depths budget) (Ld ∷ (Al ∷ (Sa ∷ (Sd ∷ (Ab ∷ (Eb ∷ (Cq ∷ []))))))) queue found in
-    let less : depth queue depths < depth queue budget = ltb-true (depth queue depths) (depth queue budget) below in
-    let h = reaches queue in
-    grind arith
 
 too_few : (n m steps : ℕ) → n ≤ m → m ≤ 1000000 → steps ≡ n → steps ≡ 10000000 → ⊥
 too_few n m steps h few e all = omega arith
@@ -119,7 +103,7 @@ module _ (p : StraightProgram) (image : Image) (picks : List Pick) (compiled : I
 
   budget_due : (a : Answer) → DueAfterBudget image USUAL a → DueOfProgram p (answer a.status (Note (budget_line image.budget) ∷ a.puts))
   budget_due a (due_turns none (due_end end how turns rested)) = turns_due end how turns rested
-  budget_due a (due_depth queue found) = absurd (none_below USUAL.depths image.budget queue (reaches image.budget p.statements compiled.budget) found)
+  budget_due a (due_depth queue found) = absurd (let none = (none_below USUAL.depths image.budget).1 (reaches image.budget p.statements compiled.budget) in cc)
   budget_due a (due_memory_for_machine none) = due_memory_to_open run_of
 
   pub image_due : (a : Answer) → DueOfImage image USUAL a → DueOfProgram p a

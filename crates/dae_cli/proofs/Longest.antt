@@ -11,7 +11,7 @@ use Rattle.dae_image.specs.Contents.{Contents, Fits, header, is_name}
 use Rattle.dae_image.specs.Images.{contents}
 use Rattle.dae_image.specs.Ranges.{is_in, name_range}
 use Rattle.dae_image.specs.Spelling.{Spells, body, head_1, head_2, line, name, number, numbers}
-use Rattle.dae_image.proofs.FieldLaws.{IsIn-from_test}
+use Rattle.dae_image.proofs.Laws.{IsIn-from_test}
 use Rattle.dae_drive.specs.declared.options.RunOptions.{RunOptions}
 use Rattle.dae_drive.specs.Puts.{Answer}
 use Rattle.dae_cli.specs.ImageFiles.{DueOfBytes, due_image, due_no_image, due_memory_to_decode, DueOfImageFile, due_bytes}

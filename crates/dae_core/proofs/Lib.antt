@@ -1,2 +1,2 @@
-pub mod QueueLaws
-pub mod Uses
+mod QueueLaws
+pub mod Laws

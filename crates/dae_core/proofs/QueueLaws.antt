@@ -8,8 +8,9 @@ use Rattle.dae_base.specs.declared.LoadKind.{LoadKind}
 use Rattle.dae_base.specs.declared.Depths.{Depths}
 use Rattle.dae_encode.specs.declared.QueueUse.{QueueUse}
 use Rattle.dae_encode.specs.declared.QueueUse.TheVariants.{Nothing, Take, Push, Load, StoreAddress}
-use Rattle.dae_core.specs.Queues.{Queues, belongs, possible, peek, commit}
-use Rattle.dae_queues.proofs.QueueLaws.{first_more, first_value_more, rest_more, rest_slots_more, room_more, some_first_more, some_value_more}
+use Rattle.dae_encode.specs.Uses.{belongs}
+use Rattle.dae_core.specs.Queues.{Queues, possible, peek, commit}
+use Rattle.dae_queues.proofs.LawsOfLists.{first_more, first_value_more, rest_more, rest_slots_more, room_more, some_first_more, some_value_more}
 
 -- the accesses of A
 pub data UseOfA : QueueUse → Type 0 where

@@ -1,11 +1,9 @@
 -- What contracts see of a processor and of the queues.
-use Rattle.std.specs.Prelude.{ℕ, ◌<◌, ◌^◌, Bool, ◌&&◌, ◌||◌, List, Option, option_map, replicate, None}
+use Rattle.std.specs.Prelude.{ℕ, ◌<◌, ◌^◌, Bool, List, Option, option_map, replicate, None}
 use Rattle.dae_base.specs.declared.Side.{Side}
-use Rattle.dae_base.specs.declared.Side.TheVariants.{A, E}
 use Rattle.dae_base.specs.declared.Depths.{Depths}
-use Rattle.dae_encode.specs.declared.QueueUse.{QueueUse}
 use Rattle.dae_encode.specs.Processor.{Processor, After}
-use Rattle.dae_core.specs.Queues.{Queues, belongs, possible}
+use Rattle.dae_core.specs.Queues.{Queues}
 
 -- a processor with its side, and whether the image allows copies
 pub record HeldCore : Type 0 where
@@ -41,7 +39,3 @@ pub record CanCount (q : Queues) : Type 0 where
   pub ld : q.ld.reserved < 2 ^ 40
   pub al : q.al.reserved < 2 ^ 40
   pub stores : q.stores.issued < 2 ^ 40
-
--- the access belongs to one of the two sides, and its queue allows it now
-abbrev pub is_open : Depths → QueueUse → Queues → Bool
-is_open d access q = (belongs A access || belongs E access) && possible d access q

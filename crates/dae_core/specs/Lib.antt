@@ -1,3 +1,3 @@
-pub mod Queues
 pub mod Moves
+pub mod Queues
 pub mod Held

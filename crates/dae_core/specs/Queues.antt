@@ -1,5 +1,5 @@
 -- The seven queues of the machine, and what an instruction does to them.
-use Rattle.std.specs.Prelude.{ℕ, Bool, true, false, ◌&&◌, nat_lt, List, [], ◌∷◌, ◌++◌, length, Option, None, is_some, unwrap_or}
+use Rattle.std.specs.Prelude.{ℕ, Bool, true, ◌&&◌, ◌||◌, nat_lt, List, [], ◌∷◌, ◌++◌, length, Option, None, is_some}
 use Rattle.dae_base.specs.declared.Side.{Side}
 use Rattle.dae_base.specs.declared.Side.TheVariants.{A, E}
 use Rattle.dae_base.specs.declared.Queue.{Queue}
@@ -9,8 +9,10 @@ use Rattle.dae_base.specs.declared.Depths.{Depths}
 use Rattle.dae_base.specs.Budgets.{depth}
 use Rattle.dae_encode.specs.declared.QueueUse.{QueueUse}
 use Rattle.dae_encode.specs.declared.QueueUse.TheVariants.{Nothing, Take, Push, Load, StoreAddress}
+use Rattle.dae_encode.specs.Uses.{belongs}
 use Rattle.dae_queues.specs.declared.Slot.{Slot}
 use Rattle.dae_queues.specs.Lists.{Slots, Stores, no_slots, no_stores, first, first_value, rest, without_front, with_datum, with_address, with_slot}
+use Rattle.dae_core.specs.Moves.{given_by}
 
 pub record Queues : Type 0 where
   pub ld : Slots
@@ -92,23 +94,6 @@ with_loads_of E ss q = record q { ld = record q.ld { slots = ss } }
 
 -- ---- what an instruction does to the queues
 
--- the accesses that each side has
-abbrev pub belongs : Side → QueueUse → Bool
-belongs side Nothing = true
-belongs A (Load Ld kind) = true
-belongs A (Load Al kind) = true
-belongs A (Take Al) = true
-belongs A (StoreAddress width) = true
-belongs A (Push Ab) = true
-belongs A (Push Cq) = true
-belongs A (Take Eb) = true
-belongs E (Take Ld) = true
-belongs E (Push Sd) = true
-belongs E (Take Ab) = true
-belongs E (Take Cq) = true
-belongs E (Push Eb) = true
-belongs side use' = false
-
 -- whether the queue has what the access takes, or room for what it puts in
 abbrev pub possible : Depths → QueueUse → Queues → Bool
 possible d Nothing q = true
@@ -117,17 +102,13 @@ possible d (Push k) q = nat_lt (count k q) (depth k d)
 possible d (Load k kind) q = nat_lt (count k q) (depth k d)
 possible d (StoreAddress width) q = nat_lt (count Sa q) (depth Sa d)
 
--- whether the side can make this access now
-abbrev pub ready : Depths → Side → QueueUse → Queues → Bool
-ready d side use' q = belongs side use' && possible d use' q
+-- the access is one of A's or of E's, and its queue allows it now
+abbrev pub ready : Depths → QueueUse → Queues → Bool
+ready d use' q = (belongs A use' || belongs E use') && possible d use' q
 
 -- the word that the access gives
 abbrev pub peek : QueueUse → Queues → ℕ
-peek (Take k) q = unwrap_or (front k q) 0
-peek Nothing q = 0
-peek (Push k) q = 0
-peek (Load k kind) q = 0
-peek (StoreAddress width) q = 0
+peek use' q = given_by (λ q k. front k q) q use'
 
 -- the queues after the access, with the word that goes in: a datum or an address
 abbrev pub commit : QueueUse → ℕ → Queues → Queues

@@ -1,7 +1,7 @@
 ghost use Rattle.std.specs.Prelude.{◌≡◌, ℕ, ◌<◌, ◌^◌, Bool, true, length, slice_index, Option, None, is_some, IfOk, Some, [], if◌then◌else◌};
 ghost use Rattle.dae_base.specs.Words.{plus, stored, loaded, width_of};
 ghost use Rattle.dae_encode.specs.Instructions.{form};
-ghost use Rattle.dae_encode.specs.Processor.{operand, address, is_good_private, is_shared, goes_on, bad_address, early_fault, put_word, decoded, with_result, called, finish, halts, prints, request};
+ghost use Rattle.dae_encode.specs.Processor.{held, operand, address, is_good_private, is_shared, goes_on, bad_address, early_fault, put_word, decoded, with_result, called, finish, halts, prints, request};
 ghost use Rattle.dae_core.specs.Held.{HeldCore, came_to, fresh};
 ghost use Rattle.dae_core.specs.Moves.{answered_by, granted_by, unprinted, Tells};
 
@@ -58,12 +58,15 @@ impl Core {
         })
     }
 
-    /// What a register holds.
+    /// What a register holds. Register 0 is 0.
     pub fn register(&self, number: u8) -> u32
         requires { number < 32 }
-        ensures { result ≡ slice_index self.now.processor.registers number }
+        ensures { result ≡ held self.now.processor number }
     {
-        self.registers[number as usize]
+        match number {
+            0 => 0,
+            _ => self.registers[number as usize],
+        }
     }
 
     /// The byte address of the next instruction.
@@ -84,7 +87,7 @@ impl Core {
         ensures { result ≡ operand self.now.processor given register }
     {
         if register < 28 {
-            self.registers[register as usize]
+            self.register(register)
         } else {
             given
         }

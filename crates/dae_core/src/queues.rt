@@ -1,7 +1,7 @@
 ghost use Rattle.std.specs.Prelude.{◌≡◌, IsSome, true, nat_lt, IfOk, filter, length, slice_get};
 ghost use Rattle.dae_base.specs.Budgets.{depth};
-ghost use Rattle.dae_core.specs.Held.{CanCount, CanHold, HeldQueues, is_open};
-ghost use Rattle.dae_core.specs.Queues.{Queues, commit, count, empty_queues, front, loads_of, pushed_to, reserved_in, taken_from, with_loads_of, words_of};
+ghost use Rattle.dae_core.specs.Held.{CanCount, CanHold, HeldQueues};
+ghost use Rattle.dae_core.specs.Queues.{Queues, commit, count, empty_queues, front, loads_of, pushed_to, ready, reserved_in, taken_from, with_loads_of, words_of};
 ghost use Rattle.dae_queues.specs.Lists.{can_be_filled, draining_of, filling_of, next_store, with_address, with_value, without_store};
 
 use crate::Ports;
@@ -46,7 +46,7 @@ impl Queues {
     }
 
     fn is_open(&self, access: QueueUse) -> bool
-        ensures { result ≡ is_open self.now.depths access self.now.queues }
+        ensures { result ≡ ready self.now.depths access self.now.queues }
     {
         match access {
             QueueUse::Nothing => true,
@@ -139,7 +139,7 @@ impl Queues {
 /// A's accesses are loads into ld and al, takes from al and eb, store addresses, and pushes to ab and cq. E's are takes
 /// from ld, ab and cq, and pushes to sd and eb. No other access is ever ready.
 impl Ports for Queues {
-    ghost is_ready = { λ q access. is_open q.depths access q.queues };
+    ghost is_ready = { λ q access. ready q.depths access q.queues };
 
     ghost front = { λ q queue. front queue q.queues };
 

@@ -1,7 +1,6 @@
 //! What the environment call prints, and how a processor halts, waits and faults.
 
-ghost use Rattle.dae_core.specs.Held.{is_open};
-ghost use Rattle.dae_core.specs.Queues.{empty_queues};
+ghost use Rattle.dae_core.specs.Queues.{empty_queues, ready};
 ghost use Rattle.std.specs.Prelude.{None};
 
 use super::*;
@@ -14,7 +13,7 @@ use std::test::*;
 struct NoQueues;
 
 impl Ports for NoQueues {
-    ghost is_ready = { λ q access. is_open (record { ld = 0; al = 0; sa = 0; sd = 0; ab = 0; eb = 0; cq = 0 }) access empty_queues };
+    ghost is_ready = { λ q access. ready (record { ld = 0; al = 0; sa = 0; sd = 0; ab = 0; eb = 0; cq = 0 }) access empty_queues };
 
     ghost front = { λ q queue. None };
 

@@ -5,6 +5,7 @@ use Rattle.std.proofs.lemmas.List.{map-append}
 use Rattle.dae_io.specs.Sinks.{SinkState}
 use Rattle.dae_base.specs.declared.Queue.{Queue}
 use Rattle.dae_base.specs.Budgets.{first_below}
+use Rattle.dae_base.proofs.Laws.{none_below}
 use Rattle.dae_image.specs.declared.Image.{Image}
 use Rattle.dae_machine.specs.declared.Pick.{Pick}
 use Rattle.dae_machine.specs.Machine.{Setup, State, IsCounted}
@@ -90,5 +91,5 @@ module _ (setup : Setup) (s now : State) (o : RunOptions) (words words_now : Sta
 pub some_due : (image : Image) (o : RunOptions) → (due : Answer) × DueAfterBudget image o due
 some_due image o = by_queue (first_below o.depths image.budget) refl where
   by_queue : (q : Option Queue) → first_below o.depths image.budget ≡ q → (due : Answer) × DueAfterBudget image o due
-  by_queue None e = (_, due_memory_for_machine e)
+  by_queue None e = (_, due_memory_for_machine ((none_below o.depths image.budget).0 e))
   by_queue (Some queue) e = (_, due_depth queue e)

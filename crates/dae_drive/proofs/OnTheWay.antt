@@ -6,7 +6,7 @@ use Rattle.dae_io.specs.Sinks.{SinkState, IsPutFailed}
 use Rattle.dae_base.specs.declared.Side.TheVariants.{A, E}
 use Rattle.dae_machine.specs.declared.Pick.{Pick}
 use Rattle.dae_machine.specs.declared.Pick.TheVariants.{A as MoveA, E as MoveE, Fill, Drain}
-use Rattle.dae_queues.proofs.MemoryLaws.{and_then_some, map_some_is}
+use Rattle.dae_base.proofs.Laws.{and_then_some, map_some_is}
 use Rattle.dae_machine.specs.Memory.{fill, drain}
 use Rattle.dae_machine.specs.Machine.{Setup, State, move, moved_a, moved_e, filled, drained, step, IsQuiet}
 use Rattle.dae_machine.specs.Printing.{behind}
@@ -17,7 +17,7 @@ use Rattle.dae_machine.specs.Machine.{IsFinal, IsStuck}
 use Rattle.dae_machine.specs.Rests.{TurnedTo}
 use Rattle.dae_machine.specs.declared.End.{End}
 use Rattle.dae_machine.specs.declared.Turn.TheVariants as turn
-use Rattle.dae_machine.proofs.Printing.{final_behind, pick_behind, quiet_behind, step_behind, stuck_behind}
+use Rattle.dae_machine.proofs.LawsOfRuns.{final_behind, pick_behind, quiet_behind, step_behind, stuck_behind}
 use Rattle.dae_drive.specs.declared.driving.Driven.{Driven}
 use Rattle.dae_drive.specs.declared.driving.Driven.TheVariants.{Final, Stuck, Spent, SinkFailed}
 use Rattle.dae_drive.specs.Turns.{AreOut, DrivesOn, Drives, Rested, StandsLater, StopsAt, Turns, puts_of_turns, words_taken}

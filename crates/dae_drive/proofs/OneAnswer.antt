@@ -2,7 +2,8 @@
 use Rattle.std.proofs.Common.{◌≡◌, ℕ, List, [], ◌∷◌, ◌++◌, refl, ap, sym, ◌∙◌, subst, arith}
 use Rattle.std.specs.Prelude.{◌≢◌, Option, Some, None}
 use Rattle.dae_base.specs.declared.Queue.{Queue}
-use Rattle.dae_base.specs.Budgets.{depth, first_below}
+use Rattle.dae_base.specs.Budgets.{depth}
+use Rattle.dae_base.proofs.Laws.{none_below}
 use Rattle.dae_image.specs.declared.Image.{Image}
 use Rattle.dae_machine.specs.declared.End.{End}
 use Rattle.dae_machine.specs.Machine.{Setup, State}
@@ -49,9 +50,9 @@ one_run {setup} {start} {o} a b (due_end end how turns rested) (due_end end' how
 
 one_after_budget : {image : Image} {o : RunOptions} (a b : Answer) → DueAfterBudget image o a → DueAfterBudget image o b → a.status ≢ 7 → b.status ≢ 7 → a ≡ b
 one_after_budget a b (due_turns none d) (due_turns none' d') n n' = one_run a b d d'
-one_after_budget a b (due_turns none d) (due_depth q found) n n' = absurd (none_or_some none found)
+one_after_budget {image} {o} a b (due_turns none d) (due_depth q found) n n' = absurd (none_or_some ((none_below o.depths image.budget).1 none) found)
 one_after_budget a b (due_turns none d) (due_memory_for_machine none') n n' = absurd (n' refl)
-one_after_budget a b (due_depth q found) (due_turns none d) n n' = absurd (none_or_some none found)
+one_after_budget {image} {o} a b (due_depth q found) (due_turns none d) n n' = absurd (none_or_some ((none_below o.depths image.budget).1 none) found)
 one_after_budget {image} {o} a b (due_depth q found) (due_depth q' found') n n' = ap (λ (queue : Queue). told 4 (depth_line queue (depth queue image.budget) (depth queue o.depths))) (some_same found found')
 one_after_budget a b (due_depth q found) (due_memory_for_machine none') n n' = absurd (n' refl)
 one_after_budget a b (due_memory_for_machine none) d n n' = absurd (n refl)

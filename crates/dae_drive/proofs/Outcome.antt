@@ -4,7 +4,7 @@ use Rattle.std.specs.Prelude.{Option, Some, None, is_some}
 use Rattle.dae_encode.specs.declared.Halt.{Halt}
 use Rattle.dae_encode.specs.declared.Halt.TheVariants.{Plain, Status, Trap}
 use Rattle.dae_queues.specs.declared.StoreAt.{StoreAt}
-use Rattle.dae_queues.proofs.MemoryLaws.{and_then_some}
+use Rattle.dae_base.proofs.Laws.{and_then_some}
 use Rattle.dae_machine.specs.declared.Pick.{Pick}
 use Rattle.dae_machine.specs.declared.End.TheVariants.{Ended, Trapped}
 use Rattle.dae_machine.specs.Held.{is_plain}
@@ -12,10 +12,10 @@ use Rattle.dae_machine.specs.Machine.{Setup, State, step, Runs, IsCounted, IsFin
 use Rattle.dae_machine.specs.Runs.{run_by}
 use Rattle.dae_machine.specs.Schedules.{scheduled, turned}
 use Rattle.dae_machine.specs.Turns.{pick_of}
-use Rattle.dae_machine.proofs.Diamond.{counted_step}
-use Rattle.dae_machine.proofs.Kept.{unplain_after}
-use Rattle.dae_machine.proofs.Scheduled.{is_turned}
-use Rattle.dae_machine.proofs.Turns.{picked_goes, quiet_where_none}
+use Rattle.dae_machine.proofs.LawsOfRuns.{counted_step}
+use Rattle.dae_machine.proofs.LawsOfRuns.{unplain_after}
+use Rattle.dae_machine.proofs.LawsOfRuns.{is_turned}
+use Rattle.dae_machine.proofs.LawsOfRuns.{picked_goes, quiet_where_none}
 use Rattle.dae_drive.specs.declared.driving.Driven.{Driven}
 use Rattle.dae_drive.specs.declared.driving.Driven.TheVariants.{Final, Stuck, Spent}
 use Rattle.dae_drive.specs.Turns.{Rested, Turns}

@@ -1,7 +1,7 @@
 -- What is due for an image that is opened and run, and for the bytes of an image's file.
 use Rattle.std.specs.Prelude.{◌≡◌, ℕ, ◌∷◌, ◌++◌, Some, None}
 use Rattle.dae_base.specs.declared.Queue.{Queue}
-use Rattle.dae_base.specs.Budgets.{depth, first_below}
+use Rattle.dae_base.specs.Budgets.{depth, first_below, Reaches}
 use Rattle.dae_image.specs.declared.Image.{Image}
 use Rattle.dae_machine.specs.Machine.{Setup, State}
 use Rattle.dae_machine.specs.Opened.{opened, setup_of}
@@ -32,9 +32,9 @@ pub data DueOfRun (setup : Setup) (start : State) (o : RunOptions) : Answer → 
 -- what is due after the line with an image's budget: no depth is below the budget, and its machine runs; or one is, the
 -- first of which is told; or memory was wanting, before the machine was opened
 pub data DueAfterBudget (image : Image) (o : RunOptions) : Answer → Type 0 where
-  due_turns : {a : Answer} → first_below o.depths image.budget ≡ None → DueOfRun (setup_of image o.depths) (opened image) o a → DueAfterBudget image o a
+  due_turns : {a : Answer} → Reaches o.depths image.budget → DueOfRun (setup_of image o.depths) (opened image) o a → DueAfterBudget image o a
   due_depth : (queue : Queue) → first_below o.depths image.budget ≡ Some queue → DueAfterBudget image o (told 4 (depth_line queue (depth queue image.budget) (depth queue o.depths)))
-  due_memory_for_machine : first_below o.depths image.budget ≡ None → DueAfterBudget image o (told 7 memory_line)
+  due_memory_for_machine : Reaches o.depths image.budget → DueAfterBudget image o (told 7 memory_line)
 
 -- what is due for an image: the line with its budget comes first; or memory was wanting before
 pub data DueOfImage (image : Image) (o : RunOptions) : Answer → Type 0 where

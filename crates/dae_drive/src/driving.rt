@@ -25,7 +25,6 @@ pub enum Driven {
 pub fn drive<O: Sink>(machine: &mut Machine, words: &mut Words, steps: u64, out: &mut O) -> Driven
     requires many { steps ≤ 1000000000000 }
     requires begun { machine.old.state.steps ≤ steps }
-    requires silent { machine.old.state.printed ≡ [] }
     ensures setup { machine.new.setup ≡ machine.old.setup }
     ensures drives { Drives result steps machine.old.setup machine.old.state machine.new.state
         words.old words.new (O.seen out.old) (O.seen out.new) }

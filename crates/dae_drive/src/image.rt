@@ -88,7 +88,6 @@ fn run_opened<O: Sink, N: Sink>(
     requires few { options.now.steps ≤ 1000000000000 }
     requires shown { IfSome options.now.show (λ shown. shown.count ≤ 64) }
     requires begun { machine.state.steps ≡ 0 }
-    requires silent { machine.state.printed ≡ [] }
     requires counted { IsCounted machine.state }
     requires unhalted { machine.state.e.halt ≡ None }
     ensures { GivesDue (DueOfRun machine.setup machine.state options.now) result

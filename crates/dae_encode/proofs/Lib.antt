@@ -1,4 +1,6 @@
-pub mod Fields
-pub mod Spelled
-pub mod Words
-pub mod Legal
+mod Fields
+mod Spelled
+mod Words
+mod Legal
+mod Own
+pub mod Laws

@@ -29,9 +29,13 @@ pub record Processor : Type 0 where
 abbrev pub After : Type 0
 After = Processor × List ℕ
 
+-- what a register holds: x0 is 0 (RISC-V unprivileged manual, "Programmers' Model for Base Integer ISA")
+abbrev pub held : Processor → ℕ → ℕ
+held p r = if r == 0 then 0 else slice_index p.registers r
+
 -- what a source reads, where w is the word that the access gives: registers from 28 on stand for queues
 abbrev pub operand : Processor → ℕ → ℕ → ℕ
-operand p w r = if nat_lt r 28 then slice_index p.registers r else w
+operand p w r = if nat_lt r 28 then held p r else w
 
 abbrev pub address : Processor → ℕ → ℕ → ℕ → ℕ
 address p w base offset = plus (operand p w base) offset

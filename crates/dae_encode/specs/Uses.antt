@@ -1,6 +1,8 @@
--- The one queue access of an instruction (J. E. Smith, "Decoupled Access/Execute Computer Architectures": registers that
--- stand for the ends of queues).
-use Rattle.std.specs.Prelude.{ℕ, Bool, nat_lt, ◌==◌, if◌then◌else◌, Option, Some, None}
+-- The accesses that the fields of an instruction ask for, and its one access. On the decoupled machine the registers from
+-- x28 on stand for the ends of queues: an instruction is legal where at most one of its fields has such a register, and it
+-- may stand there.
+use Rattle.std.specs.Prelude.{ℕ, ◌-◌, Bool, true, false, nat_le, nat_lt, if◌then◌else◌, List, [], ◌∷◌, map, Option, Some, None}
+use Rattle.std.specs.List.{filter}
 use Rattle.dae_base.specs.declared.Side.{Side}
 use Rattle.dae_base.specs.declared.Side.TheVariants.{A, E}
 use Rattle.dae_base.specs.declared.Queue.TheVariants.{Ld, Al, Sd, Ab, Eb, Cq}
@@ -10,51 +12,80 @@ use Rattle.dae_encode.specs.declared.QueueUse.{QueueUse}
 use Rattle.dae_encode.specs.declared.QueueUse.TheVariants.{Nothing, Take, Push, Load, StoreAddress}
 use Rattle.dae_encode.specs.declared.Form.{Form}
 use Rattle.dae_encode.specs.declared.Form.TheVariants.{Computes, Loads, Stores, Calls}
+use Rattle.dae_encode.specs.Instructions.{row}
 
--- the access of one field: None where the register may not stand there, and Nothing where it is a plain one. Registers
--- from 28 on stand for queues, and x28 does so only where copies are allowed
-abbrev pub as_source : Bool → Side → ℕ → Option QueueUse
-as_source copies A r =
-    if nat_lt r 28 then Some Nothing
-    else (if r == 29 then Some (Take Eb)
-    else (if r == 31 then Some (Take Al) else None))
-as_source copies E r =
-    if nat_lt r 28 then Some Nothing
-    else (if r == 28 then (if copies then Some (Take Cq) else None)
-    else (if r == 29 then Some (Take Ab)
-    else (if r == 30 then Some (Take Ld) else None)))
+-- a register in a field of an instruction
+pub data RegisterField : Type 0 where
+  Target : (register : ℕ) → RegisterField
+  LoadTarget : (kind : LoadKind) (register : ℕ) → RegisterField
+  Source : (register : ℕ) → RegisterField
+  Stored : (width : Width) (register : ℕ) → RegisterField
 
-abbrev pub as_target : Bool → Side → ℕ → Option QueueUse
-as_target copies A r =
-    if nat_lt r 28 then Some Nothing
-    else (if r == 28 then (if copies then Some (Push Cq) else None)
-    else (if r == 29 then Some (Push Ab) else None))
-as_target copies E r =
-    if nat_lt r 28 then Some Nothing
-    else (if r == 29 then Some (Push Eb)
-    else (if r == 30 then Some (Push Sd) else None))
+abbrev pub register : RegisterField → ℕ
+register (Target r) = r
+register (LoadTarget kind r) = r
+register (Source r) = r
+register (Stored width r) = r
 
--- the target of a load, and what a store stores
-abbrev pub as_loaded : Bool → Side → LoadKind → ℕ → Option QueueUse
-as_loaded copies A kind r =
-    if r == 30 then Some (Load Ld kind)
-    else (if r == 31 then Some (Load Al kind) else as_target copies A r)
-as_loaded copies E kind r = as_target copies E r
+abbrev pub register_fields : Form → List RegisterField
+register_fields (Computes rd first second) = Target rd ∷ (Source first ∷ (Source second ∷ []))
+register_fields (Loads kind rd base offset) = LoadTarget kind rd ∷ (Source base ∷ [])
+register_fields (Stores width base source offset) = Source base ∷ (Stored width source ∷ [])
+register_fields Calls = []
 
-abbrev pub as_stored : Bool → Side → Width → ℕ → Option QueueUse
-as_stored copies A width r = if r == 30 then Some (StoreAddress width) else as_source copies A r
-as_stored copies E width r = as_source copies E r
+abbrev pub where_copies : Bool → QueueUse → Option QueueUse
+where_copies copies use' = if copies then Some use' else None
 
--- two fields make at most one access
+-- what x28, x29, x30 and x31 ask for in a field: None where that register may not stand there
+abbrev pub accesses_of : Bool → Side → RegisterField → List (Option QueueUse)
+accesses_of copies A (Target r) = where_copies copies (Push Cq) ∷ (Some (Push Ab) ∷ (None ∷ (None ∷ [])))
+accesses_of copies A (LoadTarget kind r) = where_copies copies (Push Cq) ∷ (Some (Push Ab) ∷ (Some (Load Ld kind) ∷ (Some (Load Al kind) ∷ [])))
+accesses_of copies A (Source r) = None ∷ (Some (Take Eb) ∷ (None ∷ (Some (Take Al) ∷ [])))
+accesses_of copies A (Stored width r) = None ∷ (Some (Take Eb) ∷ (Some (StoreAddress width) ∷ (Some (Take Al) ∷ [])))
+accesses_of copies E (Target r) = None ∷ (Some (Push Eb) ∷ (Some (Push Sd) ∷ (None ∷ [])))
+accesses_of copies E (LoadTarget kind r) = None ∷ (Some (Push Eb) ∷ (Some (Push Sd) ∷ (None ∷ [])))
+accesses_of copies E (Source r) = where_copies copies (Take Cq) ∷ (Some (Take Ab) ∷ (Some (Take Ld) ∷ (None ∷ [])))
+accesses_of copies E (Stored width r) = where_copies copies (Take Cq) ∷ (Some (Take Ab) ∷ (Some (Take Ld) ∷ (None ∷ [])))
+
+abbrev pub access : Bool → Side → RegisterField → Option QueueUse
+access copies side f = row (accesses_of copies side f) (register f - 28)
+
+-- what the queue registers of an instruction ask for, in the order of its fields
+abbrev pub accesses : Bool → Side → Form → List (Option QueueUse)
+accesses copies side form = map (access copies side) (filter (λ f. nat_le 28 (register f)) (register_fields form))
+
+-- the one access of these, or None where there are two or one is forbidden
+abbrev pub sole : List (Option QueueUse) → Option QueueUse
+sole [] = Some Nothing
+sole (o ∷ []) = o
+sole (o ∷ (p ∷ rest)) = None
+
+-- the one queue access of an instruction, or None where it is illegal
+unfoldable pub queue_use : Bool → Side → Form → Option QueueUse
+queue_use copies side form = sole (accesses copies side form)
+
+-- the access of one field, where a plain register makes none; and two fields make at most one
+abbrev pub field_use : Bool → Side → RegisterField → Option QueueUse
+field_use copies side f = if nat_lt (register f) 28 then Some Nothing else access copies side f
+
 abbrev pub joined : Option QueueUse → Option QueueUse → Option QueueUse
 joined (Some Nothing) y = y
 joined x (Some Nothing) = x
 joined x y = None
 
--- the access of an instruction, or None where it is illegal
-unfoldable pub queue_use : Bool → Side → Form → Option QueueUse
-queue_use copies side (Computes rd first second) =
-    joined (as_target copies side rd) (joined (as_source copies side first) (as_source copies side second))
-queue_use copies side (Loads kind rd base offset) = joined (as_loaded copies side kind rd) (as_source copies side base)
-queue_use copies side (Stores width base source offset) = joined (as_source copies side base) (as_stored copies side width source)
-queue_use copies side Calls = Some Nothing
+-- the accesses that each side has
+abbrev pub belongs : Side → QueueUse → Bool
+belongs side Nothing = true
+belongs A (Load Ld kind) = true
+belongs A (Load Al kind) = true
+belongs A (Take Al) = true
+belongs A (StoreAddress width) = true
+belongs A (Push Ab) = true
+belongs A (Push Cq) = true
+belongs A (Take Eb) = true
+belongs E (Take Ld) = true
+belongs E (Push Sd) = true
+belongs E (Take Ab) = true
+belongs E (Take Cq) = true
+belongs E (Push Eb) = true
+belongs side use' = false

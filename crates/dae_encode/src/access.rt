@@ -1,15 +1,15 @@
-ghost use Rattle.std.specs.Prelude.{◌≡◌, ℕ, Bool, Option};
+ghost use Rattle.std.specs.Prelude.{◌≡◌, true, IfSome};
 ghost use Rattle.dae_base.specs.Words.{size};
 ghost use Rattle.dae_encode.specs.Instructions.{form};
-ghost use Rattle.dae_encode.specs.Uses.{as_source, as_target, as_loaded, as_stored, joined, queue_use};
-ghost use Rattle.dae_encode.specs.Legality.{accesses, sole};
+ghost use Rattle.dae_encode.specs.Uses.{LoadTarget, Source, Stored, Target, belongs, field_use, joined, queue_use};
 ghost use Rattle.dae_encode.specs.Processor.{is_shared, is_within, bad_call};
 
 use crate::{Fault, Form, Inst, QueueUse, form_of};
 use dae_base::{LoadKind, Queue, Side, Width};
 
+#[tactic(auto, using(crate::proofs::Legal::source_is))]
 fn source_use(copies: bool, side: Side, register: u8) -> Option<QueueUse>
-    ensures { result ≡ as_source copies side register }
+    ensures { result ≡ field_use copies side (Source register) }
 {
     if register < 28 {
         return Some(QueueUse::Nothing);
@@ -24,8 +24,9 @@ fn source_use(copies: bool, side: Side, register: u8) -> Option<QueueUse>
     }
 }
 
+#[tactic(auto, using(crate::proofs::Legal::target_is))]
 fn target_use(copies: bool, side: Side, register: u8) -> Option<QueueUse>
-    ensures { result ≡ as_target copies side register }
+    ensures { result ≡ field_use copies side (Target register) }
 {
     if register < 28 {
         return Some(QueueUse::Nothing);
@@ -39,8 +40,9 @@ fn target_use(copies: bool, side: Side, register: u8) -> Option<QueueUse>
     }
 }
 
+#[tactic(auto, using(crate::proofs::Legal::loaded_is))]
 fn loaded_use(copies: bool, side: Side, kind: LoadKind, register: u8) -> Option<QueueUse>
-    ensures { result ≡ as_loaded copies side kind register }
+    ensures { result ≡ field_use copies side (LoadTarget kind register) }
 {
     match (side, register) {
         (Side::A, 30) => Some(QueueUse::Load(Queue::Ld, kind)),
@@ -49,8 +51,9 @@ fn loaded_use(copies: bool, side: Side, kind: LoadKind, register: u8) -> Option<
     }
 }
 
+#[tactic(auto, using(crate::proofs::Legal::stored_is))]
 fn stored_use(copies: bool, side: Side, width: Width, register: u8) -> Option<QueueUse>
-    ensures { result ≡ as_stored copies side width register }
+    ensures { result ≡ field_use copies side (Stored width register) }
 {
     match (side, register) {
         (Side::A, 30) => Some(QueueUse::StoreAddress(width)),
@@ -70,15 +73,16 @@ fn join(x: Option<QueueUse>, y: Option<QueueUse>) -> Option<QueueUse>
 
 /// The one queue access of an instruction on this side, or None where it is illegal there: where two of its fields make
 /// an access, or a field has a register that may not stand there. Where copies are not allowed, x28 may stand nowhere.
-#[tactic(auto, using(crate::proofs::Legal::queue_use_sole))]
+/// The access is one of this side's.
+#[tactic(auto, using(crate::proofs::Legal::own_use))]
 pub fn queue_use(side: Side, inst: &Inst, copies: bool) -> Option<QueueUse>
     ensures told { result ≡ queue_use copies side (form inst.now) }
-    ensures sole { result ≡ sole (accesses copies side (form inst.now)) }
+    ensures own { IfSome result (λ access. belongs side access ≡ true) }
 {
     use_of(side, form_of(inst), copies)
 }
 
-#[tactic(auto, unfolding(crate::specs::Uses::queue_use))]
+#[tactic(auto, using(crate::proofs::Legal::use_computes, crate::proofs::Legal::use_loads, crate::proofs::Legal::use_stores, crate::proofs::Legal::use_calls))]
 fn use_of(side: Side, form: Form, copies: bool) -> Option<QueueUse>
     ensures { result ≡ queue_use copies side form }
 {

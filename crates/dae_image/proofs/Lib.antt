@@ -1,8 +1,9 @@
-pub mod Loops
-pub mod FieldLaws
-pub mod HeaderLaws
-pub mod BodyLaws
-pub mod ImageLaws
-pub mod ReadLaws
-pub mod FaultLaws
-pub mod MakeLaws
+mod Loops
+mod FieldLaws
+mod HeaderLaws
+mod BodyLaws
+mod ImageLaws
+mod ReadLaws
+mod FaultLaws
+mod MakeLaws
+pub mod Laws

@@ -4,7 +4,9 @@ use Rattle.dae_image.specs.declared.Image.{Image}
 use Rattle.dae_image.specs.declared.fault.ImageError.{ImageError}
 use Rattle.dae_image.specs.declared.fault.ImageError.TheVariants.{Memory}
 use Rattle.dae_image.specs.Contents.{Contents}
+use Rattle.dae_image.specs.declared.header.Header.{Header}
 use Rattle.dae_image.specs.Spelling.{Spells}
+use Rattle.dae_image.specs.Reading.{header_at}
 
 abbrev pub contents : Image → Contents
 contents i = record {
@@ -30,3 +32,7 @@ IsOrMemory image (Err e) = e ≡ Memory
 -- an image ends after the first n bytes, and others follow
 abbrev pub IsSpelledBefore : ℕ → List ℕ → Type 0
 IsSpelledBefore n bytes = (n < length bytes) × ((image : Image) × Spells (take n bytes) (contents image))
+
+-- the bytes begin with the numbers of an image's head, all in their ranges
+abbrev pub HasHeader : List ℕ → Type 0
+HasHeader bytes = (head : Header × List ℕ) × (header_at (length bytes) bytes ≡ Ok head)

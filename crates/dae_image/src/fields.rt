@@ -1,6 +1,6 @@
 //! Numbers of an image.
 
-ghost use Rattle.std.specs.Prelude.{◌≡◌, ◌-◌, ◌<◌, length, IfOk};
+ghost use Rattle.std.specs.Prelude.{◌≡◌, ◌≢◌, ◌-◌, ◌<◌, length, IfOk, IfErr};
 ghost use Rattle.dae_image.specs.Ranges.{IsIn, is_in};
 ghost use Rattle.dae_image.specs.Reading.{Gives, number_at, field_at};
 
@@ -31,7 +31,8 @@ pub fn offset_of(whole: u32, rest: &[u8]) -> u32
 }
 
 pub fn number(whole: u32, bytes: &[u8]) -> Result<(u32, &[u8]), ImageError>
-    ensures { Gives (λ x. (x.0, x.1.now)) result (number_at whole bytes.now) }
+    ensures gives { Gives (λ x. (x.0, x.1.now)) result (number_at whole bytes.now) }
+    ensures memory { IfErr result (λ e. e ≢ ImageError.Memory) }
 {
     if bytes.len() < 4 {
         return Err(ImageError::Short(whole));
@@ -51,6 +52,7 @@ pub fn field(
     requires { 0 < range.step }
     ensures gives { Gives (λ x. (x.0, x.1.now)) result (field_at whole field range bytes.now) }
     ensures in_range { IfOk result (λ x. IsIn range x.0) }
+    ensures memory { IfErr result (λ e. e ≢ ImageError.Memory) }
 {
     let (number, rest) = number(whole, bytes)?;
     if !range.contains(number) {

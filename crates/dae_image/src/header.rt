@@ -1,6 +1,6 @@
 //! The numbers at the head of an image.
 
-ghost use Rattle.std.specs.Prelude.{◌≡◌, ◌≤◌, IfOk};
+ghost use Rattle.std.specs.Prelude.{◌≡◌, ◌≢◌, ◌≤◌, IfErr, IfOk};
 ghost use Rattle.dae_image.specs.declared.fault.Field.TheVariants.{Calls, DataLength};
 ghost use Rattle.dae_image.specs.Ranges.{depth_range, calls_range, words_range, content_range};
 ghost use Rattle.dae_image.specs.Reading.{Gives, field_at, version_at, copies_at, budget_at, header_at};
@@ -85,14 +85,16 @@ const NAME_COUNT: Range = Range {
 
 #[tactic(auto, unfolding(crate::specs::Reading::version_at))]
 pub fn version(whole: u32, bytes: &[u8]) -> Result<(u32, &[u8]), ImageError>
-    ensures { Gives (λ x. (x.0, x.1.now)) result (version_at whole bytes.now) }
+    ensures gives { Gives (λ x. (x.0, x.1.now)) result (version_at whole bytes.now) }
+    ensures memory { IfErr result (λ e. e ≢ ImageError.Memory) }
 {
     let (_, rest) = field(whole, Field::Magic, LETTERS, bytes)?;
     field(whole, Field::Version, VERSION, rest)
 }
 
 fn depth(whole: u32, name: Field, bytes: &[u8]) -> Result<(u16, &[u8]), ImageError>
-    ensures { Gives (λ x. (x.0, x.1.now)) result (field_at whole name depth_range bytes.now) }
+    ensures gives { Gives (λ x. (x.0, x.1.now)) result (field_at whole name depth_range bytes.now) }
+    ensures memory { IfErr result (λ e. e ≢ ImageError.Memory) }
 {
     let (number, rest) = field(whole, name, DEPTH, bytes)?;
     Ok((number as u16, rest))
@@ -100,7 +102,8 @@ fn depth(whole: u32, name: Field, bytes: &[u8]) -> Result<(u16, &[u8]), ImageErr
 
 #[tactic(auto, unfolding(crate::specs::Reading::copies_at))]
 fn copies(whole: u32, version: u32, bytes: &[u8]) -> Result<(u16, &[u8]), ImageError>
-    ensures { Gives (λ x. (x.0, x.1.now)) result (copies_at whole version bytes.now) }
+    ensures gives { Gives (λ x. (x.0, x.1.now)) result (copies_at whole version bytes.now) }
+    ensures memory { IfErr result (λ e. e ≢ ImageError.Memory) }
 {
     if version == 1 {
         return Ok((0, bytes));
@@ -110,7 +113,8 @@ fn copies(whole: u32, version: u32, bytes: &[u8]) -> Result<(u16, &[u8]), ImageE
 
 #[tactic(auto, unfolding(crate::specs::Reading::budget_at))]
 pub fn budget(whole: u32, version: u32, bytes: &[u8]) -> Result<(Depths, &[u8]), ImageError>
-    ensures { Gives (λ x. (x.0, x.1.now)) result (budget_at whole version bytes.now) }
+    ensures gives { Gives (λ x. (x.0, x.1.now)) result (budget_at whole version bytes.now) }
+    ensures memory { IfErr result (λ e. e ≢ ImageError.Memory) }
 {
     let (ld, rest) = depth(whole, Field::Ld, bytes)?;
     let (al, rest) = depth(whole, Field::Al, rest)?;
@@ -134,7 +138,8 @@ pub fn budget(whole: u32, version: u32, bytes: &[u8]) -> Result<(Depths, &[u8]),
 /// How many words a code has, which holds the word at its entry.
 fn words(whole: u32, name: Field, entry: u32, bytes: &[u8]) -> Result<(u32, &[u8]), ImageError>
     requires { entry ≤ 134217724 }
-    ensures { Gives (λ x. (x.0, x.1.now)) result (field_at whole name (words_range entry) bytes.now) }
+    ensures gives { Gives (λ x. (x.0, x.1.now)) result (field_at whole name (words_range entry) bytes.now) }
+    ensures memory { IfErr result (λ e. e ≢ ImageError.Memory) }
 {
     let range = Range {
         least: entry / 4 + 1,
@@ -147,7 +152,8 @@ fn words(whole: u32, name: Field, entry: u32, bytes: &[u8]) -> Result<(u32, &[u8
 /// How many bytes of data there are, which begin at address 16 of the memory.
 fn content(whole: u32, memory: u32, bytes: &[u8]) -> Result<(u32, &[u8]), ImageError>
     requires { 16 ≤ memory }
-    ensures { Gives (λ x. (x.0, x.1.now)) result (field_at whole DataLength (content_range memory) bytes.now) }
+    ensures gives { Gives (λ x. (x.0, x.1.now)) result (field_at whole DataLength (content_range memory) bytes.now) }
+    ensures memory { IfErr result (λ e. e ≢ ImageError.Memory) }
 {
     let range = Range {
         least: 0,
@@ -157,9 +163,11 @@ fn content(whole: u32, memory: u32, bytes: &[u8]) -> Result<(u32, &[u8]), ImageE
     field(whole, Field::DataLength, range, bytes)
 }
 
+/// The numbers at the head of the bytes. They take no memory.
 #[tactic(auto, unfolding(crate::specs::Reading::header_at))]
 pub fn header_of(whole: u32, bytes: &[u8]) -> Result<(Header, &[u8]), ImageError>
-    ensures { Gives (λ x. (x.0, x.1.now)) result (header_at whole bytes.now) }
+    ensures gives { Gives (λ x. (x.0, x.1.now)) result (header_at whole bytes.now) }
+    ensures memory { IfErr result (λ e. e ≢ ImageError.Memory) }
 {
     let (version, rest) = version(whole, bytes)?;
     let (budget, rest) = budget(whole, version, rest)?;
@@ -192,7 +200,8 @@ pub fn header_of(whole: u32, bytes: &[u8]) -> Result<(Header, &[u8]), ImageError
 }
 
 fn calls(whole: u32, bytes: &[u8]) -> Result<(u16, &[u8]), ImageError>
-    ensures { Gives (λ x. (x.0, x.1.now)) result (field_at whole Calls calls_range bytes.now) }
+    ensures gives { Gives (λ x. (x.0, x.1.now)) result (field_at whole Calls calls_range bytes.now) }
+    ensures memory { IfErr result (λ e. e ≢ ImageError.Memory) }
 {
     let (number, rest) = field(whole, Field::Calls, CALLS, bytes)?;
     Ok((number as u16, rest))

@@ -5,7 +5,7 @@ ghost use Rattle.dae_image.specs.declared.Image.{Image};
 ghost use Rattle.dae_image.specs.Contents.{Contents, HeaderFits};
 ghost use Rattle.dae_image.specs.Spelling.{Spells};
 ghost use Rattle.dae_image.specs.Reading.{Gives, body_at, image_at};
-ghost use Rattle.dae_image.specs.Images.{contents, IsOrMemory, IsSpelledBefore};
+ghost use Rattle.dae_image.specs.Images.{contents, HasHeader, IsOrMemory, IsSpelledBefore};
 
 use crate::Image;
 use crate::body::{code, content, lines, names};
@@ -50,7 +50,8 @@ fn body<'a>(
 #[tactic(auto, unfolding(crate::specs::Reading::image_at))]
 fn all(alloc: Global, bytes: &[u8]) -> Result<Image, ImageError>
     requires { length bytes.now ≤ 536870912 }
-    ensures { Gives contents result (image_at bytes.now) }
+    ensures gives { Gives contents result (image_at bytes.now) }
+    ensures memory { result ≡ Err ImageError.Memory → HasHeader bytes.now }
 {
     let whole = bytes.len() as u32;
     let (header, rest) = header_of(whole, bytes)?;
@@ -74,6 +75,9 @@ pub fn read(alloc: Global, bytes: &[u8]) -> Result<Image, ImageError>
 
     // Which fault it is.
     ensures exact { Gives contents result (image_at bytes.now) }
+
+    // Memory is taken, and may be wanting, only behind a good header.
+    ensures memory { result ≡ Err ImageError.Memory → HasHeader bytes.now }
 
     // A fault of too few bytes tells their number, and one of too many where an image ends.
     ensures short { (n : ℕ) → result ≡ Err (ImageError.Short n) → n ≡ length bytes.now }

@@ -2,8 +2,8 @@
 use Rattle.std.proofs.Common.{◌≡◌, ◌≢◌, suc, ◌+◌, ◌⊎◌, inl, inr, Bool, true, false, List, [], ◌∷◌, ◌++◌, length, refl, ap, sym, ◌∙◌, subst, arith}
 use Rattle.std.specs.Prelude.{Option, Some, None, option_and_then}
 use Rattle.std.specs.List.{AllByRecursion}
+use Rattle.dae_base.proofs.Laws.{and_then_some}
 use Rattle.dae_machine.specs.Runs.{run_by, often, IsOfOne, Joined}
-use Rattle.dae_queues.proofs.MemoryLaws.{and_then_some}
 
 module _ {S P : Type 0} (step : S → P → Option S) where
   pub run-append : (s : S) (ps qs : List P) → run_by step s (ps ++ qs) ≡ option_and_then (λ t. run_by step t qs) (run_by step s ps)

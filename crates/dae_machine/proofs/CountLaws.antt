@@ -10,10 +10,10 @@ use Rattle.dae_core.specs.Queues.{Queues, commit, possible}
 use Rattle.dae_queues.specs.Lists.{rest, with_value, next_store, without_store}
 use Rattle.dae_machine.specs.Memory.{loads_of, with_loads_of}
 use Rattle.dae_base.specs.declared.Depths.{Depths}
-use Rattle.dae_core.proofs.QueueLaws.{UseOfA, UseOfE, a_nothing, a_load_ld, a_load_al, a_take_al, a_address, a_push_ab, a_push_cq, a_take_eb, e_nothing, e_take_ld}
+use Rattle.dae_core.proofs.Laws.{UseOfA, UseOfE, a_nothing, a_load_ld, a_load_al, a_take_al, a_address, a_push_ab, a_push_cq, a_take_eb, e_nothing, e_take_ld}
 use Rattle.dae_queues.specs.Numbers.{Counts}
 use Rattle.dae_machine.specs.Memory.{QueuesCount}
-use Rattle.dae_queues.proofs.CountLaws.{counts_more, slots_more, slots_up, slots_rest, slots_given}
+use Rattle.dae_queues.proofs.LawsOfLists.{counts_more, slots_more, slots_up, slots_rest, slots_given}
 
 -- ---- each change keeps the counts
 

@@ -1,60 +1,28 @@
 -- Two different picks that are enabled can follow each other in both orders, and both orders give one state.
 use Rattle.std.proofs.Common.{◌≡◌, ◌≢◌, ℕ, ◌<◌, ◌≤◌, Bool, true, false, ◌⊎◌, inl, inr, refl, ap, ap₂, sym, ◌∙◌, subst}
-use Rattle.std.specs.Prelude.{Option, Some, None, option_map, if◌then◌else◌}
+use Rattle.std.specs.Prelude.{Option, Some, option_map}
 use Rattle.std.proofs.lemmas.Bool.Decides.{eqb_tells}
+use Rattle.dae_base.proofs.Laws.{map_some_is}
 use Rattle.dae_base.specs.declared.Side.{Side}
 use Rattle.dae_base.specs.declared.Side.TheVariants.{A, E}
 use Rattle.dae_base.specs.declared.Depths.{Depths}
-use Rattle.dae_encode.specs.declared.QueueUse.{QueueUse}
 use Rattle.dae_queues.specs.declared.Slot.{Slot}
 use Rattle.dae_machine.specs.declared.Pick.{Pick}
 use Rattle.dae_machine.specs.declared.Pick.TheVariants.{A as MoveA, E as MoveE, Fill, Drain}
 use Rattle.dae_base.specs.Words.{loaded}
-use Rattle.dae_core.specs.Queues.{Queues, belongs, possible, ready, peek, commit}
+use Rattle.dae_core.specs.Queues.{Queues, commit}
 use Rattle.dae_queues.specs.Lists.{is_waiting}
 use Rattle.dae_machine.specs.Memory.{loads_of, fill, drain}
 use Rattle.dae_machine.specs.Memory.{QueuesCount}
-use Rattle.dae_encode.specs.declared.Inst.{Inst}
 use Rattle.dae_encode.specs.declared.Request.{Request}
-use Rattle.dae_encode.specs.declared.Request.TheVariants.{Halted, Faulty, Asks}
-use Rattle.dae_encode.specs.Instructions.{form}
-use Rattle.dae_encode.specs.Processor.{Processor, After, request, finish}
-use Rattle.dae_machine.specs.Machine.{Setup, State, code, granted, move, moved_a, moved_e, filled, drained, step, IsCounted}
-use Rattle.dae_queues.proofs.MemoryLaws.{map_some_is}
-use Rattle.dae_core.proofs.QueueLaws.{of_a, of_e, commits_ae, e_kept_by_a, a_kept_by_e, e_peek_by_a, a_peek_by_e}
+use Rattle.dae_encode.specs.Processor.{Processor, After}
+use Rattle.dae_machine.specs.Machine.{Setup, State, move, moved_a, moved_e, filled, drained, step, IsCounted}
+use Rattle.dae_core.proofs.Laws.{of_a, of_e, commits_ae, e_kept_by_a, a_kept_by_e, e_peek_by_a, a_peek_by_e}
+use Rattle.dae_machine.proofs.Grants.{Moved, MovedOf, move_was, granted_again}
 use Rattle.dae_machine.proofs.FillLaws.{Filled, after_fill, fill_was, fill_after_a, a_after_fill, a_peek_after_fill, fill_after_e, e_after_fill, e_peek_after_fill, fill_after_fill, fills_commute}
 use Rattle.dae_machine.proofs.DrainLaws.{Drained, after_drain, drain_was, drain_after_a, a_after_drain, a_peek_after_drain, drain_after_e, e_after_drain, e_peek_after_drain, fill_after_drain, drain_after_fill}
-use Rattle.dae_queues.proofs.DrainLaws.{and_true, drained_memory}
+use Rattle.dae_queues.proofs.LawsOfLists.{drained_memory, counts_find, all_find, counts_next}
 use Rattle.dae_machine.proofs.CountLaws.{counted_a, counted_e, counted_fill, counted_drain}
-use Rattle.dae_queues.proofs.CountLaws.{counts_find, all_find, counts_next}
-
--- what an enabled move does
-pub record Moved (d : Depths) (side : Side) (p : Processor) (q : Queues) (asked : Request) : Type 0 where
-  pub use' : QueueUse
-  pub word : ℕ
-  pub inst : Inst
-  pub result : After
-  pub is : asked ≡ Asks use' word inst
-  pub owns : belongs side use' ≡ true
-  pub can : possible d use' q ≡ true
-  pub does : finish side p use' inst (form inst) (peek use' q) ≡ Some result
-
-pub if_some_is : {X : Type 0} (b : Bool) (o : Option X) (x : X) → (if b then o else None) ≡ Some x → (b ≡ true) × (o ≡ Some x)
-if_some_is true o x h = (refl, h)
-if_some_is false o x h = cc
-
-pub granted_was : (d : Depths) (side : Side) (p : Processor) (q : Queues) (asked : Request) (r : After × Queues) → granted d side p q asked ≡ Some r → (m : Moved d side p q asked) × ((m.result, commit m.use' m.word q) ≡ r)
-granted_was d side p q Halted r h = cc
-granted_was d side p q (Faulty fault) r h = cc
-granted_was d side p q (Asks u w i) r h =
-    let parts = if_some_is (ready d side u q) (option_map (λ (r : After). (r, commit u w q)) (finish side p u i (form i) (peek u q))) r h in
-    let both = and_true (belongs side u) (possible d u q) parts.0 in
-    let got = map_some_is (λ (r : After). (r, commit u w q)) (finish side p u i (form i) (peek u q)) r parts.1 in
-    (record { use' = u; word = w; inst = i; result = got.0; is = refl; owns = both.0; can = both.1; does = got.1 }, got.2)
-
--- the same move over queues that show it the same
-pub granted_again : (d : Depths) (side : Side) (p : Processor) (q q' : Queues) (asked : Request) (m : Moved d side p q asked) → possible d m.use' q' ≡ true → peek m.use' q' ≡ peek m.use' q → granted d side p q' asked ≡ Some (m.result, commit m.use' m.word q')
-granted_again d side p q q' asked m can same = rw (m.is, m.owns, can, same, m.does)
 
 pub map_some : {X Y : Type 0} (f : X → Y) (o : Option X) (x : X) → o ≡ Some x → option_map f o ≡ Some (f x)
 map_some f o x e = ap (option_map f) e
@@ -64,7 +32,7 @@ abbrev pub Meets : Setup → State → Pick → State → Pick → Type 0
 Meets setup s p t q = (u : State) × (step setup s q ≡ Some u) × (step setup t p ≡ Some u)
 
 abbrev pub MovedBy : Setup → State → Side → Processor → Type 0
-MovedBy setup s side p = Moved setup.depths side p s.queues (request setup.copies side (code setup side) setup.memory p)
+MovedBy setup s side p = MovedOf setup side p s.queues
 
 abbrev pub left_by : {d : Depths} {side : Side} {p : Processor} {q : Queues} {asked : Request} → Moved d side p q asked → After × Queues
 left_by {q = q} m = (m.result, commit m.use' m.word q)
@@ -172,11 +140,11 @@ pub data Did (setup : Setup) (s : State) : Pick → State → Type 0 where
 pub did : (setup : Setup) (s t : State) (p : Pick) → step setup s p ≡ Some t → Did setup s p t
 did setup s t MoveA h =
     let x = map_some_is (moved_a s) (move setup A s.a s.queues) t h in
-    let m = granted_was setup.depths A s.a s.queues (request setup.copies A setup.code_a setup.memory s.a) x.0 x.1 in
+    let m = move_was setup A s.a s.queues x.0 x.1 in
     subst (λ (v : State). Did setup s MoveA v) (ap (moved_a s) m.1 ∙ x.2) (by_a m.0)
 did setup s t MoveE h =
     let x = map_some_is (moved_e s) (move setup E s.e s.queues) t h in
-    let m = granted_was setup.depths E s.e s.queues (request setup.copies E setup.code_e setup.memory s.e) x.0 x.1 in
+    let m = move_was setup E s.e s.queues x.0 x.1 in
     subst (λ (v : State). Did setup s MoveE v) (ap (moved_e s) m.1 ∙ x.2) (by_e m.0)
 did setup s t (Fill side n) h =
     let x = map_some_is (filled s) (fill side n s.queues s.memory) t h in

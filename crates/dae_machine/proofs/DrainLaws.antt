@@ -3,6 +3,7 @@ use Rattle.std.proofs.Common.{◌≡◌, ℕ, ◌+◌, ◌<◌, true, false, not
 use Rattle.std.specs.Prelude.{Some}
 use Rattle.std.specs.List.{list_any}
 use Rattle.std.specs.Bool.{then_some}
+use Rattle.dae_base.proofs.Laws.{and_then_some, and_true, any_more, find_fails, find_passes, map_some_is, not_true, then_some_is}
 use Rattle.dae_base.specs.declared.Side.{Side}
 use Rattle.dae_base.specs.declared.Side.TheVariants.{A, E}
 use Rattle.dae_base.specs.declared.Depths.{Depths}
@@ -12,12 +13,9 @@ use Rattle.dae_base.specs.Words.{loaded}
 use Rattle.dae_core.specs.Queues.{Queues, possible, peek, commit}
 use Rattle.dae_queues.specs.Lists.{rest, is_waiting, with_value, bars, holds, next_store, without_store}
 use Rattle.dae_machine.specs.Memory.{loads_of, with_loads_of, fill, draining, drain}
-use Rattle.dae_core.proofs.QueueLaws.{UseOfA, UseOfE, a_nothing, a_load_ld, a_load_al, a_take_al, a_address, e_take_ld, e_push_sd}
-use Rattle.dae_queues.proofs.QueueLaws.{room_more}
-use Rattle.dae_queues.proofs.MemoryLaws.{map_some_is, and_then_some, then_some_is, not_true, find_passes, find_fails, any_rest, any_more, any_holds_given}
+use Rattle.dae_core.proofs.Laws.{UseOfA, UseOfE, a_nothing, a_load_ld, a_load_al, a_take_al, a_address, e_take_ld, e_push_sd}
+use Rattle.dae_queues.proofs.LawsOfLists.{room_more, any_rest, any_holds_given, loaded_other, drained_memory, next_more_sa, rest_more_sa, next_more_sd, rest_more_sd, any_next, newer_held_not, no_byte_shared}
 use Rattle.dae_machine.proofs.FillLaws.{Filled, after_fill, fill_is}
-use Rattle.dae_queues.proofs.Bytes.{loaded_other}
-use Rattle.dae_queues.proofs.DrainLaws.{drained_memory, and_true, next_more_sa, rest_more_sa, next_more_sd, rest_more_sd, any_next, newer_held_not, no_byte_shared}
 
 -- what an enabled drain finds
 pub record Drained (q : Queues) : Type 0 where

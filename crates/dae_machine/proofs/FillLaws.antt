@@ -4,6 +4,7 @@ use Rattle.std.specs.Prelude.{Some, is_some, unwrap_or}
 use Rattle.std.specs.List.{list_any}
 use Rattle.std.specs.Bool.{then_some}
 use Rattle.std.proofs.lemmas.List.{length-map}
+use Rattle.dae_base.proofs.Laws.{and_then_some, any_more, find_more, map_some_is, not_true, then_some_is}
 use Rattle.dae_base.specs.declared.Side.{Side}
 use Rattle.dae_base.specs.declared.Side.TheVariants.{A, E}
 use Rattle.dae_base.specs.declared.Depths.{Depths}
@@ -13,9 +14,8 @@ use Rattle.dae_base.specs.Words.{loaded}
 use Rattle.dae_core.specs.Queues.{Queues, possible, peek, commit}
 use Rattle.dae_machine.specs.Memory.{loads_of, with_loads_of, filling, fill}
 use Rattle.dae_queues.specs.Lists.{new_slot, is_waiting, waiting, with_value, bars}
-use Rattle.dae_core.proofs.QueueLaws.{UseOfA, UseOfE, a_load_ld, a_load_al, a_take_al, a_address, e_take_ld}
-use Rattle.dae_queues.proofs.MemoryLaws.{map_some_is, and_then_some, then_some_is, not_true, find_more, find_rest, map_rest, any_more, first_value_given, waiting_other, with_value_twice}
-use Rattle.dae_queues.proofs.FillLaws.{given_more, newer_bars_not}
+use Rattle.dae_core.proofs.Laws.{UseOfA, UseOfE, a_load_ld, a_load_al, a_take_al, a_address, e_take_ld}
+use Rattle.dae_queues.proofs.LawsOfLists.{find_rest, map_rest, first_value_given, waiting_other, with_value_twice, given_more, newer_bars_not}
 
 -- what an enabled fill finds
 pub record Filled (side : Side) (n : ℕ) (q : Queues) : Type 0 where

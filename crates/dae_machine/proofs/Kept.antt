@@ -12,7 +12,7 @@ use Rattle.dae_encode.specs.Instructions.{form}
 use Rattle.dae_encode.specs.Processor.{Processor, After, address, is_good_private, is_shared, finish}
 use Rattle.dae_core.specs.Queues.{Queues, peek, commit, loads_of, with_loads_of}
 use Rattle.dae_queues.specs.Lists.{with_value}
-use Rattle.dae_core.proofs.QueueLaws.{UseOfA, UseOfE, a_nothing, a_load_ld, a_load_al, a_take_al, a_address, a_push_ab, a_push_cq, a_take_eb, e_nothing, e_take_ld, e_push_sd, e_take_ab, e_take_cq, e_push_eb, of_a, of_e}
+use Rattle.dae_core.proofs.Laws.{UseOfA, UseOfE, a_nothing, a_load_ld, a_load_al, a_take_al, a_address, a_push_ab, a_push_cq, a_take_eb, e_nothing, e_take_ld, e_push_sd, e_take_ab, e_take_cq, e_push_eb, of_a, of_e}
 use Rattle.dae_machine.specs.declared.Pick.{Pick}
 use Rattle.dae_machine.specs.Machine.{Setup, State, step}
 use Rattle.dae_machine.specs.Held.{Counted, is_plain}

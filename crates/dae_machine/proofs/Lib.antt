@@ -1,15 +1,19 @@
-pub mod FillLaws
-pub mod DrainLaws
-pub mod CountLaws
-pub mod Diamond
-pub mod Confluence
-pub mod Ends
-pub mod Deeper
-pub mod Opening
-pub mod Moves
-pub mod Kept
-pub mod Steps
-pub mod Generator
-pub mod Turns
-pub mod Printing
-pub mod Scheduled
+mod Grants
+mod FillLaws
+mod DrainLaws
+mod CountLaws
+mod Diamond
+mod Confluence
+mod Ends
+mod Deeper
+mod Opening
+mod Moves
+mod Kept
+mod Steps
+mod Generator
+mod Turns
+mod Printing
+mod Scheduled
+mod Walks
+mod Pushed
+pub mod LawsOfRuns

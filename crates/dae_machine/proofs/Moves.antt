@@ -1,6 +1,7 @@
 -- One step of a processor over the machine's queues is one step of the machine.
-use Rattle.std.proofs.Common.{◌≡◌, ℕ, ◌+◌, Bool, true, false, ◌||◌, List, ◌++◌, refl, ap, sym, ◌∙◌}
+use Rattle.std.proofs.Common.{◌≡◌, ℕ, ◌+◌, Bool, true, false, List, ◌++◌, refl, ap, sym, ◌∙◌}
 use Rattle.std.specs.Prelude.{Option, Some, None, is_some, option_map, if◌then◌else◌}
+use Rattle.dae_base.proofs.Laws.{map_some_is, some_map}
 use Rattle.dae_base.specs.declared.Side.{Side}
 use Rattle.dae_base.specs.declared.Side.TheVariants.{A, E}
 use Rattle.dae_base.specs.declared.Queue.{Queue}
@@ -13,18 +14,16 @@ use Rattle.dae_encode.specs.Instructions.{form}
 use Rattle.dae_encode.specs.Processor.{Processor, After, request, finish}
 use Rattle.dae_core.specs.declared.CoreAnswer.{CoreAnswer}
 use Rattle.dae_core.specs.declared.CoreAnswer.TheVariants.{Did, Waits, Halted as IsHalted, Faulted}
-use Rattle.dae_core.specs.Held.{HeldQueues, is_open}
+use Rattle.dae_core.specs.Held.{HeldQueues}
 use Rattle.dae_core.specs.Moves.{answered_by, finished, given_by, granted_by, unprinted, waits, Tells}
-use Rattle.dae_core.specs.Queues.{Queues, belongs, commit, front, peek, ready}
-use Rattle.dae_core.proofs.Uses.{AsksOwn, own_request}
-use Rattle.dae_queues.proofs.MemoryLaws.{map_some_is}
+use Rattle.dae_core.specs.Queues.{Queues, commit, front, peek, ready}
 use Rattle.dae_machine.specs.declared.Pick.TheVariants.{A as MoveA, E as MoveE}
 use Rattle.dae_machine.specs.Answers.{answer, is_done, processor}
 use Rattle.dae_machine.specs.Machine.{Setup, State, code, granted, move, moved_a, moved_e, step}
 
 -- the queues as a processor sees them
 abbrev pub opens : HeldQueues → QueueUse → Bool
-opens h access = is_open h.depths access h.queues
+opens h access = ready h.depths access h.queues
 
 abbrev pub fronts : HeldQueues → Queue → Option ℕ
 fronts h queue = front queue h.queues
@@ -34,14 +33,6 @@ afters h access word = record h { queues = commit access word h.queues }
 
 abbrev pub held : Depths → Queues → HeldQueues
 held d q = record { depths = d; queues = q }
-
-or_true : (b : Bool) → (b || true) ≡ true
-or_true true = refl
-or_true false = refl
-
-open_ready : (d : Depths) (side : Side) (u : QueueUse) (q : Queues) → belongs side u ≡ true → is_open d u q ≡ ready d side u q
-open_ready d A u q h = rw h
-open_ready d E u q h = rw (h, or_true (belongs A u))
 
 given_is : (h : HeldQueues) (u : QueueUse) → given_by fronts h u ≡ peek u h.queues
 given_is h Nothing = refl
@@ -59,11 +50,11 @@ map_if false f g o = refl
 abbrev pub put_back : Depths → After × Queues → After × HeldQueues
 put_back d r = (r.0, held d r.1)
 
-pub granted_is : (d : Depths) (side : Side) (p : Processor) (q : Queues) (asked : Request) → AsksOwn side asked → granted_by opens fronts afters side p (held d q) asked ≡ option_map (put_back d) (granted d side p q asked)
-granted_is d side p q Halted own = refl
-granted_is d side p q (Faulty fault) own = refl
-granted_is d side p q (Asks u w i) own =
-    rw (open_ready d side u q own, given_is (held d q) u) (map_if (ready d side u q) (λ (r : After). (r, commit u w q)) (put_back d) (finish side p u i (form i) (peek u q)))
+pub granted_is : (d : Depths) (side : Side) (p : Processor) (q : Queues) (asked : Request) → granted_by opens fronts afters side p (held d q) asked ≡ option_map (put_back d) (granted d side p q asked)
+granted_is d side p q Halted = refl
+granted_is d side p q (Faulty fault) = refl
+granted_is d side p q (Asks u w i) =
+    rw (given_is (held d q) u) (map_if (ready d u q) (λ (r : After). (r, commit u w q)) (put_back d) (finish side p u i (form i) (peek u q)))
 
 -- the answer of a move that was granted
 told_some : {Q : Type 0} (answer : CoreAnswer) (came : Option (After × Q)) (r : After × Q) (p p' : Processor) (q q' : Q) → came ≡ Some r → Tells answer came p q p' q' → (answer ≡ Did r.0.1) × (p' ≡ r.0.0) × (q' ≡ r.1)
@@ -82,8 +73,7 @@ module _ (setup : Setup) (s : State) where
 
   told_move : (side : Side) (p p' : Processor) (h' : HeldQueues) (answer : CoreAnswer) (r : After × Queues) → move setup side p s.queues ≡ Some r → ToldBy side p answer p' h' → (answer ≡ Did r.0.1) × (p' ≡ r.0.0) × (h' ≡ held setup.depths r.1)
   told_move side p p' h' answer r e t =
-      let own = own_request setup.copies side (code setup side) setup.memory p in
-      let came = granted_is setup.depths side p s.queues (asked_by side p) own ∙ ap (option_map (put_back setup.depths)) e in
+      let came = granted_is setup.depths side p s.queues (asked_by side p) ∙ ap (option_map (put_back setup.depths)) e in
       told_some answer _ (put_back setup.depths r) p p' (held setup.depths s.queues) h' came t
 
   -- where A has a step, its answer tells the state after it
@@ -112,56 +102,45 @@ finished_done : (o : Option After) → is_done (finished o) ≡ is_some o
 finished_done None = refl
 finished_done (Some r) = refl
 
-waits_done : (d : Depths) (u : QueueUse) (q : Queues) → is_open d u q ≡ false → is_done (waits u) ≡ false
+waits_done : (d : Depths) (u : QueueUse) (q : Queues) → ready d u q ≡ false → is_done (waits u) ≡ false
 waits_done d Nothing q h = cc
 waits_done d (Take k) q h = refl
 waits_done d (Push k) q h = refl
 waits_done d (Load k kind) q h = refl
 waits_done d (StoreAddress width) q h = refl
 
-answer_done_by : (d : Depths) (u : QueueUse) (q : Queues) (b : Bool) (o : Option After) (f : After → After × Queues) → is_open d u q ≡ b → is_done (if b then finished o else waits u) ≡ is_some (if b then option_map f o else None)
+answer_done_by : (d : Depths) (u : QueueUse) (q : Queues) (b : Bool) (o : Option After) (f : After → After × Queues) → ready d u q ≡ b → is_done (if b then finished o else waits u) ≡ is_some (if b then option_map f o else None)
 answer_done_by d u q true None f h = refl
 answer_done_by d u q true (Some r) f h = refl
 answer_done_by d u q false o f h = waits_done d u q h
 
-answer_done : (d : Depths) (side : Side) (p : Processor) (q : Queues) (asked : Request) → AsksOwn side asked → is_done (answered_by opens fronts side p (held d q) asked) ≡ is_some (granted d side p q asked)
-answer_done d side p q Halted own = refl
-answer_done d side p q (Faulty fault) own = refl
-answer_done d side p q (Asks u w i) own =
-    rw (← open_ready d side u q own, given_is (held d q) u) (answer_done_by d u q (is_open d u q) (finish side p u i (form i) (peek u q)) (λ (r : After). (r, commit u w q)) refl)
+answer_done : (d : Depths) (side : Side) (p : Processor) (q : Queues) (asked : Request) → is_done (answered_by opens fronts side p (held d q) asked) ≡ is_some (granted d side p q asked)
+answer_done d side p q Halted = refl
+answer_done d side p q (Faulty fault) = refl
+answer_done d side p q (Asks u w i) =
+    rw (given_is (held d q) u) (answer_done_by d u q (ready d u q) (finish side p u i (form i) (peek u q)) (λ (r : After). (r, commit u w q)) refl)
 
-pub some_map : {X Y : Type 0} (f : X → Y) (o : Option X) → is_some (option_map f o) ≡ is_some o
-some_map f None = refl
-some_map f (Some x) = refl
-
-given_same : (d : Depths) (q : Queues) (u : QueueUse) → given_by fronts (held d q) u ≡ given_by (λ (q : Queues) (queue : Queue). front queue q) q u
-given_same d q Nothing = refl
-given_same d q (Take k) = refl
-given_same d q (Push k) = refl
-given_same d q (Load k kind) = refl
-given_same d q (StoreAddress width) = refl
-
-answered_is : (d : Depths) (side : Side) (p : Processor) (q : Queues) (asked : Request) → AsksOwn side asked → answered_by opens fronts side p (held d q) asked ≡ answered_by (λ (q : Queues) (access : QueueUse). ready d side access q) (λ (q : Queues) (queue : Queue). front queue q) side p q asked
-answered_is d side p q Halted own = refl
-answered_is d side p q (Faulty fault) own = refl
-answered_is d side p q (Asks u w i) own = rw (open_ready d side u q own, given_same d q u)
+answered_is : (d : Depths) (side : Side) (p : Processor) (q : Queues) (asked : Request) → answered_by opens fronts side p (held d q) asked ≡ answered_by (λ (q : Queues) (access : QueueUse). ready d access q) (λ (q : Queues) (queue : Queue). front queue q) side p q asked
+answered_is d side p q Halted = refl
+answered_is d side p q (Faulty fault) = refl
+answered_is d side p q (Asks u w i) = rw (given_is (held d q) u) refl
 
 -- what a processor answers over the queues with their depths
 pub answer_is : (setup : Setup) (s : State) (side : Side) → unprinted (answered_by opens fronts side (processor side s) (held setup.depths s.queues) (asked_by setup s side (processor side s))) ≡ answer setup s side
 answer_is setup s side =
-    ap unprinted (answered_is setup.depths side (processor side s) s.queues (asked_by setup s side (processor side s)) (own_request setup.copies side (code setup side) setup.memory (processor side s)))
+    ap unprinted (answered_is setup.depths side (processor side s) s.queues (asked_by setup s side (processor side s)))
 
 -- a processor has a step exactly where it answers that it would do one
 pub a_goes : (setup : Setup) (s : State) → is_done (answer setup s A) ≡ is_some (step setup s MoveA)
 a_goes setup s =
     ap is_done (sym (answer_is setup s A))
     ∙ unprinted_done _
-    ∙ answer_done setup.depths A s.a s.queues (asked_by setup s A s.a) (own_request setup.copies A setup.code_a setup.memory s.a)
+    ∙ answer_done setup.depths A s.a s.queues (asked_by setup s A s.a)
     ∙ sym (some_map (moved_a s) (move setup A s.a s.queues))
 
 pub e_goes : (setup : Setup) (s : State) → is_done (answer setup s E) ≡ is_some (step setup s MoveE)
 e_goes setup s =
     ap is_done (sym (answer_is setup s E))
     ∙ unprinted_done _
-    ∙ answer_done setup.depths E s.e s.queues (asked_by setup s E s.e) (own_request setup.copies E setup.code_e setup.memory s.e)
+    ∙ answer_done setup.depths E s.e s.queues (asked_by setup s E s.e)
     ∙ sym (some_map (moved_e s) (move setup E s.e s.queues))

@@ -1,8 +1,8 @@
 -- What was printed before changes no step.
 use Rattle.std.proofs.Common.{◌≡◌, ℕ, ◌+◌, ◌%◌, Bool, false, List, [], ◌∷◌, ◌++◌, refl, ap, sym, ◌∙◌, append_assoc}
 use Rattle.std.specs.Prelude.{Option, Some, None, is_some, option_map, ◌==◌, if◌then◌else◌}
+use Rattle.dae_base.proofs.Laws.{and_then_some, map_some_is, some_map}
 use Rattle.dae_base.specs.declared.Side.TheVariants.{A, E}
-use Rattle.dae_queues.proofs.MemoryLaws.{and_then_some, map_some_is}
 use Rattle.dae_machine.specs.declared.Pick.{Pick}
 use Rattle.dae_machine.specs.declared.Pick.TheVariants.{A as MoveA, E as MoveE, Fill, Drain}
 use Rattle.dae_machine.specs.Memory.{drain, fill}
@@ -10,7 +10,6 @@ use Rattle.dae_machine.specs.Printing.{behind}
 use Rattle.dae_machine.specs.Runs.{run_by}
 use Rattle.dae_machine.specs.Machine.{Setup, State, drained, filled, move, moved_a, moved_e, step, Runs, IsFinal, IsQuiet, IsStuck}
 use Rattle.dae_machine.specs.Turns.{alone, fills_of, is_enabled, kind_at, pick_of}
-use Rattle.dae_machine.proofs.Moves.{some_map}
 
 pub step_behind : (setup : Setup) (s t : State) (p : Pick) (xs : List ℕ) → step setup s p ≡ Some t → step setup (behind xs s) p ≡ Some (behind xs t)
 step_behind setup s t MoveA xs h =

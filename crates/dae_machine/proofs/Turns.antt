@@ -6,6 +6,7 @@ use Rattle.std.proofs.lemmas.Nat.{mod_below}
 use Rattle.std.proofs.lemmas.Option.{slice_get-get_or}
 use Rattle.std.proofs.lemmas.Bool.Decides.{nat_tests}
 use Rattle.std.proofs.lemmas.List.{length-append}
+use Rattle.dae_base.proofs.Laws.{some_map}
 use Rattle.dae_base.specs.declared.Side.{Side}
 use Rattle.dae_base.specs.declared.Side.TheVariants.{A, E}
 use Rattle.dae_queues.specs.declared.Slot.{Slot}
@@ -17,7 +18,6 @@ use Rattle.dae_machine.specs.declared.Pick.{Pick}
 use Rattle.dae_machine.specs.declared.Pick.TheVariants.{A as MoveA, E as MoveE, Fill, Drain}
 use Rattle.dae_machine.specs.Memory.{fill, filling}
 use Rattle.dae_machine.specs.Machine.{Setup, State, filled, step, IsCounted, IsQuiet}
-use Rattle.dae_machine.proofs.Moves.{some_map}
 use Rattle.dae_machine.specs.Turns.{alone, chosen, fills_of, is_enabled, kind_at, kind_of, or_next, pick_of}
 
 -- ---- choosing from a list

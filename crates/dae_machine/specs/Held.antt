@@ -1,5 +1,5 @@
 -- What contracts see of a machine, and what is true of every machine.
-use Rattle.std.specs.Prelude.{◌≡◌, ℕ, ◌+◌, ◌≤◌, ◌<◌, ◌^◌, Bool, true, false, Option, Some, None, List, [], length}
+use Rattle.std.specs.Prelude.{◌≡◌, ℕ, ◌+◌, ◌≤◌, ◌<◌, ◌^◌, Bool, true, false, Option, Some, None, List, [], length, refl}
 use Rattle.dae_base.specs.declared.Side.TheVariants.{A, E}
 use Rattle.dae_encode.specs.declared.Halt.{Halt}
 use Rattle.dae_encode.specs.declared.Halt.TheVariants.{Plain, Status, Trap}
@@ -9,11 +9,11 @@ use Rattle.dae_core.specs.Queues.{Queues}
 use Rattle.dae_machine.specs.Memory.{QueuesCount}
 use Rattle.dae_machine.specs.Machine.{Setup, State}
 
--- a machine is seen as what no step changes and as its state. It doesn't keep what was printed: its state has printed
--- nothing
+-- a machine is seen as what no step changes and as its state without printed bytes: one that has printed nothing
 pub record HeldMachine : Type 0 where
   pub setup : Setup
   pub state : State
+  pub silent : state.printed ≡ []
 
 -- the numbers of slots and stores are in order, and none is above the number of steps
 pub record Counted (q : Queues) (steps : ℕ) : Type 0 where
@@ -27,6 +27,7 @@ abbrev pub seen : HeldCore → HeldCore → List ℕ → List ℕ → HeldQueues
 seen a e code_a code_e q memory taken = record {
   setup = record { code_a = code_a; code_e = code_e; memory = length memory; copies = a.copies; depths = q.depths };
   state = record { a = a.processor; e = e.processor; queues = q.queues; memory = memory; printed = []; steps = taken };
+  silent = refl;
 }
 
 -- only the access processor halts without a status or a trap

@@ -4,7 +4,8 @@ pub mod Opened
 pub mod Runs
 pub mod Turns
 pub mod Ends
-pub mod Deeper
+pub mod Uses
+pub mod Walks
 pub mod Held
 pub mod Answers
 pub mod Schedules

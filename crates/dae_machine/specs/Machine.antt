@@ -1,17 +1,16 @@
 -- The whole machine: its states, its steps and its runs.
-use Rattle.std.specs.Prelude.{◌≡◌, ℕ, ◌+◌, Bool, true, if◌then◌else◌, List, [], ◌++◌, Option, Some, None, is_some, option_map}
+use Rattle.std.specs.Prelude.{◌≡◌, ℕ, ◌+◌, Bool, true, List, [], ◌++◌, Option, Some, None, is_some, option_map}
 use Rattle.dae_base.specs.declared.Side.{Side}
 use Rattle.dae_base.specs.declared.Side.TheVariants.{A, E}
 use Rattle.dae_base.specs.declared.Depths.{Depths}
 use Rattle.dae_machine.specs.declared.Pick.{Pick}
 use Rattle.dae_machine.specs.declared.Pick.TheVariants.{A as MoveA, E as MoveE, Fill, Drain}
-use Rattle.dae_core.specs.Queues.{Queues, ready, peek, commit}
+use Rattle.dae_core.specs.Moves.{granted_by}
+use Rattle.dae_core.specs.Queues.{Queues, ready, front, commit}
 use Rattle.dae_machine.specs.Memory.{fill, drain, QueuesCount}
 use Rattle.dae_machine.specs.Runs.{run_by}
 use Rattle.dae_encode.specs.declared.Request.{Request}
-use Rattle.dae_encode.specs.declared.Request.TheVariants.{Halted, Faulty, Asks}
-use Rattle.dae_encode.specs.Instructions.{form}
-use Rattle.dae_encode.specs.Processor.{Processor, After, request, finish}
+use Rattle.dae_encode.specs.Processor.{Processor, After, request}
 
 -- what no step changes
 pub record Setup : Type 0 where
@@ -35,12 +34,9 @@ code setup E = setup.code_e
 
 -- ---- one step
 
--- what a request of this processor comes to: the processor, what it printed, and the queues
+-- what a request of this processor comes to, over queues of these depths
 abbrev pub granted : Depths → Side → Processor → Queues → Request → Option (After × Queues)
-granted d side p q Halted = None
-granted d side p q (Faulty fault) = None
-granted d side p q (Asks u w i) =
-    if ready d side u q then option_map (λ r. (r, commit u w q)) (finish side p u i (form i) (peek u q)) else None
+granted d side p q asked = granted_by (λ q u. ready d u q) (λ q k. front k q) (λ q u w. commit u w q) side p q asked
 
 -- one instruction of a side
 abbrev pub move : Setup → Side → Processor → Queues → Option (After × Queues)

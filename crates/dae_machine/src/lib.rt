@@ -6,7 +6,7 @@
 use dae_base::{Piece, Queue, Side, Width};
 pub use laws::{
     deeper_runs_too, numbers_stay, one_run_tells_all, printing_is_apart, quiet_is_last, runs_meet,
-    schedules_run, some_runs_tell_all, steps_commute,
+    schedules_run, some_runs_tell_all, steps_commute, walks_run,
 };
 pub use machine::Machine;
 pub use turn_words::Words;

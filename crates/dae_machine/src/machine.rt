@@ -1,5 +1,5 @@
 ghost use Rattle.std.specs.Prelude.{◌≡◌, ◌<◌, [], Some, IsSome, is_some, IfOk, IfErr, None};
-ghost use Rattle.dae_base.specs.Budgets.{first_below};
+ghost use Rattle.dae_base.specs.Budgets.{Reaches};
 ghost use Rattle.dae_core.specs.Held.{CanHold};
 ghost use Rattle.dae_machine.specs.Answers.{Refuses, is_done};
 ghost use Rattle.dae_machine.specs.Held.{DataFit};
@@ -18,7 +18,7 @@ use std::marker::Model;
 mod shown;
 mod turns;
 
-/// A machine. Clauses see its state without the printed bytes, and what no step changes.
+/// A machine. Clauses see its state without printed bytes, and what no step changes.
 #[derive(Drop)]
 pub struct Machine {
     a: Core,
@@ -46,8 +46,9 @@ impl Machine {
     #[tactic(auto, using(crate::proofs::Opening::data_fit))]
     pub fn open(alloc: Global, image: &Image, depths: Depths) -> Result<Machine, OpenError>
         requires { CanHold depths }
-        ensures ok { IfOk result (λ machine. machine ≡ record { setup = setup_of image.now depths; state = opened image.now }) }
-        ensures reaches { IfOk result (λ machine. first_below depths image.now.budget ≡ None) }
+        ensures setup { IfOk result (λ machine. machine.setup ≡ setup_of image.now depths) }
+        ensures state { IfOk result (λ machine. machine.state ≡ opened image.now) }
+        ensures reaches { IfOk result (λ machine. Reaches depths image.now.budget) }
         ensures err { IfErr result (λ e. Refuses e image.now.budget depths) }
     {
         reaches(&depths, &image.budget)?;
@@ -58,7 +59,8 @@ impl Machine {
     fn make(alloc: Global, image: &Image, depths: Depths) -> Result<Machine, AllocError>
         requires depths { CanHold depths }
         requires fit { DataFit image.now }
-        ensures { IfOk result (λ machine. machine ≡ record { setup = setup_of image.now depths; state = opened image.now }) }
+        ensures setup { IfOk result (λ machine. machine.setup ≡ setup_of image.now depths) }
+        ensures state { IfOk result (λ machine. machine.state ≡ opened image.now) }
     {
         let copies = image.budget.cq != 0;
         Ok(Machine {

@@ -1,5 +1,5 @@
 ghost use Rattle.std.specs.Prelude.{◌≡◌, ◌≤◌, ◌+◌, ◌-◌, ◌++◌, length, replicate, IfOk, IfErr, None, ◌≢◌, ◌<◌, ◌^◌};
-ghost use Rattle.dae_base.specs.Budgets.{depth, first_below};
+ghost use Rattle.dae_base.specs.Budgets.{depth, Reaches};
 ghost use Rattle.dae_core.specs.Held.{CanHold};
 ghost use Rattle.dae_machine.specs.Answers.{Refuses};
 ghost use Rattle.dae_machine.specs.Held.{DataFit};
@@ -26,7 +26,7 @@ fn depth_of(depths: &Depths, queue: Queue) -> u16
 
 /// Refuses depths below the budget.
 pub fn reaches(depths: &Depths, budget: &Depths) -> Result<(), OpenError>
-    ensures ok { IfOk result (λ u. first_below depths.now budget.now ≡ None) }
+    ensures ok { IfOk result (λ u. Reaches depths.now budget.now) }
     ensures err { IfErr result (λ e. (e ≢ OpenError.Memory) × Refuses e budget.now depths.now) }
 {
     match depths.first_below(budget) {

@@ -1,5 +1,5 @@
 -- A drain beside a new slot, a new store address, a new datum and a fill.
-use Rattle.std.proofs.Common.{◌≡◌, ℕ, ◌<◌, Bool, true, false, ◌&&◌, List, [], ◌∷◌, ◌++◌, refl, ap, arith}
+use Rattle.std.proofs.Common.{◌≡◌, ℕ, ◌<◌, Bool, true, false, List, [], ◌∷◌, ◌++◌, refl, ap, arith}
 use Rattle.std.specs.Prelude.{Some, nat_le}
 use Rattle.std.specs.List.{list_any}
 use Rattle.std.proofs.lemmas.Bool.Decides.{nat_tests}
@@ -8,14 +8,10 @@ use Rattle.dae_queues.specs.declared.Slot.{Slot}
 use Rattle.dae_queues.specs.declared.StoreAt.{StoreAt}
 use Rattle.dae_base.specs.Words.{width_of, overlap, stored}
 use Rattle.dae_queues.specs.Lists.{rest, new_slot, is_waiting, bars, holds, next_store}
-use Rattle.dae_queues.proofs.MemoryLaws.{or_false}
+use Rattle.dae_base.proofs.Laws.{or_false}
 
 abbrev pub drained_memory : StoreAt × ℕ → List ℕ → List ℕ
 drained_memory s m = stored s.0.width s.0.addr s.1 m
-
-pub and_true : (x y : Bool) → (x && y) ≡ true → (x ≡ true) × (y ≡ true)
-and_true true y h = (refl, h)
-and_true false y h = cc
 
 pub next_more_sa : (as' : List StoreAt) (ws : List ℕ) (a : StoreAt) (s : StoreAt × ℕ) → next_store as' ws ≡ Some s → next_store (as' ++ a ∷ []) ws ≡ Some s
 next_more_sa [] ws a s h = cc

@@ -1,9 +1,10 @@
-pub mod Bytes
-pub mod QueueLaws
-pub mod MemoryLaws
-pub mod CountLaws
-pub mod FillLaws
-pub mod DrainLaws
-pub mod Places
-pub mod Fills
-pub mod ListLaws
+mod Bytes
+mod QueueLaws
+mod MemoryLaws
+mod CountLaws
+mod FillLaws
+mod DrainLaws
+mod Places
+mod Fills
+mod ListLaws
+pub mod LawsOfLists

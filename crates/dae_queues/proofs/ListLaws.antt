@@ -10,11 +10,12 @@ use Rattle.dae_queues.specs.declared.Slot.{Slot}
 use Rattle.dae_queues.specs.declared.StoreAt.{StoreAt}
 use Rattle.dae_queues.specs.Lists.{Slots, Stores, first_value, rest, without_front, with_slot, new_slot, with_address, with_datum, is_waiting, waiting, with_value, bars, holds, filling_of, next_store, without_store, draining_of}
 use Rattle.dae_queues.specs.Numbers.{SlotsCount, StoresCount}
+use Rattle.dae_base.proofs.Laws.{and_then_some, then_some_is, not_true, and_true, find_more, find_passes, find_fails, any_more}
 use Rattle.dae_queues.proofs.QueueLaws.{rest_slots_more}
-use Rattle.dae_queues.proofs.MemoryLaws.{and_then_some, then_some_is, not_true, find_more, find_passes, find_fails, find_rest, any_rest, any_more, waiting_other, any_holds_given}
+use Rattle.dae_queues.proofs.MemoryLaws.{find_rest, any_rest, waiting_other, any_holds_given}
 use Rattle.dae_queues.proofs.CountLaws.{counts_find, all_find, counts_next}
 use Rattle.dae_queues.proofs.FillLaws.{given_more, newer_bars_not}
-use Rattle.dae_queues.proofs.DrainLaws.{drained_memory, and_true, next_more_sa, rest_more_sa, next_more_sd, rest_more_sd, any_next, newer_held_not, no_byte_shared}
+use Rattle.dae_queues.proofs.DrainLaws.{drained_memory, next_more_sa, rest_more_sa, next_more_sd, rest_more_sd, any_next, newer_held_not, no_byte_shared}
 use Rattle.dae_queues.proofs.Bytes.{loaded_other}
 
 -- ---- a fill that is possible, and a drain that is possible

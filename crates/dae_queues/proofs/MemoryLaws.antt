@@ -5,46 +5,12 @@ use Rattle.std.specs.List.{list_any, find}
 use Rattle.std.specs.Bool.{then_some}
 use Rattle.std.proofs.lemmas.List.Folds.{list_any-append}
 use Rattle.std.proofs.lemmas.Bool.Decides.{nat_tests}
+use Rattle.dae_base.proofs.Laws.{or_false}
 use Rattle.dae_queues.specs.declared.Slot.{Slot}
 use Rattle.dae_queues.specs.declared.StoreAt.{StoreAt}
 use Rattle.dae_queues.specs.Lists.{first_value, rest, is_waiting, waiting, give, with_value, holds}
 
--- ---- what an answer of an option says
-
-pub and_then_some : {X Y : Type 0} (f : X → Option Y) (o : Option X) (y : Y) → option_and_then f o ≡ Some y → (x : X) × (o ≡ Some x) × (f x ≡ Some y)
-and_then_some f None y h = cc
-and_then_some f (Some x) y h = (x, refl, h)
-
-pub map_some_is : {X Y : Type 0} (f : X → Y) (o : Option X) (y : Y) → option_map f o ≡ Some y → (x : X) × (o ≡ Some x) × (f x ≡ y)
-map_some_is f None y h = cc
-map_some_is f (Some x) y h = (x, refl, cc)
-
-pub then_some_is : {X : Type 0} (b : Bool) (x y : X) → then_some b x ≡ Some y → (b ≡ true) × (x ≡ y)
-then_some_is true x y h = (refl, cc)
-then_some_is false x y h = cc
-
-pub not_true : (b : Bool) → not b ≡ true → b ≡ false
-not_true true h = cc
-not_true false h = refl
-
 -- ---- slots that wait
-
-pub find_more : {X : Type 0} (p : X → Bool) (xs ys : List X) (x : X) → find p xs ≡ Some x → find p (xs ++ ys) ≡ Some x
-find_more p [] ys x h = cc
-find_more p (z ∷ xs) ys x h = grind (arith, find_more p xs ys x)
-
--- what is found passes the test, and no test that fails on all passes on it
-pub find_passes : {X : Type 0} (p : X → Bool) (xs : List X) (x : X) → find p xs ≡ Some x → p x ≡ true
-find_passes p [] x h = cc
-find_passes p (z ∷ xs) x h = grind (arith, find_passes p xs x)
-
-pub or_false : (x y : Bool) → (x || y) ≡ false → (x ≡ false) × (y ≡ false)
-or_false true y h = cc
-or_false false y h = (refl, h)
-
-pub find_fails : {X : Type 0} (p r : X → Bool) (xs : List X) (x : X) → find p xs ≡ Some x → list_any r xs ≡ false → r x ≡ false
-find_fails p r [] x h k = cc
-find_fails p r (z ∷ xs) x h k = let both = or_false (r z) (list_any r xs) k in grind (arith, find_fails p r xs x)
 
 pub filled_not : (b : Bool) (o : Option ℕ) → is_some o ≡ true → (b && is_none o) ≡ false
 filled_not true (Some x) h = refl
@@ -62,9 +28,6 @@ map_rest f (x ∷ xs) = refl
 pub any_rest : {X : Type 0} (p : X → Bool) (xs : List X) → list_any p xs ≡ false → list_any p (rest xs) ≡ false
 any_rest p [] h = h
 any_rest p (x ∷ xs) h = (or_false (p x) (list_any p xs) h).1
-
-pub any_more : {X : Type 0} (p : X → Bool) (xs : List X) (x : X) → list_any p xs ≡ false → p x ≡ false → list_any p (xs ++ x ∷ []) ≡ false
-any_more p xs x h k = rw (list_any-append p xs (x ∷ []), h, k)
 
 pub first_value_given : (number w : ℕ) (ss : List Slot) → is_some (first_value ss) ≡ true → first_value (with_value number w ss) ≡ first_value ss
 first_value_given number w [] h = refl

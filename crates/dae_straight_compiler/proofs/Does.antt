@@ -5,7 +5,8 @@ use Rattle.dae_base.specs.declared.Side.{Side}
 use Rattle.dae_base.specs.declared.Side.TheVariants.{A, E}
 use Rattle.dae_base.specs.declared.Depths.{Depths}
 use Rattle.dae_encode.specs.Processor.{Processor}
-use Rattle.dae_core.specs.Queues.{Queues, ready, peek, commit}
+use Rattle.dae_core.specs.Queues.{Queues, peek, commit}
+use Rattle.dae_machine.specs.Walks.{may_use}
 use Rattle.dae_machine.specs.declared.Pick.TheVariants.{A as MoveA, E as MoveE}
 use Rattle.dae_machine.specs.Machine.{Setup, State, Runs}
 use Rattle.dae_straight_compiler.proofs.Walks.{Event, Goes, Walks, stays, goes, walks-append, Grants, ends, grants, grants-append, pieces, state_of, execute_run, access_run}
@@ -26,7 +27,7 @@ module _ {d : Depths} {copies : Bool} {side : Side} {code : List ℕ} {memory : 
   does_nothing = record { events = []; walks = stays; granted = ends; count = refl; prints = refl }
 
   -- one instruction
-  pub does_one : {p p' : Processor} {q : Queues} (e : Event) → Goes copies side code memory p e p' → ready d side e.access q ≡ true → peek e.access q ≡ e.given → Does d copies side code memory p q 1 e.piece p' (commit e.access e.put q)
+  pub does_one : {p p' : Processor} {q : Queues} (e : Event) → Goes copies side code memory p e p' → may_use d side e.access q ≡ true → peek e.access q ≡ e.given → Does d copies side code memory p q 1 e.piece p' (commit e.access e.put q)
   does_one e g can same = record { events = e ∷ []; walks = goes g stays; granted = grants can same ends; count = refl; prints = append-nil e.piece }
 
   -- one part after another

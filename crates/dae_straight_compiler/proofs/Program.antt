@@ -13,7 +13,7 @@ use Rattle.dae_tree.specs.Straight.{address_of}
 use Rattle.dae_machine.specs.declared.Pick.{Pick}
 use Rattle.dae_machine.specs.declared.Pick.TheVariants.{A as MoveA, E as MoveE, Fill, Drain}
 use Rattle.dae_machine.specs.Machine.{Setup, State, step, Runs, IsQuiet, IsFinal}
-use Rattle.dae_machine.proofs.Confluence.{run-on}
+use Rattle.dae_machine.proofs.LawsOfRuns.{run-on}
 use Rattle.dae_straight_compiler.specs.declared.Step.{Step}
 use Rattle.dae_straight_compiler.specs.declared.Step.TheVariants.{Clear, Begin, Times, AddTerm, SubtractTerm}
 use Rattle.dae_straight_compiler.specs.declared.Ending.{Ending}

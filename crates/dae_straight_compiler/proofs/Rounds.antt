@@ -13,7 +13,7 @@ use Rattle.dae_tree.specs.Straight.{address_of}
 use Rattle.dae_queues.specs.Lists.{Stores, with_datum, with_address}
 use Rattle.dae_core.specs.Queues.{Queues}
 use Rattle.dae_machine.specs.Machine.{Setup, State, step, Runs}
-use Rattle.dae_machine.proofs.Confluence.{run-on}
+use Rattle.dae_machine.proofs.LawsOfRuns.{run-on}
 use Rattle.dae_tree.specs.declared.Factor.TheVariants.{Constant, Object}
 use Rattle.dae_straight_compiler.specs.declared.Step.{Step}
 use Rattle.dae_straight_compiler.specs.declared.Step.TheVariants.{Clear, Begin, Times, AddTerm, SubtractTerm}

@@ -9,9 +9,11 @@ use Rattle.dae_encode.specs.declared.Inst.{Inst}
 use Rattle.dae_encode.specs.declared.Request.TheVariants.{Asks}
 use Rattle.dae_encode.specs.Instructions.{form}
 use Rattle.dae_encode.specs.Processor.{Processor, request, finish}
-use Rattle.dae_core.specs.Queues.{Queues, ready, peek, commit}
+use Rattle.dae_core.specs.Queues.{Queues, peek, commit}
 use Rattle.dae_machine.specs.declared.Pick.TheVariants.{A as MoveA, E as MoveE}
 use Rattle.dae_machine.specs.Machine.{Setup, State, step, Runs}
+use Rattle.dae_machine.specs.Walks.{may_use}
+use Rattle.dae_machine.proofs.LawsOfRuns.{ready_for}
 
 -- one instruction as the queues see it: its access, the word that goes in, the word that comes out, and what it prints
 pub record Event : Type 0 where
@@ -37,7 +39,7 @@ walks-append (goes g v) w = goes g (walks-append v w)
 -- the queues grant these events in turn
 pub data Grants (d : Depths) (side : Side) : Queues → List Event → Queues → Type 0 where
   ends : {q : Queues} → Grants d side q [] q
-  grants : {q last : Queues} {e : Event} {es : List Event} → ready d side e.access q ≡ true → peek e.access q ≡ e.given → Grants d side (commit e.access e.put q) es last → Grants d side q (e ∷ es) last
+  grants : {q last : Queues} {e : Event} {es : List Event} → may_use d side e.access q ≡ true → peek e.access q ≡ e.given → Grants d side (commit e.access e.put q) es last → Grants d side q (e ∷ es) last
 
 pub grants-append : {d : Depths} {side : Side} {q r t : Queues} {es fs : List Event} → Grants d side q es r → Grants d side r fs t → Grants d side q (es ++ fs) t
 grants-append ends w = w
@@ -49,11 +51,11 @@ pieces (e ∷ es) = e.piece ++ pieces es
 
 -- ---- the machine's run
 
-pub execute_step : (setup : Setup) (s : State) (next : Processor) (e : Event) → Goes setup.copies E setup.code_e setup.memory s.e e next → ready setup.depths E e.access s.queues ≡ true → peek e.access s.queues ≡ e.given → step setup s MoveE ≡ Some (record s { e = next; queues = commit e.access e.put s.queues; printed = s.printed ++ e.piece; steps = s.steps + 1 })
-execute_step setup s next e g can same = rw (g.asks, can, same, g.does)
+pub execute_step : (setup : Setup) (s : State) (next : Processor) (e : Event) → Goes setup.copies E setup.code_e setup.memory s.e e next → may_use setup.depths E e.access s.queues ≡ true → peek e.access s.queues ≡ e.given → step setup s MoveE ≡ Some (record s { e = next; queues = commit e.access e.put s.queues; printed = s.printed ++ e.piece; steps = s.steps + 1 })
+execute_step setup s next e g can same = rw (g.asks, ready_for setup.depths E e.access s.queues can, same, g.does)
 
-pub access_step : (setup : Setup) (s : State) (next : Processor) (e : Event) → Goes setup.copies A setup.code_a setup.memory s.a e next → ready setup.depths A e.access s.queues ≡ true → peek e.access s.queues ≡ e.given → step setup s MoveA ≡ Some (record s { a = next; queues = commit e.access e.put s.queues; steps = s.steps + 1 })
-access_step setup s next e g can same = rw (g.asks, can, same, g.does)
+pub access_step : (setup : Setup) (s : State) (next : Processor) (e : Event) → Goes setup.copies A setup.code_a setup.memory s.a e next → may_use setup.depths A e.access s.queues ≡ true → peek e.access s.queues ≡ e.given → step setup s MoveA ≡ Some (record s { a = next; queues = commit e.access e.put s.queues; steps = s.steps + 1 })
+access_step setup s next e g can same = rw (g.asks, ready_for setup.depths A e.access s.queues can, same, g.does)
 
 abbrev pub state_of : Processor → Processor → Queues → List ℕ → List ℕ → ℕ → State
 state_of a e q memory printed steps = record { a = a; e = e; queues = q; memory = memory; printed = printed; steps = steps }

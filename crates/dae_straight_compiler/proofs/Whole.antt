@@ -6,12 +6,12 @@ use Rattle.dae_base.specs.declared.Queue.TheVariants.{Ld, Sa, Sd}
 use Rattle.dae_base.specs.declared.Depths.{Depths}
 use Rattle.dae_encode.specs.declared.Inst.{Inst}
 use Rattle.dae_encode.specs.Spelling.{encoded, InRange}
-use Rattle.dae_encode.proofs.Spelled.{decode_encoded}
+use Rattle.dae_encode.proofs.Laws.{decode_encoded}
 use Rattle.dae_image.specs.declared.Image.{Image}
 use Rattle.dae_machine.specs.declared.Pick.{Pick}
 use Rattle.dae_machine.specs.Machine.{Runs, IsCounted}
 use Rattle.dae_machine.specs.Opened.{setup_of, opened}
-use Rattle.dae_machine.proofs.Ends.{can_only_end}
+use Rattle.dae_machine.proofs.LawsOfRuns.{can_only_end}
 use Rattle.dae_tree.specs.declared.Factor.{Factor}
 use Rattle.dae_tree.specs.declared.Factor.TheVariants.{Constant, Object}
 use Rattle.dae_tree.specs.declared.BinaryOperator.{BinaryOperator}
@@ -31,7 +31,8 @@ use Rattle.dae_straight_compiler.specs.Plan.{step_of_link, pending_after, link_s
 use Rattle.dae_straight_compiler.specs.Code.{access_code, execute_code}
 use Rattle.dae_straight_compiler.specs.Order.{picks_from}
 use Rattle.dae_straight_compiler.specs.Budget.{names_in_factor, names_in_links, names_in, sum_of, most_names, assigns, budget_of}
-use Rattle.dae_straight_compiler.specs.Compiled.{Reaches, IsCompiled}
+use Rattle.dae_base.specs.Budgets.{Reaches}
+use Rattle.dae_straight_compiler.specs.Compiled.{IsCompiled}
 use Rattle.dae_straight_compiler.proofs.Instructions.{CodeAt, Values}
 use Rattle.dae_straight_compiler.proofs.Access.{work_addresses, step_addresses, Lies}
 use Rattle.dae_straight_compiler.proofs.Rounds.{boundary, Deep}

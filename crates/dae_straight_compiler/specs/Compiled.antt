@@ -1,8 +1,7 @@
 -- What a compiled straight program does on the machine, in every order of steps.
 use Rattle.std.specs.Prelude.{◌≡◌, ℕ, ◌≤◌, List, length, Some}
-use Rattle.dae_base.specs.declared.Queue.{Queue}
 use Rattle.dae_base.specs.declared.Depths.{Depths}
-use Rattle.dae_base.specs.Budgets.{depth}
+use Rattle.dae_base.specs.Budgets.{Reaches}
 use Rattle.dae_encode.specs.declared.Halt.TheVariants.{Status}
 use Rattle.dae_image.specs.declared.Image.{Image}
 use Rattle.dae_machine.specs.declared.Pick.{Pick}
@@ -13,10 +12,6 @@ use Rattle.dae_tree.specs.declared.StraightProgram.{StraightProgram}
 use Rattle.dae_tree.specs.Meaning as c
 use Rattle.dae_tree.specs.Straight.{meaning}
 use Rattle.dae_straight_compiler.specs.Budget.{budget_of}
-
--- no depth is below the budget
-abbrev pub Reaches : Depths → Depths → Type 0
-Reaches depths budget = (queue : Queue) → depth queue budget ≤ depth queue depths
 
 -- with these depths the picks lead to the program's end: a final state with its status, its output and its memory, and
 -- no list of steps leads anywhere else

@@ -1,4 +1,5 @@
-ghost use Rattle.std.specs.Prelude.{◌≡◌, ◌<◌, slice_get, slice_index};
+ghost use Rattle.std.specs.Prelude.{◌≡◌, ◌<◌, slice_get};
+ghost use Rattle.dae_encode.specs.Processor.{held};
 ghost use Rattle.dae_core.specs.Queues.{count};
 ghost use Rattle.dae_machine.specs.Answers.{answer, processor};
 ghost use Rattle.dae_machine.specs.Entries.{entries, slot_entry, store_entry, word_entry};
@@ -19,10 +20,10 @@ impl Machine {
         }
     }
 
-    /// What a register of a processor holds.
+    /// What a register of a processor holds. Register 0 is 0.
     pub fn register(&self, side: Side, number: u8) -> u32
         requires { number < 32 }
-        ensures { result ≡ slice_index (processor side self.now.state).registers number }
+        ensures { result ≡ held (processor side self.now.state) number }
     {
         self.core(side).register(number)
     }

@@ -12,7 +12,7 @@ returns-then-is_err-clause-drives g c =
     let failed : IsPutFailed c.in-Stepped.piece (g.O.Sink.seen c.loop.out) (g.O.Sink.seen c.put_piece.new.out) = search rules in
     let below = c.loop-test.true in
     let begun = c.loop.invariant.begun in
-    stops _ _ _ _ _ _ _ _ _ c.loop.invariant.way c.args.steps c.turn.new.self.setup c.turn.new.self.state c.next.new.self c.in-Stepped.field-0 c.in-Stepped.piece c.next.result (g.O.Sink.seen c.put_piece.new.out) (omega arith) c.next.ensures.word c.next.ensures.rest c.in-Stepped.ensures.turn (c.in-Stepped.ensures.silent c.loop.invariant.way.silent) one failed
+    stops _ _ _ _ _ _ _ _ _ c.loop.invariant.way c.args.steps c.turn.new.self.setup c.turn.new.self.state c.next.new.self c.in-Stepped.field-0 c.in-Stepped.piece c.next.result (g.O.Sink.seen c.put_piece.new.out) (omega arith) c.next.ensures.word c.next.ensures.rest c.in-Stepped.ensures.turn c.turn.new.self.silent one failed
 
 pub returns-in-Final-clause-drives : goal.returns-in-Final-clause-drives
 returns-in-Final-clause-drives g c =
@@ -35,7 +35,7 @@ loop-preserved g c =
     record {
       begun = omega arith;
       way = subst (λ (turns : _). OnTheWay c.args.machine.now.setup c.args.machine.now.state c.args.words.now turns c.turn.new.self.setup c.turn.new.self.state c.next.new.self (g.O.Sink.seen c.args.out.now) (g.O.Sink.seen c.put_piece.new.out)) next
-          (goes_on _ _ _ _ _ _ _ _ _ c.loop.invariant.way c.turn.new.self.setup c.turn.new.self.state c.next.new.self c.in-Stepped.field-0 c.in-Stepped.piece c.next.result (g.O.Sink.seen c.put_piece.new.out) c.next.ensures.word c.next.ensures.rest c.in-Stepped.ensures.setup c.in-Stepped.ensures.turn (c.in-Stepped.ensures.silent c.loop.invariant.way.silent) put);
+          (goes_on _ _ _ _ _ _ _ _ _ c.loop.invariant.way c.turn.new.self.setup c.turn.new.self.state c.next.new.self c.in-Stepped.field-0 c.in-Stepped.piece c.next.result (g.O.Sink.seen c.put_piece.new.out) c.next.ensures.word c.next.ensures.rest c.in-Stepped.ensures.setup c.in-Stepped.ensures.turn c.turn.new.self.silent put);
     }
 
 pub returns-clause-drives : goal.returns-clause-drives

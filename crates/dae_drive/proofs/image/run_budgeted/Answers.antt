@@ -11,7 +11,7 @@ use Rattle.dae_drive.proofs.image.run_budgeted.Goals as goal
 pub returns-in-Ok : goal.returns-in-Ok
 returns-in-Ok g c =
     let r = c.run_opened.ensures in
-    (r.0, due_turns c.in-Ok.ensures.reaches (rw c.in-Ok.ensures.ok at r.1), r.2)
+    (r.0, due_turns c.in-Ok.ensures.reaches (rw (c.in-Ok.ensures.setup, c.in-Ok.ensures.state) at r.1), r.2)
 
 pub returns-in-Err-DepthBelow : goal.returns-in-Err-DepthBelow
 returns-in-Err-DepthBelow g c =
