@@ -14,7 +14,7 @@ use Rattle.dae_cli.specs.Sources.{DueOfProgram, due_run, due_memory, due_memory_
 use Rattle.dae_cli.specs.Answers.{IsDue, due_file, due_image_file, due_words}
 
 -- each put is on note
-AreNotes : List Put → Type 0
+abbrev AreNotes : List Put → Type 0
 AreNotes [] = Unit {0}
 AreNotes (Out piece ∷ ps) = ⊥
 AreNotes (Note line ∷ ps) = AreNotes ps
@@ -37,7 +37,7 @@ after_budget a (due_depth queue found) h = tt
 after_budget a (due_memory_for_machine none) h = tt
 
 of_image : {image : Image} {o : RunOptions} (a : Answer) → DueOfImage image o a → a.status ≡ 7 → AreNotes a.puts
-of_image a (due_budget {b} d) h = after_budget b d h
+of_image a (due_budget {a = b} d) h = after_budget b d h
 of_image a due_memory_for_lines h = tt
 
 of_program : {p : StraightProgram} (a : Answer) → DueOfProgram p a → a.status ≡ 7 → AreNotes a.puts

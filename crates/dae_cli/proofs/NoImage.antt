@@ -1,5 +1,5 @@
 -- What is due for bytes that are no image.
-use Rattle.std.proofs.Common.{◌≡◌, ℕ, List, take}
+use Rattle.std.proofs.Common.{◌≡◌, ℕ, List, take, refl}
 use Rattle.std.specs.Prelude.{◌≢◌, Err}
 use Rattle.dae_image.specs.declared.Image.{Image}
 use Rattle.dae_image.specs.declared.fault.ImageError.{ImageError}

@@ -58,6 +58,6 @@ one_after_budget a b (due_depth q found) (due_memory_for_machine none') n n' = a
 one_after_budget a b (due_memory_for_machine none) d n n' = absurd (n refl)
 
 pub one_of_image : {image : Image} {o : RunOptions} (a b : Answer) → DueOfImage image o a → DueOfImage image o b → a.status ≢ 7 → b.status ≢ 7 → a ≡ b
-one_of_image {image} a b (due_budget {x} d) (due_budget {y} d') n n' = ap (λ (z : Answer). answer z.status (Note (budget_line image.budget) ∷ z.puts)) (one_after_budget x y d d' n n')
+one_of_image {image} a b (due_budget {a = x} d) (due_budget {a = y} d') n n' = ap (λ (z : Answer). answer z.status (Note (budget_line image.budget) ∷ z.puts)) (one_after_budget x y d d' n n')
 one_of_image a b (due_budget d) due_memory_for_lines n n' = absurd (n' refl)
 one_of_image a b due_memory_for_lines d n n' = absurd (n refl)
