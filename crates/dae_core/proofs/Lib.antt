@@ -1,2 +1,3 @@
 mod QueueLaws
 pub mod Laws
+mod Fetches

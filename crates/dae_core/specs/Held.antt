@@ -1,15 +1,22 @@
 -- What contracts see of a processor and of the queues.
-use Rattle.std.specs.Prelude.{ℕ, ◌<◌, ◌^◌, Bool, List, Option, option_map, replicate, None}
+use Rattle.std.specs.Prelude.{◌≡◌, ℕ, ◌<◌, ◌^◌, Bool, List, Option, option_map, replicate, None}
 use Rattle.dae_base.specs.declared.Side.{Side}
 use Rattle.dae_base.specs.declared.Depths.{Depths}
 use Rattle.dae_encode.specs.Processor.{Processor, After}
 use Rattle.dae_core.specs.Queues.{Queues}
 
--- a processor with its side, and whether the image allows copies
+-- a processor with its side, whether the image allows copies, and the words of its code
 pub record HeldCore : Type 0 where
   pub side : Side
   pub copies : Bool
+  pub code : List ℕ
   pub processor : Processor
+
+-- what no step of a processor changes
+pub record IsSame (old new : HeldCore) : Type 0 where
+  pub side : new.side ≡ old.side
+  pub copies : new.copies ≡ old.copies
+  pub code : new.code ≡ old.code
 
 -- a processor before its first instruction
 abbrev pub fresh : ℕ → ℕ → Processor

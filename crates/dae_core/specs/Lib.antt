@@ -1,3 +1,4 @@
 pub mod Moves
 pub mod Queues
 pub mod Held
+pub mod Codes

@@ -10,6 +10,7 @@ pub use ports::Ports;
 pub use processor::Core;
 pub use queues::Queues;
 
+mod code;
 mod memory;
 mod ports;
 mod processor;

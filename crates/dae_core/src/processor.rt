@@ -1,22 +1,23 @@
-ghost use Rattle.std.specs.Prelude.{◌≡◌, ℕ, ◌<◌, ◌^◌, Bool, true, length, slice_index, Option, None, is_some, IfOk, Some, [], if◌then◌else◌};
+ghost use Rattle.std.specs.Prelude.{◌≡◌, ℕ, ◌<◌, ◌^◌, Bool, true, length, slice_index, Option, None, is_some, IfOk, IfErr, Some, [], option_map, slice_get, if◌then◌else◌};
 ghost use Rattle.dae_base.specs.Words.{plus, stored, loaded, width_of};
 ghost use Rattle.dae_encode.specs.Instructions.{form};
 ghost use Rattle.dae_encode.specs.Processor.{held, operand, address, is_good_private, is_shared, goes_on, bad_address, early_fault, put_word, decoded, with_result, called, finish, halts, prints, request};
-ghost use Rattle.dae_core.specs.Held.{HeldCore, came_to, fresh};
+ghost use Rattle.dae_core.specs.Codes.{asked, legal_word};
+ghost use Rattle.dae_core.specs.Held.{IsSame, came_to, fresh};
+ghost use Rattle.dae_encode.specs.declared.Request.TheVariants.{Faulty};
 ghost use Rattle.dae_core.specs.Moves.{answered_by, granted_by, unprinted, Tells};
 
+use crate::code::{Legal, legal_words};
 use crate::memory::{load, store};
 use crate::ports::{given, waits};
 use crate::{CoreAnswer, Ports};
 use dae_base::{LoadKind, Piece, Side, Width, byte_piece, decimal_piece, hex_piece};
-use dae_encode::{
-    Fault, Form, Halt, Inst, QueueUse, Request, bad_call, decode, form_of, is_shared, is_within,
-    next, queue_use, value,
-};
+use dae_encode::{Fault, Form, Halt, Inst, QueueUse, bad_call, is_shared, is_within, next, value};
 use std::alloc::{AllocError, Global};
 use std::marker::Model;
 
-/// A processor with its registers, its counter and its private memory.
+/// A processor with its code, its registers, its counter and its private memory. Beside the words of the code stand the
+/// instructions that they spell, so that each is decoded once.
 #[derive(Drop)]
 pub struct Core {
     side: Side,
@@ -25,29 +26,38 @@ pub struct Core {
     counter: u32,
     private: Vec<u8>,
     halted: Option<Halt>,
+    words: Vec<u32>,
+    code: Vec<Option<Legal>>,
 }
 
 impl Model for Core {
+    ghost use Rattle.std.specs.Prelude.{◌≡◌, ◌<◌, ◌^◌, length, map};
+    ghost use Rattle.dae_core.specs.Codes.{legal_word};
+    ghost use Rattle.dae_core.specs.Held.{HeldCore};
+
     ghost Value = { HeldCore };
 
-    ghost view = { λ c. record { side = c.side; copies = c.copies; processor = record { registers = c.registers; counter = c.counter; private = c.private.items; halt = c.halted } } };
+    ghost view = { λ c. record { side = c.side; copies = c.copies; code = c.words.items; processor = record { registers = c.registers; counter = c.counter; private = c.private.items; halt = c.halted } } };
 
-    ghost invariant = { λ c. length c.private.items < 2 ^ 32 };
+    ghost invariant = { λ c. (length c.private.items < 2 ^ 32) × (c.code.items ≡ map (legal_word c.copies c.side) c.words.items) };
 }
 
 impl Core {
     /// A processor before its first instruction: the counter at the entry, the registers 0, and so many bytes of private
-    /// memory that hold zeros. Register 28 stands for a queue exactly where copies are allowed.
+    /// memory that hold zeros, over this code. Register 28 stands for a queue exactly where copies are allowed.
     pub fn open(
         alloc: Global,
         side: Side,
         entry: u32,
         private: u32,
         copies: bool,
+        code: &[u32],
     ) -> Result<Core, AllocError>
-        ensures { IfOk result (λ core. core ≡ record { side = side; copies = copies; processor = fresh entry private }) }
+        ensures { IfOk result (λ core. core ≡ record { side = side; copies = copies; code = code.now; processor = fresh entry private }) }
     {
         let private = vec![in alloc; 0; private as usize]?;
+        let words = Vec::from_slice(alloc, code)?;
+        let code = legal_words(alloc, copies, side, code)?;
         Ok(Core {
             side,
             copies,
@@ -55,6 +65,8 @@ impl Core {
             counter: entry,
             private,
             halted: None,
+            words,
+            code,
         })
     }
 
@@ -171,37 +183,32 @@ impl Core {
         }
     }
 
-    #[tactic(auto, unfolding(dae_encode::specs::Processor::request))]
-    fn request(&self, code: &[u32], memory: u32) -> Request
-        ensures { result ≡ request self.now.copies self.now.side code.now memory self.now.processor }
+    fn is_halted(&self) -> bool
+        ensures { result ≡ is_some self.now.processor.halt }
     {
-        if self.halted.is_some() {
-            return Request::Halted;
-        }
+        self.halted.is_some()
+    }
+
+    /// The next instruction, or the fault of its counter or of its word.
+    fn fetch(&self) -> Result<Legal, Fault>
+        requires { self.now.processor.halt ≡ None }
+        ensures ok { IfOk result (λ l. (l.form ≡ form l.inst) × ((memory : ℕ) → request self.now.copies self.now.side self.now.code memory self.now.processor ≡ asked self.now.side memory self.now.processor l)) }
+        ensures err { IfErr result (λ fault. (memory : ℕ) → request self.now.copies self.now.side self.now.code memory self.now.processor ≡ Faulty fault) }
+    {
         if self.counter % 4 != 0 {
-            return Request::Faulty(Fault::BadPc);
+            return Err(Fault::BadPc);
         }
-        match code.get((self.counter / 4) as usize) {
-            None => Request::Faulty(Fault::BadPc),
-            Some(word) => self.decoded(memory, decode(*word)),
+        match self.entry((self.counter / 4) as usize) {
+            None => Err(Fault::BadPc),
+            Some(None) => Err(Fault::Illegal),
+            Some(Some(legal)) => Ok(legal),
         }
     }
 
-    fn decoded(&self, memory: u32, inst: Option<Inst>) -> Request
-        ensures { result ≡ decoded self.now.copies self.now.side memory self.now.processor inst }
+    fn entry(&self, at: usize) -> Option<Option<Legal>>
+        ensures { result ≡ option_map (legal_word self.now.copies self.now.side) (slice_get self.now.code at) }
     {
-        let inst = match inst {
-            None => return Request::Faulty(Fault::Illegal),
-            Some(inst) => inst,
-        };
-        let form = form_of(&inst);
-        match queue_use(self.side, &inst, self.copies) {
-            None => Request::Faulty(Fault::Illegal),
-            Some(access) => match self.early_fault(memory, access, &form) {
-                Some(fault) => Request::Faulty(fault),
-                None => Request::Asks(access, self.put_word(access, &inst, &form), inst),
-            },
-        }
+        self.code.get(at).copied()
     }
 
     fn find(&self, kind: LoadKind, addr: u32) -> u32
@@ -227,7 +234,7 @@ impl Core {
     }
 
     fn halt(&mut self, halt: Halt) -> Option<Piece>
-        ensures held { (self.new.side ≡ self.old.side) × (self.new.copies ≡ self.old.copies) }
+        ensures held { IsSame self.old self.new }
         ensures came { came_to self.new.processor result ≡ halts self.old.processor halt }
     {
         self.counter = self.counter.wrapping_add(4);
@@ -236,7 +243,7 @@ impl Core {
     }
 
     fn print(&mut self, piece: Piece) -> Option<Piece>
-        ensures held { (self.new.side ≡ self.old.side) × (self.new.copies ≡ self.old.copies) }
+        ensures held { IsSame self.old self.new }
         ensures came { came_to self.new.processor result ≡ prints self.old.processor piece }
     {
         self.counter = self.counter.wrapping_add(4);
@@ -245,7 +252,7 @@ impl Core {
 
     /// The environment call, whose selector was found good.
     fn call(&mut self) -> Option<Piece>
-        ensures held { (self.new.side ≡ self.old.side) × (self.new.copies ≡ self.old.copies) }
+        ensures held { IsSame self.old self.new }
         ensures came { came_to self.new.processor result ≡ called self.old.side self.old.processor (slice_index self.old.processor.registers 17) (slice_index self.old.processor.registers 10) }
     {
         let word = self.registers[10];
@@ -265,7 +272,7 @@ impl Core {
     /// Does an instruction, where its access gives this word, or nothing where a private address is bad.
     #[tactic(auto, unfolding(dae_encode::specs::Processor::finish))]
     fn finish(&mut self, access: QueueUse, inst: &Inst, form: &Form, given: u32) -> Option<Piece>
-        ensures held { (self.new.side ≡ self.old.side) × (self.new.copies ≡ self.old.copies) }
+        ensures held { IsSame self.old self.new }
         ensures came { finish self.old.side self.old.processor access inst.now form.now given ≡ came_to self.new.processor result }
         ensures none { result ≡ None → self.new ≡ self.old }
     {
@@ -292,7 +299,7 @@ impl Core {
     }
 
     fn finish_load(&mut self, access: QueueUse, kind: LoadKind, rd: u8, addr: u32) -> Option<Piece>
-        ensures held { (self.new.side ≡ self.old.side) × (self.new.copies ≡ self.old.copies) }
+        ensures held { IsSame self.old self.new }
         ensures came { came_to self.new.processor result ≡ (if is_shared access then goes_on self.old.processor 0 0 (plus self.old.processor.counter 4) else (if is_good_private self.old.processor (width_of kind) addr then goes_on self.old.processor rd (loaded kind addr self.old.processor.private) (plus self.old.processor.counter 4) else None)) }
         ensures none { result ≡ None → self.new ≡ self.old }
     {
@@ -316,7 +323,7 @@ impl Core {
         addr: u32,
         datum: u32,
     ) -> Option<Piece>
-        ensures held { (self.new.side ≡ self.old.side) × (self.new.copies ≡ self.old.copies) }
+        ensures held { IsSame self.old self.new }
         ensures came { came_to self.new.processor result ≡ (if is_shared access then goes_on self.old.processor 0 0 (plus self.old.processor.counter 4) else (if is_good_private self.old.processor width addr then Some (record self.old.processor { counter = plus self.old.processor.counter 4; private = stored width addr datum self.old.processor.private }, []) else None)) }
         ensures none { result ≡ None → self.new ≡ self.old }
     {
@@ -350,50 +357,75 @@ impl Core {
 
     /// Does the next instruction, where the queues allow it. `memory` is the number of bytes of the common memory.
     /// A fault is found before the queues are looked at, but for a bad private address whose base comes from a queue.
-    pub fn step<P: Ports>(&mut self, code: &[u32], memory: u32, ports: &mut P) -> CoreAnswer
+    pub fn step<P: Ports>(&mut self, memory: u32, ports: &mut P) -> CoreAnswer
         requires { P.can_count ports.old }
-        ensures held { (self.new.side ≡ self.old.side) × (self.new.copies ≡ self.old.copies) }
-        ensures answer { result ≡ answered_by P.is_ready P.front self.old.side self.old.processor ports.old (request self.old.copies self.old.side code.now memory self.old.processor) }
-        ensures told { Tells result (granted_by P.is_ready P.front P.after self.old.side self.old.processor ports.old (request self.old.copies self.old.side code.now memory self.old.processor)) self.old.processor ports.old self.new.processor ports.new }
+        ensures held { IsSame self.old self.new }
+        ensures answer { result ≡ answered_by P.is_ready P.front self.old.side self.old.processor ports.old (request self.old.copies self.old.side self.old.code memory self.old.processor) }
+        ensures told { Tells result (granted_by P.is_ready P.front P.after self.old.side self.old.processor ports.old (request self.old.copies self.old.side self.old.code memory self.old.processor)) self.old.processor ports.old self.new.processor ports.new }
     {
-        match self.request(code, memory) {
-            Request::Halted => CoreAnswer::Halted,
-            Request::Faulty(fault) => CoreAnswer::Faulted(fault),
-            Request::Asks(access, word, inst) => {
-                if !ports.ready(access) {
-                    return waits(access);
-                }
-                let given = given(ports, access);
-                let form = form_of(&inst);
-                match self.finish(access, &inst, &form, given) {
-                    None => CoreAnswer::Faulted(Fault::Private),
-                    Some(piece) => {
-                        ports.commit(access, word);
-                        CoreAnswer::Did(piece)
-                    }
-                }
+        if self.is_halted() {
+            return CoreAnswer::Halted;
+        }
+        match self.fetch() {
+            Err(fault) => CoreAnswer::Faulted(fault),
+            Ok(legal) => self.step_legal(memory, &legal, ports),
+        }
+    }
+
+    fn step_legal<P: Ports>(&mut self, memory: u32, legal: &Legal, ports: &mut P) -> CoreAnswer
+        requires count { P.can_count ports.old }
+        requires form { legal.now.form ≡ form legal.now.inst }
+        ensures held { IsSame self.old self.new }
+        ensures answer { result ≡ answered_by P.is_ready P.front self.old.side self.old.processor ports.old (asked self.old.side memory self.old.processor legal.now) }
+        ensures told { Tells result (granted_by P.is_ready P.front P.after self.old.side self.old.processor ports.old (asked self.old.side memory self.old.processor legal.now)) self.old.processor ports.old self.new.processor ports.new }
+    {
+        let access = legal.access;
+        if let Some(fault) = self.early_fault(memory, access, &legal.form) {
+            return CoreAnswer::Faulted(fault);
+        }
+        if !ports.ready(access) {
+            return waits(access);
+        }
+        let word = self.put_word(access, &legal.inst, &legal.form);
+        let given = given(ports, access);
+        match self.finish(access, &legal.inst, &legal.form, given) {
+            None => CoreAnswer::Faulted(Fault::Private),
+            Some(piece) => {
+                ports.commit(access, word);
+                CoreAnswer::Did(piece)
             }
         }
     }
 
     /// What a step would answer now, with an empty piece in place of what it would print.
-    pub fn look<P: Ports>(&self, code: &[u32], memory: u32, ports: &P) -> CoreAnswer
-        ensures { result ≡ unprinted (answered_by P.is_ready P.front self.now.side self.now.processor ports.now (request self.now.copies self.now.side code.now memory self.now.processor)) }
+    pub fn look<P: Ports>(&self, memory: u32, ports: &P) -> CoreAnswer
+        ensures { result ≡ unprinted (answered_by P.is_ready P.front self.now.side self.now.processor ports.now (request self.now.copies self.now.side self.now.code memory self.now.processor)) }
     {
-        match self.request(code, memory) {
-            Request::Halted => CoreAnswer::Halted,
-            Request::Faulty(fault) => CoreAnswer::Faulted(fault),
-            Request::Asks(access, _, inst) => {
-                if !ports.ready(access) {
-                    return waits(access);
-                }
-                let given = given(ports, access);
-                if self.can_finish(access, &inst, &form_of(&inst), given) {
-                    CoreAnswer::Did(Piece::empty())
-                } else {
-                    CoreAnswer::Faulted(Fault::Private)
-                }
-            }
+        if self.is_halted() {
+            return CoreAnswer::Halted;
+        }
+        match self.fetch() {
+            Err(fault) => CoreAnswer::Faulted(fault),
+            Ok(legal) => self.look_legal(memory, &legal, ports),
+        }
+    }
+
+    fn look_legal<P: Ports>(&self, memory: u32, legal: &Legal, ports: &P) -> CoreAnswer
+        requires form { legal.now.form ≡ form legal.now.inst }
+        ensures { result ≡ unprinted (answered_by P.is_ready P.front self.now.side self.now.processor ports.now (asked self.now.side memory self.now.processor legal.now)) }
+    {
+        let access = legal.access;
+        if let Some(fault) = self.early_fault(memory, access, &legal.form) {
+            return CoreAnswer::Faulted(fault);
+        }
+        if !ports.ready(access) {
+            return waits(access);
+        }
+        let given = given(ports, access);
+        if self.can_finish(access, &legal.inst, &legal.form, given) {
+            CoreAnswer::Did(Piece::empty())
+        } else {
+            CoreAnswer::Faulted(Fault::Private)
         }
     }
 }

@@ -56,17 +56,17 @@ fn calls_print_and_halt(rt: HostRuntime) -> Result<(), Fail> {
             0x0000_0893,
             0x0000_0073,
         ];
-        let mut core = Core::open(rt.alloc(), Side::E, 0, 0, false)?;
+        let mut core = Core::open(rt.alloc(), Side::E, 0, 0, false, &code)?;
         let mut queues = NoQueues;
         for at in 0..5 {
-            let answer = core.step(&code, 64, &mut queues);
+            let answer = core.step(64, &mut queues);
             let want = if at == 2 { text } else { b"" };
             assert_eq!(rt; printed(&answer), want);
         }
         assert_eq!(rt; core.register(10), 0xFFFF_FFF9);
         assert_eq!(rt; core.counter(), 20);
         assert_eq!(rt; core.halted(), Some(Halt::Status(0xFFFF_FFF9)));
-        assert!(rt; matches!(core.step(&code, 64, &mut queues), CoreAnswer::Halted));
+        assert!(rt; matches!(core.step(64, &mut queues), CoreAnswer::Halted));
     }
     Ok(())
 }
@@ -83,20 +83,15 @@ fn a_fault_comes_before_a_wait(rt: HostRuntime) -> Result<(), Fail> {
     ];
     let queues = NoQueues;
     for (word, fault) in rows {
-        let core = Core::open(rt.alloc(), Side::E, 0, 0, false)?;
-        match (core.look(&[word], 64, &queues), fault) {
+        let core = Core::open(rt.alloc(), Side::E, 0, 0, false, &[word])?;
+        match (core.look(64, &queues), fault) {
             (CoreAnswer::Faulted(found), Some(wanted)) => assert_eq!(rt; found, wanted),
             (CoreAnswer::Waits(queue), None) => assert_eq!(rt; queue, Queue::Ld),
             _ => assert!(rt; false),
         }
     }
-    let core = Core::open(rt.alloc(), Side::A, 4, 0, false)?;
-    assert!(rt;
-        matches!(
-            core.look(&[0x73], 64, &queues),
-            CoreAnswer::Faulted(Fault::BadPc)
-        )
-    );
+    let core = Core::open(rt.alloc(), Side::A, 4, 0, false, &[0x73])?;
+    assert!(rt; matches!(core.look(64, &queues), CoreAnswer::Faulted(Fault::BadPc)));
     Ok(())
 }
 

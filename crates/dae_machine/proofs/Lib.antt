@@ -12,6 +12,7 @@ mod Kept
 mod Steps
 mod Generator
 mod Turns
+mod Tries
 mod Printing
 mod Scheduled
 mod Walks

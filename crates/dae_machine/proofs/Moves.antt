@@ -90,6 +90,33 @@ module _ (setup : Setup) (s : State) where
       let m = told_move E s.e p' h' answer x.0 x.1 told in
       (x.0.0.1, m.0, rw (m.1, m.2) (sym x.2), ap (λ (h : HeldQueues). h.depths) m.2)
 
+-- ---- whether a processor has a step, and that nothing changes where it has none
+
+tells_done : {Q : Type 0} (answer : CoreAnswer) (came : Option (After × Q)) (p p' : Processor) (q q' : Q) → Tells answer came p q p' q' → is_some came ≡ is_done answer
+tells_done (Did piece) came p p' q q' t = ap is_some t
+tells_done (Waits k) came p p' q q' t = ap is_some t.0
+tells_done IsHalted came p p' q q' t = ap is_some t.0
+tells_done (Faulted fault) came p p' q q' t = ap is_some t.0
+
+pub tells_same : {Q : Type 0} (answer : CoreAnswer) (came : Option (After × Q)) (p p' : Processor) (q q' : Q) → Tells answer came p q p' q' → is_done answer ≡ false → (p' ≡ p) × (q' ≡ q)
+tells_same (Did piece) came p p' q q' t h = cc
+tells_same (Waits k) came p p' q q' t h = (t.1, t.2)
+tells_same IsHalted came p p' q q' t h = (t.1, t.2)
+tells_same (Faulted fault) came p p' q q' t h = (t.1, t.2)
+
+module _ (setup : Setup) (s : State) where
+  told_done : (side : Side) (p p' : Processor) (h' : HeldQueues) (answer : CoreAnswer) → ToldBy setup s side p answer p' h' → is_some (move setup side p s.queues) ≡ is_done answer
+  told_done side p p' h' answer told =
+      sym (some_map (put_back setup.depths) (move setup side p s.queues))
+      ∙ ap is_some (sym (granted_is setup.depths side p s.queues (asked_by setup s side p)))
+      ∙ tells_done answer _ p p' (held setup.depths s.queues) h' told
+
+  pub a_told : (p' : Processor) (h' : HeldQueues) (answer : CoreAnswer) → ToldBy setup s A s.a answer p' h' → is_some (step setup s MoveA) ≡ is_done answer
+  a_told p' h' answer told = some_map (moved_a s) (move setup A s.a s.queues) ∙ told_done A s.a p' h' answer told
+
+  pub e_told : (p' : Processor) (h' : HeldQueues) (answer : CoreAnswer) → ToldBy setup s E s.e answer p' h' → is_some (step setup s MoveE) ≡ is_done answer
+  e_told p' h' answer told = some_map (moved_e s) (move setup E s.e s.queues) ∙ told_done E s.e p' h' answer told
+
 -- ---- what a processor would answer
 
 unprinted_done : (answer : CoreAnswer) → is_done (unprinted answer) ≡ is_done answer

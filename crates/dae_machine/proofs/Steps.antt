@@ -1,96 +1,142 @@
 -- What a step makes of the parts of a machine.
-use Rattle.std.proofs.Common.{◌≡◌, ℕ, ◌+◌, List, [], length, false, refl, ap, sym, ◌∙◌, subst}
-use Rattle.std.specs.Prelude.{Option, Some, None, IsSome}
+use Rattle.std.proofs.Common.{◌≡◌, ℕ, ◌+◌, Bool, List, [], length, true, false, refl, ap, sym, ◌∙◌, subst}
+use Rattle.std.specs.Prelude.{Option, Some, None, is_some}
 use Rattle.dae_base.specs.declared.Side.{Side}
 use Rattle.dae_base.specs.declared.Side.TheVariants.{A, E}
-use Rattle.dae_encode.specs.Processor.{request}
+use Rattle.dae_encode.specs.Processor.{Processor, request}
 use Rattle.dae_core.specs.declared.CoreAnswer.{CoreAnswer}
 use Rattle.dae_core.specs.declared.CoreAnswer.TheVariants.{Did}
-use Rattle.dae_core.specs.Held.{HeldCore, HeldQueues}
+use Rattle.dae_core.specs.Held.{HeldCore, HeldQueues, IsSame}
 use Rattle.dae_core.specs.Moves.{answered_by, granted_by, unprinted, Tells}
 use Rattle.dae_machine.specs.declared.Pick.{Pick}
 use Rattle.dae_machine.specs.declared.Pick.TheVariants.{A as MoveA, E as MoveE}
 use Rattle.dae_core.specs.Queues.{loads_of, with_loads_of}
 use Rattle.dae_queues.specs.Lists.{with_value}
-use Rattle.dae_machine.specs.Answers.{answer}
+use Rattle.dae_machine.specs.Answers.{answer, is_done}
 use Rattle.dae_machine.specs.Machine.{State, step}
 use Rattle.dae_machine.specs.Held.{Counted, HeldMachine, IsSound, is_plain, seen}
-use Rattle.dae_machine.proofs.Moves.{opens, fronts, afters, answer_is, a_moved, e_moved}
+use Rattle.dae_machine.proofs.Moves.{opens, fronts, afters, answer_is, a_moved, a_told, e_moved, e_told, tells_same, ToldBy}
 use Rattle.dae_machine.proofs.Kept.{counted_after, counted_filled, unplain_after}
 
-some_is : {X : Type 0} (o : Option X) → IsSome o → (x : X) × (o ≡ Some x)
-some_is None h = cc
-some_is (Some x) h = (x, refl)
+some_of : {X : Type 0} (o : Option X) → is_some o ≡ true → (x : X) × (o ≡ Some x)
+some_of None h = cc
+some_of (Some x) h = (x, refl)
+
+none_of : {X : Type 0} (o : Option X) → is_some o ≡ false → o ≡ None
+none_of None h = refl
+none_of (Some x) h = cc
+
+-- a processor that is the same but for its state, which didn't change either
+same_core : (c c' : HeldCore) → IsSame c c' → c'.processor ≡ c.processor → c' ≡ c
+same_core c c' s e =
+    ap (λ (x : Side). record { side = x; copies = c'.copies; code = c'.code; processor = c'.processor }) s.side
+    ∙ ap (λ (x : Bool). record { side = c.side; copies = x; code = c'.code; processor = c'.processor }) s.copies
+    ∙ ap (λ (x : List ℕ). record { side = c.side; copies = c.copies; code = x; processor = c'.processor }) s.code
+    ∙ ap (λ (x : Processor). record { side = c.side; copies = c.copies; code = c.code; processor = x }) e
 
 -- the parts of a machine after a step of this machine, which printed this
-pub record Moved (m : HeldMachine) (pick : Pick) (piece : List ℕ) (a e : HeldCore) (code_a code_e : List ℕ) (q : HeldQueues) (memory : List ℕ) (taken : ℕ) : Type 0 where
+pub record Moved (m : HeldMachine) (pick : Pick) (piece : List ℕ) (a e : HeldCore) (q : HeldQueues) (memory : List ℕ) (taken : ℕ) : Type 0 where
   pub sound : IsSound a e q memory taken
-  pub setup : (seen a e code_a code_e q memory taken).setup ≡ m.setup
-  pub state : step m.setup m.state pick ≡ Some (record (seen a e code_a code_e q memory taken).state { printed = piece })
+  pub setup : (seen a e q memory taken).setup ≡ m.setup
+  pub state : step m.setup m.state pick ≡ Some (record (seen a e q memory taken).state { printed = piece })
 
-module _ (a e : HeldCore) (code_a code_e : List ℕ) (q : HeldQueues) (memory : List ℕ) (taken : ℕ) (sound : IsSound a e q memory taken) where
+-- what a processor tells of the step of its core
+abbrev pub ToldOf : ℕ → HeldCore → HeldQueues → CoreAnswer → HeldCore → HeldQueues → Type 0
+ToldOf size c q answer c' q' =
+    Tells answer (granted_by opens fronts afters c.side c.processor q (request c.copies c.side c.code size c.processor)) c.processor q c'.processor q'
+
+module _ (a e : HeldCore) (q : HeldQueues) (memory : List ℕ) (taken : ℕ) (sound : IsSound a e q memory taken) where
   -- the machine that has these parts
   abbrev whole : HeldMachine
-  whole = seen a e code_a code_e q memory taken
+  whole = seen a e q memory taken
 
-  by_a : (answer : CoreAnswer) (a' : HeldCore) (q' : HeldQueues) → IsSome (step whole.setup whole.state MoveA) → (a'.side ≡ a.side) × (a'.copies ≡ a.copies) → Tells answer (granted_by opens fronts afters a.side a.processor q (request a.copies a.side code_a (length memory) a.processor)) a.processor q a'.processor q' → Moved whole MoveA [] a' e code_a code_e q' memory (taken + 1)
+  told_a : (answer : CoreAnswer) (a' : HeldCore) (q' : HeldQueues) → ToldOf (length memory) a q answer a' q' → ToldBy whole.setup whole.state A a.processor answer a'.processor q'
+  told_a answer a' q' told = rw (← sound.on_a) told
+
+  told_e : (answer : CoreAnswer) (e' : HeldCore) (q' : HeldQueues) → ToldOf (length memory) e q answer e' q' → ToldBy whole.setup whole.state E e.processor answer e'.processor q'
+  told_e answer e' q' told = rw (← sound.on_e, ← sound.same) told
+
+  by_a : (answer : CoreAnswer) (a' : HeldCore) (q' : HeldQueues) → is_some (step whole.setup whole.state MoveA) ≡ true → IsSame a a' → ToldOf (length memory) a q answer a' q' → Moved whole MoveA [] a' e q' memory (taken + 1)
   by_a answer a' q' enabled kept told =
-      let found = some_is (step whole.setup whole.state MoveA) enabled in
-      let told' : Tells answer (granted_by opens fronts afters A a.processor q (request a.copies A code_a (length memory) a.processor)) a.processor q a'.processor q' = rw (← sound.on_a) told in
-      let moved = a_moved whole.setup whole.state found.0 a'.processor q' answer found.1 told' in
+      let found = some_of (step whole.setup whole.state MoveA) enabled in
+      let moved = a_moved whole.setup whole.state found.0 a'.processor q' answer found.1 (told_a answer a' q' told) in
       let counted = counted_after whole.setup whole.state found.0 MoveA sound.counted found.1 in
       record {
         sound = record {
-          on_a = kept.0 ∙ sound.on_a;
+          on_a = kept.side ∙ sound.on_a;
           on_e = sound.on_e;
-          same = sound.same ∙ sym kept.1;
+          same = sound.same ∙ sym kept.copies;
           counted = subst (λ (t : State). Counted t.queues t.steps) moved.0 counted;
           small = sound.small;
           ends = sound.ends;
         };
-        setup = rw (kept.1, moved.1);
+        setup = rw (kept.copies, kept.code, moved.1);
         state = found.1 ∙ ap Some moved.0;
       }
 
-  by_e : (answer : CoreAnswer) (e' : HeldCore) (q' : HeldQueues) → IsSome (step whole.setup whole.state MoveE) → (e'.side ≡ e.side) × (e'.copies ≡ e.copies) → Tells answer (granted_by opens fronts afters e.side e.processor q (request e.copies e.side code_e (length memory) e.processor)) e.processor q e'.processor q' → (piece : List ℕ) × (answer ≡ Did piece) × Moved whole MoveE piece a e' code_a code_e q' memory (taken + 1)
+  by_e : (answer : CoreAnswer) (e' : HeldCore) (q' : HeldQueues) → is_some (step whole.setup whole.state MoveE) ≡ true → IsSame e e' → ToldOf (length memory) e q answer e' q' → (piece : List ℕ) × (answer ≡ Did piece) × Moved whole MoveE piece a e' q' memory (taken + 1)
   by_e answer e' q' enabled kept told =
-      let found = some_is (step whole.setup whole.state MoveE) enabled in
-      let told' : Tells answer (granted_by opens fronts afters E e.processor q (request a.copies E code_e (length memory) e.processor)) e.processor q e'.processor q' = rw (← sound.on_e, ← sound.same) told in
-      let moved = e_moved whole.setup whole.state found.0 e'.processor q' answer found.1 told' in
+      let found = some_of (step whole.setup whole.state MoveE) enabled in
+      let moved = e_moved whole.setup whole.state found.0 e'.processor q' answer found.1 (told_e answer e' q' told) in
       let counted = counted_after whole.setup whole.state found.0 MoveE sound.counted found.1 in (
         moved.0,
         moved.1,
         record {
           sound = record {
             on_a = sound.on_a;
-            on_e = kept.0 ∙ sound.on_e;
-            same = kept.1 ∙ sound.same;
+            on_e = kept.side ∙ sound.on_e;
+            same = kept.copies ∙ sound.same;
             counted = subst (λ (t : State). Counted t.queues t.steps) moved.2 counted;
             small = sound.small;
             ends = subst (λ (t : State). is_plain t.e.halt ≡ false) moved.2 (unplain_after whole.setup whole.state found.0 MoveE sound.ends found.1);
           };
-          setup = rw moved.3;
+          setup = rw (kept.code, moved.3);
           state = found.1 ∙ ap Some moved.2;
         },
       )
 
-module _ (a e : HeldCore) (code_a code_e : List ℕ) (q : HeldQueues) (memory : List ℕ) (taken : ℕ) (sound : IsSound a e q memory taken) (m : HeldMachine) (is : seen a e code_a code_e q memory taken ≡ m) where
-  pub a_step : (size : ℕ) (words : List ℕ) (answer : CoreAnswer) (a' : HeldCore) (q' : HeldQueues) → size ≡ length memory → words ≡ code_a → IsSome (step m.setup m.state MoveA) → (a'.side ≡ a.side) × (a'.copies ≡ a.copies) → Tells answer (granted_by opens fronts afters a.side a.processor q (request a.copies a.side words size a.processor)) a.processor q a'.processor q' → Moved m MoveA [] a' e code_a code_e q' memory (taken + 1)
-  a_step size words answer a' q' same_size same_code enabled kept told =
-      subst (λ (m : HeldMachine). Moved m MoveA [] a' e code_a code_e q' memory (taken + 1)) is
-      (by_a a e code_a code_e q memory taken sound answer a' q' (subst (λ (m : HeldMachine). IsSome (step m.setup m.state MoveA)) (sym is) enabled) kept (rw (← same_size, ← same_code) told))
+module _ (a e : HeldCore) (q : HeldQueues) (memory : List ℕ) (taken : ℕ) (sound : IsSound a e q memory taken) (m : HeldMachine) (is : seen a e q memory taken ≡ m) where
+  -- whether a processor has a step is told by what it answers
+  a_goes_by : (size : ℕ) (answer : CoreAnswer) (a' : HeldCore) (q' : HeldQueues) → size ≡ length memory → ToldOf size a q answer a' q' → is_some (step m.setup m.state MoveA) ≡ is_done answer
+  a_goes_by size answer a' q' same_size told =
+      subst (λ (m : HeldMachine). is_some (step m.setup m.state MoveA) ≡ is_done answer) is
+      (a_told (seen a e q memory taken).setup (seen a e q memory taken).state a'.processor q' answer (told_a a e q memory taken sound answer a' q' (rw (← same_size) told)))
 
-  pub e_step : (size : ℕ) (words : List ℕ) (answer : CoreAnswer) (e' : HeldCore) (q' : HeldQueues) → size ≡ length memory → words ≡ code_e → IsSome (step m.setup m.state MoveE) → (e'.side ≡ e.side) × (e'.copies ≡ e.copies) → Tells answer (granted_by opens fronts afters e.side e.processor q (request e.copies e.side words size e.processor)) e.processor q e'.processor q' → (piece : List ℕ) × (answer ≡ Did piece) × Moved m MoveE piece a e' code_a code_e q' memory (taken + 1)
-  e_step size words answer e' q' same_size same_code enabled kept told =
-      let moved = by_e a e code_a code_e q memory taken sound answer e' q' (subst (λ (m : HeldMachine). IsSome (step m.setup m.state MoveE)) (sym is) enabled) kept (rw (← same_size, ← same_code) told) in
-      (moved.0, moved.1, subst (λ (m : HeldMachine). Moved m MoveE moved.0 a e' code_a code_e q' memory (taken + 1)) is moved.2)
+  e_goes_by : (size : ℕ) (answer : CoreAnswer) (e' : HeldCore) (q' : HeldQueues) → size ≡ length memory → ToldOf size e q answer e' q' → is_some (step m.setup m.state MoveE) ≡ is_done answer
+  e_goes_by size answer e' q' same_size told =
+      subst (λ (m : HeldMachine). is_some (step m.setup m.state MoveE) ≡ is_done answer) is
+      (e_told (seen a e q memory taken).setup (seen a e q memory taken).state e'.processor q' answer (told_e a e q memory taken sound answer e' q' (rw (← same_size) told)))
+
+  pub a_step : (size : ℕ) (answer : CoreAnswer) (a' : HeldCore) (q' : HeldQueues) → size ≡ length memory → IsSame a a' → ToldOf size a q answer a' q' → is_done answer ≡ true → Moved m MoveA [] a' e q' memory (taken + 1)
+  a_step size answer a' q' same_size kept told done =
+      let enabled = a_goes_by size answer a' q' same_size told ∙ done in
+      subst (λ (m : HeldMachine). Moved m MoveA [] a' e q' memory (taken + 1)) is
+      (by_a a e q memory taken sound answer a' q' (subst (λ (m : HeldMachine). is_some (step m.setup m.state MoveA) ≡ true) (sym is) enabled) kept (rw (← same_size) told))
+
+  pub e_step : (size : ℕ) (answer : CoreAnswer) (piece : List ℕ) (e' : HeldCore) (q' : HeldQueues) → size ≡ length memory → IsSame e e' → ToldOf size e q answer e' q' → answer ≡ Did piece → Moved m MoveE piece a e' q' memory (taken + 1)
+  e_step size answer piece e' q' same_size kept told did =
+      let enabled = e_goes_by size answer e' q' same_size told ∙ ap is_done did in
+      let moved = by_e a e q memory taken sound answer e' q' (subst (λ (m : HeldMachine). is_some (step m.setup m.state MoveE) ≡ true) (sym is) enabled) kept (rw (← same_size) told) in
+      let same : moved.0 ≡ piece = cc (moved.1, did) in
+      subst (λ (m : HeldMachine). Moved m MoveE piece a e' q' memory (taken + 1)) is (subst (λ (p : List ℕ). Moved (seen a e q memory taken) MoveE p a e' q' memory (taken + 1)) same moved.2)
+
+  -- where it has none nothing changes
+  pub a_stay : (size : ℕ) (answer : CoreAnswer) (a' : HeldCore) (q' : HeldQueues) → size ≡ length memory → IsSame a a' → ToldOf size a q answer a' q' → is_done answer ≡ false → (step m.setup m.state MoveA ≡ None) × (seen a' e q' memory taken ≡ m)
+  a_stay size answer a' q' same_size kept told done =
+      let stayed = tells_same answer _ a.processor a'.processor q q' told done in
+      (none_of _ (a_goes_by size answer a' q' same_size told ∙ done), ap (λ (z : HeldCore). seen z e q' memory taken) (same_core a a' kept stayed.0) ∙ ap (λ (z : HeldQueues). seen a e z memory taken) stayed.1 ∙ is)
+
+  pub e_stay : (size : ℕ) (answer : CoreAnswer) (e' : HeldCore) (q' : HeldQueues) → size ≡ length memory → IsSame e e' → ToldOf size e q answer e' q' → is_done answer ≡ false → (step m.setup m.state MoveE ≡ None) × (seen a e' q' memory taken ≡ m)
+  e_stay size answer e' q' same_size kept told done =
+      let stayed = tells_same answer _ e.processor e'.processor q q' told done in
+      (none_of _ (e_goes_by size answer e' q' same_size told ∙ done), ap (λ (z : HeldCore). seen a z q' memory taken) (same_core e e' kept stayed.0) ∙ ap (λ (z : HeldQueues). seen a e z memory taken) stayed.1 ∙ is)
 
   -- what the processors would answer
-  pub a_look : (size : ℕ) (words : List ℕ) → size ≡ length memory → words ≡ code_a → unprinted (answered_by opens fronts a.side a.processor q (request a.copies a.side words size a.processor)) ≡ answer m.setup m.state A
-  a_look size words same_size same_code = subst (λ (m : HeldMachine). unprinted (answered_by opens fronts a.side a.processor q (request a.copies a.side words size a.processor)) ≡ answer m.setup m.state A) is (rw (same_size, same_code, sound.on_a) (answer_is (seen a e code_a code_e q memory taken).setup (seen a e code_a code_e q memory taken).state A))
+  pub a_look : (size : ℕ) → size ≡ length memory → unprinted (answered_by opens fronts a.side a.processor q (request a.copies a.side a.code size a.processor)) ≡ answer m.setup m.state A
+  a_look size same_size = subst (λ (m : HeldMachine). unprinted (answered_by opens fronts a.side a.processor q (request a.copies a.side a.code size a.processor)) ≡ answer m.setup m.state A) is (rw (same_size, sound.on_a) (answer_is (seen a e q memory taken).setup (seen a e q memory taken).state A))
 
-  pub e_look : (size : ℕ) (words : List ℕ) → size ≡ length memory → words ≡ code_e → unprinted (answered_by opens fronts e.side e.processor q (request e.copies e.side words size e.processor)) ≡ answer m.setup m.state E
-  e_look size words same_size same_code = subst (λ (m : HeldMachine). unprinted (answered_by opens fronts e.side e.processor q (request e.copies e.side words size e.processor)) ≡ answer m.setup m.state E) is (rw (same_size, same_code, sound.on_e, sound.same) (answer_is (seen a e code_a code_e q memory taken).setup (seen a e code_a code_e q memory taken).state E))
+  pub e_look : (size : ℕ) → size ≡ length memory → unprinted (answered_by opens fronts e.side e.processor q (request e.copies e.side e.code size e.processor)) ≡ answer m.setup m.state E
+  e_look size same_size = subst (λ (m : HeldMachine). unprinted (answered_by opens fronts e.side e.processor q (request e.copies e.side e.code size e.processor)) ≡ answer m.setup m.state E) is (rw (same_size, sound.on_e, sound.same) (answer_is (seen a e q memory taken).setup (seen a e q memory taken).state E))
 
 -- a fill keeps what is true of every machine
 pub fill_sound : (a e : HeldCore) (q : HeldQueues) (memory : List ℕ) (taken : ℕ) (side : Side) (n w : ℕ) → IsSound a e q memory taken → IsSound a e (record q { queues = with_loads_of side (with_value n w (loads_of side q.queues).slots) q.queues }) memory (taken + 1)

@@ -277,3 +277,9 @@ chosen_right n ps qs a e h k some above = chosen_in n (ps ++ qs) (a + e) (length
 pub picked_if : (setup : Setup) (s : State) (word : ℕ) (o : Option Pick) → IsCounted s → o ≡ pick_of setup s word → IfSome o (λ p. IsSome (step setup s p))
 picked_if setup s word None c h = tt
 picked_if setup s word (Some p) c h = picked_goes setup s c word p (sym h)
+
+-- so is a chosen fill
+pub fill_if : (setup : Setup) (s : State) (n : ℕ) (o : Option Pick) → IsCounted s → o ≡ chosen n (fills_of A s ++ fills_of E s) → IfSome o (λ p. IsSome (step setup s p))
+fill_if setup s n None c h = tt
+fill_if setup s n (Some p) c h =
+    all_chosen (goes setup s) n _ p (all_append (goes setup s) (fills_of A s) (fills_of E s) (all_fills setup s c A) (all_fills setup s c E)) (sym h)

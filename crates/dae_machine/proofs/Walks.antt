@@ -1,7 +1,6 @@
 -- A walk that the queues grant is a run of the machine.
-use Rattle.std.proofs.Common.{◌≡◌, ℕ, suc, ◌+◌, Bool, true, List, [], ◌∷◌, ◌++◌, length, refl, ap, ◌∙◌, append_assoc, append-nil, arith}
-use Rattle.std.specs.Prelude.{Some, option_map, if◌then◌else◌}
-use Rattle.std.specs.List.{AllByRecursion}
+use Rattle.std.proofs.Common.{◌≡◌, ℕ, ◌+◌, Bool, true, List, [], ◌∷◌, ◌++◌, refl, ap, ◌∙◌, append_assoc, append-nil, arith}
+use Rattle.std.specs.Prelude.{Some, option_map}
 use Rattle.dae_base.specs.declared.Side.TheVariants.{A, E}
 use Rattle.dae_base.specs.declared.Queue.TheVariants.{Al}
 use Rattle.dae_encode.specs.declared.QueueUse.TheVariants.{Load}
@@ -12,7 +11,7 @@ use Rattle.dae_machine.specs.declared.Pick.TheVariants.{A as MoveA, E as MoveE, 
 use Rattle.dae_machine.specs.Runs.{often}
 use Rattle.dae_machine.specs.Machine.{Setup, State, step, filled}
 use Rattle.dae_machine.specs.Uses.{Use, Takes, Pushes, Reserves, Sends, Says, access_of, put_by, given_by, said_by, texts, Puts}
-use Rattle.dae_machine.specs.Walks.{Goes, Walks, stays, quiet, makes, Grants, ends, grants, owns, state_of, IsAccess, nothing, moves, loads, IsExecute, RanA, RanE, may_use}
+use Rattle.dae_machine.specs.Walks.{Goes, Walks, stays, quiet, makes, Grants, ends, grants, owns, IsAccess, nothing, moves, loads, IsExecute, RanA, RanE, may_use}
 use Rattle.dae_machine.proofs.Confluence.{run-step}
 use Rattle.dae_machine.proofs.Grants.{ready_for}
 

@@ -1,5 +1,5 @@
 -- What keeps a processor from a step, and how a machine opens.
-use Rattle.std.specs.Prelude.{◌≡◌, Bool, true, false, Some, None}
+use Rattle.std.specs.Prelude.{◌≡◌, Bool, true, false, Some}
 use Rattle.dae_base.specs.Budgets.{depth, first_below, Reaches}
 use Rattle.dae_base.specs.declared.Side.{Side}
 use Rattle.dae_base.specs.declared.Side.TheVariants.{A, E}

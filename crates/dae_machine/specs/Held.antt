@@ -23,9 +23,9 @@ pub record Counted (q : Queues) (steps : ℕ) : Type 0 where
   pub stores : q.stores.issued ≤ steps
 
 -- what a machine is seen as, from its parts
-abbrev pub seen : HeldCore → HeldCore → List ℕ → List ℕ → HeldQueues → List ℕ → ℕ → HeldMachine
-seen a e code_a code_e q memory taken = record {
-  setup = record { code_a = code_a; code_e = code_e; memory = length memory; copies = a.copies; depths = q.depths };
+abbrev pub seen : HeldCore → HeldCore → HeldQueues → List ℕ → ℕ → HeldMachine
+seen a e q memory taken = record {
+  setup = record { code_a = a.code; code_e = e.code; memory = length memory; copies = a.copies; depths = q.depths };
   state = record { a = a.processor; e = e.processor; queues = q.queues; memory = memory; printed = []; steps = taken };
   silent = refl;
 }

@@ -3,6 +3,7 @@ pub mod Machine
 pub mod Opened
 pub mod Runs
 pub mod Turns
+pub mod Tries
 pub mod Ends
 pub mod Uses
 pub mod Walks

@@ -1,4 +1,4 @@
-ghost use Rattle.std.specs.Prelude.{◌≡◌, ◌<◌, [], Some, IsSome, is_some, IfOk, IfErr, None};
+ghost use Rattle.std.specs.Prelude.{◌≡◌, ◌<◌, [], true, false, Some, IsSome, is_some, IfOk, IfErr, IfSome, None};
 ghost use Rattle.dae_base.specs.Budgets.{Reaches};
 ghost use Rattle.dae_core.specs.Held.{CanHold};
 ghost use Rattle.dae_machine.specs.Answers.{Refuses, is_done};
@@ -6,8 +6,9 @@ ghost use Rattle.dae_machine.specs.Held.{DataFit};
 ghost use Rattle.dae_machine.specs.Machine.{step};
 ghost use Rattle.dae_machine.specs.Memory.{filling};
 ghost use Rattle.dae_machine.specs.Opened.{opened, setup_of};
+ghost use Rattle.dae_machine.specs.Tries.{Stepped};
 
-use crate::open::{common_memory, reaches};
+use crate::open::{common_memory, core_a, core_e, reaches};
 use crate::{OpenError, Pick};
 use dae_base::{Depths, Piece, Side};
 use dae_core::{Core, CoreAnswer, Queues, store};
@@ -23,8 +24,6 @@ mod turns;
 pub struct Machine {
     a: Core,
     e: Core,
-    code_a: Vec<u32>,
-    code_e: Vec<u32>,
     queues: Queues,
     memory: Vec<u8>,
     taken: u64,
@@ -35,7 +34,7 @@ impl Model for Machine {
 
     ghost Value = { HeldMachine };
 
-    ghost view = { λ m. seen m.a m.e m.code_a.items m.code_e.items m.queues m.memory.items m.taken };
+    ghost view = { λ m. seen m.a m.e m.queues m.memory.items m.taken };
 
     ghost invariant = { λ m. IsSound m.a m.e m.queues m.memory.items m.taken };
 }
@@ -64,10 +63,8 @@ impl Machine {
     {
         let copies = image.budget.cq != 0;
         Ok(Machine {
-            a: Core::open(alloc, Side::A, image.entry_a, image.private_a, copies)?,
-            e: Core::open(alloc, Side::E, image.entry_e, image.private_e, copies)?,
-            code_a: Vec::from_slice(alloc, image.code_a.as_slice())?,
-            code_e: Vec::from_slice(alloc, image.code_e.as_slice())?,
+            a: core_a(alloc, image, copies)?,
+            e: core_e(alloc, image, copies)?,
             queues: Queues::with_depths(alloc, depths)?,
             memory: common_memory(alloc, image)?,
             taken: 0,
@@ -111,10 +108,13 @@ impl Machine {
     {
         match pick {
             Pick::A => {
-                self.move_a();
+                let _ = self.try_a();
                 Piece::empty()
             }
-            Pick::E => self.move_e(),
+            Pick::E => match self.try_e() {
+                Some(piece) => piece,
+                None => unreachable!(),
+            },
             Pick::Fill(side, number) => {
                 self.fill(side, number);
                 Piece::empty()
@@ -133,33 +133,34 @@ impl Machine {
         self.queues.filling(side, number, self.memory.as_slice())
     }
 
-    /// One instruction of A.
-    fn move_a(&mut self)
-        requires enabled { IsSome (step self.old.setup self.old.state Pick.A) }
+    /// One instruction of A, where it has a step now, or false, and then nothing changes.
+    fn try_a(&mut self) -> bool
         requires few { self.old.state.steps < 1000000000000 }
-        ensures setup { self.new.setup ≡ self.old.setup }
-        ensures state { step self.old.setup self.old.state Pick.A ≡ Some (record self.new.state { printed = [] }) }
-        ensures silent { self.new.state.printed ≡ [] }
+        ensures done { result ≡ true → Stepped Pick.A [] self.old self.new }
+        ensures none { result ≡ false → (step self.old.setup self.old.state Pick.A ≡ None) × (self.new ≡ self.old) }
     {
         let memory = self.memory.len() as u32;
-        let _ = self.a.step(&self.code_a, memory, &mut self.queues);
-        self.taken += 1;
+        let answer = self.a.step(memory, &mut self.queues);
+        let done = is_done(&answer);
+        if done {
+            self.taken += 1;
+        }
+        done
     }
 
-    /// One instruction of E, and what it prints.
-    fn move_e(&mut self) -> Piece
-        requires enabled { IsSome (step self.old.setup self.old.state Pick.E) }
+    /// One instruction of E and what it prints, where it has a step now, or None, and then nothing changes.
+    fn try_e(&mut self) -> Option<Piece>
         requires few { self.old.state.steps < 1000000000000 }
-        ensures setup { self.new.setup ≡ self.old.setup }
-        ensures state { step self.old.setup self.old.state Pick.E ≡ Some (record self.new.state { printed = result }) }
-        ensures silent { self.new.state.printed ≡ [] }
+        ensures done { IfSome result (λ piece. Stepped Pick.E piece self.old self.new) }
+        ensures none { result ≡ None → (step self.old.setup self.old.state Pick.E ≡ None) × (self.new ≡ self.old) }
     {
         let memory = self.memory.len() as u32;
-        let answer = self.e.step(&self.code_e, memory, &mut self.queues);
-        self.taken += 1;
-        match answer {
-            CoreAnswer::Did(piece) => piece,
-            _ => unreachable!(),
+        match self.e.step(memory, &mut self.queues) {
+            CoreAnswer::Did(piece) => {
+                self.taken += 1;
+                Some(piece)
+            }
+            CoreAnswer::Waits(_) | CoreAnswer::Halted | CoreAnswer::Faulted(_) => None,
         }
     }
 

@@ -1,11 +1,13 @@
 ghost use Rattle.std.specs.Prelude.{◌≡◌, ◌≤◌, ◌+◌, ◌-◌, ◌++◌, length, replicate, IfOk, IfErr, None, ◌≢◌, ◌<◌, ◌^◌};
 ghost use Rattle.dae_base.specs.Budgets.{depth, Reaches};
-ghost use Rattle.dae_core.specs.Held.{CanHold};
+ghost use Rattle.dae_base.specs.declared.Side.TheVariants.{A, E};
+ghost use Rattle.dae_core.specs.Held.{CanHold, fresh};
 ghost use Rattle.dae_machine.specs.Answers.{Refuses};
 ghost use Rattle.dae_machine.specs.Held.{DataFit};
 
 use crate::OpenError;
-use dae_base::{Depths, Queue};
+use dae_base::{Depths, Queue, Side};
+use dae_core::Core;
 use dae_image::Image;
 use std::alloc::{AllocError, Global};
 
@@ -51,4 +53,20 @@ pub fn common_memory(alloc: Global, image: &Image) -> Result<Vec<u8>, AllocError
     memory.extend_from_slice(image.content.as_slice())?;
     memory.resize(image.memory as usize, 0)?;
     Ok(memory)
+}
+
+/// The access processor of an image before its first instruction.
+pub fn core_a(alloc: Global, image: &Image, copies: bool) -> Result<Core, AllocError>
+    ensures { IfOk result (λ core. core ≡ record { side = A; copies = copies; code = image.now.code_a; processor = fresh image.now.entry_a image.now.private_a }) }
+{
+    let code = image.code_a.as_slice();
+    Core::open(alloc, Side::A, image.entry_a, image.private_a, copies, code)
+}
+
+/// The execute processor of an image before its first instruction.
+pub fn core_e(alloc: Global, image: &Image, copies: bool) -> Result<Core, AllocError>
+    ensures { IfOk result (λ core. core ≡ record { side = E; copies = copies; code = image.now.code_e; processor = fresh image.now.entry_e image.now.private_e }) }
+{
+    let code = image.code_e.as_slice();
+    Core::open(alloc, Side::E, image.entry_e, image.private_e, copies, code)
 }

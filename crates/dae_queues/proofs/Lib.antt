@@ -8,3 +8,4 @@ mod Places
 mod Fills
 mod ListLaws
 pub mod LawsOfLists
+mod Filled

@@ -1,8 +1,8 @@
-ghost use Rattle.std.specs.Prelude.{◌≡◌, ◌<◌, ◌^◌, filter, length, nat_lt, is_some, if◌then◌else◌, IfOk, slice_get, slice_set, Some};
+ghost use Rattle.std.specs.Prelude.{◌≡◌, ◌<◌, ◌^◌, drop, filter, length, nat_lt, is_some, if◌then◌else◌, IfOk, slice_get, slice_set, Some};
 ghost use Rattle.std.specs.List.{list_any};
 ghost use Rattle.circular_buffer.specs.Buffer.{buffer};
 ghost use Rattle.dae_queues.specs.Lists.{first_value, with_slot, without_front, waiting, with_value, no_slots, can_be_filled, holds};
-ghost use Rattle.dae_queues.specs.Rings.{at_place, fillable_at};
+ghost use Rattle.dae_queues.specs.Rings.{at_place, fillable_at, has_value, is_held, AreFilled};
 
 use crate::{Slot, StoreAt, StoreQueue, overlap};
 use circular_buffer::HeapCircularBuffer;
@@ -11,24 +11,26 @@ use std::alloc::{AllocError, Global};
 use std::marker::Model;
 
 /// A load queue: the slots that were reserved and not yet taken, oldest first, and how many it can hold. A slot counts
-/// against the depth from its reservation until it is taken.
+/// against the depth from its reservation until it is taken. Beside them stands how many slots at the front have their
+/// value, so that no walk for waiting slots begins before the first of these.
 #[derive(Drop)]
 pub struct SlotQueue {
     ring: HeapCircularBuffer<Slot>,
     taken: u64,
     reserved: u64,
+    filled: u16,
 }
 
 impl Model for SlotQueue {
     ghost use Rattle.std.specs.Prelude.{◌<◌, ◌^◌, map};
     ghost use Rattle.dae_queues.specs.Numbers.{Counts};
-    ghost use Rattle.dae_queues.specs.Rings.{SlotRing};
+    ghost use Rattle.dae_queues.specs.Rings.{SlotRing, AreFilled};
 
     ghost Value = { SlotRing };
 
     ghost view = { λ q. record { held = record { taken = q.taken; reserved = q.reserved; slots = q.ring.items }; depth = q.ring.capacity } };
 
-    ghost invariant = { λ q. Counts q.taken (map (λ slot. slot.number) q.ring.items) q.reserved × (q.ring.capacity < 2 ^ 16) };
+    ghost invariant = { λ q. Counts q.taken (map (λ slot. slot.number) q.ring.items) q.reserved × (q.ring.capacity < 2 ^ 16) × AreFilled q.filled q.ring.items };
 }
 
 impl SlotQueue {
@@ -42,6 +44,7 @@ impl SlotQueue {
             ring,
             taken: 0,
             reserved: 0,
+            filled: 0,
         })
     }
 
@@ -128,6 +131,7 @@ impl SlotQueue {
         let value = self.front()?;
         let _ = self.ring.pop_front();
         self.taken += 1;
+        self.filled = self.filled.saturating_sub(1);
         Some(value)
     }
 
@@ -148,6 +152,7 @@ impl SlotQueue {
             Some(slot) => {
                 let at = (number - self.taken) as usize;
                 put_at(&mut self.ring, at, slot, value);
+                self.filled = filled_from(&self.ring, self.filled);
                 true
             }
         }
@@ -159,7 +164,7 @@ impl SlotQueue {
         ensures { result ≡ length (filter (can_be_filled stores.now.held.sa) self.now.held.slots) }
     {
         let mut count = 0;
-        for at in 0..self.len() {
+        for at in self.filled..self.len() {
             if self.fillable_at(stores, at).is_some() {
                 count += 1;
             }
@@ -174,7 +179,7 @@ impl SlotQueue {
         ensures { result ≡ slice_get (filter (can_be_filled stores.now.held.sa) self.now.held.slots) n }
     {
         let mut left = n;
-        for at in 0..self.len() {
+        for at in self.filled..self.len() {
             if let Some(slot) = self.fillable_at(stores, at) {
                 if left == 0 {
                     return Some(slot);
@@ -198,10 +203,16 @@ impl SlotQueue {
 
     /// Whether an older load that waits keeps this store from being drained: one whose stamp is at most the store's
     /// number and that reads a byte of it.
+    #[tactic(auto, using(crate::proofs::Filled::held_from, crate::proofs::Filled::held_past))]
     pub fn holds(&self, at: &StoreAt) -> bool
         ensures { result ≡ list_any (holds at.now) self.now.held.slots }
     {
-        any_holds(&self.ring, at)
+        for place in self.filled..self.len() {
+            if holds_at(&self.ring, place, at) {
+                return true;
+            }
+        }
+        false
     }
 }
 
@@ -241,8 +252,34 @@ fn holds(at: &StoreAt, slot: &Slot) -> bool
         && overlap(at.addr, at.width, slot.addr, slot.kind.width())
 }
 
-fn any_holds(slots: &HeapCircularBuffer<Slot>, at: &StoreAt) -> bool
-    ensures { result ≡ list_any (holds at.now) slots.now.items }
+fn holds_at(slots: &HeapCircularBuffer<Slot>, place: u16, at: &StoreAt) -> bool
+    ensures { result ≡ is_held at.now (slice_get slots.now.items place) }
 {
-    slots.iter().any(|slot| holds(at, slot))
+    match slots.get(place as usize) {
+        Some(slot) => holds(at, slot),
+        None => false,
+    }
+}
+
+fn has_value(slots: &HeapCircularBuffer<Slot>, place: u16) -> bool
+    ensures { result ≡ has_value (slice_get slots.now.items place) }
+{
+    match slots.get(place as usize) {
+        Some(slot) => slot.value.is_some(),
+        None => false,
+    }
+}
+
+/// How many slots at the front have their value, where so many are known to have it.
+#[tactic(auto, using(crate::proofs::Filled::one_more))]
+fn filled_from(slots: &HeapCircularBuffer<Slot>, known: u16) -> u16
+    requires { AreFilled known slots.now.items }
+    ensures { AreFilled result slots.now.items }
+{
+    for place in known..u16::MAX {
+        if !has_value(slots, place) {
+            return place;
+        }
+    }
+    u16::MAX
 }

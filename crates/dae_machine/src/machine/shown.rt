@@ -49,14 +49,14 @@ impl Machine {
         ensures { result ≡ answer self.now.setup self.now.state Side.A }
     {
         let memory = self.memory.len() as u32;
-        self.a.look(&self.code_a, memory, &self.queues)
+        self.a.look(memory, &self.queues)
     }
 
     fn look_e(&self) -> CoreAnswer
         ensures { result ≡ answer self.now.setup self.now.state Side.E }
     {
         let memory = self.memory.len() as u32;
-        self.e.look(&self.code_e, memory, &self.queues)
+        self.e.look(memory, &self.queues)
     }
 
     /// How many items a queue holds.

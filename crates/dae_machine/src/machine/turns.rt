@@ -2,11 +2,12 @@ ghost use Rattle.std.specs.Prelude.{◌≡◌, ◌<◌, ◌++◌, Some, None, is
 ghost use Rattle.dae_base.specs.declared.Side.TheVariants.{A, E};
 ghost use Rattle.dae_machine.specs.Machine.{step, IsQuiet};
 ghost use Rattle.dae_machine.specs.Rests.{Rests, TurnedTo};
+ghost use Rattle.dae_machine.specs.Tries.{Tried};
 ghost use Rattle.dae_machine.specs.Turns.{chosen, fills_of, kind_at, pick_of};
 
 use super::Machine;
 use crate::{End, Pick, Rest, Turn};
-use dae_base::{Queue, Side};
+use dae_base::{Piece, Queue, Side};
 use dae_core::Halt;
 
 impl Machine {
@@ -124,13 +125,91 @@ impl Machine {
         ensures turn { TurnedTo result word self.old.setup self.old.state self.new.state }
         ensures silent { self.old.state.printed ≡ [] → self.new.state.printed ≡ [] }
     {
-        if let Some(pick) = self.pick(word) {
-            let piece = self.step(pick);
+        if let Some((pick, piece)) = self.try_pick(word) {
             return Turn::Stepped(pick, piece);
         }
         match self.ending() {
             Rest::Final(end) => Turn::Final(end),
             Rest::Stuck => Turn::Stuck,
         }
+    }
+
+    /// The step of the pick that a word selects and what it prints, where some pick is enabled. Else nothing changes.
+    fn try_pick(&mut self, word: u32) -> Option<(Pick, Piece)>
+        requires few { self.old.state.steps < 1000000000000 }
+        ensures { Tried result (pick_of self.old.setup self.old.state word) self.old self.new }
+    {
+        let (choice, place) = (word / 4, word % 4);
+        if let Some(done) = self.try_kind(choice, place) {
+            return Some(done);
+        }
+        if let Some(done) = self.try_kind(choice, place + 1) {
+            return Some(done);
+        }
+        if let Some(done) = self.try_kind(choice, place + 2) {
+            return Some(done);
+        }
+        self.try_kind(choice, place + 3)
+    }
+
+    /// The step of the pick that is chosen of a kind, and what it prints, where one is enabled. Else nothing changes.
+    #[tactic(auto, using(crate::proofs::Turns::chosen_alone))]
+    fn try_kind(&mut self, choice: u32, place: u32) -> Option<(Pick, Piece)>
+        requires few { self.old.state.steps < 1000000000000 }
+        ensures { Tried result (chosen choice (kind_at self.old.setup self.old.state place)) self.old self.new }
+    {
+        match place % 4 {
+            0 => self.try_alone_a(),
+            1 => self.try_alone_e(),
+            2 => self.try_fills(choice),
+            _ => self.try_drain(),
+        }
+    }
+
+    fn try_alone_a(&mut self) -> Option<(Pick, Piece)>
+        requires few { self.old.state.steps < 1000000000000 }
+        ensures { Tried result (if is_some (step self.old.setup self.old.state Pick.A) then Some Pick.A else None) self.old self.new }
+    {
+        if self.try_a() {
+            Some((Pick::A, Piece::empty()))
+        } else {
+            None
+        }
+    }
+
+    fn try_alone_e(&mut self) -> Option<(Pick, Piece)>
+        requires few { self.old.state.steps < 1000000000000 }
+        ensures { Tried result (if is_some (step self.old.setup self.old.state Pick.E) then Some Pick.E else None) self.old self.new }
+    {
+        let piece = self.try_e()?;
+        Some((Pick::E, piece))
+    }
+
+    fn try_fills(&mut self, choice: u32) -> Option<(Pick, Piece)>
+        requires few { self.old.state.steps < 1000000000000 }
+        ensures { Tried result (chosen choice (fills_of A self.old.state ++ fills_of E self.old.state)) self.old self.new }
+    {
+        let pick = self.enabled_fill(choice)?;
+        let piece = self.step(pick);
+        Some((pick, piece))
+    }
+
+    fn enabled_fill(&self, choice: u32) -> Option<Pick>
+        ensures pick { result ≡ chosen choice (fills_of A self.now.state ++ fills_of E self.now.state) }
+        ensures enabled { IfSome result (λ pick. IsSome (step self.now.setup self.now.state pick)) }
+    {
+        let _ = &self.queues;
+        self.pick_of_fills(choice)
+    }
+
+    fn try_drain(&mut self) -> Option<(Pick, Piece)>
+        requires few { self.old.state.steps < 1000000000000 }
+        ensures { Tried result (if is_some (step self.old.setup self.old.state Pick.Drain) then Some Pick.Drain else None) self.old self.new }
+    {
+        if !self.enabled(Pick::Drain) {
+            return None;
+        }
+        self.drain();
+        Some((Pick::Drain, Piece::empty()))
     }
 }

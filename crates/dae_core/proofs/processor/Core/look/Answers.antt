@@ -1,0 +1,14 @@
+-- A processor that halted asks nothing.
+use Rattle.std.proofs.Common.{◌≡◌, true, ap, subst, sym, ◌∙◌}
+use Rattle.std.specs.Prelude.{is_some}
+use Rattle.dae_encode.specs.declared.Request.{Request}
+use Rattle.dae_core.specs.Held.{HeldCore}
+use Rattle.dae_core.specs.Moves.{answered_by, unprinted}
+use Rattle.dae_core.proofs.Fetches.{halted_asks}
+use Rattle.dae_core.proofs.processor.Core.look.Goals as goal
+
+pub returns-then-is_halted : goal.returns-then-is_halted
+returns-then-is_halted g c =
+    let halted = sym c.is_halted.ensures ∙ c.if-is_halted.true in
+    ap (λ (r : Request). unprinted (answered_by g.P.Ports.is_ready g.P.Ports.front c.args.self.now.side c.args.self.now.processor c.args.ports.now r))
+    (sym (halted_asks c.args.self.now.copies c.args.self.now.side c.args.self.now.code c.args.memory c.args.self.now.processor halted))

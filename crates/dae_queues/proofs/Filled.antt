@@ -1,0 +1,68 @@
+-- The slots at the front that have their value.
+use Rattle.std.proofs.Common.{◌≡◌, ℕ, zero, suc, ◌+◌, ◌-◌, ◌≤◌, true, false, ◌||◌, filter, List, [], ◌∷◌, ◌++◌, drop, length, refl, add-one, arith}
+use Rattle.std.specs.Prelude.{Option, Some, None, is_some, is_none, slice_get, slice_set}
+use Rattle.std.specs.List.{list_any}
+use Rattle.dae_queues.specs.declared.Slot.{Slot}
+use Rattle.dae_queues.specs.declared.StoreAt.{StoreAt}
+use Rattle.dae_queues.specs.Lists.{can_be_filled, holds, rest}
+use Rattle.dae_queues.specs.Rings.{has_value, is_held, AreFilled}
+
+pub within : (n : ℕ) (ss : List Slot) → AreFilled n ss → n ≤ length ss
+within zero ss h = omega arith
+within (suc n) [] h = absurd h
+within (suc n) (s ∷ ss) h = let w = within n ss h.1 in omega (arith, w)
+
+not_none : (v : Option ℕ) → is_some v ≡ true → is_none v ≡ false
+not_none None h = cc
+not_none (Some x) h = refl
+
+-- none of them may be filled, and none holds a store
+pub skip_fillable : (sa : List StoreAt) (n : ℕ) (ss : List Slot) → AreFilled n ss → filter (can_be_filled sa) (drop n ss) ≡ filter (can_be_filled sa) ss
+skip_fillable sa zero ss h = refl
+skip_fillable sa (suc n) [] h = refl
+skip_fillable sa (suc n) (s ∷ ss) h = rw (not_none s.value h.0) (skip_fillable sa n ss h.1)
+
+pub skip_holds : (a : StoreAt) (n : ℕ) (ss : List Slot) → AreFilled n ss → list_any (holds a) (drop n ss) ≡ list_any (holds a) ss
+skip_holds a zero ss h = refl
+skip_holds a (suc n) [] h = refl
+skip_holds a (suc n) (s ∷ ss) h = rw (not_none s.value h.0) (skip_holds a n ss h.1)
+
+-- they stay so behind a new slot, where the front one is taken, and where a slot gets its value
+pub filled_more : (n : ℕ) (ss ts : List Slot) → AreFilled n ss → AreFilled n (ss ++ ts)
+filled_more zero ss ts h = tt
+filled_more (suc n) [] ts h = absurd h
+filled_more (suc n) (s ∷ ss) ts h = (h.0, filled_more n ss ts h.1)
+
+pub filled_rest : (n : ℕ) (ss : List Slot) → AreFilled n ss → AreFilled (n - 1) (rest ss)
+filled_rest zero ss h = tt
+filled_rest (suc n) [] h = absurd h
+filled_rest (suc n) (s ∷ ss) h = let e : suc n - 1 ≡ n = omega arith in rw e h.1
+
+pub filled_set : (n : ℕ) (ss : List Slot) (i : ℕ) (z : Slot) → is_some z.value ≡ true → AreFilled n ss → AreFilled n (slice_set ss i z)
+filled_set zero ss i z v h = tt
+filled_set (suc n) [] i z v h = absurd h
+filled_set (suc n) (s ∷ ss) zero z v h = (v, h.1)
+filled_set (suc n) (s ∷ ss) (suc i) z v h = (h.0, filled_set n ss i z v h.1)
+
+pub one_more : (n : ℕ) (ss : List Slot) → AreFilled n ss → has_value (slice_get ss n) ≡ true → AreFilled (n + 1) ss
+one_more zero [] h v = cc
+one_more zero (z ∷ ss) h v = (v, tt)
+one_more (suc n) [] h v = absurd h
+one_more (suc n) (z ∷ ss) h v = let e : suc n + 1 ≡ suc (n + 1) = omega arith in rw e (h.0, one_more n ss h.1 v)
+
+-- whether a slot holds a store, from a place on
+held_by : (a : StoreAt) (ss : List Slot) (i : ℕ) → list_any (holds a) (drop i ss) ≡ (is_held a (slice_get ss i) || list_any (holds a) (drop (suc i) ss))
+held_by a [] zero = refl
+held_by a [] (suc i) = refl
+held_by a (s ∷ ss) zero = refl
+held_by a (s ∷ ss) (suc i) = held_by a ss i
+
+pub held_from : (a : StoreAt) (ss : List Slot) (i : ℕ) → list_any (holds a) (drop i ss) ≡ (is_held a (slice_get ss i) || list_any (holds a) (drop (i + 1) ss))
+held_from a ss i = rw (add-one i) (held_by a ss i)
+
+-- past the last slot there is none
+pub held_past : (a : StoreAt) (ss : List Slot) (i : ℕ) → length ss ≤ i → list_any (holds a) (drop i ss) ≡ false
+held_past a [] zero h = refl
+held_past a [] (suc i) h = refl
+held_past a (s ∷ ss) zero h = absurd (omega (arith, h))
+held_past a (s ∷ ss) (suc i) h = held_past a ss i (omega (arith, h))
