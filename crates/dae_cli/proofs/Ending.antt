@@ -2,7 +2,7 @@
 use Rattle.std.proofs.Common.{◌≡◌, ℕ, ◌+◌, ◌-◌, ◌<◌, ◌≤◌, suc, List, [], ◌∷◌, ◌++◌, length, get_or, take, drop, refl, sym, ap, ◌∙◌, arith, drop-cons}
 use Rattle.std.specs.Prelude.{IsTrue, codes, map}
 use Rattle.std.proofs.lemmas.List.{drop_all, map-append, same_from_push, take-append-drop}
-use Rattle.dae_cli.specs.declared.options.RunOptions.{RunOptions}
+use Rattle.dae_drive.specs.declared.options.RunOptions.{RunOptions}
 use Rattle.dae_cli.specs.declared.options.Chosen.{Chosen}
 use Rattle.dae_cli.specs.Options.{ChosenBy, options_of, text_of}
 use Rattle.dae_cli.specs.Words.{is_file_name, SpellsExec}

@@ -1,11 +1,10 @@
-pub mod Driving
-pub mod Outcome
-pub mod Given
-pub mod Refused
-pub mod Executed
-pub mod Longest
-pub mod Ends
-pub mod Spelling
-pub mod Ending
-pub mod Choosing
-pub mod Ranges
+mod NoImage
+mod Ends
+mod Fetched
+mod Refused
+mod Longest
+mod Early
+mod Spelling
+mod Ending
+mod Choosing
+mod Ranges

@@ -12,8 +12,9 @@ use Rattle.dae_image.specs.Images.{contents}
 use Rattle.dae_image.specs.Ranges.{is_in, name_range}
 use Rattle.dae_image.specs.Spelling.{Spells, body, head_1, head_2, line, name, number, numbers}
 use Rattle.dae_image.proofs.Laws.{IsIn-from_test}
-use Rattle.dae_cli.specs.declared.options.RunOptions.{RunOptions}
-use Rattle.dae_cli.specs.Answers.{Answer, DueOfBytes, due_image, due_no_image, due_memory_to_decode, DueOfImageFile, due_bytes}
+use Rattle.dae_drive.specs.declared.options.RunOptions.{RunOptions}
+use Rattle.dae_drive.specs.Puts.{Answer}
+use Rattle.dae_cli.specs.ImageFiles.{DueOfBytes, due_image, due_no_image, due_memory_to_decode, DueOfImageFile, due_bytes}
 
 numbers_size : (ws : List ℕ) → length (numbers ws) ≡ 4 * length ws
 numbers_size [] = refl

@@ -8,9 +8,9 @@ use Rattle.dae_base.specs.declared.Queue.TheVariants.{Ld, Al, Sa, Sd, Ab, Eb, Cq
 use Rattle.dae_base.specs.Budgets.{depth}
 use Rattle.dae_core.specs.Held.{CanHold}
 use Rattle.dae_machine.specs.declared.Schedule.TheVariants.{Round}
-use Rattle.dae_cli.specs.declared.options.RunOptions.{RunOptions}
+use Rattle.dae_drive.specs.declared.options.RunOptions.{RunOptions}
 use Rattle.dae_cli.specs.declared.options.Setting.{Setting}
-use Rattle.dae_cli.specs.declared.options.Shown.{Shown}
+use Rattle.dae_drive.specs.declared.options.Shown.{Shown}
 use Rattle.dae_cli.specs.declared.options.Setting.TheVariants.{Depth, Schedule as Order, Steps, Show}
 use Rattle.dae_cli.specs.declared.options.Chosen.{Chosen}
 use Rattle.dae_cli.specs.Options.{alone, options_of, AreChosen, IsInRange, IsSchedule, IsShown, IsWithin, OptionsInRange}

@@ -1,5 +1,5 @@
 -- What is due for a text that is not run.
-use Rattle.std.proofs.Common.{◌≡◌, ℕ, ◌≤◌, ◌⊎◌, inl, inr, List, [], length, refl, subst}
+use Rattle.std.proofs.Common.{◌≡◌, ℕ, ◌≤◌, List, [], length, refl, subst}
 use Rattle.std.specs.Prelude.{◌≢◌, Option, Err}
 use Rattle.dae_tree.specs.declared.faults.LexError.{LexError}
 use Rattle.dae_tree.specs.declared.faults.LexError.TheVariants as lex_errors
@@ -12,25 +12,18 @@ use Rattle.dae_parse.specs.Parsed.{IsFileOf}
 use Rattle.dae_straight_reader.specs.Form.{straight_of}
 use Rattle.dae_straight_reader.specs.Outcomes.{around_in}
 use Rattle.dae_straight.specs.declared.StraightProgram.{StraightProgram}
-use Rattle.dae_cli.specs.Notes.{memory_line}
 use Rattle.dae_cli.specs.Refusals.{lex_line}
-use Rattle.dae_cli.specs.Answers.{Answer, answer, whole_room, around_read, Gives, DueOfText, due_no_tokens, due_memory_to_read}
-use Rattle.dae_cli.proofs.Given.{gives_for}
-
--- the line was noted, or memory was wanting for it
-pub refused_due : {name text line : List ℕ} {status : ℕ} {o o' n n' : Option (List ℕ)} {failed other : Type 0} → DueOfText name text (answer 2 [] line) → (Gives (answer 2 [] line) status o o' n n' failed ⊎ Gives (answer 7 [] memory_line) status o o' n n' failed) → (due : Answer) × DueOfText name text due × Gives due status o o' n n' (other ⊎ failed)
-refused_due d (inl given) = (_, d, gives_for (λ r. inr r) given)
-refused_due d (inr given) = (_, due_memory_to_read, gives_for (λ r. inr r) given)
+use Rattle.dae_drive.specs.Puts.{told}
+use Rattle.dae_cli.specs.Sources.{whole_room, around_read, DueOfText, due_no_tokens}
 
 -- why a text has no tokens
-pub no_tokens : (name text : List ℕ) (e : LexError) (new : Room) → length text ≤ 1048576 → e ≢ lex_errors.Memory → Answers (Err e) whole_room new (tokens_of 0 text whole_room) → DueOfText name text (answer 2 [] (lex_line name e))
+pub no_tokens : (name text : List ℕ) (e : LexError) (new : Room) → length text ≤ 1048576 → e ≢ lex_errors.Memory → Answers (Err e) whole_room new (tokens_of 0 text whole_room) → DueOfText name text (told 2 (lex_line name e))
 no_tokens name text (lex_errors.BadByte p) new short other h = due_no_tokens _ other short h.0
 no_tokens name text (lex_errors.TooManyTokens p) new short other h = due_no_tokens _ other short h.0
 no_tokens name text (lex_errors.Refused construct p) new short other h = due_no_tokens _ other short h.0
 no_tokens name text lex_errors.Memory new short other h = absurd (other refl)
 
 -- what a file has beside its tree is what was read
-
 around_file : (r : Reading) (f : Contents) → IsFileOf r f → around_in f ≡ around_read r
 around_file r f h = rw (h.names, h.literals, h.stdio, h.stdlib) refl
 

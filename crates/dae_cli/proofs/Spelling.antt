@@ -12,7 +12,7 @@ use Rattle.std.proofs.lemmas.Str.Pattern.{IsSplitOnceResult, split_after, split_
 use Rattle.dae_base.specs.declared.Queue.{Queue}
 use Rattle.dae_base.specs.declared.Queue.TheVariants.{Ld, Al, Sa, Sd, Ab, Eb, Cq}
 use Rattle.dae_machine.specs.declared.Schedule.TheVariants.{Seed}
-use Rattle.dae_cli.specs.declared.options.Shown.{Shown}
+use Rattle.dae_drive.specs.declared.options.Shown.{Shown}
 use Rattle.dae_cli.specs.declared.options.Setting.{Setting}
 use Rattle.dae_cli.specs.declared.options.Setting.TheVariants.{Depth, Schedule as Order, Steps, Show}
 use Rattle.dae_cli.specs.Options.{option_name, queue_option, value_text, HasParts, IsTheOne, IsWithin, SpellsNumber, SpellsSchedule, SpellsSetting, SpellsShown}

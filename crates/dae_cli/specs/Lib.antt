@@ -1,6 +1,6 @@
 pub mod Options
 pub mod Words
-pub mod Notes
 pub mod Refusals
+pub mod ImageFiles
+pub mod Sources
 pub mod Answers
-pub mod Driving

@@ -8,8 +8,8 @@ use Rattle.dae_base.specs.declared.Queue.TheVariants.{Ld, Al, Sa, Sd, Ab, Eb, Cq
 use Rattle.dae_base.specs.Budgets.{depth}
 use Rattle.dae_machine.specs.declared.Schedule.{Schedule}
 use Rattle.dae_machine.specs.declared.Schedule.TheVariants.{Round, A, E, Fill, Drain, Seed}
-use Rattle.dae_cli.specs.declared.options.Shown.{Shown}
-use Rattle.dae_cli.specs.declared.options.RunOptions.{RunOptions}
+use Rattle.dae_drive.specs.declared.options.Shown.{Shown}
+use Rattle.dae_drive.specs.declared.options.RunOptions.{RunOptions}
 use Rattle.dae_cli.specs.declared.options.Setting.{Setting}
 use Rattle.dae_cli.specs.declared.options.Setting.TheVariants.{Depth, Schedule as Order, Steps, Show}
 use Rattle.dae_cli.specs.declared.options.Chosen.{Chosen}

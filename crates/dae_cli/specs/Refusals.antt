@@ -7,7 +7,7 @@ use Rattle.dae_tree.specs.declared.faults.LexError.{LexError}
 use Rattle.dae_tree.specs.declared.faults.LexError.TheVariants as lex_errors
 use Rattle.dae_parse.specs.declared.error.ParseError.{ParseError}
 use Rattle.dae_parse.specs.declared.error.ParseError.TheVariants as tree_errors
-use Rattle.dae_cli.specs.Notes.{memory_line}
+use Rattle.dae_drive.specs.Lines.{memory_line}
 
 -- a place in the file of this name
 abbrev pub place_text : List ℕ → Place → List ℕ

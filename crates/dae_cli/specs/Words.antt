@@ -1,7 +1,7 @@
 -- The words that spell a job.
 use Rattle.std.specs.Prelude.{◌≡◌, ℕ, Bool, false, not, ◌&&◌, nat_le, nat_eq, IsTrue, List, [], ◌∷◌, ◌++◌, map, length, codes}
 use Rattle.std.specs.List.{AllByRecursion}
-use Rattle.dae_cli.specs.declared.options.RunOptions.{RunOptions}
+use Rattle.dae_drive.specs.declared.options.RunOptions.{RunOptions}
 use Rattle.dae_cli.specs.declared.options.Setting.{Setting}
 use Rattle.dae_cli.specs.declared.options.Chosen.{Chosen}
 use Rattle.dae_cli.specs.declared.job.Job.{Job}

@@ -22,7 +22,7 @@ const HALTS: &[u8] =
     b"DAE1\x01\0\0\0\0\0\0\0\0\0\0\0\0\0\0\0\0\0\0\0\0\0\0\0\0\0\0\0@\0\0\0\x01\0\0\0\0\0\0\0\0\0\0\0\0\0\0\0\0\0\0\0\x01\0\0\0\x01\0\0\0\0\0\0\0\0\0\0\0\0\0\0\0s\0\0\0\x93\x02\x0f\0";
 
 /// A store to address 16, whose datum is one more than the word at address 20, which is loaded behind it.
-const STORES_BESIDE: &[u8] =
+pub const STORES_BESIDE: &[u8] =
     b"DAE1\x01\0\0\0\x01\0\0\0\0\0\0\0\x01\0\0\0\x01\0\0\0\0\0\0\0\0\0\0\0@\0\0\0\x01\0\0\0\0\0\0\0\0\0\0\0\0\0\0\0\0\0\0\0\x03\0\0\0\x03\0\0\0\x08\0\0\0\0\0\0\0\0\0\0\0#(\xe0\x01\x03/@\x01s\0\0\0\x13\x05\x0f\0\x13\x0f\x15\0s\0\0\0\0\0\0\0\x07\0\0\0";
 
 /// The same, but the load is of the bytes that the store is to write.

@@ -1,7 +1,9 @@
+// The job that the words ask for.
 ghost use Rattle.std.specs.Prelude.{◌≡◌, ℕ, List, map, MatchOption, string_bytes};
 ghost use Rattle.dae_cli.specs.Words.{is_file_name, SpellsExec, SpellsJob, SpellsNone, SpellsRun};
 
-use crate::options::{RunOptions, chosen_of};
+use crate::options::chosen_of;
+use dae_drive::RunOptions;
 
 /// What the words ask for: the run of a source file, or the run of an image with options.
 #[derive(Clone, Copy)]
@@ -59,8 +61,8 @@ fn is_file_name(word: &str) -> bool
 #[cfg(test)]
 mod tests {
     use super::{Job, spelled_job};
-    use crate::options::{RunOptions, Shown};
     use dae_base::Depths;
+    use dae_drive::{RunOptions, Shown};
     use dae_machine::Schedule;
     use std::alloc::Global;
     use std::process::Abort;

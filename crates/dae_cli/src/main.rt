@@ -2,13 +2,15 @@
 // top call's, which is generic over where texts come from and where bytes go.
 #![tactic(auto)]
 
+use dae_drive::noted;
 use dae_io::{DirShelf, StdSink};
 use std::alloc::{AllocError, Global};
 use std::env;
 use std::io::ErrorKind;
 use std::process::ExitCode;
 
-mod drive;
+#[cfg(test)]
+mod cut_tests;
 mod exec;
 #[cfg(test)]
 mod exec_tests;
@@ -17,11 +19,9 @@ mod files;
 #[cfg(test)]
 mod images;
 mod job;
-mod line;
-mod notes;
 mod options;
 mod refusals;
-mod running;
+mod run;
 #[cfg(test)]
 mod tests;
 mod top;
@@ -43,13 +43,11 @@ fn main(rt: HostRuntime) -> ExitCode {
     let status = match env::args(&rt) {
         Ok(all) => match words_of(alloc, all) {
             Ok(words) => top::dae_main(alloc, words.as_slice(), &mut shelf, &mut out, &mut note),
-            Err(_) => running::noted(&mut note, b"memory\n", 7),
+            Err(_) => noted(&mut note, b"memory\n", 7),
         },
         // A word that is no UTF-8 spells no job.
-        Err(error) if error.kind() == ErrorKind::InvalidData => {
-            running::noted(&mut note, b"words\n", 64)
-        }
-        Err(_) => running::noted(&mut note, b"memory\n", 7),
+        Err(error) if error.kind() == ErrorKind::InvalidData => { noted(&mut note, b"words\n", 64) }
+        Err(_) => noted(&mut note, b"memory\n", 7),
     };
     ExitCode::from(status)
 }

@@ -1,27 +1,12 @@
+// The options of a job: their values, and the words that set them.
 ghost use Rattle.std.specs.Prelude.{◌≡◌, Option, map, string_bytes, MatchOption};
 ghost use Rattle.dae_machine.specs.declared.Schedule.TheVariants.{Seed};
 ghost use Rattle.dae_cli.specs.Options.{ChosenBy, HasBoth, HasParts, IsBoth, IsTheOne, SpellsNumber, SpellsSchedule, SpellsSetting, SpellsShown, alone, depth_alone, depths_of, options_of, queue_option};
 
 use dae_base::{Depths, Queue};
+use dae_drive::{RunOptions, Shown};
 use dae_machine::Schedule;
 use itoa::Buffer;
-
-/// The bytes of the common memory that a run shows at its end: the address of the first and their count, 1 to 64.
-#[derive(Clone, Copy, PartialEq, Eq, Debug)]
-pub struct Shown {
-    pub address: u32,
-    pub count: u8,
-}
-
-/// How a machine is run: the depths of its queues, each 1 to 4,096; who is preferred in each turn; at most how many
-/// steps, 1 to 1,000,000,000,000; and what is shown at the end.
-#[derive(Clone, Copy, PartialEq, Eq, Debug)]
-pub struct RunOptions {
-    pub depths: Depths,
-    pub schedule: Schedule,
-    pub steps: u64,
-    pub show: Option<Shown>,
-}
 
 /// What one word `--name=value` sets.
 #[derive(Clone, Copy, PartialEq, Eq, Debug)]

@@ -1,4 +1,6 @@
+// The lines for a text that is not run.
 ghost use Rattle.std.specs.Prelude.{◌≡◌, IfOk, string_bytes};
+ghost use Rattle.dae_drive.specs.Lines.{not_built_line};
 ghost use Rattle.dae_cli.specs.Refusals.{construct_name, lex_line, place_text, refused_line, too_long_line, tree_line};
 
 use dae_base::Place;
@@ -37,6 +39,13 @@ pub fn too_long_line(alloc: Global, name: &str) -> Result<String, AllocError>
     ensures { IfOk result (λ line. string_bytes line ≡ too_long_line name.now) }
 {
     format!(in alloc; "refused source-too-long {name}\n")
+}
+
+/// The line for a file whose tree spells no program that is compiled.
+pub fn not_built_line(alloc: Global) -> Result<String, AllocError>
+    ensures { IfOk result (λ line. string_bytes line ≡ not_built_line) }
+{
+    String::from_str(alloc, "refused not-built\n")
 }
 
 // The line that tells what a file is refused for, and where.

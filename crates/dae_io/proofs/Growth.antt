@@ -3,7 +3,7 @@ use Rattle.std.proofs.Common.{◌≡◌, ℕ, ◌+◌, ◌-◌, ◌≤◌, List,
 use Rattle.std.specs.Io.KnownBytes.{Appends, Keeps}
 use Rattle.std.proofs.lemmas.List.{take-append-le, take_min}
 use Rattle.std.proofs.Math.Seq.{take-add, take-append-add}
-use Rattle.dae_io.specs.Taken.{AppendsPrefix}
+use Rattle.dae_io.specs.Sinks.{AppendsPrefix}
 
 pub Appends-nothing : (a : Option (List ℕ)) → Appends a a []
 Appends-nothing None = tt

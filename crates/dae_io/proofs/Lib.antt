@@ -1,3 +1,4 @@
 mod Held
-pub mod Growth
-pub mod Counted
+mod NoFields
+mod Growth
+pub mod Laws

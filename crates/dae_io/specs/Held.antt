@@ -18,3 +18,7 @@ Fits room name text = (name ≤ string_capacity room.name) × (text ≤ vec_capa
 -- the shelf has room to keep a name and a text of so many bytes
 abbrev pub HasRoom : MemShelf → ℕ → ℕ → Type 0
 HasRoom shelf name text = IsSomeAnd shelf.room (λ room. Fits room name text) × (vec_len shelf.texts < vec_capacity shelf.texts)
+
+-- whatever could be kept before can be kept after
+abbrev pub KeepsRoom : MemShelf → MemShelf → Type 0
+KeepsRoom old new = (name text : ℕ) → HasRoom old name text → HasRoom new name text

@@ -1,6 +1,8 @@
 pub mod Faults
+pub mod FailedCalls
 pub mod Told
-pub mod Taken
+pub mod Sinks
+pub mod Pieces
 pub mod Failing
 pub mod Held
 pub mod Listed

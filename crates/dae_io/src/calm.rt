@@ -1,6 +1,9 @@
-ghost use Rattle.std.specs.Prelude.{◌≡◌, ◌≢◌, ℕ, ◌≤◌, ◌⊎◌, List, length, take, Option, None, Some, IfOk, IsOk, true, false, if◌then◌else◌};
+// A shelf and a sink that never fail.
+ghost use Rattle.std.specs.Prelude.{◌≡◌, ◌≢◌, ℕ, ◌≤◌, ◌⊎◌, List, length, take, Option, None, Some, IfOk, IsOk, [], ◌∷◌, ◌++◌, true, false, if◌then◌else◌};
 ghost use Rattle.dae_io.specs.Listed.{first_text};
+ghost use Rattle.dae_io.specs.Sinks.{sink_state};
 
+use crate::given::{Given, PutCall};
 use crate::prefix::first_bytes;
 use crate::shelf::{FetchError, KeepFailed, Shelf};
 use crate::sink::{Sink, SinkFailed};
@@ -64,18 +67,31 @@ impl<'t> Shelf for CalmShelf<'t> {
 }
 
 /// A sink that takes every piece, drops it and tells nothing.
-#[derive(Clone, Copy, Debug)]
-pub struct CalmSink;
+#[derive(Drop)]
+pub struct CalmSink {
+    pub given: Given,
+}
+
+impl CalmSink {
+    /// The sink before its first put.
+    pub fn new() -> CalmSink
+        ensures { result.given.pieces ≡ [] }
+    {
+        CalmSink {
+            given: Given::nothing(),
+        }
+    }
+}
 
 impl Sink for CalmSink {
-    ghost taken = { λ _. None };
-
-    ghost count = { λ _. 0 };
+    ghost seen = { λ sink. sink_state None sink.given.pieces 0 };
 
     /// Always succeeds.
-    fn put(&mut self, _bytes: &[u8]) -> Result<(), SinkFailed>
-        ensures { IsOk result }
+    fn put(&mut self, bytes: &[u8]) -> Result<(), SinkFailed>
+        ensures succeeds { IsOk result }
+        ensures given { self.new.given.pieces ≡ self.old.given.pieces ++ bytes.now ∷ [] }
     {
+        self.given = self.given.then(&PutCall { piece: bytes });
         Ok(())
     }
 }

@@ -1,3 +1,4 @@
+// A shelf over the real files.
 ghost use Rattle.std.specs.Prelude.{◌≡◌, ℕ, ◌≤◌, length, IfOk, None};
 
 use crate::faults::Faults;
@@ -18,7 +19,7 @@ impl<'r, R: Files> DirShelf<'r, R> {
     /// The shelf of these files.
     pub fn new(files: &'r R) -> DirShelf<'r, R>
         ensures count { result.faults.count ≡ 0 }
-        ensures last { result.faults.last ≡ None }
+        ensures last { result.faults.last.fault ≡ None }
     {
         DirShelf {
             files,
@@ -49,7 +50,7 @@ impl<'r, R: Files> Shelf for DirShelf<'r, R> {
 
     ghost count = { λ shelf. shelf.faults.count };
 
-    ghost last = { λ shelf. shelf.faults.last };
+    ghost last = { λ shelf. shelf.faults.last.fault };
 
     fn fetch(&mut self, alloc: Global, name: &str, most: u32) -> Result<Vec<u8>, FetchError> {
         let text = read_file(self.files, alloc, name, most as usize);

@@ -1,3 +1,4 @@
+// The lists by which the objects in memory know which of their calls are to fail.
 ghost use Rattle.std.specs.Prelude.{◌≡◌};
 ghost use Rattle.dae_io.specs.Failing.{failing_at};
 

@@ -1,63 +1,49 @@
-ghost use Rattle.std.specs.Prelude.{◌≡◌, ℕ, ◌+◌, ◌-◌, ◌^◌, ◌≤◌, min, List, length, take, None};
+// The faults of a shelf: how many there were, and, for contracts alone, what the last one was.
+ghost use Rattle.std.specs.Prelude.{◌≡◌, ◌+◌, ◌-◌, ◌^◌, ◌≤◌, min, Option, None};
+ghost use base.Fml.{ftrue};
+ghost use Rattle.dae_io.specs.Faults.{ShelfFault, fault_code};
 
-use crate::prefix::first_bytes;
 use std::marker::Model;
 
-/// The first 4,096 bytes of a name. Clauses see the list of those bytes.
+/// A call that failed, with the name that it was given.
+#[derive(Clone, Copy, Drop)]
+pub enum FailedCall<'n> {
+    Fetch(&'n str),
+    Keep(&'n str),
+}
+
+/// The last fault of a shelf, if there was one. It stands for contracts alone: it takes no memory, and its functions do
+/// nothing when they run.
 #[derive(Drop)]
-pub struct FaultName {
-    bytes: [u8; 4096],
-    len: u16,
+pub struct LastFault {
+    pub ghost fault: { Option ShelfFault } by { fault_code },
 }
 
-impl Model for FaultName {
-    ghost Value = { List ℕ };
-
-    ghost view = { λ name. take name.len name.bytes };
-
-    ghost invariant = { λ name. name.len ≤ 4096 };
+impl Model for LastFault {
+    ghost also_owns = { λ _. ftrue };
 }
 
-impl FaultName {
-    /// The first 4,096 bytes of a name, or all where it has fewer.
-    pub fn of(name: &str) -> FaultName
-        ensures { result ≡ take 4096 name.now }
+impl LastFault {
+    ghost use Rattle.dae_io.specs.FailedCalls.{fault_of};
+
+    fn none() -> LastFault
+        ensures { result.fault ≡ None }
     {
-        FaultName::of_short(first_bytes(name.as_bytes(), 4096))
+        LastFault {}
     }
 
-    fn of_short(text: &[u8]) -> FaultName
-        requires { length text.now ≤ 4096 }
-        ensures { result ≡ text.now }
+    fn of(_call: &FailedCall<'_>) -> LastFault
+        ensures { result.fault ≡ fault_of _call.now }
     {
-        let mut bytes = [0; 4096];
-        bytes[..text.len()].copy_from_slice(text);
-        FaultName {
-            bytes,
-            len: text.len() as u16,
-        }
+        LastFault {}
     }
-
-    /// The bytes.
-    pub fn as_bytes(&self) -> &[u8]
-        ensures { result.now ≡ self.now }
-    {
-        &self.bytes[..self.len as usize]
-    }
-}
-
-/// A fault of a shelf: a text that it failed to fetch, or failed to keep.
-#[derive(Drop)]
-pub enum ShelfFault {
-    Fetch(FaultName),
-    Keep(FaultName),
 }
 
 /// How many faults a shelf had, up to 2^64 - 1, and the last one.
 #[derive(Drop)]
 pub struct Faults {
     pub count: u64,
-    pub last: Option<ShelfFault>,
+    pub last: LastFault,
 }
 
 impl Faults {
@@ -66,11 +52,11 @@ impl Faults {
     /// No fault.
     pub fn none() -> Faults
         ensures count { result.count ≡ 0 }
-        ensures last { result.last ≡ None }
+        ensures last { result.last.fault ≡ None }
     {
         Faults {
             count: 0,
-            last: None,
+            last: LastFault::none(),
         }
     }
 
@@ -78,19 +64,19 @@ impl Faults {
     pub fn fetch_failed(&mut self, name: &str)
         ensures count { self.new.count ≡ min (self.old.count + 1) (2 ^ 64 - 1) }
         ensures counted { self.old.count ≤ self.new.count }
-        ensures last { self.new.last ≡ fetch_of name.now }
+        ensures last { self.new.last.fault ≡ fetch_of name.now }
     {
         self.count = self.count.saturating_add(1);
-        self.last = Some(ShelfFault::Fetch(FaultName::of(name)));
+        self.last = LastFault::of(&FailedCall::Fetch(name));
     }
 
     /// Counts a failed keep under a name.
     pub fn keep_failed(&mut self, name: &str)
         ensures count { self.new.count ≡ min (self.old.count + 1) (2 ^ 64 - 1) }
         ensures counted { self.old.count ≤ self.new.count }
-        ensures last { self.new.last ≡ keep_of name.now }
+        ensures last { self.new.last.fault ≡ keep_of name.now }
     {
         self.count = self.count.saturating_add(1);
-        self.last = Some(ShelfFault::Keep(FaultName::of(name)));
+        self.last = LastFault::of(&FailedCall::Keep(name));
     }
 }

@@ -6,7 +6,8 @@
 pub use calm::{CalmShelf, CalmSink, NamedText};
 pub use directory::DirShelf;
 pub use failing::FailingCall;
-pub use faults::{FaultName, Faults, ShelfFault};
+pub use faults::{FailedCall, Faults, LastFault};
+pub use given::{Given, PutCall};
 pub use memory_shelf::{HeldText, MemShelf};
 pub use memory_sink::MemSink;
 pub use shelf::{FetchError, KeepFailed, Shelf};
@@ -17,6 +18,7 @@ mod calm;
 mod directory;
 mod failing;
 mod faults;
+mod given;
 mod memory_shelf;
 mod memory_sink;
 mod prefix;

@@ -1,8 +1,9 @@
+// A shelf in memory. Its room for a keep is made before, stays until a keep uses it up, and is then no longer there.
 ghost use Rattle.std.specs.Prelude.{◌≡◌, ◌≢◌, ℕ, ◌+◌, ◌-◌, ◌^◌, ◌<◌, ◌≤◌, ◌⊎◌, ◌↔◌, min, [], length, take, vec_len, Some, None, IsSome, IsNone, IfOk, IsOk, OnOk, OnErr, IsErr, IsErrOf, IfSome, option_map, string_bytes, IsTrue};
 ghost use Rattle.std.specs.Vec.{vec_capacity};
 ghost use Rattle.dae_io.specs.Failing.{failing_at};
 ghost use Rattle.dae_io.specs.Faults.{Rose, fetch_of, keep_of};
-ghost use Rattle.dae_io.specs.Held.{last_text, Fits, HasRoom};
+ghost use Rattle.dae_io.specs.Held.{last_text, Fits, HasRoom, KeepsRoom};
 ghost use Rattle.dae_io.specs.Told.{TellsSame, TellsSameOfOthers};
 
 use crate::failing::{FailingCall, failing_at};
@@ -58,6 +59,7 @@ fn add(texts: &mut Vec<HeldText>, held: HeldText) -> Result<(), AllocError>
     ensures others { TellsSameOfOthers (string_bytes held.name) (last_text texts.old.items) (last_text texts.new.items) }
     ensures err { OnErr result (texts.new.items ≡ texts.old.items) }
     ensures succeeds { vec_len texts.old < vec_capacity texts.old → IsOk result }
+    ensures place { vec_len texts.old + 1 < vec_capacity texts.old → vec_len texts.new < vec_capacity texts.new }
 {
     texts.push(held)?;
     Ok(())
@@ -66,10 +68,11 @@ fn add(texts: &mut Vec<HeldText>, held: HeldText) -> Result<(), AllocError>
 impl MemShelf {
     /// A shelf without texts and without room for a keep.
     pub fn new(alloc: Global, failing: &[FailingCall]) -> Result<MemShelf, AllocError>
+        ensures room { IfOk result (λ shelf. shelf.room ≡ None) }
         ensures texts { IfOk result (λ shelf. shelf.texts.items ≡ []) }
         ensures calls { IfOk result (λ shelf. shelf.calls ≡ 0) }
         ensures count { IfOk result (λ shelf. shelf.faults.count ≡ 0) }
-        ensures last { IfOk result (λ shelf. shelf.faults.last ≡ None) }
+        ensures last { IfOk result (λ shelf. shelf.faults.last.fault ≡ None) }
         ensures failing { IfOk result (λ shelf. shelf.failing.items ≡ failing.now) }
     {
         Ok(MemShelf {
@@ -81,7 +84,7 @@ impl MemShelf {
         })
     }
 
-    /// Puts a text under a name. Where memory is wanting, the shelf holds what it held.
+    /// Puts a text under a name. Where memory is wanting, the shelf holds what it held. The room for a keep stays.
     pub fn hold(&mut self, alloc: Global, name: &str, text: &[u8]) -> Result<(), AllocError>
         ensures held { OnOk result (last_text self.new.texts.items name.now ≡ Some text.now) }
         ensures others { TellsSameOfOthers name.now (last_text self.old.texts.items) (last_text self.new.texts.items) }
@@ -89,15 +92,19 @@ impl MemShelf {
         ensures faults { self.new.faults ≡ self.old.faults }
         ensures calls { self.new.calls ≡ self.old.calls }
         ensures failing { self.new.failing.items ≡ self.old.failing.items }
+        ensures room { KeepsRoom self.old self.new }
     {
         let name = String::from_str(alloc, name)?;
         let text = Vec::from_slice(alloc, text)?;
+        self.texts.reserve(2)?;
         add(&mut self.texts, HeldText { name, text })
     }
 
-    /// Makes room for one keep: a name and a text of up to so many bytes.
+    /// Makes room for one keep: a name and a text of up to so many bytes. Where memory is wanting, the room that was there
+    /// stays.
     pub fn make_room(&mut self, alloc: Global, name: usize, text: usize) -> Result<(), AllocError>
         ensures room { OnOk result (HasRoom self.new name text) }
+        ensures err { OnErr result (KeepsRoom self.old self.new) }
         ensures texts { self.new.texts.items ≡ self.old.texts.items }
         ensures faults { self.new.faults ≡ self.old.faults }
         ensures calls { self.new.calls ≡ self.old.calls }
@@ -121,7 +128,7 @@ impl MemShelf {
             .map(|held| held.text.as_slice())
     }
 
-    // Whether there was room to keep the text.
+    // Whether there was room to keep the text. The room is used up.
     fn store(&mut self, name: &str, text: &[u8]) -> bool
         ensures held { IsTrue result → last_text self.new.texts.items name.now ≡ Some text.now }
         ensures others { TellsSameOfOthers name.now (last_text self.old.texts.items) (last_text self.new.texts.items) }
@@ -129,6 +136,7 @@ impl MemShelf {
         ensures calls { self.new.calls ≡ self.old.calls }
         ensures failing { self.new.failing.items ≡ self.old.failing.items }
         ensures succeeds { HasRoom self.old (length name.now) (length text.now) → IsTrue result }
+        ensures used { self.new.room ≡ None }
     {
         match self.room.take().and_then(|room| room.filled(name, text)) {
             Some(held) => add(&mut self.texts, held).is_ok(),
@@ -158,6 +166,7 @@ impl MemShelf {
         ensures listed { IsTrue result → IsNone (failing_at self.old.failing.items self.new.calls) }
         ensures room { IsNone (failing_at self.old.failing.items self.new.calls)
             → HasRoom self.old (length name.now) (length bytes.now) → IsTrue result }
+        ensures used { self.new.room ≡ None }
     {
         match self.next_call() {
             None => self.store(name, bytes),
@@ -174,9 +183,9 @@ impl Shelf for MemShelf {
 
     ghost count = { λ shelf. shelf.faults.count };
 
-    ghost last = { λ shelf. shelf.faults.last };
+    ghost last = { λ shelf. shelf.faults.last.fault };
 
-    /// Fails exactly where this call is listed or nothing is held under the name.
+    /// Fails exactly where this call is listed or nothing is held under the name. The room for a keep stays.
     fn fetch(&mut self, alloc: Global, name: &str, most: u32) -> Result<Vec<u8>, FetchError>
         ensures bytes { IfOk result (λ text. IfSome (last_text self.old.texts.items name.now) (λ held. text.items ≡ take most held)) }
         ensures short { IfOk result (λ text. length text.items ≤ most) }
@@ -184,12 +193,13 @@ impl Shelf for MemShelf {
         ensures counted { self.old.faults.count ≤ self.new.faults.count }
         ensures no_fault { result ≢ Err FetchError.Failed → self.new.faults ≡ self.old.faults }
         ensures rose { IsErrOf result FetchError.Failed → Rose self.old.faults.count self.new.faults.count }
-        ensures fault { IsErrOf result FetchError.Failed → self.new.faults.last ≡ fetch_of name.now }
+        ensures fault { IsErrOf result FetchError.Failed → self.new.faults.last.fault ≡ fetch_of name.now }
 
         ensures calls { self.new.calls ≡ min (self.old.calls + 1) (2 ^ 64 - 1) }
         ensures failing { self.new.failing.items ≡ self.old.failing.items }
         ensures fails { IsErrOf result FetchError.Failed ↔ (IsSome (failing_at self.old.failing.items self.new.calls)
             ⊎ IsNone (last_text self.old.texts.items name.now)) }
+        ensures room { KeepsRoom self.old self.new }
     {
         let listed = self.next_call();
         match self.text_of(name) {
@@ -210,13 +220,14 @@ impl Shelf for MemShelf {
         ensures counted { self.old.faults.count ≤ self.new.faults.count }
         ensures no_fault { OnOk result (self.new.faults ≡ self.old.faults) }
         ensures rose { OnErr result (Rose self.old.faults.count self.new.faults.count) }
-        ensures fault { OnErr result (self.new.faults.last ≡ keep_of name.now) }
+        ensures fault { OnErr result (self.new.faults.last.fault ≡ keep_of name.now) }
 
         ensures calls { self.new.calls ≡ min (self.old.calls + 1) (2 ^ 64 - 1) }
         ensures failing { self.new.failing.items ≡ self.old.failing.items }
         ensures listed { IsSome (failing_at self.old.failing.items self.new.calls) → IsErr result }
         ensures room { IsNone (failing_at self.old.failing.items self.new.calls)
             → HasRoom self.old (length name.now) (length bytes.now) → IsOk result }
+        ensures used { self.new.room ≡ None }
     {
         if self.next_keep(name, bytes) {
             return Ok(());

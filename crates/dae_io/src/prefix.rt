@@ -1,3 +1,4 @@
+// First bytes.
 ghost use Rattle.std.specs.Prelude.{◌≡◌, ◌≤◌, length, take};
 
 /// The first `most` bytes, or all where there are fewer.

@@ -1,6 +1,6 @@
+// Named texts: the trait of shelves, what each tells of its names and counts, and why its calls fail.
 ghost use Rattle.std.specs.Prelude.{◌≡◌, ◌≢◌, ℕ, ◌≤◌, ◌⊎◌, List, length, take, Option, Some, IfOk, OnOk, OnErr, IfSome, IsErrOf};
-ghost use Rattle.dae_io.specs.declared.faults.ShelfFault.{ShelfFault};
-ghost use Rattle.dae_io.specs.Faults.{Rose, fetch_of, keep_of};
+ghost use Rattle.dae_io.specs.Faults.{Rose, ShelfFault, fetch_of, keep_of};
 ghost use Rattle.dae_io.specs.Told.{IsSilent, TellsSame, TellsSameOfOthers};
 
 use std::alloc::{AllocError, Global};
@@ -18,8 +18,7 @@ pub enum FetchError {
 }
 
 /// A text was not kept: the shelf failed, and counted that.
-#[derive(Clone, Copy, PartialEq, Eq, Debug, Error)]
-#[error("the shelf failed")]
+#[derive(Clone, Copy, PartialEq, Eq, Debug)]
 pub struct KeepFailed;
 
 /// Named texts. A shelf may tell what some names hold; it counts its faults, up to 2^64 - 1, and knows the last one.

@@ -1,5 +1,8 @@
-ghost use Rattle.std.specs.Prelude.{◌≡◌, ℕ};
+// A sink over a writer of the standard library.
+ghost use Rattle.std.specs.Prelude.{◌≡◌, ℕ, []};
+ghost use Rattle.dae_io.specs.Sinks.{sink_state};
 
+use crate::given::{Given, PutCall};
 use crate::sink::{Sink, SinkFailed};
 use crate::transfer::write_whole;
 use std::io::Write;
@@ -11,6 +14,7 @@ pub struct StdSink<W> {
     pub writer: W,
     /// How many calls failed, up to 2^64 - 1.
     pub count: u64,
+    pub given: Given,
 }
 
 impl<W: Write> StdSink<W> {
@@ -18,17 +22,21 @@ impl<W: Write> StdSink<W> {
     pub fn new(writer: W) -> StdSink<W>
         ensures writer { result.writer ≡ writer }
         ensures count { result.count ≡ 0 }
+        ensures given { result.given.pieces ≡ [] }
     {
-        StdSink { writer, count: 0 }
+        StdSink {
+            writer,
+            count: 0,
+            given: Given::nothing(),
+        }
     }
 }
 
 impl<W: Write> Sink for StdSink<W> {
-    ghost taken = { λ sink. W.contents sink.writer };
-
-    ghost count = { λ sink. sink.count };
+    ghost seen = { λ sink. sink_state (W.contents sink.writer) sink.given.pieces sink.count };
 
     fn put(&mut self, bytes: &[u8]) -> Result<(), SinkFailed> {
+        self.given = self.given.then(&PutCall { piece: bytes });
         let written = write_whole(&mut self.writer, bytes);
         if written.is_err() {
             self.count = self.count.saturating_add(1);

@@ -1,7 +1,7 @@
 ghost use Rattle.std.specs.Prelude.{◌≡◌, ◌≢◌, ◌∷◌, [], ◌++◌, take, IfSome};
 ghost use Rattle.std.specs.Io.KnownBytes.{Appends};
 ghost use Rattle.dae_io.specs.Faults.{Rose, fetch_of};
-ghost use Rattle.dae_io.specs.Taken.{AppendsPrefix};
+ghost use Rattle.dae_io.specs.Sinks.{AppendsPrefix};
 
 use super::*;
 use std::alloc::Global;
@@ -12,11 +12,11 @@ use std::test::Fail;
 fn pass_on<F: Shelf, O: Sink>(alloc: Global, name: &str, shelf: &mut F, out: &mut O) -> u8
     ensures fetched { result ≡ 5 → Rose (F.count shelf.old) (F.count shelf.new) }
     ensures fault { result ≡ 5 → F.last shelf.new ≡ fetch_of name.now }
-    ensures put { result ≡ 6 → Rose (O.count out.old) (O.count out.new) }
+    ensures put { result ≡ 6 → Rose (O.seen out.old).count (O.seen out.new).count }
     ensures prefix { result ≡ 6 → IfSome (F.told shelf.old name.now) (λ text.
-        AppendsPrefix (O.taken out.old) (O.taken out.new) (take 100 text ++ 10 ∷ [])) }
+        AppendsPrefix (O.seen out.old).taken (O.seen out.new).taken (take 100 text ++ 10 ∷ [])) }
     ensures whole { result ≡ 0 → IfSome (F.told shelf.old name.now) (λ text.
-        Appends (O.taken out.old) (O.taken out.new) (take 100 text ++ 10 ∷ [])) }
+        Appends (O.seen out.old).taken (O.seen out.new).taken (take 100 text ++ 10 ∷ [])) }
 {
     let text = match shelf.fetch(alloc, name, 100) {
         Ok(text) => text,
@@ -38,7 +38,7 @@ fn pass_on_calmly(alloc: Global, texts: &[NamedText<'_>]) -> u8
     ensures put { result ≢ 6 }
 {
     let mut shelf = CalmShelf::new(texts);
-    pass_on(alloc, "a", &mut shelf, &mut CalmSink)
+    pass_on(alloc, "a", &mut shelf, &mut CalmSink::new())
 }
 
 #[test]
@@ -134,7 +134,7 @@ fn calm_shelves_list_texts(rt: HostRuntime) -> Result<(), Fail> {
         assert_eq!(rt; shelf.fetch(rt.alloc(), name, 2)?.as_slice(), text);
     }
     assert_eq!(rt; shelf.keep("c", b"four"), Ok(()));
-    assert_eq!(rt; CalmSink.put(b"five"), Ok(()));
+    assert_eq!(rt; CalmSink::new().put(b"five"), Ok(()));
     Ok(())
 }
 

@@ -1,6 +1,7 @@
+// The loops over a reader and a writer: the first bytes of a text, and a piece written whole.
 ghost use Rattle.std.specs.Prelude.{◌≡◌, ℕ, ◌≤◌, length, take, IfOk, OnOk, OnErr, IfSome};
 ghost use Rattle.std.specs.Io.KnownBytes.{Appends};
-ghost use Rattle.dae_io.specs.Taken.{AppendsPrefix};
+ghost use Rattle.dae_io.specs.Sinks.{AppendsPrefix};
 
 use crate::shelf::FetchError;
 use crate::sink::SinkFailed;

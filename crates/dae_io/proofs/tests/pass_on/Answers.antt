@@ -1,6 +1,6 @@
 use Rattle.std.proofs.Common.{◌≡◌, ◌∷◌, [], ◌++◌, List, ℕ, take, IfSome, Option, None, Some, rules}
 use Rattle.std.specs.Io.KnownBytes.{Appends}
-use Rattle.dae_io.specs.Taken.{AppendsPrefix}
+use Rattle.dae_io.specs.Sinks.{AppendsPrefix, IsPut, IsPutFailed}
 use Rattle.dae_io.proofs.Growth.{AppendsPrefix-then, AppendsPrefix-of_more}
 use Rattle.dae_io.proofs.tests.pass_on.Goals as goal
 
@@ -14,11 +14,11 @@ second (Some held) a b c text e p q = rw (← e) (AppendsPrefix-then a b c text 
 
 pub returns-then-is_err-clause-prefix : goal.returns-then-is_err-clause-prefix
 returns-then-is_err-clause-prefix g c = λ _.
-    let p : AppendsPrefix (g.O.Sink.taken c.args.out.now) (g.O.Sink.taken c.put.new.self) c.in-Ok.text.items = search rules in
-    first _ _ _ _ c.in-Ok.ensures.bytes p
+    let p : IsPutFailed c.in-Ok.text.items (g.O.Sink.seen c.args.out.now) (g.O.Sink.seen c.put.new.self) = search rules in
+    first _ _ _ _ c.in-Ok.ensures.bytes p.taken
 
 pub returns-then-is_err-2-clause-prefix : goal.returns-then-is_err-2-clause-prefix
 returns-then-is_err-2-clause-prefix g c = λ _.
-    let p : Appends (g.O.Sink.taken c.args.out.now) (g.O.Sink.taken c.put.new.self) c.in-Ok.text.items = search rules in
-    let q : AppendsPrefix (g.O.Sink.taken c.put.new.self) (g.O.Sink.taken c.put-2.new.self) (10 ∷ []) = search rules in
-    second _ _ _ _ _ c.in-Ok.ensures.bytes p q
+    let p : IsPut c.in-Ok.text.items (g.O.Sink.seen c.args.out.now) (g.O.Sink.seen c.put.new.self) = search rules in
+    let q : IsPutFailed (10 ∷ []) (g.O.Sink.seen c.put.new.self) (g.O.Sink.seen c.put-2.new.self) = search rules in
+    second _ _ _ _ _ c.in-Ok.ensures.bytes p.taken q.taken

@@ -1,0 +1,7 @@
+mod Puts
+mod Printed
+mod OnTheWay
+mod Outcome
+mod Executed
+mod OneAnswer
+pub mod Laws
