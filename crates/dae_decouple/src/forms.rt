@@ -560,12 +560,20 @@ pub fn returning_main(alloc: Global) -> Result<Ir, AllocError> {
 
 /// A main that sets its result by an assignment.
 pub fn assigned_result(alloc: Global) -> Result<Ir, AllocError> {
-    program(alloc, 1, Vec::from_array(alloc, [copy(0, number(1)), halt()])?)
+    program(
+        alloc,
+        1,
+        Vec::from_array(alloc, [copy(0, number(1)), halt()])?,
+    )
 }
 
 /// A variable that main doesn't have.
 pub fn unknown_variable(alloc: Global) -> Result<Ir, AllocError> {
-    program(alloc, 2, Vec::from_array(alloc, [print(variable(2)), halt()])?)
+    program(
+        alloc,
+        2,
+        Vec::from_array(alloc, [print(variable(2)), halt()])?,
+    )
 }
 
 /// A call of main with an argument, where main has no parameter.

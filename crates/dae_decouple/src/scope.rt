@@ -32,9 +32,7 @@ fn is_main(functions: &[Function], main: u32) -> bool
     ensures { IsTrue result ↔ IsMain (slice_get functions.now main) }
 {
     match functions.get(main as usize) {
-        Some(function) => {
-            function.parameters == 0 && never_returns(function.body.as_slice())
-        }
+        Some(function) => { function.parameters == 0 && never_returns(function.body.as_slice()) }
         None => false,
     }
 }

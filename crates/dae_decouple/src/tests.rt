@@ -25,12 +25,7 @@ fn has_budget(alloc: Global, ir: &Ir, numbers: [u16; 7]) -> Result<bool, AllocEr
 }
 
 // With groups of at most `cap` loads for E and as many copies.
-fn has_budget_with(
-    alloc: Global,
-    ir: &Ir,
-    cap: u8,
-    numbers: [u16; 7],
-) -> Result<bool, AllocError> {
+fn has_budget_with(alloc: Global, ir: &Ir, cap: u8, numbers: [u16; 7]) -> Result<bool, AllocError> {
     if !is_scoped(ir) || cap < 1 || cap > 64 {
         return Ok(false);
     }
@@ -39,8 +34,11 @@ fn has_budget_with(
 }
 
 const NOBODY: Class = Class { a: false, e: false };
+
 const A: Class = Class { a: true, e: false };
+
 const E: Class = Class { a: false, e: true };
+
 const BOTH: Class = Class { a: true, e: true };
 
 // The classes of the variables of one function, by its place.

@@ -1,12 +1,12 @@
 -- The definitions, tried on small programs.
-use Rattle.std.proofs.Common.{◌≡◌, ℕ, Bool, true, false, ◌||◌, nat_eq, [], ◌++◌, refl}
+use Rattle.std.proofs.Common.{◌≡◌, ℕ, Bool, true, false, ◌||◌, nat_eq, if◌then◌else◌, [], ◌∷◌, ◌++◌, refl}
 use Rattle.std.specs.Prelude.{replicate}
 use Rattle.dae_meaning.specs.Operations.{compared, misplaced, combined, spelled}
 use Rattle.dae_base.specs.declared.Place.{Place}
 use Rattle.dae_base.specs.declared.Width.TheVariants.{B4}
 use Rattle.dae_base.specs.declared.LoadKind.TheVariants.{I32}
 use Rattle.dae_meaning.specs.Worlds.{World}
-use Rattle.dae_meaning.specs.Results.{world_of}
+use Rattle.dae_meaning.specs.Results.{Over, Halted, Trapped, Astray, world_of}
 use Rattle.dae_ir.specs.Code.{Done, Do, If, Loop}
 use Rattle.dae_ir.specs.Form.{Form, Program, calls_of, all_loads}
 use Rattle.dae_ir.specs.Classes.{Classes}
@@ -20,7 +20,7 @@ use Rattle.dae_meaning.specs.declared.Comparison.TheVariants.{NotEqual, LessSign
 use Rattle.dae_ir.specs.declared.form.Value.TheVariants.{Same, Binary}
 use Rattle.dae_meaning.specs.declared.Spelling.TheVariants.{Byte, Signed}
 use Rattle.dae_ir.specs.declared.form.Check.TheVariants.{Place as Good, Zero}
-use Rattle.dae_ir.specs.declared.form.Item.TheVariants.{Assign, Load, Store, Print, Expect, Break, Halt}
+use Rattle.dae_ir.specs.declared.form.Item.TheVariants.{Assign, Load, Store, Print, Expect, Break, Call, Return, Halt}
 
 abbrev here : Place
 here = record { file = 0; line = 1; col = 1 }
@@ -168,3 +168,31 @@ filled_conditions_a = refl
 
 filled_conditions_e : conditions_e (filled_classes 0) filled ≡ 0
 filled_conditions_e = refl
+
+-- a load at an address that isn't good goes astray, and where it is checked it traps
+abbrev strays : Form
+strays = Do here (Load 1 I32 (Number 18)) (Do here (Halt (Number 0)) Done)
+
+strays_goes_astray : calls_of (alone strays) all_loads 1 1 0 [] start ≡ Over Astray (record start { depth = 1 })
+unfolding misplaced
+strays_goes_astray = refl
+
+checked_traps : calls_of (alone (Do here (Expect (Good B4 (Number 18))) strays)) all_loads 1 1 0 [] start ≡ Over (Trapped 3) (record start { depth = 1; items = 1 })
+unfolding misplaced
+checked_traps = refl
+
+-- and so does a call that the limit has no room for; a call counts two items, and one for each argument
+abbrev recurs : Form
+recurs = Do here (Call 1 0 (Number 7 ∷ [])) (Do here (Halt (Number 0)) Done)
+
+recurs_goes_astray : calls_of (alone recurs) all_loads 1 1 0 [] start ≡ Over Astray (record start { depth = 1 })
+recurs_goes_astray = refl
+
+abbrev caller : Form
+caller = Do here (Call 1 1 (Number 7 ∷ [])) (Do here (Halt (Variable 1)) Done)
+
+abbrev answering : Program
+answering = record { body = λ f. if nat_eq f 0 then caller else Do here (Return (Number 5)) Done; frame = λ f. 0; limit = 2 }
+
+answers : calls_of answering all_loads 1 2 0 [] start ≡ Over (Halted 5) (record start { depth = 1; items = 5 })
+answers = refl
