@@ -1,5 +1,5 @@
 use Rattle.std.proofs.Common.{◌+◌, ◌-◌, ◌<◌, length, get_or, ◌++◌, map, drop, arith, ap, sym, ◌∙◌, append-nil, append_assoc}
-use Rattle.std.specs.Prelude.{List, ℕ, [], ◌∷◌, ◌≡◌}
+use Rattle.std.specs.Prelude.{[], ◌∷◌, ◌≡◌}
 use Rattle.std.specs.List.{flat_map}
 use Rattle.std.proofs.lemmas.List.{take_rest, length-drop, map-append}
 use Rattle.std.proofs.lemmas.Grind.{flat_map-append}
