@@ -1,4 +1,0 @@
-mod Distances
-mod Listed
-mod Stacked
-mod Sizes
