@@ -2,3 +2,4 @@
 -- run of its image.
 pub use Rattle.dae_runs.proofs.Forms.{does_form}
 pub use Rattle.dae_runs.proofs.Calls.{body_of}
+pub use Rattle.dae_runs.proofs.RegionRounds.{IsRegion, rounds_ok}

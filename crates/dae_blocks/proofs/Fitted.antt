@@ -1,0 +1,164 @@
+-- The code of a whole function, and the code that begins, have instructions whose fields their words can hold.
+use Rattle.std.proofs.Common.{◌≡◌, ℕ, ◌+◌, ◌-◌, ◌*◌, ◌%◌, ◌^◌, ◌<◌, Bool, true, false, ◌&&◌, List, [], ◌∷◌, ◌++◌, length, Option, Some, refl, arith, pos, negsuc}
+use Rattle.std.specs.Prelude.{if◌then◌else◌}
+use Rattle.std.specs.List.{AllByRecursion}
+use Rattle.std.proofs.lemmas.Int.{ints}
+use Rattle.dae_encode.specs.Spelling.{InRange, layout}
+use Rattle.dae_encode.specs.declared.Inst.{Inst}
+use Rattle.dae_encode.specs.declared.Inst.TheVariants.{Jalr, Sw, Addi, Add, Sub, Ecall}
+use Rattle.dae_ir.specs.Code.{Done, Do, If, Loop}
+use Rattle.dae_ir.specs.Classes.{VariableSet}
+use Rattle.dae_ir.specs.Streams.{Actions}
+use Rattle.dae_ir.specs.declared.form.Operand.TheVariants.{Variable, Number}
+use Rattle.dae_ir.specs.declared.stream.Argument.{Argument}
+use Rattle.dae_ir.specs.declared.stream.Action.{Action}
+use Rattle.dae_ir.specs.declared.stream.Action.TheVariants.{Set as Compute, Issue, Own, Receive, Address, Datum, Offer, Accept, Emit, Probe, Tell, Hear, Stop, Break, Continue, Call, Return}
+use Rattle.dae_meaning.specs.declared.Spelling.{Spelling}
+use Rattle.dae_meaning.specs.declared.Spelling.TheVariants.{Byte, Signed, Unsigned, Hexadecimal}
+use Rattle.dae_walks.specs.Homes.{IsHome, kept_at}
+use Rattle.dae_walks.specs.Live.{Ways, live, behind, body_ways, step_ways, nowhere}
+use Rattle.dae_walks.specs.Agrees.{Plan}
+use Rattle.dae_blocks.specs.Blocks.{is_register, number_code, register_or, source, fetch, keep, take_code, call_number, jump_over, jump_back, enter_code, argument_code, arguments_code, waits_at, store_code, save_code, restore_code, deeper_code, back_code, result_code, leave_code}
+use Rattle.dae_blocks.specs.Code.{some_below, filtered, home_registers, registers_in, call_code, action_code, branch_code, code_of, entry_code, function_code, finish_code, start_code}
+use Rattle.dae_blocks.proofs.Ranges.{AllFit, fit_append, fit_either, lui_fits, jalr_fits, addi_small, sw_small, add_fits, number_fits, load_fits, store_fits, register_fits, fetch_fits, keep_fits, jump_fits}
+use Rattle.dae_blocks.proofs.Fitting.{ecall_fits, issue_fits, address_fits, source_fits, value_fits, take_fits, push_fits, branch_fits, system_fits, stop_fits, leave_fits, result_fits, hear_fits, check_fits}
+
+-- ---- registers of variables
+
+abbrev AreRegisters : List ℕ → Type 0
+AreRegisters rs = AllByRecursion (λ (r : ℕ). r < 32) rs
+
+filtered_registers : (f : ℕ → Bool) (rs : List ℕ) → AreRegisters rs → AreRegisters (filtered f rs)
+filtered_registers f [] h = tt
+filtered_registers f (r ∷ rs) h = by (f r) (filtered_registers f rs h.1)
+  where
+    by : (b : Bool) → AreRegisters (filtered f rs) → AreRegisters (if b then r ∷ filtered f rs else filtered f rs)
+    by true more = (h.0, more)
+    by false more = more
+
+all_registers : AreRegisters home_registers
+all_registers = (omega arith, (omega arith, (omega arith, (omega arith, (omega arith, (omega arith, (omega arith, (omega arith, (omega arith, (omega arith, (omega arith, (omega arith, (omega arith, (omega arith, (omega arith, (omega arith, (omega arith, (omega arith, tt))))))))))))))))))
+
+live_registers : (plan : Plan) (n f : ℕ) (live : VariableSet) → AreRegisters (registers_in (plan.home f) n live)
+unfolding registers_in
+live_registers plan n f live =
+    filtered_registers (λ (r : ℕ). some_below n (λ v. live v && is_register r (plan.home f v))) home_registers all_registers
+
+save_fits : (rs : List ℕ) → AreRegisters rs → AllFit (save_code rs)
+save_fits [] h = tt
+save_fits (r ∷ rs) h = fit_append _ _ (store_fits r (kept_at r) h.0) (save_fits rs h.1)
+
+restore_fits : (rs : List ℕ) → AreRegisters rs → AllFit (restore_code rs)
+restore_fits [] h = tt
+restore_fits (r ∷ rs) h = fit_append _ _ (load_fits r (kept_at r) h.0) (restore_fits rs h.1)
+
+sub_fits : (t x y : ℕ) → t < 32 → x < 32 → y < 32 → InRange (Sub t x y)
+unfolding InRange layout
+sub_fits t x y a b c = (a, b, c)
+
+addi_one_less : (t x : ℕ) → t < 32 → x < 32 → InRange (Addi t x (negsuc 0))
+unfolding InRange layout
+addi_one_less t x a b = (a, b, (omega (arith, ints), omega (arith, ints)))
+
+enter_fits : (word : ℕ) → AllFit (enter_code word)
+enter_fits word = (lui_fits 5 (4 * word) (omega arith), (jalr_fits 1 5 (4 * word) (omega arith) (omega arith), tt))
+
+number_small : (spelling : Spelling) → call_number spelling < 2 ^ 11
+number_small Byte = omega arith
+number_small Signed = omega arith
+number_small Unsigned = omega arith
+number_small Hexadecimal = omega arith
+
+module _ (plan : Plan) (variables : ℕ → ℕ) (good : (f v : ℕ) → IsHome (variables f) (plan.home f v)) where
+  arguments_fit : (f g : ℕ) (xs : List Argument) → AllFit (arguments_code plan f g xs)
+  arguments_fit f g [] = tt
+  arguments_fit f g (x ∷ xs) =
+      fit_append _ _ (arguments_fit f g xs) (fit_append _ _ (fetch_fits (variables f) (plan.home f) 5 x.operand (omega arith))
+      (store_fits (source (plan.home f) 5 x.operand) (plan.words f + waits_at (plan.home g x.parameter)) (source_fits (variables f) (plan.home f) (good f) 5 x.operand (omega arith))))
+
+  deeper_fits : (f : ℕ) → AllFit (deeper_code plan f)
+  deeper_fits f =
+      fit_append _ _ (number_fits 5 (plan.frame f % 2 ^ 32) (omega arith)) (
+        add_fits 3 3 5 (omega arith) (omega arith) (omega arith),
+        fit_append _ _ (number_fits 5 (4 * plan.words f) (omega arith)) (
+          add_fits 2 2 5 (omega arith) (omega arith) (omega arith),
+          fit_either plan.by_a (Addi 10 10 (pos 1) ∷ []) [] (λ e. (addi_small 10 10 1 (omega arith) (omega arith) (omega arith), tt)) (λ e. tt),
+        ),
+      )
+
+  back_fits : (f : ℕ) → AllFit (back_code plan f)
+  back_fits f =
+      fit_append _ _ (number_fits 5 (plan.frame f % 2 ^ 32) (omega arith)) (
+        sub_fits 3 3 5 (omega arith) (omega arith) (omega arith),
+        fit_append _ _ (number_fits 5 (4 * plan.words f) (omega arith)) (
+          sub_fits 2 2 5 (omega arith) (omega arith) (omega arith),
+          fit_either plan.by_a (Addi 10 10 (negsuc 0) ∷ []) [] (λ e. (addi_one_less 10 10 (omega arith) (omega arith), tt)) (λ e. tt),
+        ),
+      )
+
+  call_fits : (f : ℕ) (v : Option ℕ) (g : ℕ) (xs : List Argument) (live : VariableSet) → AllFit (call_code plan variables f v g xs live)
+  call_fits f v g xs live =
+      let rs = live_registers plan (variables f) f live in
+      fit_append _ _ (arguments_fit f g xs) (fit_append _ _ (save_fits _ rs) (fit_append (deeper_code plan f) _ (deeper_fits f) (fit_append (enter_code (plan.entry g)) _ (enter_fits (plan.entry g))
+      (fit_append (back_code plan f) _ (back_fits f) (fit_append _ _ (restore_fits _ rs) (result_fits (variables f) (plan.home f) (good f) v))))))
+
+  action_fits : (f : ℕ) (a : Action) (live : VariableSet) (leaves skips : ℕ) → AllFit (action_code plan variables f a live leaves skips)
+  action_fits f (Compute v x) live leaves skips =
+      fit_append _ _ (value_fits (variables f) (plan.home f) (good f) (register_or 5 (plan.home f v)) x (register_fits (variables f) 5 (plan.home f v) (good f v) (omega arith))) (keep_fits (plan.home f v))
+  action_fits f (Issue kind x) live leaves skips =
+      fit_append _ _ (fetch_fits (variables f) (plan.home f) 5 x (omega arith)) (issue_fits kind 30 (source (plan.home f) 5 x) (omega arith) (source_fits (variables f) (plan.home f) (good f) 5 x (omega arith)), tt)
+  action_fits f (Own v kind x) live leaves skips =
+      fit_append _ _ (fetch_fits (variables f) (plan.home f) 5 x (omega arith)) (issue_fits kind 31 (source (plan.home f) 5 x) (omega arith) (source_fits (variables f) (plan.home f) (good f) 5 x (omega arith)), take_fits (variables f) (plan.home f) (good f) 31 v (omega arith))
+  action_fits f (Receive v) live leaves skips = take_fits (variables f) (plan.home f) (good f) 30 v (omega arith)
+  action_fits f (Address width x) live leaves skips =
+      fit_append _ _ (fetch_fits (variables f) (plan.home f) 5 x (omega arith)) (address_fits width (source (plan.home f) 5 x) (source_fits (variables f) (plan.home f) (good f) 5 x (omega arith)), tt)
+  action_fits f (Datum x) live leaves skips = push_fits (variables f) (plan.home f) (good f) 30 x (omega arith)
+  action_fits f (Offer v) live leaves skips = push_fits (variables f) (plan.home f) (good f) 28 (Variable v) (omega arith)
+  action_fits f (Accept v) live leaves skips = take_fits (variables f) (plan.home f) (good f) 28 v (omega arith)
+  action_fits f (Emit spelling x) live leaves skips = system_fits (variables f) (plan.home f) (good f) (call_number spelling) x (number_small spelling)
+  action_fits f (Probe check) live leaves skips = check_fits plan (variables f) f check (good f)
+  action_fits f (Tell x) live leaves skips = push_fits (variables f) (plan.home f) (good f) 29 x (omega arith)
+  action_fits f Hear live leaves skips = hear_fits plan.by_a
+  action_fits f (Stop x) live leaves skips = stop_fits (variables f) (plan.home f) (good f) plan.by_a x
+  action_fits f Break live leaves skips = jump_fits (4 * (leaves + 2))
+  action_fits f Continue live leaves skips = jump_fits (4 * (skips + 2))
+  action_fits f (Call v g xs) live leaves skips = call_fits f v g xs _
+  action_fits f (Return x) live leaves skips = leave_fits (variables f) (plan.home f) (good f) x
+
+  pub code_fits : (f : ℕ) (code : Actions) (x : Ways) (leaves skips : ℕ) → AllFit (code_of plan variables f code x leaves skips)
+  code_fits f Done x leaves skips = tt
+  code_fits f (Do m a k) x leaves skips = fit_append _ _ (action_fits f a (live k x) _ _) (code_fits f k x leaves skips)
+  code_fits f (If m b p q k) x leaves skips =
+      let rest = code_of plan variables f k x leaves skips in
+      let second = code_of plan variables f q (behind (live k x) x) (length rest + leaves) (length rest + skips) in
+      let first = code_of plan variables f p (behind (live k x) x) (2 + length second + length rest + leaves) (2 + length second + length rest + skips) in
+      fit_append (branch_code (plan.home f) b) (jump_over (length first + 2) ++ (first ++ (jump_over (length second) ++ (second ++ rest)))) (branch_fits (variables f) (plan.home f) (good f) b)
+      (fit_append (jump_over (length first + 2)) (first ++ (jump_over (length second) ++ (second ++ rest))) (jump_fits (4 * (length first + 2 + 2)))
+      (fit_append first (jump_over (length second) ++ (second ++ rest)) (code_fits f p (behind (live k x) x) (2 + length second + length rest + leaves) (2 + length second + length rest + skips))
+      (fit_append (jump_over (length second)) (second ++ rest) (jump_fits (4 * (length second + 2)))
+      (fit_append second rest (code_fits f q (behind (live k x) x) (length rest + leaves) (length rest + skips)) (code_fits f k x leaves skips)))))
+  code_fits f (Loop m body step k) x leaves skips =
+      let rest = code_of plan variables f k x leaves skips in
+      let again = code_of plan variables f step (step_ways body step (live k x)) 2 0 in
+      let turned = code_of plan variables f body (body_ways body step (live k x)) (length again + 2) 0 in
+      fit_append turned (again ++ (jump_back (length turned + length again) ++ rest)) (code_fits f body (body_ways body step (live k x)) (length again + 2) 0)
+      (fit_append again (jump_back (length turned + length again) ++ rest) (code_fits f step (step_ways body step (live k x)) 2 0)
+      (fit_append (jump_back (length turned + length again)) rest (jump_fits ((2 ^ 32 - 4 * (length turned + length again) % 2 ^ 32) % 2 ^ 32)) (code_fits f k x leaves skips)))
+
+  pub entry_fits : (f : ℕ) (live : VariableSet) → AllFit (entry_code plan variables f live)
+  entry_fits f live = (sw_small 2 1 0 (omega arith) (omega arith) (omega arith), restore_fits _ (live_registers plan (variables f) f live))
+
+  pub function_fits : (f : ℕ) (code : Actions) → AllFit (function_code plan variables f code)
+  function_fits f code =
+      fit_append (entry_code plan variables f (live code nowhere)) _ (entry_fits f (live code nowhere))
+      (fit_append (code_of plan variables f code nowhere 0 0) (leave_code (plan.home f) (Some (Number 0))) (code_fits f code nowhere 0 0) (leave_fits (variables f) (plan.home f) (good f) (Some (Number 0))))
+
+pub finish_fits : (by_a : Bool) → AllFit (finish_code by_a)
+finish_fits true = (ecall_fits, tt)
+finish_fits false = (addi_small 10 6 0 (omega arith) (omega arith) (omega arith), (addi_small 17 0 0 (omega arith) (omega arith) (omega arith), (ecall_fits, tt)))
+
+pub start_fits : (plan : Plan) (main frames : ℕ) → AllFit (start_code plan main frames)
+start_fits plan main frames =
+    fit_append (number_code 3 frames ++ (if plan.by_a then Addi 10 0 (pos 1) ∷ [] else [])) (enter_code (plan.entry main))
+    (fit_append (number_code 3 frames) (if plan.by_a then Addi 10 0 (pos 1) ∷ [] else []) (number_fits 3 frames (omega arith)) (fit_either plan.by_a (Addi 10 0 (pos 1) ∷ []) [] (λ e. (addi_small 10 0 1 (omega arith) (omega arith) (omega arith), tt)) (λ e. tt)))
+    (enter_fits (plan.entry main))

@@ -1,0 +1,26 @@
+mod Halves
+mod Runs
+mod Plain
+mod Frames
+mod Agreement
+mod Operands
+mod Values
+mod Computing
+mod Uses
+mod Actions
+mod Checks
+mod Jumps
+mod Simple
+mod Whole
+mod Calls
+mod Deeper
+mod Entering
+mod Leaving
+mod Joined
+mod Lengths
+mod Function
+mod Beginning
+mod Ranges
+mod Fitting
+mod Fitted
+pub mod LawsOfBlocks

@@ -1,0 +1,93 @@
+-- The blocks of actions that go on to the next do them, wherever they stand.
+use Rattle.std.proofs.Common.{◌≡◌, ◌≢◌, ℕ, ◌+◌, Bool, true, false, ◌||◌, List, [], Option, Some, None, refl, sym, ap, ◌∙◌, subst, arith}
+use Rattle.std.specs.Prelude.{nat_lt}
+use Rattle.std.proofs.lemmas.Bool.Decides.{nat_tests}
+use Rattle.dae_base.specs.declared.Side.TheVariants.{A, E}
+use Rattle.dae_encode.specs.declared.Inst.{Inst}
+use Rattle.dae_ir.specs.Classes.{VariableSet}
+use Rattle.dae_meaning.specs.Worlds.{World}
+use Rattle.dae_ir.specs.Form.{Program, value}
+use Rattle.dae_ir.specs.Programs.{side}
+use Rattle.dae_ir.specs.Deeds.{Halts, deed, probed, stopped}
+use Rattle.dae_ir.specs.declared.form.Operand.{Operand}
+use Rattle.dae_ir.specs.declared.form.Check.TheVariants.{Place, Zero, Room, Frame, Abort}
+use Rattle.dae_ir.specs.declared.stream.Action.{Action}
+use Rattle.dae_ir.specs.declared.stream.Action.TheVariants.{Set as Compute, Issue, Own, Receive, Address, Datum, Offer, Accept, Emit, Probe, Tell, Hear, Stop, Break, Continue, Call, Return}
+use Rattle.dae_walks.specs.Walks.{Setting}
+use Rattle.dae_walks.specs.Live.{reads, sets, in_option}
+use Rattle.dae_walks.specs.declared.Home.{Home}
+use Rattle.dae_walks.specs.Homes.{Contents}
+use Rattle.dae_walks.specs.Agrees.{Plan, Moment, depth_of, top_of}
+use Rattle.dae_meaning.specs.Operations.{misplaced, passed}
+use Rattle.dae_walks.specs.Compiled.{IsWorldOf}
+use Rattle.dae_blocks.specs.Code.{action_code}
+use Rattle.dae_blocks.specs.Blocks.{stop_code}
+use Rattle.dae_blocks.specs.Fits.{Fits}
+use Rattle.dae_blocks.specs.Wanted.{IsWanted, IsPlanOf, IsWantedStop}
+use Rattle.dae_blocks.proofs.Runs.{Runs}
+use Rattle.dae_blocks.proofs.Agreement.{Ready}
+use Rattle.dae_blocks.proofs.Actions.{To, Does', set_done, issue_done, own_done, receive_done, address_done, datum_done, offer_done, accept_done, tell_done}
+use Rattle.dae_blocks.proofs.Checks.{emit_done, stop_a_done, stop_e_done, zero_done, place_done, check_room_done, frame_done, abort_done, hear_done}
+
+-- the actions that take or give no way but the next
+abbrev pub IsSimple : Action → Type 0
+IsSimple Break = ⊥
+IsSimple Continue = ⊥
+IsSimple (Call v g xs) = ⊥
+IsSimple (Return x) = ⊥
+IsSimple a = Unit {0}
+
+-- what is live round an action
+pub record Around (home : ℕ → Home) (a : Action) (live live' : VariableSet) : Type 0 where
+  pub reads : (u : ℕ) → reads a u ≡ true → live u ≡ true
+  pub stays : (u : ℕ) → live' u ≡ true → sets a u ≡ false → live u ≡ true
+  pub apart : (u v : ℕ) → sets a v ≡ true → live' u ≡ true → u ≢ v → home u ≢ home v
+
+module _ (s : Setting) (plan : Plan) (variables : ℕ → ℕ) (fine : Fits s plan variables) (program : Program) (is_plan : IsPlanOf program plan) (entries : ℕ → VariableSet) where
+  a_side : plan.by_a ≡ true → s.side ≡ A
+  a_side e = fine.side ∙ ap side e
+
+  e_side : plan.by_a ≡ false → s.side ≡ E
+  e_side e = fine.side ∙ ap side e
+
+  module _ (live live' : VariableSet) (m : Moment) (w : World) (world : IsWorldOf plan m w) where
+    flagged : {is : List Inst} {c : Contents} (o : Option ℕ) (b : Bool) → plan.by_a ≡ b → Does' s plan variables fine live live' m is c (probed b o m.env) → Does' s plan variables fine live live' m is c (probed plan.by_a o m.env)
+    flagged {is} {c} o b e h = subst (λ (b : Bool). Runs s plan.private (To s plan variables fine live live' m) is c (probed b o m.env)) (sym e) h
+
+    stops : {c : Contents} (b : Bool) → plan.by_a ≡ b → (x : Option Operand) → IsWantedStop b x → ((u : ℕ) → in_option x u ≡ true → live u ≡ true) → Ready plan live m c → Does' s plan variables fine live live' m (stop_code b (plan.home m.function) x) c (Halts (stopped x m.env))
+    stops true e None wanted reads h = stop_a_done s plan variables fine live live' m [] e
+    stops true e (Some x) wanted reads h = absurd wanted
+    stops false e None wanted reads h = absurd wanted
+    stops false e (Some x) wanted reads h = stop_e_done s plan variables fine live live' m x e h reads wanted
+
+    -- each block from contents that agree
+    pub simple_runs : {c : Contents} (a : Action) (leaves skips : ℕ) → IsSimple a → IsWanted plan s.copies entries a → Around (plan.home m.function) a live live' → Ready plan live m c →
+        Does' s plan variables fine live live' m (action_code plan variables m.function a live' leaves skips) c (deed program plan.by_a a w m.env)
+    simple_runs (Compute v x) leaves skips is wanted round h =
+        rw world.frame (set_done s plan variables fine live live' m v x h round.reads wanted (λ u l ne. (round.stays u l (grind (arith, nat_tests)), round.apart u v (grind (arith, nat_tests)) l ne)))
+    simple_runs (Issue kind x) leaves skips is wanted round h = issue_done s plan variables fine live live' m (a_side wanted.0) kind x h round.reads wanted.1 (λ u l. round.stays u l refl)
+    simple_runs (Own v kind x) leaves skips is wanted round h =
+        own_done s plan variables fine live live' m (a_side wanted.0) v kind x h round.reads wanted.1 (λ u l ne. (round.stays u l (grind (arith, nat_tests)), round.apart u v (grind (arith, nat_tests)) l ne))
+    simple_runs (Receive v) leaves skips is wanted round h =
+        receive_done s plan variables fine live live' m (e_side wanted) v h (λ u l ne. (round.stays u l (grind (arith, nat_tests)), round.apart u v (grind (arith, nat_tests)) l ne))
+    simple_runs (Address width x) leaves skips is wanted round h = address_done s plan variables fine live live' m (a_side wanted.0) width x h round.reads wanted.1 (λ u l. round.stays u l refl)
+    simple_runs (Datum x) leaves skips is wanted round h = datum_done s plan variables fine live live' m (e_side wanted.0) x h round.reads wanted.1 (λ u l. round.stays u l refl)
+    simple_runs (Offer v) leaves skips is wanted round h = offer_done s plan variables fine live live' m (a_side wanted.0) v wanted.1 h (round.reads v (grind (arith, nat_tests))) (λ u l. round.stays u l refl)
+    simple_runs (Accept v) leaves skips is wanted round h =
+        accept_done s plan variables fine live live' m (e_side wanted.0) v wanted.1 h (λ u l ne. (round.stays u l (grind (arith, nat_tests)), round.apart u v (grind (arith, nat_tests)) l ne))
+    simple_runs (Emit spelling x) leaves skips is wanted round h = emit_done s plan variables fine live live' m spelling x wanted.0 h round.reads wanted.1 (λ u l. round.stays u l refl)
+    simple_runs (Tell x) leaves skips is wanted round h = tell_done s plan variables fine live live' m x h round.reads wanted (λ u l. round.stays u l refl)
+    simple_runs Hear leaves skips is wanted round h = hear_done s plan variables fine live live' m h (λ u l. round.stays u l refl)
+    simple_runs (Probe (Zero x)) leaves skips is wanted round h = zero_done s plan variables fine live live' m x h round.reads wanted (λ u l. round.stays u l refl)
+    simple_runs (Probe (Place width x)) leaves skips is wanted round h =
+        rw world.memory (flagged (misplaced width (value x m.env) plan.memory) true wanted.0 (place_done s plan variables fine live live' m wanted.0 m.function width x refl h round.reads wanted.1 (λ u l. round.stays u l refl)))
+    simple_runs (Probe (Room g)) leaves skips is wanted round h =
+        rw (world.memory, world.depth, world.top, is_plan.limit, is_plan.frame g) (flagged (passed (nat_lt plan.limit (depth_of m + 1) || nat_lt plan.memory (top_of plan m + plan.frame g))) true wanted (check_room_done s plan variables fine live live' m wanted g h (λ u l. round.stays u l refl)))
+    simple_runs (Probe Frame) leaves skips is wanted round h =
+        rw (world.memory, world.top) (flagged (passed (nat_lt plan.memory (top_of plan m))) true wanted (frame_done s plan variables fine live live' m wanted h (λ u l. round.stays u l refl)))
+    simple_runs (Probe Abort) leaves skips is wanted round h = flagged (Some 5) true wanted (abort_done s plan variables fine live live' m wanted h)
+    simple_runs (Stop x) leaves skips is wanted round h = stops plan.by_a refl x wanted round.reads h
+    simple_runs Break leaves skips is wanted round h = elim is [ ]
+    simple_runs Continue leaves skips is wanted round h = elim is [ ]
+    simple_runs (Call v g xs) leaves skips is wanted round h = elim is [ ]
+    simple_runs (Return x) leaves skips is wanted round h = elim is [ ]

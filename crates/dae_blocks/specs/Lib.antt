@@ -1,0 +1,5 @@
+pub mod Blocks
+pub mod Fits
+pub mod Code
+pub mod Wanted
+pub mod Laws

@@ -1,0 +1,85 @@
+// The words of instructions that blocks are made of, as binutils assembles them; behind each its disassembly.
+use dae_encode::{Inst, decode};
+
+const WORDS: [(u32, Inst); 73] = [
+    (0x123452b7, Inst::Lui(5, 305_418_240)), // lui t0,0x12345
+    (0xfffff437, Inst::Lui(8, -4096)), // lui s0,0xfffff
+    (0x00001297, Inst::Auipc(5, 4096)), // auipc t0,0x1
+    (0xfffff297, Inst::Auipc(5, -4096)), // auipc t0,0xfffff
+    (0xff828067, Inst::Jalr(0, 5, -8)), // jalr zero,-8(t0) # fffff004 <.text+0xfffff004>
+    (0x7f828067, Inst::Jalr(0, 5, 2040)), // jalr zero,2040(t0)
+    (0x800280e7, Inst::Jalr(1, 5, -2048)), // jalr ra,-2048(t0)
+    (0x00008067, Inst::Jalr(0, 1, 0)), // jalr zero,0(ra)
+    (0x00029663, Inst::Bne(5, 0, 12)), // bne t0,zero,2c <.text+0x2c>
+    (0x000e9663, Inst::Bne(29, 0, 12)), // bne t4,zero,30 <.text+0x30>
+    (0x00041a63, Inst::Bne(8, 0, 20)), // bne s0,zero,3c <.text+0x3c>
+    (0x00028463, Inst::Beq(5, 0, 8)), // beq t0,zero,34 <.text+0x34>
+    (0x00050663, Inst::Beq(10, 0, 12)), // beq a0,zero,3c <.text+0x3c>
+    (0x00030663, Inst::Beq(6, 0, 12)), // beq t1,zero,40 <.text+0x40>
+    (0x00736663, Inst::Bltu(6, 7, 12)), // bltu t1,t2,44 <.text+0x44>
+    (0x00656663, Inst::Bltu(10, 6, 12)), // bltu a0,t1,48 <.text+0x48>
+    (0x00337663, Inst::Bgeu(6, 3, 12)), // bgeu t1,gp,4c <.text+0x4c>
+    (0x7ff00293, Inst::Addi(5, 0, 2047)), // addi t0,zero,2047
+    (0x80028293, Inst::Addi(5, 5, -2048)), // addi t0,t0,-2048
+    (0x00400e93, Inst::Addi(29, 0, 4)), // addi t4,zero,4
+    (0x00028e93, Inst::Addi(29, 5, 0)), // addi t4,t0,0
+    (0x00040f13, Inst::Addi(30, 8, 0)), // addi t5,s0,0 # fffff000 <.text+0xfffff000>
+    (0x000d8e13, Inst::Addi(28, 27, 0)), // addi t3,s11,0
+    (0x000f0413, Inst::Addi(8, 30, 0)), // addi s0,t5,0
+    (0x000f8493, Inst::Addi(9, 31, 0)), // addi s1,t6,0
+    (0x000e0593, Inst::Addi(11, 28, 0)), // addi a1,t3,0
+    (0x000e8513, Inst::Addi(10, 29, 0)), // addi a0,t4,0
+    (0x00150513, Inst::Addi(10, 10, 1)), // addi a0,a0,1
+    (0xfff50513, Inst::Addi(10, 10, -1)), // addi a0,a0,-1
+    (0xff040313, Inst::Addi(6, 8, -16)), // addi t1,s0,-16
+    (0x00500893, Inst::Addi(17, 0, 5)), // addi a7,zero,5
+    (0x00080313, Inst::Addi(6, 16, 0)), // addi t1,a6,0
+    (0x00347313, Inst::Andi(6, 8, 3)), // andi t1,s0,3
+    (0x0ff4f413, Inst::Andi(8, 9, 255)), // andi s0,s1,255
+    (0x01849413, Inst::Slli(8, 9, 24)), // slli s0,s1,0x18
+    (0x41045413, Inst::Srai(8, 8, 16)), // srai s0,s0,0x10
+    (0x01045413, Inst::Srli(8, 8, 16)), // srli s0,s0,0x10
+    (0x00143413, Inst::Sltiu(8, 8, 1)), // sltiu s0,s0,1
+    (0x00144413, Inst::Xori(8, 8, 1)), // xori s0,s0,1
+    (0x00803433, Inst::Sltu(8, 0, 8)), // sltu s0,zero,s0
+    (0x00b4a433, Inst::Slt(8, 9, 11)), // slt s0,s1,a1
+    (0x005181b3, Inst::Add(3, 3, 5)), // add gp,gp,t0
+    (0x405181b3, Inst::Sub(3, 3, 5)), // sub gp,gp,t0
+    (0x00510133, Inst::Add(2, 2, 5)), // add sp,sp,t0
+    (0x40510133, Inst::Sub(2, 2, 5)), // sub sp,sp,t0
+    (0x002383b3, Inst::Add(7, 7, 2)), // add t2,t2,sp
+    (0x00518433, Inst::Add(8, 3, 5)), // add s0,gp,t0
+    (0x02b48433, Inst::Mul(8, 9, 11)), // mul s0,s1,a1
+    (0x02b4c433, Inst::Div(8, 9, 11)), // div s0,s1,a1
+    (0x02b4d433, Inst::Divu(8, 9, 11)), // divu s0,s1,a1
+    (0x02b4e433, Inst::Rem(8, 9, 11)), // rem s0,s1,a1
+    (0x02b4f433, Inst::Remu(8, 9, 11)), // remu s0,s1,a1
+    (0x00b4f433, Inst::And(8, 9, 11)), // and s0,s1,a1
+    (0x00b4e433, Inst::Or(8, 9, 11)), // or s0,s1,a1
+    (0x00b4c433, Inst::Xor(8, 9, 11)), // xor s0,s1,a1
+    (0x00b49433, Inst::Sll(8, 9, 11)), // sll s0,s1,a1
+    (0x00b4d433, Inst::Srl(8, 9, 11)), // srl s0,s1,a1
+    (0x40b4d433, Inst::Sra(8, 9, 11)), // sra s0,s1,a1
+    (0x00040f03, Inst::Lb(30, 8, 0)), // lb t5,0(s0)
+    (0x00044f83, Inst::Lbu(31, 8, 0)), // lbu t6,0(s0)
+    (0x00029f03, Inst::Lh(30, 5, 0)), // lh t5,0(t0)
+    (0x0002df83, Inst::Lhu(31, 5, 0)), // lhu t6,0(t0)
+    (0x00042f03, Inst::Lw(30, 8, 0)), // lw t5,0(s0)
+    (0x7fc12403, Inst::Lw(8, 2, 2044)), // lw s0,2044(sp)
+    (0x00012083, Inst::Lw(1, 2, 0)), // lw ra,0(sp)
+    (0x80042403, Inst::Lw(8, 8, -2048)), // lw s0,-2048(s0)
+    (0x01e40023, Inst::Sb(8, 30, 0)), // sb t5,0(s0)
+    (0x01e41023, Inst::Sh(8, 30, 0)), // sh t5,0(s0)
+    (0x01e42023, Inst::Sw(8, 30, 0)), // sw t5,0(s0)
+    (0x00112023, Inst::Sw(2, 1, 0)), // sw ra,0(sp)
+    (0x05b12423, Inst::Sw(2, 27, 72)), // sw s11,72(sp)
+    (0x8053a023, Inst::Sw(7, 5, -2048)), // sw t0,-2048(t2)
+    (0x00000073, Inst::Ecall), // ecall
+];
+
+#[test]
+fn words_are_meant_so(rt: HostRuntime) {
+    for (word, inst) in WORDS {
+        assert_eq!(rt; decode(word), Some(inst));
+    }
+}

@@ -1,0 +1,152 @@
+-- Where a processor stands when its side stands at a spot: at a word from which the code of the list is done, and behind it
+-- the code of all that follows; and each call that waits is resumed, and then stands so.
+use Rattle.std.proofs.Common.{◌≡◌, ℕ, ◌+◌, ◌*◌, Bool, true, List, [], ◌∷◌, length}
+use Rattle.std.specs.Prelude.{Option, Some, is_some}
+use Rattle.dae_encode.specs.Processor.{Processor}
+use Rattle.dae_machine.specs.Machine.{Setup}
+use Rattle.dae_ir.specs.Code.{Done, Do, If, Loop, Each}
+use Rattle.dae_meaning.specs.Variables.{Env}
+use Rattle.dae_ir.specs.Form.{Program}
+use Rattle.dae_ir.specs.Classes.{VariableSet}
+use Rattle.dae_ir.specs.Streams.{Actions}
+use Rattle.dae_rounds.specs.Spots.{Behind, Ends, After, Body, Turn, Spot, Waiting}
+use Rattle.dae_walks.specs.Walks.{Setting, Comes}
+use Rattle.dae_walks.specs.Live.{live, nowhere, turn, step_ways}
+use Rattle.dae_walks.specs.Agrees.{Plan, Moment, Waiting as Waiting', IsWithin, Stands}
+use Rattle.dae_walks.specs.Compiled.{Exit, Exits, exit, exits, ways_of, with_result, IsAnswered, Lands, CodeDone, Turns}
+use Rattle.dae_faithful.specs.Made.{IsFit, AnyBranch, IsTight, IsClosed, setting_of}
+
+-- the same of a list with what comes behind it
+abbrev pub TightAt : Actions → Behind → Type 0
+TightAt code Ends = IsTight code
+TightAt code (After k b) = TightAt code b × TightAt k b
+TightAt code (Body x y k b) = TightAt k b
+TightAt code (Turn x y k b) = TightAt k b
+
+abbrev pub ClosedAt : Actions → Behind → Type 0
+ClosedAt code Ends = IsClosed code
+ClosedAt code (After k b) = ClosedAt k b
+ClosedAt code (Body x y k b) = ClosedAt k b
+ClosedAt code (Turn x y k b) = ClosedAt k b
+
+-- ---- at a function's end
+
+abbrev pub Holds : Actions → Behind → Type 0 → Type 0 → Type 0
+Holds Done Ends landed stands = landed
+Holds Done (After k b) landed stands = stands
+Holds Done (Body x y k b) landed stands = stands
+Holds Done (Turn x y k b) landed stands = stands
+Holds (Do m a k) b landed stands = stands
+Holds (If m c x y k) b landed stands = stands
+Holds (Loop m x y k) b landed stands = stands
+
+-- the words of a loop
+pub record Around : Type 0 where
+  pub here : ℕ
+  pub again : ℕ
+  pub end : ℕ
+  pub next : ℕ
+
+abbrev pub body_exits : Actions → Actions → Actions → Around → Exits → Exits
+body_exits x y k l z =
+    exits (exit l.again (live y (step_ways x y (live k (ways_of z))))) (exit l.next (live k (ways_of z))) (exit l.again (live y (step_ways x y (live k (ways_of z)))))
+
+abbrev pub step_exits : Actions → Actions → Actions → Around → Exits → Exits
+step_exits x y k l z = exits (exit l.end (turn x y (live k (ways_of z)))) (exit l.next (live k (ways_of z))) (exit l.end (turn x y (live k (ways_of z))))
+
+module _ (setup : Setup) (plan : Plan) (p : Program) (body : ℕ → Actions) (most widest functions : ℕ) (answered : ℕ → Bool) where
+  abbrev pub s : Setting
+  s = setting_of setup plan.by_a
+
+  abbrev pub entries : ℕ → VariableSet
+  entries f = live (body f) nowhere
+
+  abbrev pub CodeAt : ℕ → Actions → ℕ → Exits → Type 0
+  CodeAt f code here x = CodeDone s plan p entries most widest f code here x
+
+  abbrev pub TurnsAt : ℕ → Exit → Exit → Type 0
+  TurnsAt f x y = Turns s plan p entries most widest f x y
+
+  abbrev pub FitsCode : ℕ → Actions → Type 0
+  FitsCode f code = Each (IsFit functions answered f) AnyBranch code
+
+  abbrev pub FitsBehind : ℕ → Behind → Type 0
+  FitsBehind f Ends = Unit {0}
+  FitsBehind f (After k b) = FitsCode f k × FitsBehind f b
+  FitsBehind f (Body x y k b) = FitsCode f x × FitsCode f y × FitsCode f k × FitsBehind f b
+  FitsBehind f (Turn x y k b) = FitsCode f x × FitsCode f y × FitsCode f k × FitsBehind f b
+
+  pub record LoopDone (f : ℕ) (x y k : Actions) (l : Around) (z : Exits) : Type 0 where
+    pub in_body : CodeAt f x l.here (body_exits x y k l z)
+    pub in_step : CodeAt f y l.again (step_exits x y k l z)
+    pub back : TurnsAt f (exit l.end (turn x y (live k (ways_of z)))) (exit l.here (turn x y (live k (ways_of z))))
+    pub rest : CodeAt f k l.next z
+
+  -- what comes behind a list is done from where the list goes on
+  abbrev pub BehindDone : ℕ → Behind → Exits → Type 0
+  BehindDone f Ends x = Unit {0}
+  BehindDone f (After k b) x = (next : ℕ) × (z : Exits) × (x ≡ exits (exit next (live k (ways_of z))) z.leaves z.skips) × CodeAt f k next z × BehindDone f b z
+  BehindDone f (Body x y k b) e = (l : Around) × (z : Exits) × (e ≡ body_exits x y k l z) × LoopDone f x y k l z × BehindDone f b z
+  BehindDone f (Turn x y k b) e = (l : Around) × (z : Exits) × (e ≡ step_exits x y k l z) × LoopDone f x y k l z × BehindDone f b z
+
+  -- a point of the function f that goes on at a word
+  pub record Placed (f : ℕ) (code : Actions) (behind : Behind) (here : ℕ) (x : Exits) : Type 0 where
+    pub done : CodeAt f code here x
+    pub next : BehindDone f behind x
+    pub fits : FitsCode f code
+    pub fits_next : FitsBehind f behind
+    pub tight : TightAt code behind
+    pub closed : ClosedAt code behind
+
+  abbrev pub moment : ℕ → Env → ℕ → List Waiting' → Moment
+  moment f env frame ws = record { function = f; env = env; frame = frame; waiting = ws }
+
+  -- a call of the function f waits
+  pub record Waits (f : ℕ) (c : Waiting) (w : Waiting') (ws : List Waiting') : Type 0 where
+    pub here : ℕ
+    pub exits' : Exits
+    pub placed : Placed w.function c.point.code c.point.behind here exits'
+    pub env : w.env ≡ c.env
+    pub frame : w.frame ≡ c.frame
+    pub top : c.top ≡ w.frame + plan.frame w.function
+    pub depth : c.depth ≡ length ws + 1
+    pub within : IsWithin plan (moment w.function w.env w.frame ws)
+    pub answer : is_some c.result ≡ true → answered f ≡ true
+    pub resume : (result : Option ℕ) (q : Processor) → IsAnswered c.result result → Lands plan w ws result q
+        → Comes s (3 * most) q (Stands plan (live c.point.code (ways_of exits')) (moment w.function (with_result c.result result w.env) w.frame ws) here)
+
+  abbrev pub AreCalls : ℕ → List Waiting → List Waiting' → Type 0
+  AreCalls f [] [] = Unit {0}
+  AreCalls f [] (w ∷ ws) = ⊥
+  AreCalls f (c ∷ cs) [] = ⊥
+  AreCalls f (c ∷ cs) (w ∷ ws) = Waits f c w ws × AreCalls w.function cs ws
+
+  pub record StandsAt (at' : Spot) (q : Processor) : Type 0 where
+    pub function : ℕ
+    pub waiting : List Waiting'
+    pub here : ℕ
+    pub exits' : Exits
+    pub placed : Placed function at'.point.code at'.point.behind here exits'
+    pub stands : Stands plan (live at'.point.code (ways_of exits')) (moment function at'.env at'.frame waiting) here q
+    pub top : at'.top ≡ at'.frame + plan.frame function
+    pub depth : at'.depth ≡ length waiting + 1
+    pub calls : AreCalls function at'.calls waiting
+
+  -- it has returned to a call, with the result that the call waits for
+  pub record HasReturned (x : ℕ) (c : Waiting) (cs : List Waiting) (q : Processor) : Type 0 where
+    pub function : ℕ
+    pub first : Waiting'
+    pub others : List Waiting'
+    pub waits : Waits function c first others
+    pub calls : AreCalls first.function cs others
+    pub result : Option ℕ
+    pub lands : Lands plan first others result q
+    pub answer : is_some c.result ≡ true → result ≡ Some x
+
+  -- where main has returned nothing is said
+  abbrev pub Landed : ℕ → List Waiting → Processor → Type 0
+  Landed x [] q = Unit {0}
+  Landed x (c ∷ cs) q = HasReturned x c cs q
+
+  abbrev pub At : Spot → Processor → Type 0
+  At at' q = Holds at'.point.code at'.point.behind (Landed (at'.env 0) at'.calls q) (StandsAt at' q)

@@ -1,0 +1,13 @@
+mod Walked
+mod Agree
+mod Ways
+mod Moved
+mod Whole
+mod Streams
+mod Wanted
+mod Copied
+mod Entries
+mod Ready
+mod Joined
+mod Usable
+mod Elements

@@ -1,0 +1,3 @@
+mod Flags
+pub mod Laws
+mod Several
