@@ -1,5 +1,5 @@
 -- Want of memory is answered only with nothing put on out.
-use Rattle.std.proofs.Common.{◌≡◌, ℕ, List, [], ◌∷◌, refl, sym, ap, ◌∙◌, arith}
+use Rattle.std.proofs.Common.{◌≡◌, ℕ, List, [], ◌∷◌, sym, ap, ◌∙◌, arith}
 use Rattle.std.specs.Prelude.{Option}
 use Rattle.dae_machine.specs.declared.End.TheVariants.{Ended, Trapped}
 use Rattle.dae_drive.specs.declared.driving.Driven.{Driven}
@@ -8,10 +8,9 @@ use Rattle.dae_drive.specs.declared.options.RunOptions.{RunOptions}
 use Rattle.dae_image.specs.declared.Image.{Image}
 use Rattle.dae_straight.specs.declared.StraightProgram.{StraightProgram}
 use Rattle.dae_drive.specs.Puts.{Put, Out, Note, Answer, Sinks, AreMade, Gives, gives_whole, gives_part}
-use Rattle.dae_drive.specs.Images.{status_of, DueOfRun, due_end, DueAfterBudget, due_turns, due_depth, due_memory_for_machine, DueOfImage, due_budget, due_memory_for_lines}
+use Rattle.dae_drive.specs.Images.{status_of, due_end, DueAfterBudget, due_turns, due_depth, due_memory_for_machine, DueOfImage, due_budget, due_memory_for_lines}
 use Rattle.dae_cli.specs.ImageFiles.{DueOfBytes, due_image, due_no_image, due_memory_to_decode, DueOfImageFile, due_bytes, due_no_bytes, due_memory_for_bytes}
 use Rattle.dae_cli.specs.Sources.{DueOfProgram, due_run, due_memory, due_memory_to_open, DueOfText, due_too_long, due_no_tokens, due_no_tree, due_program, due_not_built, due_memory_to_read, DueOfFile, due_text, due_read, due_memory_to_fetch}
-use Rattle.dae_cli.specs.Answers.{IsDue, due_file, due_image_file, due_words}
 
 -- each put is on note
 abbrev AreNotes : List Put → Type 0
@@ -58,15 +57,22 @@ of_bytes a (due_image i spells d) e = of_image a d e
 of_bytes a (due_no_image x never exact none) e = tt
 of_bytes a due_memory_to_decode e = tt
 
-of_words : {words : List (List ℕ)} {held : List ℕ → Option (List ℕ)} {failed : List ℕ → Type 0} (a : Answer) → IsDue words held failed a → a.status ≡ 7 → AreNotes a.puts
-of_words a (due_file name spelled (due_text text e d)) h = of_text a d h
-of_words a (due_file name spelled (due_read f)) h = tt
-of_words a (due_file name spelled due_memory_to_fetch) h = tt
-of_words a (due_image_file options name spelled (due_bytes bytes e d)) h = of_bytes a d h
-of_words a (due_image_file options name spelled (due_no_bytes f)) h = tt
-of_words a (due_image_file options name spelled due_memory_for_bytes) h = tt
-of_words a (due_words none others) h = tt
+of_file : {name : List ℕ} {held : Option (List ℕ)} {failed : Type 0} (a : Answer) → DueOfFile name held failed a → a.status ≡ 7 → AreNotes a.puts
+of_file a (due_text text e d) h = of_text a d h
+of_file a (due_read f) h = tt
+of_file a due_memory_to_fetch h = tt
 
-pub unopened : {words : List (List ℕ)} {held : List ℕ → Option (List ℕ)} {failed : List ℕ → Type 0} (due : Answer) (status : ℕ) (a b : Sinks) → IsDue words held failed due → Gives due status a b → status ≡ 7 → b.out ≡ a.out
-unopened due status a b d (gives_whole s w) h = out_stays due.puts a b (of_words due d (sym s ∙ h)) w
-unopened due status a b d (gives_part s cut) h = absurd (omega (arith, s, h))
+of_image_file : {name : List ℕ} {held : Option (List ℕ)} {failed : Type 0} {o : RunOptions} (a : Answer) → DueOfImageFile name held failed o a → a.status ≡ 7 → AreNotes a.puts
+of_image_file a (due_bytes bytes e d) h = of_bytes a d h
+of_image_file a (due_no_bytes f) h = tt
+of_image_file a due_memory_for_bytes h = tt
+
+unopened : (due : Answer) (status : ℕ) (a b : Sinks) → (due.status ≡ 7 → AreNotes due.puts) → Gives due status a b → status ≡ 7 → b.out ≡ a.out
+unopened due status a b notes (gives_whole s w) h = out_stays due.puts a b (notes (sym s ∙ h)) w
+unopened due status a b notes (gives_part s cut) h = absurd (omega (arith, s, h))
+
+pub unopened_file : {name : List ℕ} {held : Option (List ℕ)} {failed : Type 0} (due : Answer) (status : ℕ) (a b : Sinks) → DueOfFile name held failed due → Gives due status a b → status ≡ 7 → b.out ≡ a.out
+unopened_file due status a b d given h = unopened due status a b (of_file due d) given h
+
+pub unopened_image_file : {name : List ℕ} {held : Option (List ℕ)} {failed : Type 0} {o : RunOptions} (due : Answer) (status : ℕ) (a b : Sinks) → DueOfImageFile name held failed o due → Gives due status a b → status ≡ 7 → b.out ≡ a.out
+unopened_image_file due status a b d given h = unopened due status a b (of_image_file due d) given h

@@ -112,10 +112,7 @@ fn file_of(alloc: Global, source: &Source<'_>, tokens: &Tokens<'_>) -> Result<Fi
     match parse(alloc, tokens) {
         Ok(file) => Ok(file),
         Err(ParseError::Memory) => Err(Stop::Memory),
-        Err(error) => {
-            let line = refusals::tree_line(alloc, source.name, error);
-            Err(Stop::told(2, line))
-        }
+        Err(error) => Err(Stop::told(2, refusals::tree_line(alloc, source.name, error))),
     }
 }
 

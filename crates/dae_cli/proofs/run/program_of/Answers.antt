@@ -26,5 +26,5 @@ returns-in-Err-NotBuilt-clause-err c =
     text_due (c.told.ensures not_built_line c.not_built_line.ensures)
     (due_not_built r (view_externals file.externals) c.requires.1 c.requires.2.tree (straight_file r file None c.requires.2 none))
 
-pub returns-clause-err : goal.returns-clause-err
-returns-clause-err c = due_memory_to_read
+pub returns-in-Err-Memory-clause-err : goal.returns-in-Err-Memory-clause-err
+returns-in-Err-Memory-clause-err c = due_memory_to_read
