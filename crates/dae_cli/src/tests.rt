@@ -181,7 +181,7 @@ struct Row {
     note: &'static [u8],
 }
 
-const NOT_RUN: [Row; 18] = [
+const NOT_RUN: [Row; 19] = [
     Row {
         parts: &[(b"int main(void){@}", 1)],
         status: 2,
