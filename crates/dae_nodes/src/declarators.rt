@@ -8,9 +8,11 @@ ghost use Rattle.dae_grammar.specs.Machine.{closed_by, parameters_onto};
 ghost use Rattle.dae_scope.specs.Shown.{bound_all};
 ghost use Rattle.dae_nodes.specs.Parts.{ShowsOperand, ShowsSpecified, ShowsDeclared, ShowsParameterList, ShowsParameters};
 
+use crate::values::{
+    Declared, Operand, ParameterList, Read, Specified, beside, flat, longer, over,
+};
 use dae_base::Place;
 use dae_scope::Binding;
-use crate::values::{Declared, Operand, ParameterList, Read, Specified, beside, flat, longer, over};
 use dae_tree::{Declarator, Name, Parameter};
 use std::alloc::{AllocError, Global};
 

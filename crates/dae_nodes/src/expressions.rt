@@ -4,8 +4,8 @@ ghost use Rattle.dae_grammar.specs.Machine.{arguments_onto};
 ghost use Rattle.dae_nodes.specs.Parts.{ShowsOperand, ShowsArguments, ShowsSpecified, ShowsDeclared};
 
 use crate::operators::strength;
-use dae_base::Place;
 use crate::values::{Declared, Operand, Read, Specified, beside, flat, longer, over};
+use dae_base::Place;
 use dae_tree::{
     AssignmentOperator, BinaryOperator, Constant, Expression, MemberOperator, Name,
     PostfixOperator, PrefixOperator, TypeName,

@@ -4,22 +4,22 @@
 // exactly where no node in it is too deep. Nothing fails but for want of memory.
 #![tactic(auto)]
 
-pub use depths::{Depths, GREATEST_DEPTH};
-pub use lists::{
-    has_items, has_members, no_arguments, no_declarations, no_declarators, no_enumerators,
-    no_externals, no_initialisers, no_items, no_members, no_statements,
-};
-pub use values::{
-    Declared, Loop, Operand, ParameterList, Read, Specified, beside, flat, longer, over,
-    tree_or_depth,
+pub use declarations::{
+    declaration, declared_external, definition, initialiser_list, value, with_declaration,
+    with_external, with_initialiser, with_plain_item, with_valued_item,
 };
 pub use declarators::{
     absent, empty_function, function, grouped, named, no_parameters, pointer, sized_array,
     unsized_array, with_parameter,
 };
+pub use depths::{Depths, GREATEST_DEPTH};
 pub use expressions::{
     assignment, binary, call, cast, comma, conditional, constant, identifier, index, literal,
     member, parenthesised, postfix, prefix, sizeof_expression, sizeof_type, with_argument,
+};
+pub use lists::{
+    has_items, has_members, no_arguments, no_declarations, no_declarators, no_enumerators,
+    no_externals, no_initialisers, no_items, no_members, no_statements,
 };
 pub use operators::{strength, under};
 pub use specifiers::{
@@ -27,14 +27,14 @@ pub use specifiers::{
     with_plain_enumerator, with_structure, with_structure_body, with_type_name,
     with_valued_enumerator, with_word,
 };
-pub use declarations::{
-    declaration, declared_external, definition, initialiser_list, value, with_declaration,
-    with_external, with_initialiser, with_plain_item, with_valued_item,
-};
 pub use statements::{
     block, break_statement, case_statement, continue_statement, default_statement, do_statement,
     empty_statement, evaluation, for_statement, if_else_statement, if_statement, return_statement,
     switch_statement, while_statement, with_statement,
+};
+pub use values::{
+    Declared, Loop, Operand, ParameterList, Read, Specified, beside, flat, longer, over,
+    tree_or_depth,
 };
 
 mod declarations;

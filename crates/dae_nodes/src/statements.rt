@@ -7,8 +7,8 @@ ghost use Rattle.dae_grammar.specs.FirstPlaces.{firsts_optional};
 ghost use Rattle.dae_nodes.specs.Shown.{Shows};
 ghost use Rattle.dae_nodes.specs.Parts.{ShowsOperand, ShowsOptional, ShowsDeclarations, ShowsStatement, ShowsStatements, ShowsLoop};
 
-use dae_base::Place;
 use crate::values::{Loop, Operand, Read, beside, flat, longer, over};
+use dae_base::Place;
 use dae_tree::{Block, Declaration, Expression, Heading, Statement, Test};
 use std::alloc::{AllocError, Global};
 
