@@ -1,0 +1,4 @@
+mod Distances
+mod Listed
+mod Stacked
+mod Sizes

@@ -1,0 +1,30 @@
+-- The lists inside of a step are no deeper than it, which is why the walk ends.
+use Rattle.std.proofs.Common.{◌≡◌, ℕ, ◌+◌, ◌*◌, ◌<◌, List, arith}
+use Rattle.std.specs.Prelude.{Vec}
+use Rattle.std.specs.declared.alloc.Global.{Global}
+use denote.Param.Weighed.{most}
+use Rattle.dae_ir.proofs.stream.Step.TheLaws.{the_size}
+use Rattle.dae_ir.specs.declared.stream.Mark.{Mark}
+use Rattle.dae_ir.specs.declared.stream.Branch.{Branch}
+use Rattle.dae_ir.specs.declared.stream.Step.{Step}
+use Rattle.dae_ir.specs.declared.stream.Step.TheVariants as step
+use Rattle.dae_ir.specs.declared.stream.Step.TheViews.{the_lemmas}
+
+abbrev pub deepest : List Step → ℕ
+deepest xs = most (λ (x : Step). the_size x) xs
+
+pub first_in_if : (m : Mark) (t : Branch) (p q : Vec Step Global) (s : Step) → s ≡ step.If m t p q → deepest p.items < the_size s
+first_in_if m t p q s e = grind (arith, the_lemmas)
+
+pub second_in_if : (m : Mark) (t : Branch) (p q : Vec Step Global) (s : Step) → s ≡ step.If m t p q → deepest q.items < the_size s
+second_in_if m t p q s e = grind (arith, the_lemmas)
+
+pub first_in_loop : (m : Mark) (p q : Vec Step Global) (s : Step) → s ≡ step.Loop m p q → deepest p.items < the_size s
+first_in_loop m p q s e = grind (arith, the_lemmas)
+
+pub second_in_loop : (m : Mark) (p q : Vec Step Global) (s : Step) → s ≡ step.Loop m p q → deepest q.items < the_size s
+second_in_loop m p q s e = grind (arith, the_lemmas)
+
+-- the measures of the walk's two functions
+pub list_below : (xs ys : List Step) (s : Step) → xs ≡ ys → deepest ys < the_size s → 2 * deepest xs + 1 < 2 * the_size s + 0
+list_below xs ys s e lt = rw e (omega (arith, lt))

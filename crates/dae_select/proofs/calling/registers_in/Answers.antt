@@ -1,0 +1,6 @@
+use Rattle.dae_blocks.specs.Code.{registers_in}
+use Rattle.dae_select.proofs.calling.registers_in.Goals as goal
+
+pub returns : goal.returns
+unfolding registers_in
+returns c = c.registers_among.ensures

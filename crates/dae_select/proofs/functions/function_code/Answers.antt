@@ -1,0 +1,25 @@
+use Rattle.std.proofs.Common.{ℕ, ◌++◌, List, ap, ◌∙◌, append_assoc}
+use Rattle.dae_encode.specs.declared.Inst.{Inst}
+use Rattle.dae_ir.specs.Classes.{VariableSet}
+use Rattle.dae_ir.specs.Streams.{actions_of}
+use Rattle.dae_ir.specs.declared.form.Operand.TheVariants.{Number}
+use Rattle.std.specs.Prelude.{Some}
+use Rattle.dae_walks.specs.declared.Home.{Home}
+use Rattle.dae_walks.specs.Live.{live, nowhere}
+use Rattle.dae_live.specs.Members.{member}
+use Rattle.dae_blocks.specs.Blocks.{leave_code}
+use Rattle.dae_blocks.specs.Code.{code_of, entry_code}
+use Rattle.dae_select.specs.Layouts.{plan_of, variables_of}
+use Rattle.dae_select.proofs.functions.function_code.Goals as goal
+
+pub returns : goal.returns
+returns c =
+    let a = c.args in
+    let P = plan_of a.layouts.now in let V = variables_of a.layouts.now in let f = a.function in
+    let last : (ℕ → Home) → List Inst = λ home. leave_code home (Some (Number 0)) in
+    let entry : VariableSet → List Inst = λ l. entry_code P V f l in
+    let first = c.in_ok-entry_code.ensures ∙ ap (λ (l : List Inst). l ++ entry (member c.in_ok-live.live)) c.new-code.ensures.items ∙ ap entry c.in_ok-live.ensures.live in
+    let middle = c.as_slice.ensures.value ∙ c.into_vec.ensures ∙ c.in_ok-live.ensures.code in
+    c.in_ok-leave_code.ensures ∙ ap (λ (home : ℕ → Home). c.extend_from_slice.new.self.items ++ last home) c.homes-homes.ensures.homes
+    ∙ ap (λ (l : List Inst). l ++ last (P.home f)) (c.in_ok-extend_from_slice.ensures.items ∙ ap (λ (l : List Inst). l ++ c.as_slice.result.now) first ∙ ap (λ (l : List Inst). entry (live (actions_of a.body.now) nowhere) ++ l) middle)
+    ∙ append_assoc (entry (live (actions_of a.body.now) nowhere)) (code_of P V f (actions_of a.body.now) nowhere 0 0) (last (P.home f))

@@ -1,0 +1,5 @@
+use Rattle.std.specs.Prelude.{◌≡◌, ◌++◌, drop, reverse}
+use Rattle.dae_select.proofs.growing.GrowingCode.put_before.Given as goal
+
+abbrev pub invariant-loop-index : goal.invariant-loop-index
+invariant-loop-index l = reverse l.self-inside.backward.items ≡ drop l.index l.block ++ l.fn.self

@@ -1,0 +1,155 @@
+ghost use Rattle.std.specs.Prelude.{◌≡◌, ◌++◌, OnOk};
+ghost use Rattle.dae_blocks.specs.Blocks.{operation_code, extend_code, compare_code, test_code, value_code, register_or, keep};
+ghost use Rattle.dae_select.specs.Tables.{home_in, AreNear};
+
+use crate::fetching::{fetch, home_of, keep, number_code, register_or, source};
+use dae_base::LoadKind;
+use dae_encode::Inst;
+use dae_ir::{Test, Value};
+use dae_meaning::{Comparison, Operator};
+use dae_walks::Home;
+use std::alloc::AllocError;
+
+fn operation(operator: Operator, target: u8, left: u8, right: u8) -> Inst
+    ensures { result ≡ operation_code operator target left right }
+{
+    match operator {
+        Operator::Add => Inst::Add(target, left, right),
+        Operator::Subtract => Inst::Sub(target, left, right),
+        Operator::Multiply => Inst::Mul(target, left, right),
+        Operator::DivideSigned => Inst::Div(target, left, right),
+        Operator::DivideUnsigned => Inst::Divu(target, left, right),
+        Operator::RemainderSigned => Inst::Rem(target, left, right),
+        Operator::RemainderUnsigned => Inst::Remu(target, left, right),
+        Operator::And => Inst::And(target, left, right),
+        Operator::Or => Inst::Or(target, left, right),
+        Operator::Xor => Inst::Xor(target, left, right),
+        Operator::ShiftLeft => Inst::Sll(target, left, right),
+        Operator::ShiftRightSigned => Inst::Sra(target, left, right),
+        Operator::ShiftRightUnsigned => Inst::Srl(target, left, right),
+    }
+}
+
+fn extend(code: &mut Vec<Inst>, kind: LoadKind, target: u8, from: u8) -> Result<(), AllocError>
+    ensures { OnOk result (code.new.items ≡ code.old.items ++ extend_code kind target from) }
+{
+    match kind {
+        LoadKind::I8 => code.extend_from_slice(&[
+            Inst::Slli(target, from, 24),
+            Inst::Srai(target, target, 24),
+        ]),
+        LoadKind::U8 => code.extend_from_slice(&[Inst::Andi(target, from, 255)]),
+        LoadKind::I16 => code.extend_from_slice(&[
+            Inst::Slli(target, from, 16),
+            Inst::Srai(target, target, 16),
+        ]),
+        LoadKind::U16 => code.extend_from_slice(&[
+            Inst::Slli(target, from, 16),
+            Inst::Srli(target, target, 16),
+        ]),
+        LoadKind::I32 => code.extend_from_slice(&[Inst::Addi(target, from, 0)]),
+    }
+}
+
+fn compare(
+    code: &mut Vec<Inst>,
+    comparison: Comparison,
+    target: u8,
+    left: u8,
+    right: u8,
+) -> Result<(), AllocError>
+    ensures { OnOk result (code.new.items ≡ code.old.items ++ compare_code comparison target left right) }
+{
+    match comparison {
+        Comparison::Equal => code.extend_from_slice(&[
+            Inst::Sub(target, left, right),
+            Inst::Sltiu(target, target, 1),
+        ]),
+        Comparison::NotEqual => code.extend_from_slice(&[
+            Inst::Sub(target, left, right),
+            Inst::Sltu(target, 0, target),
+        ]),
+        Comparison::LessSigned => code.extend_from_slice(&[Inst::Slt(target, left, right)]),
+        Comparison::AtLeastSigned => code.extend_from_slice(&[
+            Inst::Slt(target, left, right),
+            Inst::Xori(target, target, 1),
+        ]),
+        Comparison::LessUnsigned => code.extend_from_slice(&[Inst::Sltu(target, left, right)]),
+        Comparison::AtLeastUnsigned => code.extend_from_slice(&[
+            Inst::Sltu(target, left, right),
+            Inst::Xori(target, target, 1),
+        ]),
+    }
+}
+
+/// A register gets 1 where the test holds, and else 0.
+pub fn test_code(
+    code: &mut Vec<Inst>,
+    homes: &[Home],
+    target: u8,
+    test: Test,
+) -> Result<(), AllocError>
+    requires { AreNear homes.now }
+    ensures { OnOk result (code.new.items ≡ code.old.items ++ test_code (home_in homes.now) target test) }
+{
+    fetch(code, homes, 5, test.left)?;
+    fetch(code, homes, 6, test.right)?;
+    compare(
+        code,
+        test.comparison,
+        target,
+        source(homes, 5, test.left),
+        source(homes, 6, test.right),
+    )
+}
+
+fn value_code(
+    code: &mut Vec<Inst>,
+    homes: &[Home],
+    target: u8,
+    value: Value,
+) -> Result<(), AllocError>
+    requires { AreNear homes.now }
+    ensures { OnOk result (code.new.items ≡ code.old.items ++ value_code (home_in homes.now) target value) }
+{
+    match value {
+        Value::Same(operand) => {
+            fetch(code, homes, 5, operand)?;
+            code.extend_from_slice(&[Inst::Addi(target, source(homes, 5, operand), 0)])
+        }
+        Value::Extended(kind, operand) => {
+            fetch(code, homes, 5, operand)?;
+            extend(code, kind, target, source(homes, 5, operand))
+        }
+        Value::Binary(operator, left, right) => {
+            fetch(code, homes, 5, left)?;
+            fetch(code, homes, 6, right)?;
+            code.extend_from_slice(&[operation(
+                operator,
+                target,
+                source(homes, 5, left),
+                source(homes, 6, right),
+            )])
+        }
+        Value::Holds(test) => test_code(code, homes, target, test),
+        Value::FrameAddress(offset) => {
+            number_code(code, 5, offset)?;
+            code.extend_from_slice(&[Inst::Add(target, 3, 5)])
+        }
+    }
+}
+
+/// The block that sets a variable.
+pub fn set_code(
+    code: &mut Vec<Inst>,
+    homes: &[Home],
+    variable: u32,
+    value: Value,
+) -> Result<(), AllocError>
+    requires { AreNear homes.now }
+    ensures { OnOk result (code.new.items ≡ code.old.items ++ (value_code (home_in homes.now) (register_or 5 (home_in homes.now variable)) value ++ keep (home_in homes.now variable))) }
+{
+    let home = home_of(homes, variable);
+    value_code(code, homes, register_or(5, home), value)?;
+    keep(code, home)
+}

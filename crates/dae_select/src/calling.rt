@@ -1,0 +1,283 @@
+// The blocks of calls and returns, and the code that a function begins with.
+
+ghost use Rattle.std.specs.Prelude.{◌≡◌, ℕ, ◌+◌, ◌++◌, ◌∷◌, [], ◌<◌, ◌^◌, ◌%◌, Bool, true, false, ◌&&◌, List, length, slice_index, IfOk, OnOk};
+ghost use Rattle.dae_blocks.specs.Blocks.{waits_at, arguments_code, argument_code, is_register, save_code, restore_code, deeper_code, back_code, result_code, leave_code};
+ghost use Rattle.dae_blocks.specs.Code.{some_below, filtered, registers_in, call_code, entry_code};
+ghost use Rattle.dae_select.specs.Layouts.{is_a, plan_of, variables_of, AreSmall};
+ghost use Rattle.dae_select.specs.Tables.{home_in, IsNear, AreNear};
+ghost use Rattle.dae_live.specs.Members.{member};
+ghost use Rattle.dae_walks.specs.Homes.{kept_at};
+
+use crate::fetching::{
+    fetch, home_of, keep, load_code, number_code, register_or, source, store_code,
+};
+use crate::jumping::enter_code;
+use crate::layouts::Layouts;
+use dae_base::Side;
+use dae_encode::Inst;
+use dae_ir::{Argument, Operand};
+use dae_live::LiveSet;
+use dae_walks::Home;
+use std::alloc::{AllocError, Global};
+
+/// The registers that variables may have.
+const HOME_REGISTERS: [u8; 18] = [
+    8, 9, 11, 12, 13, 14, 15, 16, 18, 19, 20, 21, 22, 23, 24, 25, 26, 27,
+];
+
+/// The word of a frame in which a register is kept across a call.
+fn kept_at(register: u8) -> u8
+    ensures { result ≡ kept_at register }
+{
+    if register < 10 {
+        register.saturating_sub(7)
+    } else if register < 17 {
+        register - 8
+    } else {
+        register - 9
+    }
+}
+
+fn waits_at(home: Home) -> u32
+    requires { IsNear home }
+    ensures same { result ≡ waits_at home }
+    ensures near { result < 2 ^ 27 + 256 }
+{
+    match home {
+        Home::Register(register) => u32::from(kept_at(register)),
+        Home::Slot(slot) => 19 + slot,
+    }
+}
+
+fn argument_code(
+    code: &mut Vec<Inst>,
+    layouts: &Layouts,
+    function: u32,
+    homes: &[Home],
+    callee: u32,
+    argument: Argument,
+) -> Result<(), AllocError>
+    requires near { AreNear homes.now }
+    requires homes { home_in homes.now ≡ (plan_of layouts.now).home function }
+    requires small { AreSmall layouts.now }
+    ensures { OnOk result (code.new.items ≡ code.old.items ++ argument_code (plan_of layouts.now) function callee argument) }
+{
+    fetch(code, homes, 5, argument.operand)?;
+    let place = waits_at(layouts.home(callee, argument.parameter));
+    let words = 19 + layouts.variables(function);
+    store_code(code, source(homes, 5, argument.operand), words + place)
+}
+
+/// The arguments of a call go where the function that is called finds its parameters.
+fn arguments_code(
+    code: &mut Vec<Inst>,
+    layouts: &Layouts,
+    function: u32,
+    homes: &[Home],
+    callee: u32,
+    arguments: &[Argument],
+) -> Result<(), AllocError>
+    requires near { AreNear homes.now }
+    requires homes { home_in homes.now ≡ (plan_of layouts.now).home function }
+    requires small { AreSmall layouts.now }
+    ensures { OnOk result (code.new.items ≡ code.old.items ++ arguments_code (plan_of layouts.now) function callee arguments.now) }
+{
+    for index in (0..arguments.len()).rev() {
+        argument_code(code, layouts, function, homes, callee, arguments[index])?;
+    }
+    Ok(())
+}
+
+fn is_live_in(homes: &[Home], live: &LiveSet, register: u8, variable: u32) -> bool
+    ensures { result ≡ (member live.now variable && is_register register (home_in homes.now variable)) }
+{
+    match home_of(homes, variable) {
+        Home::Register(other) => live.contains(variable) && register == other,
+        Home::Slot(_) => false,
+    }
+}
+
+/// Whether a live variable is in the register.
+fn is_home_of(homes: &[Home], variables: u32, live: &LiveSet, register: u8) -> bool
+    ensures { result ≡ some_below variables (λ v. member live.now v && is_register register (home_in homes.now v)) }
+{
+    for variable in 0..variables {
+        if is_live_in(homes, live, register, variable) {
+            return true;
+        }
+    }
+    false
+}
+
+fn registers_among(
+    alloc: Global,
+    homes: &[Home],
+    variables: u32,
+    live: &LiveSet,
+    registers: &[u8],
+) -> Result<Vec<u8>, AllocError>
+    ensures { IfOk result (λ found. found.items ≡ filtered (λ r. some_below variables (λ v. member live.now v && is_register r (home_in homes.now v))) registers.now) }
+{
+    let mut found = Vec::new(alloc);
+    for register in registers {
+        if is_home_of(homes, variables, live, *register) {
+            found.push(*register)?;
+        }
+    }
+    Ok(found)
+}
+
+/// The registers in which a live variable is.
+fn registers_in(
+    alloc: Global,
+    homes: &[Home],
+    variables: u32,
+    live: &LiveSet,
+) -> Result<Vec<u8>, AllocError>
+    ensures { IfOk result (λ registers. registers.items ≡ registers_in (home_in homes.now) variables (member live.now)) }
+{
+    registers_among(alloc, homes, variables, live, &HOME_REGISTERS)
+}
+
+fn save_code(code: &mut Vec<Inst>, registers: &[u8]) -> Result<(), AllocError>
+    ensures { OnOk result (code.new.items ≡ code.old.items ++ save_code registers.now) }
+{
+    for register in registers {
+        store_code(code, *register, u32::from(kept_at(*register)))?;
+    }
+    Ok(())
+}
+
+fn restore_code(code: &mut Vec<Inst>, registers: &[u8]) -> Result<(), AllocError>
+    ensures { OnOk result (code.new.items ≡ code.old.items ++ restore_code registers.now) }
+{
+    for register in registers {
+        load_code(code, *register, u32::from(kept_at(*register)))?;
+    }
+    Ok(())
+}
+
+/// The low word of a frame's bytes.
+fn low_word(frame: u64) -> u32
+    ensures { result ≡ frame % 2 ^ 32 }
+{
+    (frame % 4_294_967_296) as u32
+}
+
+fn deeper_code(code: &mut Vec<Inst>, layouts: &Layouts, function: u32) -> Result<(), AllocError>
+    requires { AreSmall layouts.now }
+    ensures { OnOk result (code.new.items ≡ code.old.items ++ deeper_code (plan_of layouts.now) function) }
+{
+    number_code(code, 5, low_word(layouts.frame(function)))?;
+    code.push(Inst::Add(3, 3, 5))?;
+    number_code(code, 5, 4 * (19 + layouts.variables(function)))?;
+    code.push(Inst::Add(2, 2, 5))?;
+    match layouts.side {
+        Side::A => code.extend_from_slice(&[Inst::Addi(10, 10, 1)]),
+        Side::E => Ok(()),
+    }
+}
+
+fn back_code(code: &mut Vec<Inst>, layouts: &Layouts, function: u32) -> Result<(), AllocError>
+    requires { AreSmall layouts.now }
+    ensures { OnOk result (code.new.items ≡ code.old.items ++ back_code (plan_of layouts.now) function) }
+{
+    number_code(code, 5, low_word(layouts.frame(function)))?;
+    code.push(Inst::Sub(3, 3, 5))?;
+    number_code(code, 5, 4 * (19 + layouts.variables(function)))?;
+    code.push(Inst::Sub(2, 2, 5))?;
+    match layouts.side {
+        Side::A => code.extend_from_slice(&[Inst::Addi(10, 10, -1)]),
+        Side::E => Ok(()),
+    }
+}
+
+fn result_code(
+    code: &mut Vec<Inst>,
+    homes: &[Home],
+    variable: Option<u32>,
+) -> Result<(), AllocError>
+    requires { AreNear homes.now }
+    ensures { OnOk result (code.new.items ≡ code.old.items ++ result_code (home_in homes.now) variable) }
+{
+    match variable {
+        None => Ok(()),
+        Some(variable) => {
+            let home = home_of(homes, variable);
+            code.push(Inst::Addi(register_or(5, home), 6, 0))?;
+            keep(code, home)
+        }
+    }
+}
+
+/// What a call names: the variable that gets the result, the function, and the arguments.
+#[derive(Clone, Copy)]
+pub struct Callee {
+    pub result: Option<u32>,
+    pub function: u32,
+}
+
+/// The block of a call, where these variables are live behind it, the result aside.
+pub fn call_code(
+    alloc: Global,
+    code: &mut Vec<Inst>,
+    layouts: &Layouts,
+    function: u32,
+    homes: &[Home],
+    callee: Callee,
+    arguments: &[Argument],
+    live: &LiveSet,
+) -> Result<(), AllocError>
+    requires near { AreNear homes.now }
+    requires homes { home_in homes.now ≡ (plan_of layouts.now).home function }
+    requires small { AreSmall layouts.now }
+    ensures { OnOk result (code.new.items ≡ code.old.items ++ call_code (plan_of layouts.now) (variables_of layouts.now) function callee.result callee.function arguments.now (member live.now)) }
+{
+    arguments_code(code, layouts, function, homes, callee.function, arguments)?;
+    let registers = registers_in(alloc, homes, layouts.variables(function), live)?;
+    save_code(code, registers.as_slice())?;
+    deeper_code(code, layouts, function)?;
+    enter_code(code, layouts.entry(callee.function))?;
+    back_code(code, layouts, function)?;
+    restore_code(code, registers.as_slice())?;
+    result_code(code, homes, callee.result)
+}
+
+/// The block of a return.
+pub fn leave_code(
+    code: &mut Vec<Inst>,
+    homes: &[Home],
+    answer: Option<Operand>,
+) -> Result<(), AllocError>
+    requires { AreNear homes.now }
+    ensures { OnOk result (code.new.items ≡ code.old.items ++ leave_code (home_in homes.now) answer) }
+{
+    match answer {
+        None => code.extend_from_slice(&[Inst::Lw(1, 2, 0), Inst::Jalr(0, 1, 0)]),
+        Some(operand) => {
+            fetch(code, homes, 5, operand)?;
+            code.extend_from_slice(&[
+                Inst::Addi(6, source(homes, 5, operand), 0),
+                Inst::Lw(1, 2, 0),
+                Inst::Jalr(0, 1, 0),
+            ])
+        }
+    }
+}
+
+/// The code that a function begins with, where these variables are live behind it.
+pub fn entry_code(
+    alloc: Global,
+    code: &mut Vec<Inst>,
+    layouts: &Layouts,
+    function: u32,
+    homes: &[Home],
+    live: &LiveSet,
+) -> Result<(), AllocError>
+    requires { home_in homes.now ≡ (plan_of layouts.now).home function }
+    ensures { OnOk result (code.new.items ≡ code.old.items ++ entry_code (plan_of layouts.now) (variables_of layouts.now) function (member live.now)) }
+{
+    code.push(Inst::Sw(2, 1, 0))?;
+    let registers = registers_in(alloc, homes, layouts.variables(function), live)?;
+    restore_code(code, registers.as_slice())
+}

@@ -1,0 +1,153 @@
+// The blocks of checks.
+
+ghost use Rattle.std.specs.Prelude.{◌≡◌, ℕ, ◌+◌, ◌-◌, ◌++◌, ◌∷◌, [], ◌<◌, ◌^◌, nat_lt, if◌then◌else◌, OnOk};
+ghost use Rattle.dae_blocks.specs.Blocks.{fail_code, over, align_code, room_code, place_code, zero_code, depth_code, call_room_code, frame_room_code, check_code};
+ghost use Rattle.dae_select.specs.Layouts.{is_a, plan_of, homes_at};
+ghost use Rattle.dae_select.specs.Tables.{home_in, AreNear};
+
+use crate::fetching::{fetch, number_code, source};
+use crate::layouts::Layouts;
+use dae_base::{Side, Width};
+use dae_encode::Inst;
+use dae_ir::{Check, Operand};
+use dae_walks::Home;
+use std::alloc::AllocError;
+
+/// The code of a trap is pushed, and the processor halts.
+fn fail_code(code: &mut Vec<Inst>, side: Side, trap: u8) -> Result<(), AllocError>
+    ensures { OnOk result (code.new.items ≡ code.old.items ++ fail_code (is_a side) trap) }
+{
+    let trap = i32::from(trap);
+    match side {
+        Side::A => code.extend_from_slice(&[Inst::Addi(29, 0, trap), Inst::Ecall]),
+        Side::E => code.extend_from_slice(&[
+            Inst::Addi(29, 0, trap),
+            Inst::Addi(10, 0, trap),
+            Inst::Addi(17, 0, 5),
+            Inst::Ecall,
+        ]),
+    }
+}
+
+fn align_code(code: &mut Vec<Inst>, width: Width, register: u8) -> Result<(), AllocError>
+    ensures { OnOk result (code.new.items ≡ code.old.items ++ align_code width register) }
+{
+    let bits = match width {
+        Width::B1 => return Ok(()),
+        Width::B2 => 1,
+        Width::B4 => 3,
+    };
+    code.extend_from_slice(&[Inst::Andi(6, register, bits), Inst::Beq(6, 0, 12)])?;
+    fail_code(code, Side::A, 3)
+}
+
+fn room_code(code: &mut Vec<Inst>, most: u32) -> Result<(), AllocError>
+    ensures { OnOk result (code.new.items ≡ code.old.items ++ room_code most) }
+{
+    number_code(code, 6, most)?;
+    code.push(Inst::Bgeu(6, 3, 12))?;
+    fail_code(code, Side::A, 4)
+}
+
+fn place_code(
+    code: &mut Vec<Inst>,
+    homes: &[Home],
+    memory: u32,
+    width: Width,
+    operand: Operand,
+) -> Result<(), AllocError>
+    requires { AreNear homes.now }
+    ensures { OnOk result (code.new.items ≡ code.old.items ++ place_code (home_in homes.now) memory width operand) }
+{
+    fetch(code, homes, 5, operand)?;
+    let register = source(homes, 5, operand);
+    align_code(code, width, register)?;
+    code.push(Inst::Addi(6, register, -16))?;
+    let starts = memory
+        .saturating_sub(u32::from(width.bytes()))
+        .saturating_sub(15);
+    number_code(code, 7, starts)?;
+    code.push(Inst::Bltu(6, 7, 12))?;
+    fail_code(code, Side::A, 2)
+}
+
+fn zero_code(
+    code: &mut Vec<Inst>,
+    side: Side,
+    homes: &[Home],
+    operand: Operand,
+) -> Result<(), AllocError>
+    requires { AreNear homes.now }
+    ensures { OnOk result (code.new.items ≡ code.old.items ++ zero_code (is_a side) (home_in homes.now) operand) }
+{
+    fetch(code, homes, 5, operand)?;
+    let over = match side {
+        Side::A => 12,
+        Side::E => 20,
+    };
+    code.push(Inst::Bne(source(homes, 5, operand), 0, over))?;
+    fail_code(code, side, 1)
+}
+
+fn depth_code(code: &mut Vec<Inst>, limit: u16) -> Result<(), AllocError>
+    ensures { OnOk result (code.new.items ≡ code.old.items ++ depth_code limit) }
+{
+    number_code(code, 6, u32::from(limit))?;
+    code.push(Inst::Bltu(10, 6, 12))?;
+    fail_code(code, Side::A, 4)
+}
+
+/// Whether a call of a function whose frame has `next` bytes is within the limits.
+fn call_room_code(
+    code: &mut Vec<Inst>,
+    memory: u32,
+    limit: u16,
+    own: u64,
+    next: u64,
+) -> Result<(), AllocError>
+    ensures { OnOk result (code.new.items ≡ code.old.items ++ call_room_code memory limit own next) }
+{
+    let frames = own.saturating_add(next);
+    if u64::from(memory) < frames {
+        return fail_code(code, Side::A, 4);
+    }
+    room_code(code, memory - frames as u32)?;
+    depth_code(code, limit)
+}
+
+fn frame_room_code(code: &mut Vec<Inst>, memory: u32, own: u64) -> Result<(), AllocError>
+    ensures { OnOk result (code.new.items ≡ code.old.items ++ frame_room_code memory own) }
+{
+    if u64::from(memory) < own {
+        fail_code(code, Side::A, 4)
+    } else {
+        room_code(code, memory - own as u32)
+    }
+}
+
+/// The block of a check in a function with these homes.
+pub fn check_code(
+    code: &mut Vec<Inst>,
+    layouts: &Layouts,
+    function: u32,
+    homes: &[Home],
+    check: Check,
+) -> Result<(), AllocError>
+    requires near { AreNear homes.now }
+    requires homes { home_in homes.now ≡ (plan_of layouts.now).home function }
+    ensures { OnOk result (code.new.items ≡ code.old.items ++ check_code (plan_of layouts.now) function check) }
+{
+    match check {
+        Check::Place(width, operand) => place_code(code, homes, layouts.memory, width, operand),
+        Check::Zero(operand) => zero_code(code, layouts.side, homes, operand),
+        Check::Room(callee) => call_room_code(
+            code,
+            layouts.memory,
+            layouts.limit,
+            layouts.frame(function),
+            layouts.frame(callee),
+        ),
+        Check::Frame => frame_room_code(code, layouts.memory, layouts.frame(function)),
+        Check::Abort => fail_code(code, Side::A, 5),
+    }
+}

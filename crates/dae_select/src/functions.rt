@@ -1,0 +1,71 @@
+// The code of a whole function.
+
+ghost use Rattle.std.specs.Prelude.{◌≡◌, ℕ, [], IfOk, OnOk};
+ghost use Rattle.dae_walks.specs.Live.{live, nowhere};
+ghost use Rattle.dae_live.specs.Members.{member};
+ghost use Rattle.dae_ir.specs.Streams.{actions_of};
+ghost use Rattle.dae_blocks.specs.Code.{code_of, function_code};
+ghost use Rattle.dae_select.specs.Layouts.{plan_of, variables_of, AreSmall};
+
+use crate::calling::{entry_code, leave_code};
+use crate::growing::GrowingCode;
+use crate::layouts::Layouts;
+use crate::walking::{Exits, list_code};
+use dae_encode::Inst;
+use dae_ir::{Operand, Step};
+use dae_live::LiveSet;
+use std::alloc::{AllocError, Global};
+
+/// The code of a function's actions; and what is live before them.
+fn body_code(
+    alloc: Global,
+    code: &mut GrowingCode,
+    layouts: &Layouts,
+    function: u32,
+    body: &[Step],
+) -> Result<LiveSet, AllocError>
+    requires small { AreSmall layouts.now }
+    requires empty { code.old ≡ [] }
+    ensures code { OnOk result (code.new ≡ code_of (plan_of layouts.now) (variables_of layouts.now) function (actions_of body.now) nowhere 0 0) }
+    ensures live { IfOk result (λ set. member set ≡ live (actions_of body.now) nowhere) }
+{
+    let leaves = LiveSet::new(alloc);
+    let skips = LiveSet::new(alloc);
+    let exits = Exits {
+        leaves_live: leaves,
+        skips_live: skips,
+        leaves: 0,
+        skips: 0,
+    };
+    let next = LiveSet::new(alloc);
+    list_code(
+        alloc,
+        code,
+        layouts,
+        function,
+        layouts.homes(function),
+        body,
+        next,
+        &exits,
+    )
+}
+
+/// The code of a function of a side: what it begins with, its actions, and a return of 0 behind them.
+pub fn function_code(
+    alloc: Global,
+    layouts: &Layouts,
+    function: u32,
+    body: &[Step],
+) -> Result<Vec<Inst>, AllocError>
+    requires { AreSmall layouts.now }
+    ensures { IfOk result (λ code. code.items ≡ function_code (plan_of layouts.now) (variables_of layouts.now) function (actions_of body.now)) }
+{
+    let homes = layouts.homes(function);
+    let mut actions = GrowingCode::new(alloc);
+    let live = body_code(alloc, &mut actions, layouts, function, body)?;
+    let mut code = Vec::new(alloc);
+    entry_code(alloc, &mut code, layouts, function, homes, &live)?;
+    code.extend_from_slice(actions.into_vec().as_slice())?;
+    leave_code(&mut code, homes, Some(Operand::Number(0)))?;
+    Ok(code)
+}

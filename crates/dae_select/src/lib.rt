@@ -1,0 +1,17 @@
+// The code of a side's functions, from what is settled of the side before: the homes of variables, the frames, and the
+// words at which functions are entered. Each clause is the block's definition. Nothing fails but for want of memory.
+#![tactic(auto)]
+
+pub use functions::function_code;
+pub use layouts::{FunctionLayout, Layouts};
+
+mod accessing;
+mod assigning;
+mod calling;
+mod checking;
+mod fetching;
+mod functions;
+mod growing;
+mod jumping;
+mod layouts;
+mod walking;

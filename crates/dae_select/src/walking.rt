@@ -1,0 +1,365 @@
+// The code of structured actions, from the last to the first: what a transfer leads over is there before it.
+
+ghost use Rattle.std.specs.Prelude.{◌≡◌, ℕ, ◌+◌, ◌-◌, ◌++◌, [], ◌<◌, ◌^◌, List, Bool, length, not, ◌&&◌, IfOk, OnOk};
+ghost use Rattle.dae_encode.specs.declared.Inst.{Inst as AnInst};
+ghost use Rattle.dae_ir.specs.Classes.{VariableSet};
+ghost use Rattle.dae_ir.specs.Streams.{Actions, actions_of, step_onto};
+ghost use Rattle.dae_walks.specs.Live.{ways, is};
+ghost use Rattle.dae_live.specs.Members.{member};
+ghost use Rattle.dae_blocks.specs.Blocks.{take_code, own_code, jump_over, jump_back};
+ghost use Rattle.dae_blocks.specs.Code.{action_code, call_code, branch_code};
+ghost use Rattle.dae_select.specs.Growing.{IsCodeOf, IsStepCode};
+ghost use Rattle.dae_select.specs.Layouts.{plan_of, variables_of, AreSmall};
+ghost use Rattle.dae_select.specs.Tables.{home_in, AreNear};
+
+use crate::accessing::{
+    address_code, call_number, hear_code, issue_code, push_code, stop_code, system_code, take_code,
+};
+use crate::assigning::set_code;
+use crate::calling::{Callee, call_code, leave_code};
+use crate::checking::check_code;
+use crate::fetching::home_of;
+use crate::growing::GrowingCode;
+use crate::jumping::{branch_code, jump_back, jump_over};
+use crate::layouts::Layouts;
+use dae_base::LoadKind;
+use dae_encode::Inst;
+use dae_ir::{Action, Argument, Branch, Operand, Step};
+use dae_live::{LiveSet, live_at_turn, live_before_action, live_with_branch};
+use dae_walks::Home;
+use std::alloc::{AllocError, Global};
+
+/// Where a Break goes and a Continue: what is live there, and how many words lie between the end of the code and there.
+#[derive(Drop)]
+pub struct Exits {
+    pub leaves_live: LiveSet,
+    pub skips_live: LiveSet,
+    pub leaves: u64,
+    pub skips: u64,
+}
+
+/// What is at the front of a queue goes to a variable.
+fn receive_code(
+    code: &mut Vec<Inst>,
+    homes: &[Home],
+    queue: u8,
+    variable: u32,
+) -> Result<(), AllocError>
+    requires { AreNear homes.now }
+    ensures { OnOk result (code.new.items ≡ code.old.items ++ take_code queue (home_in homes.now variable)) }
+{
+    take_code(code, queue, home_of(homes, variable))
+}
+
+fn own_code(
+    code: &mut Vec<Inst>,
+    homes: &[Home],
+    variable: u32,
+    kind: LoadKind,
+    operand: Operand,
+) -> Result<(), AllocError>
+    requires { AreNear homes.now }
+    ensures { OnOk result (code.new.items ≡ code.old.items ++ own_code (home_in homes.now) variable kind operand) }
+{
+    issue_code(code, homes, kind, 31, operand)?;
+    take_code(code, 31, home_of(homes, variable))
+}
+
+fn called_code(
+    alloc: Global,
+    code: &mut Vec<Inst>,
+    layouts: &Layouts,
+    function: u32,
+    homes: &[Home],
+    callee: Callee,
+    arguments: &[Argument],
+    live: &LiveSet,
+) -> Result<(), AllocError>
+    requires near { AreNear homes.now }
+    requires homes { home_in homes.now ≡ (plan_of layouts.now).home function }
+    requires small { AreSmall layouts.now }
+    ensures { OnOk result (code.new.items ≡ code.old.items ++ call_code (plan_of layouts.now) (variables_of layouts.now) function callee.result callee.function arguments.now (λ u. member live.now u && not (is callee.result u))) }
+{
+    let mut kept = live.copy(alloc)?;
+    kept.remove_known(callee.result);
+    call_code(
+        alloc, code, layouts, function, homes, callee, arguments, &kept,
+    )
+}
+
+/// The block of an action, behind which these variables are live, and from whose end it is `ahead` words and as many as the
+/// exits say to where a Break goes, and a Continue.
+fn action_code(
+    alloc: Global,
+    code: &mut Vec<Inst>,
+    layouts: &Layouts,
+    function: u32,
+    homes: &[Home],
+    action: &Action,
+    live: &LiveSet,
+    ahead: u64,
+    exits: &Exits,
+) -> Result<(), AllocError>
+    requires near { AreNear homes.now }
+    requires homes { home_in homes.now ≡ (plan_of layouts.now).home function }
+    requires small { AreSmall layouts.now }
+    ensures { OnOk result (code.new.items ≡ code.old.items ++ action_code (plan_of layouts.now) (variables_of layouts.now) function action.now (member live.now) (ahead + exits.now.leaves) (ahead + exits.now.skips)) }
+{
+    match action {
+        Action::Set(variable, value) => set_code(code, homes, *variable, *value),
+        Action::Issue(kind, operand) => issue_code(code, homes, *kind, 30, *operand),
+        Action::Own(variable, kind, operand) => own_code(code, homes, *variable, *kind, *operand),
+        Action::Receive(variable) => receive_code(code, homes, 30, *variable),
+        Action::Address(width, operand) => address_code(code, homes, *width, *operand),
+        Action::Datum(operand) => push_code(code, homes, 30, *operand),
+        Action::Offer(variable) => push_code(code, homes, 28, Operand::Variable(*variable)),
+        Action::Accept(variable) => receive_code(code, homes, 28, *variable),
+        Action::Emit(spelling, operand) => {
+            system_code(code, homes, call_number(*spelling), *operand)
+        }
+        Action::Probe(check) => check_code(code, layouts, function, homes, *check),
+        Action::Tell(operand) => push_code(code, homes, 29, *operand),
+        Action::Hear => hear_code(code, layouts.side),
+        Action::Stop(status) => stop_code(code, layouts.side, homes, *status),
+        Action::Break => jump_over(code, ahead, exits.leaves),
+        Action::Continue => jump_over(code, ahead, exits.skips),
+        Action::Call(result, callee, arguments) => {
+            let callee = Callee {
+                result: *result,
+                function: *callee,
+            };
+            called_code(
+                alloc,
+                code,
+                layouts,
+                function,
+                homes,
+                callee,
+                arguments.as_slice(),
+                live,
+            )
+        }
+        Action::Return(answer) => leave_code(code, homes, *answer),
+    }
+}
+
+/// A jump over the words in front of the last `behind` ones, and so many more.
+fn put_jump(
+    alloc: Global,
+    code: &mut GrowingCode,
+    behind: usize,
+    more: u64,
+) -> Result<(), AllocError>
+    ensures { OnOk result (code.new ≡ jump_over (length code.old - behind + more) ++ code.old) }
+{
+    let mut block = Vec::new(alloc);
+    let words = code.len().saturating_sub(behind);
+    jump_over(&mut block, words as u64, more)?;
+    code.put_before(block.as_slice())
+}
+
+fn put_jump_back(
+    alloc: Global,
+    code: &mut GrowingCode,
+    words: usize,
+    more: usize,
+) -> Result<(), AllocError>
+    ensures { OnOk result (code.new ≡ jump_back (words + more) ++ code.old) }
+{
+    let mut block = Vec::new(alloc);
+    jump_back(&mut block, words as u64, more as u64)?;
+    code.put_before(block.as_slice())
+}
+
+fn put_branch(
+    alloc: Global,
+    code: &mut GrowingCode,
+    homes: &[Home],
+    branch: Branch,
+) -> Result<(), AllocError>
+    requires { AreNear homes.now }
+    ensures { OnOk result (code.new ≡ branch_code (home_in homes.now) branch ++ code.old) }
+{
+    let mut block = Vec::new(alloc);
+    branch_code(&mut block, homes, branch)?;
+    code.put_before(block.as_slice())
+}
+
+fn put_action(
+    alloc: Global,
+    code: &mut GrowingCode,
+    layouts: &Layouts,
+    function: u32,
+    homes: &[Home],
+    action: &Action,
+    live: &LiveSet,
+    exits: &Exits,
+) -> Result<(), AllocError>
+    requires near { AreNear homes.now }
+    requires homes { home_in homes.now ≡ (plan_of layouts.now).home function }
+    requires small { AreSmall layouts.now }
+    ensures { OnOk result (code.new ≡ action_code (plan_of layouts.now) (variables_of layouts.now) function action.now (member live.now) (length code.old + exits.now.leaves) (length code.old + exits.now.skips) ++ code.old) }
+{
+    let mut block = Vec::new(alloc);
+    let ahead = code.len() as u64;
+    action_code(
+        alloc, &mut block, layouts, function, homes, action, live, ahead, exits,
+    )?;
+    code.put_before(block.as_slice())
+}
+
+/// Where a loop's step leads: behind the loop and to the jump back.
+fn exits_of_step(alloc: Global, next: &LiveSet, turn: &LiveSet) -> Result<Exits, AllocError>
+    ensures leaves_live { IfOk result (λ exits. exits.leaves_live ≡ next.now) }
+    ensures skips_live { IfOk result (λ exits. exits.skips_live ≡ turn.now) }
+    ensures leaves { IfOk result (λ exits. exits.leaves ≡ 2) }
+    ensures skips { IfOk result (λ exits. exits.skips ≡ 0) }
+{
+    Ok(Exits {
+        leaves_live: next.copy(alloc)?,
+        skips_live: turn.copy(alloc)?,
+        leaves: 2,
+        skips: 0,
+    })
+}
+
+/// Where a loop's body leads: over the step and the jump back, and to the step.
+fn exits_of_body(
+    alloc: Global,
+    next: LiveSet,
+    again: &LiveSet,
+    words: usize,
+) -> Result<Exits, AllocError>
+    requires { words + 2 < 2 ^ 64 }
+    ensures leaves_live { IfOk result (λ exits. exits.leaves_live ≡ next) }
+    ensures skips_live { IfOk result (λ exits. exits.skips_live ≡ again.now) }
+    ensures leaves { IfOk result (λ exits. exits.leaves ≡ words + 2) }
+    ensures skips { IfOk result (λ exits. exits.skips ≡ 0) }
+{
+    Ok(Exits {
+        leaves_live: next,
+        skips_live: again.copy(alloc)?,
+        leaves: words as u64 + 2,
+        skips: 0,
+    })
+}
+
+/// The body of a loop, its step and the jump back come before other code.
+fn put_loop(
+    alloc: Global,
+    code: &mut GrowingCode,
+    body: GrowingCode,
+    step: GrowingCode,
+) -> Result<(), AllocError>
+    ensures { OnOk result (code.new ≡ body ++ (step ++ (jump_back (length body + length step) ++ code.old))) }
+{
+    put_jump_back(alloc, code, body.len(), step.len())?;
+    code.put_before(step.into_vec().as_slice())?;
+    code.put_before(body.into_vec().as_slice())
+}
+
+#[cycle(code)]
+fn step_code(
+    alloc: Global,
+    code: &mut GrowingCode,
+    layouts: &Layouts,
+    function: u32,
+    homes: &[Home],
+    step: &Step,
+    next: LiveSet,
+    exits: &Exits,
+) -> Result<LiveSet, AllocError>
+    requires near { AreNear homes.now }
+    requires homes { home_in homes.now ≡ (plan_of layouts.now).home function }
+    requires small { AreSmall layouts.now }
+    ensures { IfOk result (λ set. IsStepCode (plan_of layouts.now) (variables_of layouts.now) function exits.now step.now code.old next code.new set) }
+{
+    match step {
+        Step::Act(_, action) => {
+            put_action(alloc, code, layouts, function, homes, action, &next, exits)?;
+            live_before_action(alloc, action, next, &exits.leaves_live, &exits.skips_live)
+        }
+        Step::If(_, branch, p, q) => {
+            let rest = code.len();
+            let second = list_code(
+                alloc,
+                code,
+                layouts,
+                function,
+                homes,
+                q,
+                next.copy(alloc)?,
+                exits,
+            )?;
+            put_jump(alloc, code, rest, 0)?;
+            let behind = code.len();
+            let first = list_code(alloc, code, layouts, function, homes, p, next, exits)?;
+            put_jump(alloc, code, behind, 2)?;
+            put_branch(alloc, code, homes, *branch)?;
+            live_with_branch(*branch, first, &second)
+        }
+        Step::Loop(_, body, step) => {
+            let turn = live_at_turn(alloc, body, step, &next)?;
+            let step_exits = exits_of_step(alloc, &next, &turn)?;
+            let mut again = GrowingCode::new(alloc);
+            let step_live = list_code(
+                alloc,
+                &mut again,
+                layouts,
+                function,
+                homes,
+                step,
+                turn,
+                &step_exits,
+            )?;
+            let words = again.len();
+            let body_exits = exits_of_body(alloc, next, &step_live, words)?;
+            let mut turned = GrowingCode::new(alloc);
+            let live = list_code(
+                alloc,
+                &mut turned,
+                layouts,
+                function,
+                homes,
+                body,
+                step_live,
+                &body_exits,
+            )?;
+            put_loop(alloc, code, turned, again)?;
+            Ok(live)
+        }
+    }
+}
+
+/// The code of a list of actions comes before other code, where `next` is live behind the list; and what is live before it.
+#[cycle(code)]
+pub fn list_code(
+    alloc: Global,
+    code: &mut GrowingCode,
+    layouts: &Layouts,
+    function: u32,
+    homes: &[Home],
+    steps: &[Step],
+    next: LiveSet,
+    exits: &Exits,
+) -> Result<LiveSet, AllocError>
+    requires near { AreNear homes.now }
+    requires homes { home_in homes.now ≡ (plan_of layouts.now).home function }
+    requires small { AreSmall layouts.now }
+    ensures { IfOk result (λ set. IsCodeOf (plan_of layouts.now) (variables_of layouts.now) function code.old exits.now.leaves exits.now.skips (ways (member next) (member exits.now.leaves_live) (member exits.now.skips_live)) (actions_of steps.now) code.new set) }
+{
+    let mut set = next;
+    for index in (0..steps.len()).rev() {
+        set = step_code(
+            alloc,
+            code,
+            layouts,
+            function,
+            homes,
+            &steps[index],
+            set,
+            exits,
+        )?;
+    }
+    Ok(set)
+}
