@@ -4,6 +4,7 @@
 #![tactic(auto)]
 
 pub use live::{live_at_turn, live_before, live_before_action, live_with_branch};
+pub use reads::set_by;
 pub use set::LiveSet;
 
 mod live;

@@ -1,6 +1,7 @@
 ghost use Rattle.std.specs.Prelude.{List, ◌≡◌, ℕ, ◌<◌, ◌≤◌, ◌^◌, length, IfOk, replicate, Some};
 ghost use Rattle.dae_regalloc.specs.Scan.{free_at as first_free, register_at as register_number, scan, AreClear, AreInOrder, NoSlot, depth_at, AreCovered};
-ghost use Rattle.std.specs.List.{AllByRecursion};
+ghost use Rattle.std.specs.List.{AllByRecursion, AllZip};
+ghost use Rattle.dae_regalloc.specs.Given.{IsOwnHome};
 ghost use Rattle.dae_ir.specs.Classes.{VariableSet};
 ghost use Rattle.dae_walks.specs.Homes.{AreApart};
 
@@ -58,6 +59,7 @@ pub fn homes_of(alloc: Global, spans: &[Span]) -> Result<Vec<Home>, AllocError>
     requires order { AreInOrder 0 spans.now }
     ensures clear { IfOk result (λ homes. AreClear spans.now homes.items) }
     ensures apart { IfOk result (λ homes. (places : List VariableSet) (home : ℕ → Home) → AreCovered places 0 home spans.now homes.items → AllByRecursion (AreApart home) places) }
+    ensures own { IfOk result (λ homes. AllZip IsOwnHome spans.now homes.items) }
     ensures registers { IfOk result (λ homes. ((place : ℕ) → depth_at spans.now place ≤ 18) → NoSlot homes.items) }
 {
     let homes = scanned(alloc, spans)?;

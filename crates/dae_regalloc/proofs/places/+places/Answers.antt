@@ -1,0 +1,46 @@
+use Rattle.std.proofs.Common.{List, refl, ap, ◌∙◌, arith}
+use Rattle.dae_ir.specs.Streams.{actions_of}
+use Rattle.dae_ir.specs.declared.stream.Step.{Step}
+use Rattle.dae_walks.specs.Live.{turn}
+use Rattle.dae_live.specs.Members.{member}
+use Rattle.dae_regalloc.proofs.Placing.{acted, branched, looped, none_placed, one_more, moved}
+use Rattle.dae_regalloc.proofs.places.+places.Goals as goal
+
+pub see_step-returns-in_ok-see-in-Act : goal.see_step-returns-in_ok-see-in-Act
+see_step-returns-in_ok-see-in-Act t c =
+    let a = c.args in let i = c.in-Act in
+    acted a.step.now i.field-0 i.action a.leaves.now a.skips.now a.next a.spans.now c.see.new.self c.in_ok-set-in-Act.set c.in_ok-here-in-Act.here i.is c.in_ok-set-in-Act.ensures c.in_ok-here-in-Act.ensures c.in_ok-see-in-Act.ensures
+
+pub see_step-returns-in_ok-see-in-If : goal.see_step-returns-in_ok-see-in-If
+see_step-returns-in_ok-see-in-If t c =
+    let a = c.args in let i = c.in-If in
+    let lv = a.leaves.now in let sk = a.skips.now in
+    let one = c.in_ok-first-in-If.first in let other = c.in_ok-second-in-If.second in
+    let mid = c.see_steps.new.spans in let last = c.see_steps-in-If.new.spans in
+    let second = moved c.in_ok-copy-in-If.field-0 a.next lv lv sk sk c.deref.result.now i.q.items a.spans.now mid other c.in_ok-copy-in-If.ensures refl refl c.deref.ensures.value c.in_ok-second-in-If.ensures in
+    let first = moved a.next a.next lv lv sk sk c.deref-in-If.result.now i.p.items mid last one refl refl refl c.deref-in-If.ensures.value c.in_ok-first-in-If.ensures in
+    branched a.step.now i.field-0 i.branch i.p i.q lv sk a.next a.spans.now mid last c.see-in-If.new.self one other c.in_ok-set-in-If.set i.is second first c.in_ok-set-in-If.ensures c.in_ok-see-in-If.ensures
+
+pub see_step-returns-in_ok-see-in-Loop : goal.see_step-returns-in_ok-see-in-Loop
+see_step-returns-in_ok-see-in-Loop t c =
+    let a = c.args in let i = c.in-Loop in
+    let turned = c.in_ok-turn-in-Loop.turn in let again = c.in_ok-again-in-Loop.again in let set = c.in_ok-set-in-Loop.set in
+    let mid = c.see_steps-in-Loop.new.spans in let last = c.see_steps-in-Loop-2.new.spans in
+    let first = c.in_ok-turn-in-Loop.ensures ∙ ap (λ (l : List Step). turn (actions_of l) (actions_of c.deref-in-Loop-2.result.now) (member a.next)) c.deref-in-Loop.ensures.value
+    ∙ ap (λ (l : List Step). turn (actions_of i.body.items) (actions_of l) (member a.next)) c.deref-in-Loop-2.ensures.value in
+    let step = moved c.in_ok-copy-in-Loop.field-0 turned a.next a.next turned turned c.deref-in-Loop-3.result.now i.step.items a.spans.now mid again c.in_ok-copy-in-Loop.ensures refl refl c.deref-in-Loop-3.ensures.value c.in_ok-again-in-Loop.ensures in
+    let body = moved c.in_ok-copy-in-Loop-2.field-0 again a.next a.next again again c.deref-in-Loop-4.result.now i.body.items mid last set c.in_ok-copy-in-Loop-2.ensures refl refl c.deref-in-Loop-4.ensures.value c.in_ok-set-in-Loop.ensures in
+    looped a.step.now i.field-0 i.body i.step a.leaves.now a.skips.now a.next a.spans.now mid last c.see-in-Loop.new.self turned again set i.is first step body c.in_ok-see-in-Loop.ensures
+
+pub see_steps-loop-index-init : goal.see_steps-loop-index-init
+see_steps-loop-index-init t c =
+    let a = c.args in
+    none_placed a.steps.now a.spans.now a.next (member a.leaves.now) (member a.skips.now)
+
+pub see_steps-loop-index-preserved : goal.see_steps-loop-index-preserved
+see_steps-loop-index-preserved t c =
+    let a = c.args in
+    let some = c.loop-index-test.true in
+    let le = c.loop-index.auto.index in
+    one_more a.steps.now c.loop-index.index c.index-steps-index.result a.leaves.now a.skips.now c.loop-index.set a.spans.now c.loop-index.spans c.see_step.new.spans c.in_ok-set.set (member a.next)
+    (omega arith) (omega arith) c.index-steps-index.is c.loop-index.invariant c.in_ok-set.ensures

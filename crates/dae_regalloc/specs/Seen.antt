@@ -1,0 +1,65 @@
+-- Spans over the places of a function, which are seen from the last to the first, and are numbered in that order.
+use Rattle.std.specs.Prelude.{◌≡◌, ℕ, zero, suc, ◌≤◌, Bool, true, nat_eq, List, [], ◌∷◌, ◌++◌, length, slice_get, Option, Some, None, if◌then◌else◌}
+use Rattle.std.specs.List.{AllByRecursion}
+use Rattle.dae_ir.specs.Classes.{VariableSet}
+use Rattle.dae_ir.specs.Streams.{Actions, step_onto}
+use Rattle.dae_ir.specs.declared.stream.Step.{Step}
+use Rattle.dae_walks.specs.Live.{Ways, ways, live, lives}
+use Rattle.dae_live.specs.Members.{member}
+use Rattle.dae_regalloc.specs.declared.Span.{Span}
+use Rattle.dae_regalloc.specs.declared.spans.Spans.{Spans}
+use Rattle.dae_regalloc.specs.Scan.{AreInOrder}
+
+-- the number of a variable's span, where it has one
+abbrev pub number_in : List (Option ℕ) → ℕ → Option ℕ
+number_in [] v = None
+number_in (n ∷ ns) zero = n
+number_in (n ∷ ns) (suc v) = number_in ns v
+
+abbrev pub with_number : ℕ → ℕ → (ℕ → Option ℕ) → ℕ → Option ℕ
+with_number v number numbers u = if nat_eq u v then Some number else numbers u
+
+-- up to this place
+abbrev pub widened : Span → ℕ → Span
+widened x place = record x { last = place }
+
+-- the spans are in order and reach up to the place that comes next at most, and those of variables are where numbers say
+pub record AreNumbered (seen : Spans) : Type 0 where
+  pub numbered : (i : ℕ) (x : Span) → slice_get seen.spans.items i ≡ Some x → number_in seen.numbers x.variable ≡ Some i
+  pub named : (v i : ℕ) → number_in seen.numbers v ≡ Some i → (x : Span) × (slice_get seen.spans.items i ≡ Some x) × (x.variable ≡ v)
+  pub order : AreInOrder 0 seen.spans.items
+  pub within : AllByRecursion (λ x. x.last ≤ seen.places) seen.spans.items
+
+-- the variable's span holds the place
+abbrev pub IsHeld : Spans → ℕ → ℕ → Type 0
+IsHeld seen v place =
+    (i : ℕ) × (x : Span) × (number_in seen.numbers v ≡ Some i) × (slice_get seen.spans.items i ≡ Some x) × (x.variable ≡ v) × (x.first ≤ place) × (place ≤ x.last)
+
+-- each variable that is live at one of the places has a span that holds it
+abbrev pub AreHeld : List VariableSet → Spans → Type 0
+AreHeld [] seen = Unit {0}
+AreHeld (lives ∷ rest) seen = ((v : ℕ) → lives v ≡ true → IsHeld seen v (length rest)) × AreHeld rest seen
+
+-- these places are seen, the last one first
+pub record AreSeen (places : List VariableSet) (seen : Spans) : Type 0 where
+  pub count : seen.places ≡ length places
+  pub numbered : AreNumbered seen
+  pub held : AreHeld places seen
+
+-- spans that held a place hold it again, and those of these variables hold the next place
+pub record IsFurther (seen : ℕ → Type 0) (old new : Spans) : Type 0 where
+  pub places : new.places ≡ old.places
+  pub numbered : AreNumbered old → AreNumbered new
+  pub kept : AreNumbered old → (v place : ℕ) → place ≤ old.places → IsHeld old v place → IsHeld new v place
+  pub held : AreNumbered old → (v : ℕ) → seen v → IsHeld new v old.places
+
+-- behind the places that are seen those of the actions are seen, and these variables are live before the actions
+pub record ArePlacesOf (actions : Actions) (x : Ways) (old new : Spans) (set : List Bool) : Type 0 where
+  pub seen : (places : List VariableSet) → AreSeen places old → AreSeen (lives actions x ++ places) new
+  pub live : member set ≡ live actions x
+
+-- with a step before whatever was seen
+abbrev pub ArePlacesOfStep : Step → Spans → List Bool → List Bool → List Bool → Spans → List Bool → Type 0
+ArePlacesOfStep step old next leaves skips new set =
+    (first : Spans) (k : Actions) (n : VariableSet)
+    → ArePlacesOf k (ways n (member leaves) (member skips)) first old next → ArePlacesOf (step_onto step k) (ways n (member leaves) (member skips)) first new set

@@ -1,0 +1,54 @@
+// Homes for the variables of a function.
+
+ghost use Rattle.std.specs.Prelude.{◌≡◌, ℕ, IfOk};
+ghost use Rattle.dae_ir.specs.Streams.{actions_of};
+ghost use Rattle.dae_walks.specs.Homes.{AreHomes};
+ghost use Rattle.dae_walks.specs.Live.{function_lives};
+ghost use Rattle.dae_regalloc.specs.Seen.{number_in};
+ghost use Rattle.dae_regalloc.specs.Given.{home_in, numbered_home};
+
+use crate::numbers::Numbers;
+use crate::places::spans_of;
+use crate::scanning::homes_of;
+use dae_ir::Step;
+use dae_walks::Home;
+use std::alloc::{AllocError, Global};
+
+/// The home of the span that has a number.
+fn numbered_home(homes: &[Home], number: Option<usize>) -> Home
+    ensures { result ≡ numbered_home homes.now number }
+{
+    match number {
+        Some(number) => match homes.get(number) {
+            Some(home) => *home,
+            None => Home::Register(8),
+        },
+        None => Home::Register(8),
+    }
+}
+
+/// The homes of variables, from those of their spans.
+fn homes_by_variable(
+    alloc: Global,
+    numbers: &Numbers,
+    homes: &[Home],
+) -> Result<Vec<Home>, AllocError>
+    ensures { IfOk result (λ table. (v : ℕ) → home_in table.items v ≡ numbered_home homes.now (number_in numbers.now v)) }
+{
+    let mut table = Vec::new(alloc);
+    for variable in 0..numbers.bound() {
+        table.push(numbered_home(homes, numbers.number(variable)))?;
+    }
+    Ok(table)
+}
+
+/// A home for each variable of a function with so many parameters: a register, or the slot of the variable's own number,
+/// so that two variables that are live at one place have different ones. A variable behind the last one here is nowhere
+/// live.
+pub fn allocate(alloc: Global, parameters: u32, body: &[Step]) -> Result<Vec<Home>, AllocError>
+    ensures { IfOk result (λ homes. (variables : ℕ) → AreHomes variables (function_lives parameters (actions_of body.now)) (home_in homes.items)) }
+{
+    let seen = spans_of(alloc, parameters, body)?;
+    let homes = homes_of(alloc, seen.spans.as_slice())?;
+    homes_by_variable(alloc, &seen.numbers, homes.as_slice())
+}

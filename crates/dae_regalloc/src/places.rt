@@ -1,0 +1,110 @@
+// The places of a function are seen, from the last to the first.
+
+ghost use Rattle.std.specs.Prelude.{◌≡◌, IfOk};
+ghost use Rattle.dae_ir.specs.Streams.{actions_of};
+ghost use Rattle.dae_live.specs.Members.{member};
+ghost use Rattle.dae_walks.specs.Live.{ways, with_all, sets, parameters_of, function_lives};
+ghost use Rattle.dae_regalloc.specs.Seen.{AreSeen, ArePlacesOf, ArePlacesOfStep};
+
+use crate::spans::Spans;
+use dae_ir::{Action, Step};
+use dae_live::{LiveSet, live_at_turn, live_before_action, live_with_branch, set_by};
+use std::alloc::{AllocError, Global};
+
+/// What is live at the place of an action: what is live before it, and what it sets.
+fn live_at_action(alloc: Global, action: &Action, before: &LiveSet) -> Result<LiveSet, AllocError>
+    ensures { IfOk result (λ set. member set ≡ with_all (member before.now) (sets action.now)) }
+{
+    let mut set = before.copy(alloc)?;
+    match set_by(action) {
+        Some(variable) => set.insert(variable)?,
+        None => {}
+    }
+    Ok(set)
+}
+
+/// What is live at the entry of a function: what is live before its actions, and its parameters.
+fn live_at_entry(before: LiveSet, parameters: u32) -> Result<LiveSet, AllocError>
+    ensures { IfOk result (λ set. member set ≡ with_all (member before) (parameters_of parameters)) }
+{
+    let mut set = before;
+    for parameter in 0..parameters {
+        set.insert(parameter + 1)?;
+    }
+    Ok(set)
+}
+
+#[cycle(places)]
+fn see_step(
+    alloc: Global,
+    spans: &mut Spans,
+    step: &Step,
+    next: LiveSet,
+    leaves: &LiveSet,
+    skips: &LiveSet,
+) -> Result<LiveSet, AllocError>
+    ensures { IfOk result (λ set. ArePlacesOfStep step.now spans.old next leaves.now skips.now spans.new set) }
+{
+    match step {
+        Step::Act(_, action) => {
+            let set = live_before_action(alloc, action, next, leaves, skips)?;
+            let here = live_at_action(alloc, action, &set)?;
+            spans.see(&here)?;
+            Ok(set)
+        }
+        Step::If(_, branch, p, q) => {
+            let second = see_steps(alloc, spans, q, next.copy(alloc)?, leaves, skips)?;
+            let first = see_steps(alloc, spans, p, next, leaves, skips)?;
+            let set = live_with_branch(*branch, first, &second)?;
+            spans.see(&set)?;
+            Ok(set)
+        }
+        Step::Loop(_, body, step) => {
+            let turn = live_at_turn(alloc, body, step, &next)?;
+            let again = see_steps(alloc, spans, step, turn.copy(alloc)?, &next, &turn)?;
+            let set = see_steps(alloc, spans, body, again.copy(alloc)?, &next, &again)?;
+            spans.see(&set)?;
+            Ok(set)
+        }
+    }
+}
+
+/// The places of a list of actions are seen, where `next` is live behind it, `leaves` where a Break goes and `skips`
+/// where a Continue goes; and what is live before it.
+#[cycle(places)]
+fn see_steps(
+    alloc: Global,
+    spans: &mut Spans,
+    steps: &[Step],
+    next: LiveSet,
+    leaves: &LiveSet,
+    skips: &LiveSet,
+) -> Result<LiveSet, AllocError>
+    ensures { IfOk result (λ set. ArePlacesOf (actions_of steps.now) (ways (member next) (member leaves.now) (member skips.now)) spans.old spans.new set) }
+{
+    let mut set = next;
+    for index in (0..steps.len()).rev() {
+        set = see_step(alloc, spans, &steps[index], set, leaves, skips)?;
+    }
+    Ok(set)
+}
+
+/// The spans over the places of a function with so many parameters.
+pub fn spans_of(alloc: Global, parameters: u32, body: &[Step]) -> Result<Spans, AllocError>
+    ensures { IfOk result (λ spans. AreSeen (function_lives parameters (actions_of body.now)) spans) }
+{
+    let mut spans = Spans::new(alloc);
+    let leaves = LiveSet::new(alloc);
+    let skips = LiveSet::new(alloc);
+    let set = see_steps(
+        alloc,
+        &mut spans,
+        body,
+        LiveSet::new(alloc),
+        &leaves,
+        &skips,
+    )?;
+    let entry = live_at_entry(set, parameters)?;
+    spans.see(&entry)?;
+    Ok(spans)
+}
