@@ -17,7 +17,8 @@ use Rattle.dae_kinds.specs.declared.tables.Innermost.{Innermost}
 
 -- Types, structures and their members; names and tags in scope, and where the innermost scope starts; the file's objects
 -- and functions; the parameters and locals of the function at hand, and where each is kept, as far as that is settled; uses
--- of the file's objects and functions; the bytes of its literals; and the number of the name main, where a name is main.
+-- of the file's objects and functions; the bytes of its literals; and the number of the name main, where a name is main. What
+-- the latest scope that ended declared is kept, since the parameters of a definition come back in its body.
 pub record Tables : Type 0 where
   pub shapes : List Shape
   pub structures : List Structure
@@ -25,6 +26,8 @@ pub record Tables : Type 0 where
   pub names : List Designation
   pub tags : List Tag
   pub innermost : Innermost
+  pub kept_names : List Designation
+  pub kept_tags : List Tag
   pub objects : List Object
   pub routines : List Routine
   pub locals : List Local
@@ -59,6 +62,18 @@ with_use e p s = record s { uses = s.uses ++ (record { entity = e; place = p } �
 abbrev pub with_uses : List Use → Tables → Tables
 with_uses xs s = record s { uses = xs }
 
+abbrev pub with_object : Object → Tables → Tables
+with_object x s = record s { objects = s.objects ++ (x ∷ []) }
+
+abbrev pub with_routine : Routine → Tables → Tables
+with_routine x s = record s { routines = s.routines ++ (x ∷ []) }
+
+abbrev pub with_locals : List Local → Tables → Tables
+with_locals xs s = record s { locals = xs }
+
+abbrev pub with_storages : List Storage → Tables → Tables
+with_storages xs s = record s { storages = xs }
+
 -- a row is written anew
 abbrev pub written_at : {X : Type 0} → ℕ → X → List X → List X
 written_at n x [] = []
@@ -70,6 +85,12 @@ set_structure n x s = record s { structures = written_at n x s.structures }
 
 abbrev pub set_local : ℕ → Local → Tables → Tables
 set_local n x s = record s { locals = written_at n x s.locals }
+
+abbrev pub set_object : ℕ → Object → Tables → Tables
+set_object n x s = record s { objects = written_at n x s.objects }
+
+abbrev pub set_routine : ℕ → Routine → Tables → Tables
+set_routine n x s = record s { routines = written_at n x s.routines }
 
 -- ---- scopes (C90 6.1.2.1 and 6.1.2.3)
 
@@ -116,4 +137,15 @@ abbrev pub opened : Tables → Tables
 opened s = record s { innermost = record { names = length s.names; tags = length s.tags } }
 
 abbrev pub closed : Innermost → Tables → Tables
-closed outer s = record s { names = take s.innermost.names s.names; tags = take s.innermost.tags s.tags; innermost = outer }
+closed outer s =
+    record s {
+      names = take s.innermost.names s.names;
+      tags = take s.innermost.tags s.tags;
+      innermost = outer;
+      kept_names = drop s.innermost.names s.names;
+      kept_tags = drop s.innermost.tags s.tags;
+    }
+
+-- a scope begins with what the latest one that ended declared
+abbrev pub reopened : Tables → Tables
+reopened s = record s { innermost = record { names = length s.names; tags = length s.tags }; names = s.names ++ s.kept_names; tags = s.tags ++ s.kept_tags }

@@ -269,7 +269,6 @@ not_modifiable _ = false
 -- a condition or operand isn't a number or pointer
 abbrev pub not_scalar : Site → Bool
 not_scalar (AtScalar p t) = not (is_scalar t)
-not_scalar (AtInteger p t) = not (is_scalar t)
 not_scalar _ = false
 
 -- an operand, index, size or label isn't an integer
@@ -515,7 +514,7 @@ asked (AtResult p t) = rule.BadFunctionType ∷ rule.StructureValue ∷ []
 asked (AtParameter p taken t) = rule.FunctionPointer ∷ rule.VoidObject ∷ rule.Incomplete ∷ rule.StructureValue ∷ rule.Redeclared ∷ []
 asked (AtName p found) = rule.Undeclared ∷ rule.FunctionValue ∷ []
 asked (AtValue p s x) = rule.Incomplete ∷ []
-asked (AtInteger p t) = rule.NotScalar ∷ rule.NotInteger ∷ []
+asked (AtInteger p t) = rule.NotInteger ∷ []
 asked (AtScalar p t) = rule.NotScalar ∷ []
 asked (AtOperands p c) = rule.BadOperands ∷ []
 asked (AtSized p s t) = rule.Incomplete ∷ []
