@@ -43,9 +43,11 @@ pub fn step(
         Doing::Calling(callee, place, level) => called(machine, callee, place, level),
         Doing::Measuring(place, level) => measured(machine, place, level),
         Doing::Specifying(seen, before) => specifying(machine, seen, before),
-        Doing::Tagging(is, place, seen, before) => tagging(machine, is, place, seen, before),
-        Doing::Tagged(is, place, name, seen, before) => {
-            tagged(machine, is, place, name, seen, before)
+        Doing::Tagging(is_structure, place, seen, before) => {
+            tagging(machine, is_structure, place, seen, before)
+        }
+        Doing::Tagged(is_structure, place, name, seen, before) => {
+            tagged(machine, is_structure, place, name, seen, before)
         }
         Doing::Membering(body, members) => membering(machine, body, members),
         Doing::Enumerating(body, list) => enumerating(machine, body, list),

@@ -1,9 +1,9 @@
-use Rattle.std.proofs.Common.{refl, subst}
+use Rattle.std.proofs.Common.{refl, subst, arith}
 use Rattle.dae_tree.specs.Marks.{marks}
 use Rattle.dae_parse.specs.declared.turn.Turn.{Turn}
 use Rattle.dae_parse.specs.Reached.{TurnFollows}
 use Rattle.dae_grammar.specs.Machine.{step_at}
-use Rattle.dae_parse.proofs.Reaching.{start, holds_there, bottom_there, count_there, next_reached, whole_reached, none_reached}
+use Rattle.dae_parse.proofs.Reaching.{start, holds_there, bottom_there, count_there, next_reached, no_more, whole_reached, none_reached}
 use Rattle.dae_parse.proofs.run.run.Goals as goal
 
 pub loop-turn-init : goal.loop-turn-init
@@ -31,3 +31,6 @@ loop-turn-preserved c =
     let r = c.loop-turn.invariant in
     let f = c.in_ok-next.ensures r.does r.stack r.shown r.stands (holds_there _ _ _ m r) (bottom_there _ _ _ m r).0 (count_there c.args.tokens.now _ _ m r) in
     next_reached _ _ _ c.in-Next.next m c.turned.new.machine r (subst (λ (t : Turn). TurnFollows t c.turned.new.machine r.does m.rest (step_at r.does r.stack m.scope.names m.rest)) c.in-Next.is f)
+
+pub unreachable-requires : goal.unreachable-requires
+unreachable-requires c = no_more c.args.tokens.now _ _ c.loop-turn.machine c.loop-turn.invariant (omega arith)
