@@ -1,7 +1,7 @@
 -- Homes of spans that are clear of each other are homes of variables.
 use Rattle.std.proofs.Common.{◌≡◌, ℕ, zero, suc, ◌+◌, ◌<◌, ◌≤◌, inl, inr, List, [], ◌∷◌, ◌++◌, length, Option, Some, None, refl, ap, sym, ◌∙◌, subst, arith, length-set}
-use Rattle.std.specs.Prelude.{Bool, true, false, nat_lt, slice_get, slice_set}
-use Rattle.std.specs.List.{AllByRecursion, AllZip}
+use Rattle.std.specs.Prelude.{Bool, true, false, ◌&&◌, if◌then◌else◌, nat_eq, nat_lt, nat_le, slice_get, slice_set}
+use Rattle.std.specs.List.{AllByRecursion, AllZip, IsDistinct}
 use Rattle.std.proofs.lemmas.Bool.Decides.{nat_tests}
 use Rattle.std.proofs.lemmas.Option.{same_Some}
 use Rattle.dae_ir.specs.Classes.{VariableSet}
@@ -10,9 +10,9 @@ use Rattle.dae_walks.specs.declared.Home.{Home}
 use Rattle.dae_walks.specs.declared.Home.TheVariants.{Register, Slot}
 use Rattle.dae_regalloc.specs.declared.Span.{Span}
 use Rattle.dae_regalloc.specs.declared.spans.Spans.{Spans}
-use Rattle.dae_regalloc.specs.Scan.{register_at, free_at, placed, scan, AreClear, IsPaired}
+use Rattle.dae_regalloc.specs.Scan.{register_at, free_at, placed, scan, AreClear, IsPaired, depth_at, NoSlot}
 use Rattle.dae_regalloc.specs.Seen.{number_in, AreNumbered, AreHeld, AreSeen}
-use Rattle.dae_regalloc.specs.Given.{IsOwnHome, home_or, home_in, numbered_home}
+use Rattle.dae_regalloc.specs.Given.{IsOwnHome, home_or, home_in, numbered_home, IsRegister, IsAround, AreFew}
 use Rattle.dae_regalloc.proofs.Numbering.{number_beyond}
 use Rattle.dae_regalloc.proofs.Clear.{found_first}
 use Rattle.dae_regalloc.proofs.Apart.{clear_apart}
@@ -96,3 +96,72 @@ allocated seen hs home places variables s clear own is = record {
   each = each_home seen hs home s.numbered clear own is variables;
   apart = held_apart seen hs home s.numbered clear own is places s.held;
 }
+
+-- ---- registers
+
+-- the variables of the spans that hold a place
+abbrev holding : List Span → ℕ → List ℕ
+holding [] place = []
+holding (x ∷ xs) place = if nat_le x.first place && nat_le place x.last then x.variable ∷ holding xs place else holding xs place
+
+long_as_depth : (xs : List Span) (place : ℕ) → length (holding xs place) ≡ depth_at xs place
+long_as_depth [] place = refl
+long_as_depth (x ∷ xs) place = by (nat_le x.first place && nat_le place x.last) (long_as_depth xs place)
+  where
+    by : (b : Bool) → length (holding xs place) ≡ depth_at xs place → length (if b then x.variable ∷ holding xs place else holding xs place) ≡ (if b then 1 else 0) + depth_at xs place
+    by true e = omega arith
+    by false e = omega arith
+
+-- what holds of each span that holds the place
+held_all : (P : ℕ → Type 0) (xs : List Span) (place : ℕ) → ((i : ℕ) (x : Span) → slice_get xs i ≡ Some x → x.first ≤ place → place ≤ x.last → P x.variable) → AllByRecursion P (holding xs place)
+held_all P [] place all = tt
+held_all P (x ∷ xs) place all = by (nat_le x.first place && nat_le place x.last) refl (held_all P xs place (λ i y e. all (suc i) y e))
+  where
+    by : (b : Bool) → nat_le x.first place && nat_le place x.last ≡ b → AllByRecursion P (holding xs place) → AllByRecursion P (if b then x.variable ∷ holding xs place else holding xs place)
+    by true t rest = (all 0 x refl (grind (arith, nat_tests)) (grind (arith, nat_tests)), rest)
+    by false t rest = rest
+
+distinct_held : (number : ℕ → Option ℕ) (xs : List Span) (k place : ℕ) → ((i : ℕ) (x : Span) → slice_get xs i ≡ Some x → number x.variable ≡ Some (k + i)) → IsDistinct nat_eq (holding xs place)
+unfolding IsDistinct
+distinct_held number [] k place named = tt
+distinct_held number (x ∷ xs) k place named = by (nat_le x.first place && nat_le place x.last) (distinct_held number xs (k + 1) place (λ i y e. later i y e))
+  where
+    later : (i : ℕ) (y : Span) → slice_get xs i ≡ Some y → number y.variable ≡ Some (k + 1 + i)
+    later i y e = (let n = named (suc i) y e in let same : k + suc i ≡ k + 1 + i = omega arith in n ∙ ap (λ (j : ℕ). Some j) same)
+
+    other : (i : ℕ) (y : Span) → slice_get xs i ≡ Some y → nat_eq x.variable y.variable ≡ false
+    other i y e = look (nat_eq x.variable y.variable) refl
+      where
+        look : (b : Bool) → nat_eq x.variable y.variable ≡ b → b ≡ false
+        look false t = refl
+        look true t =
+            let same : x.variable ≡ y.variable = grind (arith, nat_tests) in
+            let both : Some (k + 0) ≡ Some (k + 1 + i) = sym (named 0 x refl) ∙ ap number same ∙ later i y e in
+            let equal : k + 0 ≡ k + 1 + i = same_Some (k + 0) (k + 1 + i) both in
+            absurd (omega arith)
+
+    by : (b : Bool) → IsDistinct nat_eq (holding xs place) → IsDistinct nat_eq (if b then x.variable ∷ holding xs place else holding xs place)
+    by true rest = (held_all (λ u. nat_eq x.variable u ≡ false) xs place (λ i y e first last. other i y e), rest)
+    by false rest = rest
+
+few_spans : (seen : Spans) (places : List VariableSet) → AreSeen places seen → AreFew 18 places → (place : ℕ) → depth_at seen.spans.items place ≤ 18
+few_spans seen places s few place =
+    let xs = seen.spans.items in
+    let most = few place (holding xs place) (distinct_held (number_in seen.numbers) xs 0 place (λ i x e. s.numbered.numbered i x e ∙ (let same : i ≡ 0 + i = omega arith in ap (λ (j : ℕ). Some j) same)))
+    (held_all (IsAround places place) xs place (λ i x e first last. (x.first, x.last, first, last, s.ends x.first x.variable (i, x, e, refl, inl refl), s.ends x.last x.variable (i, x, e, refl, inr refl)))) in
+    let long = long_as_depth xs place in
+    omega arith
+
+register_in : (hs : List Home) (i : ℕ) → NoSlot hs → IsRegister (home_or (slice_get hs i))
+register_in [] i h = tt
+register_in (Register r ∷ hs) zero h = tt
+register_in (Register r ∷ hs) (suc i) h = register_in hs i h
+register_in (Slot j ∷ hs) i h = absurd h
+
+register_numbered : (hs : List Home) (o : Option ℕ) → NoSlot hs → IsRegister (numbered_home hs o)
+register_numbered hs None h = tt
+register_numbered hs (Some i) h = register_in hs i h
+
+pub all_registers : (seen : Spans) (hs : List Home) (home : ℕ → Home) (places : List VariableSet) → AreSeen places seen → (((place : ℕ) → depth_at seen.spans.items place ≤ 18) → NoSlot hs)
+    → ((v : ℕ) → home v ≡ numbered_home hs (number_in seen.numbers v)) → AreFew 18 places → (v : ℕ) → IsRegister (home v)
+all_registers seen hs home places s scanned is few v = rw (is v) (register_numbered hs (number_in seen.numbers v) (scanned (few_spans seen places s few)))

@@ -138,6 +138,17 @@ widened_further old new v i name spans numbers places = record {
       let set = spans x m.1 in
       let first : x.first ≤ n = first_within xs i 0 n x nd.order nd.within m.1 in
       (i, w, rw (is, numbers) name, rw set (at_set xs i x w m.1), m.2 ∙ sym is, first, omega arith);
+  ends = λ nd place u end.
+      let m = nd.named v i name in let x = m.0 in let w = widened x n in
+      let set = spans x m.1 in
+      let j = end.0 in let z = end.1 in
+      elim (set_cases xs i j w z (subst (λ (l : List Span). slice_get l j ≡ Some z) set end.2)) [
+        | inl h ↦ (
+            let which : (w.first ≡ place) ⊎ (w.last ≡ place) = subst (λ (s : Span). (s.first ≡ place) ⊎ (s.last ≡ place)) h.1 end.4 in
+            let var : x.variable ≡ u = subst (λ (s : Span). s.variable ≡ u) h.1 end.3 in
+            elim which [ inl e ↦ inl (i, x, m.1, var, inl e) | inr e ↦ inr (sym e, sym var ∙ m.2) ])
+        | inr h ↦ inl (j, z, h, end.3, end.4)
+      ];
 }
   where
     xs : List Span
@@ -155,6 +166,7 @@ beyond_further old new v i name le spans numbers places = record {
   numbered = λ nd. absurd (none nd);
   kept = λ nd u place l held. absurd (none nd);
   held = λ nd u h. absurd (none nd);
+  ends = λ nd place u end. absurd (none nd);
 }
   where
     none : AreNumbered old → ⊥
@@ -184,6 +196,15 @@ begun_further old new v s is first last none numbers spans places = record {
       (held.0, held.1, rw numbers (number_kept v (length xs) u held.0 (number_in old.numbers) none held.2), rw spans (at_before xs s held.0 held.1 held.3), held.4, held.5, held.6);
   held = λ nd u same.
       (length xs, s, rw (numbers, same) (number_here v (length xs) (number_in old.numbers)), rw spans (at_pushed xs s), is ∙ sym same, omega arith, omega arith);
+  ends = λ nd place u end.
+      let j = end.0 in let z = end.1 in
+      elim (pushed_cases xs s j z (subst (λ (l : List Span). slice_get l j ≡ Some z) spans end.2)) [
+        | inl h ↦ inl (j, z, h, end.3, end.4)
+        | inr h ↦ (
+            let which : (s.first ≡ place) ⊎ (s.last ≡ place) = subst (λ (y : Span). (y.first ≡ place) ⊎ (y.last ≡ place)) (sym h.1) end.4 in
+            let var : s.variable ≡ u = subst (λ (y : Span). y.variable ≡ u) (sym h.1) end.3 in
+            inr (elim which [ inl e ↦ sym e ∙ first | inr e ↦ sym e ∙ last ], sym var ∙ is))
+      ];
 }
   where
     xs : List Span
@@ -207,10 +228,10 @@ below_or_last u n lt = by (nat_lt u n) refl
     by false t = inr (grind (arith, nat_tests))
 
 pub further_none : (P : ℕ → Type 0) (old : Spans) → ((v : ℕ) → P v → ⊥) → IsFurther P old old
-further_none P old none = record { places = refl; numbered = λ nd. nd; kept = λ nd v place le held. held; held = λ nd v h. absurd (none v h) }
+further_none P old none = record { places = refl; numbered = λ nd. nd; kept = λ nd v place le held. held; held = λ nd v h. absurd (none v h); ends = λ nd place v end. inl end }
 
-pub further_then : (P Q R : ℕ → Type 0) (a b c : Spans) → IsFurther P a b → IsFurther Q b c → ((v : ℕ) → R v → P v ⊎ Q v) → IsFurther R a c
-further_then P Q R a b c f g either = record {
+pub further_then : (P Q R : ℕ → Type 0) (a b c : Spans) → IsFurther P a b → IsFurther Q b c → ((v : ℕ) → R v → P v ⊎ Q v) → ((v : ℕ) → P v → R v) → ((v : ℕ) → Q v → R v) → IsFurther R a c
+further_then P Q R a b c f g either one other = record {
   places = g.places ∙ f.places;
   numbered = λ nd. g.numbered (f.numbered nd);
   kept = λ nd v place le held. g.kept (f.numbered nd) v place (let e = f.places in omega arith) (f.kept nd v place le held);
@@ -218,10 +239,15 @@ further_then P Q R a b c f g either = record {
     | inl p ↦ g.kept (f.numbered nd) v a.places (let e = f.places in omega arith) (f.held nd v p)
     | inr q ↦ subst (λ (n : ℕ). IsHeld c v n) f.places (g.held (f.numbered nd) v q)
   ];
+  ends = λ nd place v end.
+      elim (g.ends (f.numbered nd) place v end) [
+        | inl mid ↦ elim (f.ends nd place v mid) [ inl old ↦ inl old | inr h ↦ inr (h.0, one v h.1) ]
+        | inr h ↦ inr (h.0 ∙ f.places, other v h.1)
+      ];
 }
 
-pub further_weaker : (P R : ℕ → Type 0) (a b : Spans) → IsFurther P a b → ((v : ℕ) → R v → P v) → IsFurther R a b
-further_weaker P R a b f all = record { places = f.places; numbered = f.numbered; kept = f.kept; held = λ nd v h. f.held nd v (all v h) }
+pub further_same : (P R : ℕ → Type 0) (a b : Spans) → IsFurther P a b → ((v : ℕ) → R v → P v) → ((v : ℕ) → P v → R v) → IsFurther R a b
+further_same P R a b f all back = record { places = f.places; numbered = f.numbered; kept = f.kept; held = λ nd v h. f.held nd v (all v h); ends = λ nd place v end. elim (f.ends nd place v end) [ inl old ↦ inl old | inr h ↦ inr (h.0, back v h.1) ] }
 
 -- ---- a whole place
 
@@ -251,4 +277,9 @@ seen_more old mid new m places f spans numbers count seen =
       };
       held = held_counted (m ∷ places) mid new spans numbers
           (λ v h. subst (λ (n : ℕ). IsHeld mid v n) many (f.held nd v h), held_further (λ v. m v ≡ true) old mid places f nd (omega arith) seen.held);
+      ends = λ place v end.
+          elim (f.ends nd place v (end.0, end.1, subst (λ (l : List Span). slice_get l end.0 ≡ Some end.1) spans end.2, end.3, end.4)) [
+            | inl was ↦ inr (seen.ends place v was)
+            | inr h ↦ inl (h.0 ∙ many, h.1)
+          ];
     }

@@ -1,5 +1,5 @@
 -- Spans over the places of a function, which are seen from the last to the first, and are numbered in that order.
-use Rattle.std.specs.Prelude.{◌≡◌, ℕ, zero, suc, ◌≤◌, Bool, true, nat_eq, List, [], ◌∷◌, ◌++◌, length, slice_get, Option, Some, None, if◌then◌else◌}
+use Rattle.std.specs.Prelude.{◌≡◌, ◌⊎◌, ℕ, zero, suc, ◌≤◌, Bool, true, nat_eq, List, [], ◌∷◌, ◌++◌, length, slice_get, Option, Some, None, if◌then◌else◌}
 use Rattle.std.specs.List.{AllByRecursion}
 use Rattle.dae_ir.specs.Classes.{VariableSet}
 use Rattle.dae_ir.specs.Streams.{Actions, step_onto}
@@ -40,11 +40,22 @@ abbrev pub AreHeld : List VariableSet → Spans → Type 0
 AreHeld [] seen = Unit {0}
 AreHeld (lives ∷ rest) seen = ((v : ℕ) → lives v ≡ true → IsHeld seen v (length rest)) × AreHeld rest seen
 
--- these places are seen, the last one first
+-- some span of the variable begins or ends at the place
+abbrev pub IsEnd : Spans → ℕ → ℕ → Type 0
+IsEnd seen place v =
+    (i : ℕ) × (x : Span) × (slice_get seen.spans.items i ≡ Some x) × (x.variable ≡ v) × ((x.first ≡ place) ⊎ (x.last ≡ place))
+
+-- the variable is live at the place of this number
+abbrev pub IsLiveAt : List VariableSet → ℕ → ℕ → Type 0
+IsLiveAt [] place v = ⊥
+IsLiveAt (lives ∷ rest) place v = ((place ≡ length rest) × (lives v ≡ true)) ⊎ IsLiveAt rest place v
+
+-- these places are seen, the last one first: spans hold those where their variables are live, and begin and end at such
 pub record AreSeen (places : List VariableSet) (seen : Spans) : Type 0 where
   pub count : seen.places ≡ length places
   pub numbered : AreNumbered seen
   pub held : AreHeld places seen
+  pub ends : (place v : ℕ) → IsEnd seen place v → IsLiveAt places place v
 
 -- spans that held a place hold it again, and those of these variables hold the next place
 pub record IsFurther (seen : ℕ → Type 0) (old new : Spans) : Type 0 where
@@ -52,6 +63,7 @@ pub record IsFurther (seen : ℕ → Type 0) (old new : Spans) : Type 0 where
   pub numbered : AreNumbered old → AreNumbered new
   pub kept : AreNumbered old → (v place : ℕ) → place ≤ old.places → IsHeld old v place → IsHeld new v place
   pub held : AreNumbered old → (v : ℕ) → seen v → IsHeld new v old.places
+  pub ends : AreNumbered old → (place v : ℕ) → IsEnd new place v → IsEnd old place v ⊎ ((place ≡ old.places) × seen v)
 
 -- behind the places that are seen those of the actions are seen, and these variables are live before the actions
 pub record ArePlacesOf (actions : Actions) (x : Ways) (old new : Spans) (set : List Bool) : Type 0 where

@@ -5,7 +5,7 @@ ghost use Rattle.dae_ir.specs.Streams.{actions_of};
 ghost use Rattle.dae_walks.specs.Homes.{AreHomes};
 ghost use Rattle.dae_walks.specs.Live.{function_lives};
 ghost use Rattle.dae_regalloc.specs.Seen.{number_in};
-ghost use Rattle.dae_regalloc.specs.Given.{home_in, numbered_home};
+ghost use Rattle.dae_regalloc.specs.Given.{home_in, numbered_home, IsRegister, AreFew};
 
 use crate::numbers::Numbers;
 use crate::places::spans_of;
@@ -43,10 +43,11 @@ fn homes_by_variable(
 }
 
 /// A home for each variable of a function with so many parameters: a register, or the slot of the variable's own number,
-/// so that two variables that are live at one place have different ones. A variable behind the last one here is nowhere
-/// live.
+/// so that two variables that are live at one place have different ones; and a register for each where around no place more
+/// than 18 are live. A variable behind the last one here is nowhere live.
 pub fn allocate(alloc: Global, parameters: u32, body: &[Step]) -> Result<Vec<Home>, AllocError>
-    ensures { IfOk result (λ homes. (variables : ℕ) → AreHomes variables (function_lives parameters (actions_of body.now)) (home_in homes.items)) }
+    ensures homes { IfOk result (λ homes. (variables : ℕ) → AreHomes variables (function_lives parameters (actions_of body.now)) (home_in homes.items)) }
+    ensures registers { IfOk result (λ homes. AreFew 18 (function_lives parameters (actions_of body.now)) → (v : ℕ) → IsRegister (home_in homes.items v)) }
 {
     let seen = spans_of(alloc, parameters, body)?;
     let homes = homes_of(alloc, seen.spans.as_slice())?;
