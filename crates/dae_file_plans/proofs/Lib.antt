@@ -1,0 +1,3 @@
+mod Accepted
+mod Refused
+mod RefusedLater
