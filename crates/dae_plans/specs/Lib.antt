@@ -1,6 +1,3 @@
 pub mod Steps
 pub mod Expressions
-pub mod Initialisers
-pub mod Formats
-pub mod Statements
-pub mod Files
+pub mod Promise

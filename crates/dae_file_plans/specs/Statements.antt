@@ -22,8 +22,8 @@ use Rattle.dae_rules.specs.Sites.{Site, AtAssign, AtReturn, AtBreak, AtCase, AtD
 use Rattle.dae_rules.specs.Plan.{Plan, pure, both, node, chain}
 use Rattle.dae_plans.specs.Steps.{at, asks, does, nothing, looks, scoped, settles_name, declared_place, base_at, constant_at, integer_at, condition_at, name_in, with_named_local, is_taken, routine_in, count_of}
 use Rattle.dae_plans.specs.Expressions.{plan, plan_specifiers, plan_declarator, plan_value}
-use Rattle.dae_plans.specs.Initialisers.{Content, plan_content, plan_unused_initialiser, literal_bytes}
-use Rattle.dae_plans.specs.Formats.{InText, pieces_from, letters}
+use Rattle.dae_file_plans.specs.Initialisers.{Content, plan_content, plan_unused_initialiser, literal_bytes}
+use Rattle.dae_file_plans.specs.Formats.{InText, pieces_from, letters}
 
 -- ---- statements that are done, and one behind them
 
@@ -145,9 +145,10 @@ abbrev pub plan_declarations : program.Statements → List Declaration → Plan 
 plan_declarations done [] = pure done
 plan_declarations done (d ∷ ds) = chain done (plan_declaration done d) (λ done. plan_declarations done ds)
 
--- ---- what stands round a statement: the result of its function, whether that is main, and what break and continue end
+-- ---- what stands round a statement: the result of its function, unless that is faulty, whether that is main, and what break
+-- and continue end
 pub record Surrounding : Type 0 where
-  pub result : ℕ
+  pub result : Option ℕ
   pub is_main : Bool
   pub loop : Bool
   pub switch : Bool
@@ -164,8 +165,16 @@ abbrev pub returned : Place → Bool → program.Expression → program.Statemen
 returned p true e = evaluate p (program.Exit p e)
 returned p false e = program.Return p (Some e) program.Done
 
+abbrev pub return_sites : Place → Tables → Option ℕ → Typed → List Site
+return_sites p s None x = []
+return_sites p s (Some t) x = AtReturn p s t x ∷ []
+
+abbrev pub as_result : Place → Tables → Option ℕ → Typed → program.Expression
+as_result p s None x = x.tree
+as_result p s (Some t) x = (converted p s x t).tree
+
 abbrev pub return_at : Place → Surrounding → Plan Typed → Plan program.Statements
-return_at p c m = at (λ s x. AtReturn p s c.result x) (λ s x. (s, returned p c.is_main (converted p s x c.result).tree)) m
+return_at p c m = node (λ s x. return_sites p s c.result x) (λ s x. (s, returned p c.is_main (as_result p s c.result x))) m
 
 abbrev pub plan_return : Place → Surrounding → Option Expression → Plan program.Statements
 plan_return p c None = pure (if c.is_main then returned p true (program.Number 0) else program.Return p None program.Done)

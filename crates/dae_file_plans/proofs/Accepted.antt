@@ -18,7 +18,7 @@ use Rattle.dae_kinds.specs.Types.{shape_of, layout_of, same, composite, layout_a
 use Rattle.dae_kinds.specs.Values.{converted, combination, fits, joined}
 use Rattle.dae_rules.specs.Plan.{check_of, ask_all}
 use Rattle.dae_plans.specs.Steps.{parameter_types}
-use Rattle.dae_plans.specs.Files.{plan_file, start_of}
+use Rattle.dae_file_plans.specs.Files.{plan_file, start_of}
 
 abbrev at : ℕ → Place
 at n = record { file = 0; line = 1; col = n }

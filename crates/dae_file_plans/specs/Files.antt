@@ -24,15 +24,15 @@ use Rattle.dae_kinds.specs.declared.tables.Routine.{Routine}
 use Rattle.dae_kinds.specs.declared.tables.Storage.{Storage}
 use Rattle.dae_kinds.specs.declared.tables.Storage.TheVariants as storage
 use Rattle.dae_kinds.specs.Tables.{Tables, with_object, with_routine, with_locals, with_storages, with_name, set_object, set_routine, reopened, closed}
-use Rattle.dae_kinds.specs.Types.{int_id, first_shapes, void_id, shape_of, is_function, is_scalar, composite, layout_at, rounded}
+use Rattle.dae_kinds.specs.Types.{int_id, first_shapes, shape_of, is_function, is_scalar, composite, layout_at, rounded}
 use Rattle.dae_kinds.specs.Values.{result_of}
 use Rattle.dae_rules.specs.Table.{is_static, is_extern}
 use Rattle.dae_rules.specs.Sites.{Site, AtFunction, AtObject, AtEndOfFile, AtDefinition, AtSecond, AtUnnamed}
 use Rattle.dae_rules.specs.Plan.{Plan, pure, node, chain}
 use Rattle.dae_plans.specs.Steps.{at, does, nothing, looks, changes_to, ends, settles_name, declared_place, base_at, is_main}
 use Rattle.dae_plans.specs.Expressions.{plan_specifiers, plan_declarator}
-use Rattle.dae_plans.specs.Initialisers.{Content, plan_content, plan_unused_initialiser}
-use Rattle.dae_plans.specs.Statements.{Surrounding, plan_block, typedef_at, own_of, is_alone}
+use Rattle.dae_file_plans.specs.Initialisers.{Content, plan_content, plan_unused_initialiser}
+use Rattle.dae_file_plans.specs.Statements.{Surrounding, plan_block, typedef_at, own_of, is_alone}
 
 -- ---- what a file comes to: the content of its objects that are initialised, and its functions with their bodies
 pub data Product : Type 0 where
@@ -228,18 +228,23 @@ second_time f body = does (λ s x. (s, elim f [ None ↦ [] | Some g ↦ body_pr
 abbrev pub twice : ℕ → Option ℕ → Plan program.Statements → Plan (List Product)
 twice n f body = chain [] (looks (λ s. s ∷ [])) (λ olds. chain tt (first_time n body) (λ x. chain tt (changes_to (λ s. settled_locals n (elim olds [ [] ↦ s | old ∷ rest ↦ keep_scope old s ]))) (λ y. second_time f body)))
 
-abbrev pub surrounding : Tables → Bool → ℕ → Surrounding
-surrounding s main t = record { result = result_of (shape_of s t); is_main = main; loop = false; switch = false }
+abbrev pub result_type : Tables → Option ℕ → Option ℕ
+result_type s None = None
+result_type s (Some t) = Some (result_of (shape_of s t))
+
+abbrev pub surrounding : Tables → Bool → Option ℕ → Surrounding
+surrounding s main t = record { result = result_type s t; is_main = main; loop = false; switch = false }
 
 abbrev pub first_surrounding : Surrounding
-first_surrounding = record { result = void_id; is_main = false; loop = false; switch = false }
+first_surrounding = record { result = None; is_main = false; loop = false; switch = false }
 
-abbrev pub plan_body_of : Place → Option Name → Parameters → List Declaration → Statements → ℕ → Option ℕ → Plan (List Product)
+abbrev pub plan_body_of : Place → Option Name → Parameters → List Declaration → Statements → Option ℕ → Option ℕ → Plan (List Product)
 plan_body_of p n ps ds ss t f = chain tt (named_at p ps) (λ x. chain first_surrounding (looks (λ s. surrounding s (is_main_name s n) t)) (λ c. twice (count_parameters ps) f (plan_block c ds ss)))
 
+-- of a function whose type is faulty the body is looked at
 abbrev pub plan_defined_as : Place → Option Keyword → Option Name → Parameters → List Declaration → Statements → Option ℕ → Plan (List Product)
-plan_defined_as p k n ps ds ss None = pure []
-plan_defined_as p k n ps ds ss (Some t) = chain None (second_at p (function_at p (is_static k) false n (pure t))) (plan_body_of p n ps ds ss t)
+plan_defined_as p k n ps ds ss None = plan_body_of p n ps ds ss None None
+plan_defined_as p k n ps ds ss (Some t) = chain None (second_at p (function_at p (is_static k) false n (pure t))) (plan_body_of p n ps ds ss (Some t))
 
 abbrev pub some_of : Plan ℕ → Plan (Option ℕ)
 some_of m = does (λ s t. (s, Some t)) m

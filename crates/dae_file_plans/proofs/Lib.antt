@@ -1,0 +1,4 @@
+mod Accepted
+mod Refused
+mod RefusedLater
+mod Written

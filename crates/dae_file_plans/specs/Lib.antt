@@ -1,0 +1,5 @@
+pub mod Initialisers
+pub mod Formats
+pub mod Statements
+pub mod Files
+pub mod Promise
