@@ -19,7 +19,7 @@ import typed                                                     # noqa: E402
 import wanted                                                    # noqa: E402
 
 MASK = 0xFFFFFFFF
-HEAD = open(os.path.join(HERE, "head.antt")).read()
+HEAD = open(os.path.join(HERE, "head.txt")).read()
 
 
 # ---- terms
