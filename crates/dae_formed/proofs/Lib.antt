@@ -1,0 +1,10 @@
+mod Good
+mod Makes
+mod Expressions
+mod Pieces
+mod Switching
+mod Statements
+mod Below
+mod Functions
+mod Programs
+mod Order

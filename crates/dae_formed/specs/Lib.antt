@@ -1,0 +1,4 @@
+pub mod SetFirst
+pub mod Bytes
+pub mod Formed
+pub mod Order
