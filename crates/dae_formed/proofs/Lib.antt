@@ -8,3 +8,6 @@ mod Below
 mod Functions
 mod Programs
 mod Order
+mod Small
+mod SmallStatements
+mod Counts

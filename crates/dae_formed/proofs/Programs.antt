@@ -28,7 +28,7 @@ abbrev or_else : {A : Type 0} → A → Option A → A
 or_else y None = y
 or_else y (Some x) = x
 
-same : {A : Type 0} (x y : A) → Some x ≡ Some y → x ≡ y
+pub same : {A : Type 0} (x y : A) → Some x ≡ Some y → x ≡ y
 same x y e = ap (or_else x) e
 
 at : {A : Type 0} (test : A → Bool) (xs : List A) (k : ℕ) (x : A) → list_all test xs ≡ true → slice_get xs k ≡ Some x → test x ≡ true
@@ -55,7 +55,7 @@ module _ (p : Program) where
   first_number k f g h = subst (λ (n : ℕ). IsFunctionFormOf p n f g) (omega arith) h
 
   -- the form of a function
-  form_there : (k : ℕ) (fs : List Function) (gs : List FormFunction) → AreFormsOf p k fs gs → (j : ℕ) (f : Function) → slice_get fs j ≡ Some f → (g : FormFunction) × (slice_get gs j ≡ Some g) × IsFunctionFormOf p (k + j) f g
+  pub form_there : (k : ℕ) (fs : List Function) (gs : List FormFunction) → AreFormsOf p k fs gs → (j : ℕ) (f : Function) → slice_get fs j ≡ Some f → (g : FormFunction) × (slice_get gs j ≡ Some g) × IsFunctionFormOf p (k + j) f g
   form_there k [] gs a j f e = absurd (let c : None ≡ Some f = e in cc)
   form_there k (x ∷ fs) [] a j f e = absurd a
   form_there k (x ∷ fs) (y ∷ gs) a zero f e = (y, refl, first_number k f y (subst (λ z. IsFunctionFormOf p k z y) (same x f e) a.0))

@@ -2,6 +2,7 @@
 
 ghost use Rattle.dae_formed.specs.Formed.{FormsScoped, FormsSetFirst, MadeSetFirst};
 ghost use Rattle.dae_formed.specs.Order.{FormsDoPrograms};
+ghost use Rattle.dae_formed.specs.Sizes.{FormsSmall};
 
 /// The form of a lawful program is well made: each variable, function and loop that it names is there, its constants are words,
 /// a call gives as many arguments as are taken, no code falls off its end, and main has no parameters and never returns.
@@ -30,3 +31,9 @@ pub fn forms_do_programs()
     dae_lower::programs_kept();
     dae_ir::more_turns();
 }
+
+/// The form of a program is small: each function has its own variables and at most 3 more for each node of its tree, and at most
+/// 10 items of code for each node.
+pub fn forms_small()
+    ensures { FormsSmall }
+{}
