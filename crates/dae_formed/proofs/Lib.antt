@@ -8,6 +8,7 @@ mod Below
 mod Functions
 mod Programs
 mod Order
+mod Agreeing
 mod Small
 mod SmallStatements
 mod Counts

@@ -36,7 +36,7 @@ at test [] k x h e = absurd (let c : None ≡ Some x = e in cc)
 at test (y ∷ ys) zero x h e = subst (λ z. test z ≡ true) (same y x e) (first _ _ h)
 at test (y ∷ ys) (suc k) x h e = at test ys k x (second _ _ h) e
 
-each_at : {A : Type 0} (P : A → Type 0) (xs : List A) (k : ℕ) (x : A) → AllByRecursion P xs → slice_get xs k ≡ Some x → P x
+pub each_at : {A : Type 0} (P : A → Type 0) (xs : List A) (k : ℕ) (x : A) → AllByRecursion P xs → slice_get xs k ≡ Some x → P x
 each_at P [] k x h e = absurd (let c : None ≡ Some x = e in cc)
 each_at P (y ∷ ys) zero x h e = subst P (same y x e) h.0
 each_at P (y ∷ ys) (suc k) x h e = each_at P ys k x h.1 e
@@ -62,7 +62,7 @@ module _ (p : Program) where
   form_there k (x ∷ fs) (y ∷ gs) a (suc j) f e = let h = form_there (k + 1) fs gs a.1 j f e in (h.0, h.1, next_number k j f h.0 h.2)
 
   -- the function of a form
-  function_there : (k : ℕ) (fs : List Function) (gs : List FormFunction) → AreFormsOf p k fs gs → (j : ℕ) (g : FormFunction) → slice_get gs j ≡ Some g → (f : Function) × (slice_get fs j ≡ Some f) × IsFunctionFormOf p (k + j) f g
+  pub function_there : (k : ℕ) (fs : List Function) (gs : List FormFunction) → AreFormsOf p k fs gs → (j : ℕ) (g : FormFunction) → slice_get gs j ≡ Some g → (f : Function) × (slice_get fs j ≡ Some f) × IsFunctionFormOf p (k + j) f g
   function_there k fs [] a j g e = absurd (let c : None ≡ Some g = e in cc)
   function_there k [] (y ∷ gs) a j g e = absurd a
   function_there k (x ∷ fs) (y ∷ gs) a zero g e = (x, refl, first_number k x g (subst (λ z. IsFunctionFormOf p k x z) (same y g e) a.0))

@@ -5,11 +5,13 @@ use Rattle.std.specs.Prelude.{◌≡◌, ◌≢◌, ◌↔◌, ℕ, suc, true}
 use Rattle.dae_meaning.specs.Results.{Result, Going, Astray, world_of}
 use Rattle.dae_meaning.specs.Alike.{IsFront}
 use Rattle.dae_meaning.specs.Variables.{Env}
-use Rattle.dae_ir.specs.Programs.{end_of}
+use Rattle.dae_ir.specs.Programs.{end_of, outcome}
+use Rattle.dae_ir.specs.declared.form.Ir.{Ir}
 use Rattle.dae_program.specs.Outcomes.{Outcome, last_world}
-use Rattle.dae_program.specs.Programs.{program_end, meaning_of}
+use Rattle.dae_program.specs.Programs.{program_end, meaning_of, start}
 use Rattle.dae_program.specs.declared.program.Program.{Program}
 use Rattle.dae_program.specs.Lawful.{is_lawful}
+use Rattle.dae_formed.specs.Formed.{IsLowered}
 use Rattle.dae_lower.specs.Keeping.{IsKept, IsOver, form_run_of}
 
 -- what a program does under each bound, and what a form does
@@ -26,3 +28,9 @@ abbrev pub FormsDoPrograms : Type 0
 FormsDoPrograms =
     (p : Program) (depth : ℕ) → is_lawful p.memory p.frames p.content p.links p.functions p.main ≡ true →
     DoesTheSame (meaning_of p (suc depth)) (form_run_of p (suc depth))
+
+-- and of a form in memory: what main's call does from the memory that the program begins with
+abbrev pub LoweredDoPrograms : Type 0
+LoweredDoPrograms =
+    (p : Program) (ir : Ir) → IsLowered p ir → (depth : ℕ) → ir.calls ≡ suc depth →
+    DoesTheSame (meaning_of p (suc depth)) (λ n. outcome ir n (let w = start p.memory p.frames p.content in w.memory))

@@ -2,6 +2,9 @@
 // larger than its program allows. The laws are the contracts of functions that do nothing but call others like them.
 #![tactic(auto)]
 
-pub use theorems::{forms_do_programs, forms_scoped, forms_set_first, forms_small, made_set_first};
+pub use theorems::{
+    forms_do_programs, forms_scoped, forms_set_first, forms_small, lowered_do_programs,
+    made_set_first,
+};
 
 mod theorems;

@@ -1,7 +1,7 @@
 // What is proved of the forms of programs in memory.
 
 ghost use Rattle.dae_formed.specs.Formed.{FormsScoped, FormsSetFirst, MadeSetFirst};
-ghost use Rattle.dae_formed.specs.Order.{FormsDoPrograms};
+ghost use Rattle.dae_formed.specs.Order.{FormsDoPrograms, LoweredDoPrograms};
 ghost use Rattle.dae_formed.specs.Sizes.{FormsSmall};
 
 /// The form of a lawful program is well made: each variable, function and loop that it names is there, its constants are words,
@@ -37,3 +37,11 @@ pub fn forms_do_programs()
 pub fn forms_small()
     ensures { FormsSmall }
 {}
+
+/// The same of a form in memory that is a program's, with a limit of at least one call: it does what the program does.
+pub fn lowered_do_programs()
+    ensures { LoweredDoPrograms }
+{
+    forms_scoped();
+    forms_do_programs();
+}
