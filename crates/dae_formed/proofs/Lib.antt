@@ -1,0 +1,14 @@
+mod Good
+mod Makes
+mod Expressions
+mod Pieces
+mod Switching
+mod Statements
+mod Below
+mod Functions
+mod Programs
+mod Order
+mod Agreeing
+mod Small
+mod SmallStatements
+mod Counts

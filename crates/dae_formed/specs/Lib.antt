@@ -1,0 +1,5 @@
+pub mod SetFirst
+pub mod Bytes
+pub mod Formed
+pub mod Order
+pub mod Sizes
