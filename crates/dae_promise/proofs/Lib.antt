@@ -1,3 +1,2 @@
-mod Same
 mod Main
 mod Chain

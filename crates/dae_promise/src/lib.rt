@@ -1,6 +1,6 @@
 // The promise on a compiled program, from its meaning to every run of its image: `KeepsMeaning`, in specs/Promises.antt. Here
-// the chain is put together: the program's form keeps its meaning, and the image does the form. The theorem is the contract
-// of a function that does nothing but call others like it.
+// the chain is put together: the program's form does what the program does, and the image does the form. The theorem is the
+// contract of a function that does nothing but call others like it.
 #![tactic(auto)]
 
 ghost use Rattle.dae_promise.specs.Promises.{ImageKeepsMeaning};
@@ -9,8 +9,8 @@ ghost use Rattle.dae_promise.specs.Promises.{ImageKeepsMeaning};
 pub fn image_keeps_meaning()
     ensures { ImageKeepsMeaning }
 {
-    dae_lower::programs_kept();
-    dae_ir::more_turns();
+    dae_formed::forms_scoped();
+    dae_formed::lowered_do_programs();
     dae_program::never_strays();
     dae_rounds::order_is_a_run();
 }
