@@ -12,7 +12,7 @@ use Rattle.dae_regalloc.specs.declared.Span.{Span}
 use Rattle.dae_regalloc.specs.declared.spans.Spans.{Spans}
 use Rattle.dae_regalloc.specs.Scan.{register_at, free_at, placed, scan, AreClear, IsPaired, depth_at, NoSlot}
 use Rattle.dae_regalloc.specs.Seen.{number_in, AreNumbered, AreHeld, AreSeen}
-use Rattle.dae_regalloc.specs.Given.{IsOwnHome, home_or, home_in, numbered_home, IsRegister, IsAround, AreFew}
+use Rattle.dae_regalloc.specs.Given.{IsOwnHome, home_or, home_in, numbered_home, IsRegister, IsAround, AreBelow, AreFew}
 use Rattle.dae_regalloc.proofs.Numbering.{number_beyond}
 use Rattle.dae_regalloc.proofs.Clear.{found_first}
 use Rattle.dae_regalloc.proofs.Apart.{clear_apart}
@@ -53,6 +53,17 @@ whole_table table hs ns full old v = by (nat_lt v (length table)) refl
     by false t =
         let le : length table ≤ v = grind (arith, nat_tests) in
         table_end table v le ∙ ap (numbered_home hs) (number_beyond ns v (omega arith))
+
+-- ---- what is live has a number
+
+number_below : (ns : List (Option ℕ)) (v i : ℕ) → number_in ns v ≡ Some i → v < length ns
+number_below [] v i e = absurd cc
+number_below (n ∷ ns) zero i e = omega arith
+number_below (n ∷ ns) (suc v) i e = let below = number_below ns v i e in omega arith
+
+pub held_below : (seen : Spans) (places : List VariableSet) → AreHeld places seen → AllByRecursion (AreBelow (length seen.numbers)) places
+held_below seen [] held = tt
+held_below seen (lives ∷ rest) held = ((λ v live. let h = held.0 v live in number_below seen.numbers v h.0 h.2), held_below seen rest held.1)
 
 -- ---- homes by variable
 

@@ -1,11 +1,12 @@
 // Homes for the variables of a function.
 
-ghost use Rattle.std.specs.Prelude.{◌≡◌, ℕ, IfOk};
+ghost use Rattle.std.specs.Prelude.{◌≡◌, ℕ, length, IfOk};
+ghost use Rattle.std.specs.List.{AllByRecursion};
 ghost use Rattle.dae_ir.specs.Streams.{actions_of};
 ghost use Rattle.dae_walks.specs.Homes.{AreHomes};
 ghost use Rattle.dae_walks.specs.Live.{function_lives};
 ghost use Rattle.dae_regalloc.specs.Seen.{number_in};
-ghost use Rattle.dae_regalloc.specs.Given.{home_in, numbered_home, IsRegister, AreFew};
+ghost use Rattle.dae_regalloc.specs.Given.{home_in, numbered_home, IsRegister, AreBelow, AreFew};
 
 use crate::numbers::Numbers;
 use crate::places::spans_of;
@@ -33,7 +34,8 @@ fn homes_by_variable(
     numbers: &Numbers,
     homes: &[Home],
 ) -> Result<Vec<Home>, AllocError>
-    ensures { IfOk result (λ table. (v : ℕ) → home_in table.items v ≡ numbered_home homes.now (number_in numbers.now v)) }
+    ensures homes { IfOk result (λ table. (v : ℕ) → home_in table.items v ≡ numbered_home homes.now (number_in numbers.now v)) }
+    ensures length { IfOk result (λ table. length table.items ≡ length numbers.now) }
 {
     let mut table = Vec::new(alloc);
     for variable in 0..numbers.bound() {
@@ -44,9 +46,10 @@ fn homes_by_variable(
 
 /// A home for each variable of a function with so many parameters: a register, or the slot of the variable's own number,
 /// so that two variables that are live at one place have different ones; and a register for each where around no place more
-/// than 18 are live. A variable behind the last one here is nowhere live.
+/// than 18 are live. A variable that is live anywhere is among them.
 pub fn allocate(alloc: Global, parameters: u32, body: &[Step]) -> Result<Vec<Home>, AllocError>
     ensures homes { IfOk result (λ homes. (variables : ℕ) → AreHomes variables (function_lives parameters (actions_of body.now)) (home_in homes.items)) }
+    ensures inside { IfOk result (λ homes. AllByRecursion (AreBelow (length homes.items)) (function_lives parameters (actions_of body.now))) }
     ensures registers { IfOk result (λ homes. AreFew 18 (function_lives parameters (actions_of body.now)) → (v : ℕ) → IsRegister (home_in homes.items v)) }
 {
     let seen = spans_of(alloc, parameters, body)?;

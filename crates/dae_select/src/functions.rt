@@ -1,10 +1,10 @@
 // The code of a whole function.
 
-ghost use Rattle.std.specs.Prelude.{◌≡◌, ℕ, [], IfOk, OnOk};
+ghost use Rattle.std.specs.Prelude.{◌≡◌, ℕ, [], length, IfOk, OnOk};
 ghost use Rattle.dae_walks.specs.Live.{live, nowhere};
 ghost use Rattle.dae_live.specs.Members.{member};
 ghost use Rattle.dae_ir.specs.Streams.{actions_of};
-ghost use Rattle.dae_blocks.specs.Code.{code_of, function_code};
+ghost use Rattle.dae_blocks.specs.Code.{code_of, entry_code, function_code};
 ghost use Rattle.dae_select.specs.Layouts.{plan_of, variables_of, AreSmall};
 
 use crate::calling::{entry_code, leave_code};
@@ -50,22 +50,31 @@ fn body_code(
     )
 }
 
+/// The code of a function, and how many of its words come before its actions.
+#[derive(Drop)]
+pub struct FunctionCode {
+    pub code: Vec<Inst>,
+    pub entry: usize,
+}
+
 /// The code of a function of a side: what it begins with, its actions, and a return of 0 behind them.
 pub fn function_code(
     alloc: Global,
     layouts: &Layouts,
     function: u32,
     body: &[Step],
-) -> Result<Vec<Inst>, AllocError>
+) -> Result<FunctionCode, AllocError>
     requires { AreSmall layouts.now }
-    ensures { IfOk result (λ code. code.items ≡ function_code (plan_of layouts.now) (variables_of layouts.now) function (actions_of body.now)) }
+    ensures code { IfOk result (λ made. made.code.items ≡ function_code (plan_of layouts.now) (variables_of layouts.now) function (actions_of body.now)) }
+    ensures entry { IfOk result (λ made. made.entry ≡ length (entry_code (plan_of layouts.now) (variables_of layouts.now) function (live (actions_of body.now) nowhere))) }
 {
     let homes = layouts.homes(function);
     let mut actions = GrowingCode::new(alloc);
     let live = body_code(alloc, &mut actions, layouts, function, body)?;
     let mut code = Vec::new(alloc);
     entry_code(alloc, &mut code, layouts, function, homes, &live)?;
+    let entry = code.len();
     code.extend_from_slice(actions.into_vec().as_slice())?;
     leave_code(&mut code, homes, Some(Operand::Number(0)))?;
-    Ok(code)
+    Ok(FunctionCode { code, entry })
 }

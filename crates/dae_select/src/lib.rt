@@ -2,8 +2,9 @@
 // words at which functions are entered. Each clause is the block's definition. Nothing fails but for want of memory.
 #![tactic(auto)]
 
-pub use functions::function_code;
+pub use functions::{FunctionCode, function_code};
 pub use layouts::{FunctionLayout, Layouts};
+pub use opening::{finish_code, start_code};
 
 mod accessing;
 mod assigning;
@@ -14,4 +15,5 @@ mod functions;
 mod growing;
 mod jumping;
 mod layouts;
+mod opening;
 mod walking;

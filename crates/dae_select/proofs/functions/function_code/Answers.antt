@@ -1,4 +1,4 @@
-use Rattle.std.proofs.Common.{ℕ, ◌++◌, List, ap, ◌∙◌, append_assoc}
+use Rattle.std.proofs.Common.{◌≡◌, ℕ, ◌++◌, List, length, ap, ◌∙◌, append_assoc, arith}
 use Rattle.dae_encode.specs.declared.Inst.{Inst}
 use Rattle.dae_ir.specs.Classes.{VariableSet}
 use Rattle.dae_ir.specs.Streams.{actions_of}
@@ -12,8 +12,8 @@ use Rattle.dae_blocks.specs.Code.{code_of, entry_code}
 use Rattle.dae_select.specs.Layouts.{plan_of, variables_of}
 use Rattle.dae_select.proofs.functions.function_code.Goals as goal
 
-pub returns : goal.returns
-returns c =
+pub returns-clause-code : goal.returns-clause-code
+returns-clause-code c =
     let a = c.args in
     let P = plan_of a.layouts.now in let V = variables_of a.layouts.now in let f = a.function in
     let last : (ℕ → Home) → List Inst = λ home. leave_code home (Some (Number 0)) in
@@ -23,3 +23,12 @@ returns c =
     c.in_ok-leave_code.ensures ∙ ap (λ (home : ℕ → Home). c.extend_from_slice.new.self.items ++ last home) c.homes-homes.ensures.homes
     ∙ ap (λ (l : List Inst). l ++ last (P.home f)) (c.in_ok-extend_from_slice.ensures.items ∙ ap (λ (l : List Inst). l ++ c.as_slice.result.now) first ∙ ap (λ (l : List Inst). entry (live (actions_of a.body.now) nowhere) ++ l) middle)
     ∙ append_assoc (entry (live (actions_of a.body.now) nowhere)) (code_of P V f (actions_of a.body.now) nowhere 0 0) (last (P.home f))
+
+pub returns-clause-entry : goal.returns-clause-entry
+returns-clause-entry c =
+    let a = c.args in
+    let entry : VariableSet → List Inst = λ l. entry_code (plan_of a.layouts.now) (variables_of a.layouts.now) a.function l in
+    let first = c.in_ok-entry_code.ensures ∙ ap (λ (l : List Inst). l ++ entry (member c.in_ok-live.live)) c.new-code.ensures.items ∙ ap entry c.in_ok-live.ensures.live in
+    let l = c.len-entry.ensures in
+    let long : c.len-entry.result ≡ length c.entry_code.new.code.items = omega arith in
+    long ∙ ap length first

@@ -1,0 +1,27 @@
+use Rattle.std.proofs.Common.{rules, ◌≡◌, ℕ, [], List, refl}
+use Rattle.dae_image.specs.declared.LineMark.{LineMark}
+use Rattle.dae_link.proofs.Fitting.{linked_fits}
+use Rattle.dae_link.proofs.Made.{is_made}
+use Rattle.dae_link.proofs.linking.link.Goals as goal
+
+pub invariant_of-result : goal.invariant_of-result
+invariant_of-result c =
+    let lines : c.new.result ≡ [] = search rules in
+    let a = c.in_ok-a.ensures in let e = c.in_ok-e.ensures in
+    rw lines (record { fits = linked_fits c.args.pair.now c.args.budget c.args.content c.args.names c.requires _ _ _ _ a.some a.few e.some e.few a.private e.private a.words e.words })
+
+pub returns-clause-compiled : goal.returns-clause-compiled
+returns-clause-compiled c = λ ir cap tables classes is_pair is_budget. record {
+  tables = tables;
+  pair = c.args.pair.now;
+  classes = classes;
+  is_pair = is_pair;
+  budget = is_budget;
+  calls = is_pair.a.calls;
+  made = is_made ir tables cap c.args.pair.now is_pair _ c.in_ok-a.a.private c.in_ok-e.e.private c.in_ok-a.ensures.code c.in_ok-e.ensures.code refl refl refl;
+}
+
+pub returns-clause-does : goal.returns-clause-does
+returns-clause-does c = λ ir tables cap ready classes is_pair is_budget.
+    c.made_does_form.ensures ir tables cap c.args.pair.now _ ready classes is_pair is_budget
+    (is_made ir tables cap c.args.pair.now is_pair _ c.in_ok-a.a.private c.in_ok-e.e.private c.in_ok-a.ensures.code c.in_ok-e.ensures.code refl refl refl)

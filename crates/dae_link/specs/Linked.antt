@@ -1,0 +1,56 @@
+-- What an image is that is compiled of a form, and what linking asks of a pair.
+use Rattle.std.specs.Prelude.{◌≡◌, ℕ, ◌-◌, ◌%◌, ◌≤◌, ◌<◌, List, length, IsTrue}
+use Rattle.std.specs.List.{All, list_all}
+use Rattle.dae_base.specs.declared.Side.TheVariants.{A, E}
+use Rattle.dae_base.specs.declared.Depths.{Depths}
+use Rattle.dae_base.specs.declared.Queue.{Queue}
+use Rattle.dae_base.specs.Budgets.{depth}
+use Rattle.dae_image.specs.declared.Image.{Image}
+use Rattle.dae_image.specs.Contents.{is_name}
+use Rattle.dae_ir.specs.declared.form.Ir.{Ir}
+use Rattle.dae_ir.specs.declared.stream.Class.{Class}
+use Rattle.dae_ir.specs.declared.stream.Pair.{Pair}
+use Rattle.dae_ir.specs.Programs.{AreClassesOf, IsPairOf}
+use Rattle.dae_ir.specs.Budgets.{IsBudgetOf}
+use Rattle.dae_faithful.specs.Made.{IsMade}
+use Rattle.dae_sides.specs.Sides.{HasLimits}
+
+-- the two streams of one program, within what an image can hold, with data and names that it can hold
+pub record CanLink (pair : Pair) (budget : Depths) (content : List ℕ) (names : List (List ℕ)) : Type 0 where
+  pub side_a : pair.a.side ≡ A
+  pub side_e : pair.e.side ≡ E
+  pub a : HasLimits pair.a
+  pub e : HasLimits pair.e
+  pub memory : pair.e.memory ≡ pair.a.memory
+  pub calls : pair.e.calls ≡ pair.a.calls
+  pub aligned : pair.a.memory % 16 ≡ 0
+  pub depths : (queue : Queue) → depth queue budget ≤ 4096
+  pub room : length content ≤ pair.a.memory - 16
+  pub bytes : All (λ b. b < 256) content
+  pub few : length names ≤ 1024
+  pub named : IsTrue (list_all is_name names)
+
+-- the image has what is the pair's and what was given
+pub record HasGiven (pair : Pair) (budget : Depths) (content : List ℕ) (names : List (List ℕ)) (image : Image) : Type 0 where
+  pub depths : image.budget ≡ budget
+  pub memory : image.memory ≡ pair.a.memory
+  pub calls : image.calls ≡ pair.a.calls
+  pub bytes : image.content ≡ content
+  pub files : image.names ≡ names
+
+-- An image is compiled of a form, where a group has at most cap loads for E and as many copies: there are the least classes of
+-- the form's variables, the pair that they make and its budget, and the image's two codes do the pair, action by action, by
+-- homes in which variables that are live at one place are apart.
+pub record IsCompiledOf (ir : Ir) (cap : ℕ) (image : Image) : Type 0 where
+  pub tables : List (List Class)
+  pub pair : Pair
+  pub classes : AreClassesOf ir tables
+  pub is_pair : IsPairOf ir tables cap pair
+  pub budget : IsBudgetOf pair image.budget
+  pub calls : image.calls ≡ ir.calls
+  pub made : IsMade ir tables cap image
+
+-- of each form whose pair and budget these are
+abbrev pub IsCompiled : Pair → Depths → Ir → ℕ → Image → Type 0
+IsCompiled pair budget ir cap image =
+    (tables : List (List Class)) → AreClassesOf ir tables → IsPairOf ir tables cap pair → IsBudgetOf pair budget → IsCompiledOf ir cap image

@@ -1,0 +1,7 @@
+// Linking: from the two streams of a pair the image of the program, with its budget, its data and the names of its files. Its
+// contract is that the image does the form that the pair was split from, in every order of steps.
+#![tactic(auto)]
+
+pub use linking::link;
+
+mod linking;

@@ -1,0 +1,53 @@
+// The image of a pair.
+
+ghost use Rattle.std.specs.Prelude.{◌≡◌, ◌⊎◌, ℕ, ◌<◌, ◌^◌, List, IfOk, IfErr};
+ghost use Rattle.dae_ir.specs.declared.form.Ir.{Ir};
+ghost use Rattle.dae_ir.specs.declared.stream.Class.{Class};
+ghost use Rattle.dae_ir.specs.Programs.{AreClassesOf, IsPairOf};
+ghost use Rattle.dae_ir.specs.Budgets.{IsBudgetOf};
+ghost use Rattle.dae_faithful.specs.Made.{IsReady};
+ghost use Rattle.dae_runs.specs.Promises.{DoesForm};
+ghost use Rattle.dae_sides.specs.Sizes.{most_words};
+ghost use Rattle.dae_sides.specs.declared.error.CodeError.TheVariants as errors;
+ghost use Rattle.dae_link.specs.Linked.{CanLink, HasGiven, IsCompiled};
+
+use dae_base::{Depths, Items, Text};
+use dae_faithful::made_does_form;
+use dae_image::Image;
+use dae_ir::Pair;
+use dae_sides::{CodeError, side_code};
+use std::alloc::Global;
+
+/// The image of a pair: its two codes and its budget with the data and the names of the files. Of the form that the pair was
+/// split from it does what the form does, whatever the order of steps. A code is too long only where what bounds it is.
+pub fn link(
+    alloc: Global,
+    pair: &Pair,
+    budget: Depths,
+    content: Items<u8>,
+    names: Items<Text>,
+) -> Result<Image, CodeError>
+    requires { CanLink pair.now budget content names }
+    ensures given { IfOk result (λ image. HasGiven pair.now budget content names image) }
+    ensures compiled { IfOk result (λ image. (ir : Ir) (cap : ℕ) → IsCompiled pair.now budget ir cap image) }
+    ensures err { IfErr result (λ e. e ≡ errors.Code → (2 ^ 25 < most_words pair.now.a) ⊎ (2 ^ 25 < most_words pair.now.e)) }
+    ensures does { IfOk result (λ image. (ir : Ir) (tables : List (List Class)) (cap : ℕ) → IsReady ir → AreClassesOf ir tables → IsPairOf ir tables cap pair.now → IsBudgetOf pair.now budget → DoesForm ir image 14) }
+{
+    made_does_form();
+    let a = side_code(alloc, &pair.a)?;
+    let e = side_code(alloc, &pair.e)?;
+    Ok(Image {
+        budget,
+        memory: pair.a.memory,
+        calls: pair.a.calls,
+        private_a: 4 * a.private,
+        private_e: 4 * e.private,
+        entry_a: 0,
+        entry_e: 0,
+        code_a: a.words,
+        code_e: e.words,
+        content,
+        lines: Items::new(alloc),
+        names,
+    })
+}

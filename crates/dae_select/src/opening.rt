@@ -1,0 +1,52 @@
+// The code that a side begins with, and what main returns to.
+
+ghost use Rattle.std.specs.Prelude.{◌≡◌, ◌++◌, ◌∷◌, [], pos, if◌then◌else◌, IfOk, OnOk};
+ghost use Rattle.dae_encode.specs.declared.Inst.TheVariants.{Addi};
+ghost use Rattle.dae_blocks.specs.Code.{start_code, finish_code};
+ghost use Rattle.dae_select.specs.Layouts.{is_a, plan_of, AreSmall};
+
+use crate::fetching::number_code;
+use crate::jumping::enter_code;
+use crate::layouts::Layouts;
+use dae_base::Side;
+use dae_encode::Inst;
+use std::alloc::{AllocError, Global};
+
+/// On A main stands at depth 1.
+fn depth_code(code: &mut Vec<Inst>, side: Side) -> Result<(), AllocError>
+    ensures { OnOk result (code.new.items ≡ code.old.items ++ (if is_a side then Addi 10 0 (pos 1) ∷ [] else [])) }
+{
+    match side {
+        Side::A => code.extend_from_slice(&[Inst::Addi(10, 0, 1)]),
+        Side::E => Ok(()),
+    }
+}
+
+/// The code that begins: frames begin at this address of common memory, and main is called.
+pub fn start_code(
+    alloc: Global,
+    layouts: &Layouts,
+    main: u32,
+    frames: u32,
+) -> Result<Vec<Inst>, AllocError>
+    requires { AreSmall layouts.now }
+    ensures { IfOk result (λ code. code.items ≡ start_code (plan_of layouts.now) main frames) }
+{
+    let mut code = Vec::new(alloc);
+    number_code(&mut code, 3, frames)?;
+    depth_code(&mut code, layouts.side)?;
+    enter_code(&mut code, layouts.entry(main))?;
+    Ok(code)
+}
+
+/// What main returns to: the processor halts, E with main's result.
+pub fn finish_code(code: &mut Vec<Inst>, side: Side) -> Result<(), AllocError>
+    ensures { OnOk result (code.new.items ≡ code.old.items ++ finish_code (is_a side)) }
+{
+    match side {
+        Side::A => code.extend_from_slice(&[Inst::Ecall]),
+        Side::E => {
+            code.extend_from_slice(&[Inst::Addi(10, 6, 0), Inst::Addi(17, 0, 0), Inst::Ecall])
+        }
+    }
+}

@@ -1,0 +1,6 @@
+mod Same
+mod Standing
+mod Looked
+mod Settling
+mod Sizes
+mod Sided

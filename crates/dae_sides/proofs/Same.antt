@@ -1,0 +1,93 @@
+-- How long code is doesn't depend on the words at which functions are entered.
+use Rattle.std.proofs.Common.{◌≡◌, ℕ, suc, ◌+◌, Bool, true, false, List, [], ◌∷◌, ◌++◌, length, refl, ap, sym, ◌∙◌, length-append}
+use Rattle.std.specs.Prelude.{Option, Some, None}
+use Rattle.dae_encode.specs.declared.Inst.{Inst}
+use Rattle.dae_ir.specs.Code.{Done, Do, If, Loop}
+use Rattle.dae_ir.specs.Classes.{VariableSet}
+use Rattle.dae_ir.specs.Streams.{Actions}
+use Rattle.dae_ir.specs.declared.form.Check.{Check}
+use Rattle.dae_ir.specs.declared.form.Check.TheVariants.{Place, Zero, Room, Frame, Abort}
+use Rattle.dae_ir.specs.declared.stream.Argument.{Argument}
+use Rattle.dae_ir.specs.declared.stream.Action.{Action}
+use Rattle.dae_ir.specs.declared.stream.Action.TheVariants.{Set as Compute, Issue, Own, Receive, Address, Datum, Offer, Accept, Emit, Probe, Tell, Hear, Stop, Break, Continue, Call, Return}
+use Rattle.dae_walks.specs.Live.{Ways, behind, live, is, nowhere, step_ways, body_ways}
+use Rattle.dae_walks.specs.Agrees.{Plan}
+use Rattle.dae_blocks.specs.Blocks.{arguments_code, argument_code, save_code, restore_code, deeper_code, back_code, result_code, check_code, enter_code}
+use Rattle.dae_blocks.specs.Code.{registers_in, action_code, branch_code, call_code, code_of, function_code, entry_code}
+
+-- lists with parts that are as long are as long
+pub both_long : (xs xs' ys ys' : List Inst) → length xs ≡ length xs' → length ys ≡ length ys' → length (xs ++ ys) ≡ length (xs' ++ ys')
+both_long xs xs' ys ys' h k = length-append xs ys ∙ (ap (λ (n : ℕ). n + length ys) h ∙ ap (λ (n : ℕ). length xs' + n) k) ∙ sym (length-append xs' ys')
+
+two_more : {m n : ℕ} → m ≡ n → suc (suc m) ≡ suc (suc n)
+two_more e = ap (λ (n : ℕ). suc (suc n)) e
+
+-- the plan with the functions at other words
+abbrev pub at_words : Plan → (ℕ → ℕ) → (ℕ → ℕ) → ℕ → Plan
+at_words p entry start finish = record {
+  by_a = p.by_a;
+  functions = p.functions;
+  home = p.home;
+  entry = entry;
+  start = start;
+  words = p.words;
+  frame = p.frame;
+  finish = finish;
+  largest = p.largest;
+  private = p.private;
+  limit = p.limit;
+  memory = p.memory;
+}
+
+module _ (p : Plan) (entry start : ℕ → ℕ) (finish : ℕ) (variables : ℕ → ℕ) (f : ℕ) where
+  abbrev q : Plan
+  q = at_words p entry start finish
+
+  arguments_same : (g : ℕ) (xs : List Argument) → arguments_code q f g xs ≡ arguments_code p f g xs
+  arguments_same g [] = refl
+  arguments_same g (x ∷ xs) = ap (λ (is : List Inst). is ++ argument_code p f g x) (arguments_same g xs)
+
+  check_same : (check : Check) → check_code q f check ≡ check_code p f check
+  check_same (Place width x) = refl
+  check_same (Zero x) = refl
+  check_same (Room g) = refl
+  check_same Frame = refl
+  check_same Abort = refl
+
+  call_long : (v : Option ℕ) (g : ℕ) (xs : List Argument) (k : VariableSet) → length (call_code q variables f v g xs k) ≡ length (call_code p variables f v g xs k)
+  call_long v g xs k =
+      both_long (arguments_code q f g xs) (arguments_code p f g xs) _ _ (ap length (arguments_same g xs))
+      (both_long (save_code (registers_in (p.home f) (variables f) k)) (save_code (registers_in (p.home f) (variables f) k)) _ _ refl
+      (both_long (deeper_code q f) (deeper_code p f) _ _ refl (both_long (enter_code (entry g)) (enter_code (p.entry g)) _ _ refl refl)))
+
+  action_long : (a : Action) (k : VariableSet) (l s m t : ℕ) → length (action_code q variables f a k l s) ≡ length (action_code p variables f a k m t)
+  action_long (Compute v x) k l s m t = refl
+  action_long (Issue kind x) k l s m t = refl
+  action_long (Own v kind x) k l s m t = refl
+  action_long (Receive v) k l s m t = refl
+  action_long (Address width x) k l s m t = refl
+  action_long (Datum x) k l s m t = refl
+  action_long (Offer v) k l s m t = refl
+  action_long (Accept v) k l s m t = refl
+  action_long (Emit spelling x) k l s m t = refl
+  action_long (Probe check) k l s m t = ap length (check_same check)
+  action_long (Tell x) k l s m t = refl
+  action_long Hear k l s m t = refl
+  action_long (Stop x) k l s m t = refl
+  action_long Break k l s m t = refl
+  action_long Continue k l s m t = refl
+  action_long (Call v g xs) k l s m t = call_long v g xs _
+  action_long (Return x) k l s m t = refl
+
+  code_long : (code : Actions) (x : Ways) (l s m t : ℕ) → length (code_of q variables f code x l s) ≡ length (code_of p variables f code x m t)
+  code_long Done x l s m t = refl
+  code_long (Do mark a k) x l s m t = both_long _ _ _ _ (action_long a (live k x) _ _ _ _) (code_long k x l s m t)
+  code_long (If mark b y n k) x l s m t =
+      both_long (branch_code (p.home f) b) (branch_code (p.home f) b) _ _ refl
+      (two_more (both_long _ _ _ _ (code_long y (behind (live k x) x) _ _ _ _) (two_more (both_long _ _ _ _ (code_long n (behind (live k x) x) _ _ _ _) (code_long k x l s m t)))))
+  code_long (Loop mark body step k) x l s m t =
+      both_long _ _ _ _ (code_long body (body_ways body step (live k x)) _ _ _ _)
+      (both_long _ _ _ _ (code_long step (step_ways body step (live k x)) 2 0 2 0) (two_more (code_long k x l s m t)))
+
+  pub function_long : (code : Actions) → length (function_code q variables f code) ≡ length (function_code p variables f code)
+  function_long code = both_long (entry_code p variables f (live code nowhere)) (entry_code p variables f (live code nowhere)) _ _ refl (both_long _ _ _ _ (code_long code nowhere 0 0 0 0) refl)

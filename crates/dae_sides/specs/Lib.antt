@@ -1,0 +1,4 @@
+pub mod Settled
+pub mod Placed
+pub mod Sides
+pub mod Sizes

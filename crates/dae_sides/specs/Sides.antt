@@ -1,0 +1,74 @@
+-- What the code of a stream is.
+use Rattle.std.specs.Prelude.{◌≡◌, ℕ, ◌+◌, ◌^◌, ◌≤◌, length, slice_get, Option, Some, None, List}
+use Rattle.dae_encode.specs.declared.Inst.{Inst}
+use Rattle.dae_machine.specs.Machine.{Setup, code}
+use Rattle.dae_ir.specs.Code.{Done}
+use Rattle.dae_ir.specs.Form.{Program}
+use Rattle.dae_ir.specs.Streams.{Actions, actions_of}
+use Rattle.dae_ir.specs.declared.stream.Stream.{Stream}
+use Rattle.dae_ir.specs.declared.stream.StreamFunction.{StreamFunction}
+use Rattle.dae_blocks.specs.Code.{start_code}
+use Rattle.dae_blocks.specs.Laws.{opened_with}
+use Rattle.dae_select.specs.Layouts.{is_a, plan_of, variables_of}
+use Rattle.dae_select.specs.declared.layouts.Layouts.{Layouts}
+use Rattle.dae_faithful.specs.Made.{IsSide}
+use Rattle.dae_sides.specs.Placed.{functions_code, opening_code, whole_code, placed}
+
+-- a machine can have such a memory, with the frames in it, and calls so deep
+pub record HasLimits (stream : Stream) : Type 0 where
+  pub least : 64 ≤ stream.memory
+  pub most : stream.memory ≤ 2 ^ 26
+  pub frames : stream.frames ≤ stream.memory
+  pub some : 1 ≤ stream.calls
+  pub few : stream.calls ≤ 4096
+
+-- ---- what a stream says of its functions
+
+abbrev pub body_in : Option StreamFunction → Actions
+body_in None = Done
+body_in (Some f) = actions_of f.body
+
+abbrev pub parameters_in : Option StreamFunction → ℕ
+parameters_in None = 0
+parameters_in (Some f) = f.parameters
+
+abbrev pub frame_in : Option StreamFunction → ℕ
+frame_in None = 0
+frame_in (Some f) = f.frame
+
+-- a program with such functions has this stream
+pub record IsStreamIn (stream : Stream) (p : Program) (body : ℕ → Actions) (parameters : ℕ → ℕ) : Type 0 where
+  pub limit : p.limit ≡ stream.calls
+  pub frame : (f : ℕ) → p.frame f ≡ frame_in (slice_get stream.functions f)
+  pub bodies : (f : ℕ) → body f ≡ body_in (slice_get stream.functions f)
+  pub counts : (f : ℕ) → parameters f ≡ parameters_in (slice_get stream.functions f)
+
+-- whatever program has the stream, in each machine whose code of the side are these words and which has so much private
+-- memory there, the code is made of the stream
+abbrev pub IsCodeOf : Stream → List ℕ → ℕ → Type 0
+IsCodeOf stream words private =
+    (p : Program) (body : ℕ → Actions) (parameters : ℕ → ℕ) (setup : Setup)
+    → IsStreamIn stream p body parameters → code setup stream.side ≡ words → setup.memory ≡ stream.memory
+    → IsSide (is_a stream.side) p body parameters (length stream.functions) stream.main stream.frames setup (opened_with private)
+
+-- ---- places
+
+-- the functions stand in their order behind what begins and what main returns to
+abbrev pub at_places : Stream → Layouts → Layouts
+at_places stream all = record {
+  side = all.side;
+  functions = placed (plan_of all) (variables_of all) (length (opening_code (plan_of all) stream.main stream.frames)) 0 stream.functions all.functions;
+  finish = length (start_code (plan_of all) stream.main stream.frames);
+  largest = all.largest;
+  private = all.private;
+  limit = all.limit;
+  memory = all.memory;
+}
+
+-- and the last of them ends there
+abbrev pub end_of : Stream → Layouts → ℕ
+end_of stream all = length (opening_code (plan_of all) stream.main stream.frames) + length (functions_code (plan_of all) (variables_of all) 0 stream.functions)
+
+-- the whole code, with the functions at their places
+abbrev pub code_at : Stream → Layouts → List Inst
+code_at stream all = whole_code (plan_of (at_places stream all)) (variables_of (at_places stream all)) stream.main stream.frames stream.functions

@@ -1,0 +1,74 @@
+// The words of a side's code.
+
+ghost use Rattle.std.specs.Prelude.{◌≡◌, ℕ, ◌≤◌, ◌<◌, ◌^◌, ◌++◌, length, map, IfOk, OnOk};
+ghost use Rattle.std.specs.List.{All, AllByRecursion};
+ghost use Rattle.dae_encode.specs.Spelling.{InRange, encoded};
+ghost use Rattle.dae_select.specs.Layouts.{plan_of, variables_of, AreSmall};
+ghost use Rattle.dae_sides.specs.Placed.{functions_code, opening_code, whole_code};
+
+use dae_encode::{Inst, encode};
+use dae_ir::{Stream, StreamFunction};
+use dae_select::{Layouts, finish_code, function_code, start_code};
+use std::alloc::{AllocError, Global};
+
+/// The code of a side's functions stands behind other code.
+fn add_functions(
+    alloc: Global,
+    code: &mut Vec<Inst>,
+    layouts: &Layouts,
+    functions: &[StreamFunction],
+) -> Result<(), AllocError>
+    requires small { AreSmall layouts.now }
+    requires few { length functions.now ≤ 2 ^ 25 }
+    ensures { OnOk result (code.new.items ≡ code.old.items ++ functions_code (plan_of layouts.now) (variables_of layouts.now) 0 functions.now) }
+{
+    for index in 0..functions.len() {
+        let body = functions[index].body.as_slice();
+        let made = function_code(alloc, layouts, index as u32, body)?;
+        code.extend_from_slice(made.code.as_slice())?;
+    }
+    Ok(())
+}
+
+/// What stands before the functions: what begins, and what main returns to.
+pub fn opening_code(
+    alloc: Global,
+    layouts: &Layouts,
+    main: u32,
+    frames: u32,
+) -> Result<Vec<Inst>, AllocError>
+    requires { AreSmall layouts.now }
+    ensures { IfOk result (λ code. code.items ≡ opening_code (plan_of layouts.now) main frames) }
+{
+    let mut code = start_code(alloc, layouts, main, frames)?;
+    finish_code(&mut code, layouts.side)?;
+    Ok(code)
+}
+
+/// The whole code of a side.
+pub fn whole_code(
+    alloc: Global,
+    layouts: &Layouts,
+    stream: &Stream,
+) -> Result<Vec<Inst>, AllocError>
+    requires small { AreSmall layouts.now }
+    requires few { length stream.now.functions ≤ 2 ^ 25 }
+    ensures { IfOk result (λ code. code.items ≡ whole_code (plan_of layouts.now) (variables_of layouts.now) stream.now.main stream.now.frames stream.now.functions) }
+{
+    let mut code = opening_code(alloc, layouts, stream.main, stream.frames)?;
+    add_functions(alloc, &mut code, layouts, stream.functions.as_slice())?;
+    Ok(code)
+}
+
+/// The words of instructions.
+pub fn encode_all(alloc: Global, code: &[Inst]) -> Result<Vec<u32>, AllocError>
+    requires { AllByRecursion InRange code.now }
+    ensures words { IfOk result (λ words. words.items ≡ map encoded code.now) }
+    ensures fits { IfOk result (λ words. All (λ w. w < 2 ^ 32) words.items) }
+{
+    let mut words = Vec::new(alloc);
+    for inst in code {
+        words.push(encode(*inst))?;
+    }
+    Ok(words)
+}
