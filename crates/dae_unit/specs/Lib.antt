@@ -1,0 +1,5 @@
+pub mod Linkage
+pub mod Across
+pub mod Clashes
+pub mod Placing
+pub mod Joining

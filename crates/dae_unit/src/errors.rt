@@ -1,0 +1,23 @@
+// Why files don't join.
+
+use dae_base::Place;
+
+/// How two declarations of one name can clash: both are definitions, or their types differ.
+#[derive(Clone, Copy)]
+pub enum Clash {
+    Definitions,
+    Types,
+}
+
+/// Why files don't join, in the order in which causes are told: two definitions of one name; two declarations of one name
+/// with different types; a use of an object or function that no file defines; no function `main`; data that end, at a
+/// multiple of 4, behind the memory; no memory for joining.
+#[derive(Clone, Copy)]
+pub enum JoinError {
+    DefinedTwice(Place, Place),
+    TypesDiffer(Place, Place),
+    NotDefined(Place),
+    NoMain,
+    DataTooLarge(u64),
+    Memory,
+}
