@@ -1,5 +1,5 @@
 -- What a typed file is, by the tables and products that the plan of a file comes to.
-use Rattle.std.specs.Prelude.{◌≡◌, ℕ, List, [], ◌∷◌, length, Option}
+use Rattle.std.specs.Prelude.{◌≡◌, ℕ, List, [], ◌∷◌, length, slice_get, Option}
 use Rattle.dae_base.specs.declared.Place.{Place}
 use Rattle.dae_program.specs.Trees as program
 use Rattle.dae_program.specs.Views.{view_settings, view_statements}
@@ -13,6 +13,7 @@ use Rattle.dae_file_plans.specs.Files.{Product, Declares, Data, Body}
 use Rattle.dae_typed.specs.declared.files.Datum.{Datum}
 use Rattle.dae_typed.specs.declared.files.FileParts.{FileParts}
 use Rattle.dae_typed.specs.declared.files.TypedFunction.{TypedFunction}
+use Rattle.dae_typed.specs.Sound.{routine_named}
 use Rattle.dae_typed.specs.Frames.{variables_of, slots_of, frame_of}
 
 -- ---- products apart
@@ -37,24 +38,26 @@ contents_in (Body f locals storages body ∷ xs) = contents_in xs
 -- a function with its body. Its parameters come first among its locals
 pub record Written : Type 0 where
   pub routine : ℕ
+  pub name : List ℕ
   pub parameters : List (Option Slot)
   pub variables : ℕ
   pub frame : ℕ
   pub body : program.Statements
 
-abbrev pub written_in : Tables → List Product → List Written
-written_in s [] = []
-written_in s (Declares d ∷ xs) = written_in s xs
-written_in s (Data o items ∷ xs) = written_in s xs
-written_in s (Body f locals storages body ∷ xs) =
+abbrev pub written_in : Tables → (spellings : List (List ℕ)) → List Product → List Written
+written_in s spellings [] = []
+written_in s spellings (Declares d ∷ xs) = written_in s spellings xs
+written_in s spellings (Data o items ∷ xs) = written_in s spellings xs
+written_in s spellings (Body f locals storages body ∷ xs) =
     let n = length (parameter_types s f) in
     record {
       routine = f;
+      name = routine_named spellings (slice_get s.routines f);
       parameters = slots_of s n locals storages;
       variables = variables_of n storages;
       frame = frame_of s locals storages;
       body = body;
-    } ∷ written_in s xs
+    } ∷ written_in s spellings xs
 
 -- where functions are defined
 abbrev pub place_if : FileDeclaration → List Place → List Place
@@ -73,7 +76,7 @@ view_data (d ∷ ds) = record { object = d.object; settings = view_settings d.se
 abbrev pub view_functions : List TypedFunction → List Written
 view_functions [] = []
 view_functions (f ∷ fs) =
-    record { routine = f.routine; parameters = f.parameters; variables = f.variables; frame = f.frame; body = view_statements f.body } ∷ view_functions fs
+    record { routine = f.routine; name = f.name; parameters = f.parameters; variables = f.variables; frame = f.frame; body = view_statements f.body } ∷ view_functions fs
 
 abbrev pub places_in : List TypedFunction → List Place
 places_in [] = []
@@ -88,7 +91,7 @@ pub record Reads (file : FileParts) (s : Tables) (products : List Product) (spel
   pub routines : file.routines ≡ s.routines
   pub declarations : file.declarations ≡ declarations_in products
   pub contents : view_data file.contents ≡ contents_in products
-  pub functions : view_functions file.functions ≡ written_in s products
+  pub functions : view_functions file.functions ≡ written_in s spellings products
   pub places : places_in file.functions ≡ places_of_bodies (declarations_in products)
   pub uses : file.uses ≡ s.uses
   pub names : file.names ≡ spellings

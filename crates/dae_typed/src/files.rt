@@ -3,7 +3,7 @@
 ghost use Rattle.std.specs.Prelude.{◌≡◌};
 ghost use Rattle.dae_typed.specs.Sound.{IsSound};
 
-use dae_base::{Items, Place};
+use dae_base::{Items, Place, Text};
 use dae_file_plans::FileDeclaration;
 use dae_kinds::{Component, Object, Routine, Shape, Structure, Use};
 use dae_program::{Setting, Slot, Statement};
@@ -17,12 +17,13 @@ pub struct Datum {
     pub settings: Items<Setting>,
 }
 
-/// A function with a body, by its number. Its variables are numbered from 0: variable 0 holds what it returns, the
+/// A function with a body, by its number and its name. Its variables are numbered from 0: variable 0 holds what it returns, the
 /// parameters follow from 1 on, and then the other scalars whose address isn't taken. A parameter with a slot is stored there
 /// at the entry. The frame is in bytes.
 #[derive(Drop)]
 pub struct TypedFunction {
     pub routine: usize,
+    pub name: Text,
     pub place: Place,
     pub parameters: Items<Option<Slot>>,
     pub variables: u32,

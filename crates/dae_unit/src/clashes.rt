@@ -166,8 +166,9 @@ fn is_function(entity: Entity) -> bool
     }
 }
 
+/// Whether a declaration defines the function main that other files know.
 #[tactic(auto, unfolding(crate::specs::Clashes::is_main))]
-fn is_main(files: &[TypedFile], row: FileRow) -> bool
+pub fn is_main(files: &[TypedFile], row: FileRow) -> bool
     ensures { result ≡ is_main files.now row }
 {
     let name = external_name(files, row.file, row.declaration.entity);
