@@ -5,3 +5,4 @@ pub mod Placing
 pub mod Meanings
 pub mod Contents
 pub mod Joining
+pub mod Joined

@@ -1,8 +1,8 @@
 // What the memory holds when main is called.
 
-ghost use Rattle.std.specs.Prelude.{◌≡◌, ◌<◌, ◌^◌, ◌-◌, OnOk, IfOk, drop, replicate, slice_index, slice_set};
+ghost use Rattle.std.specs.Prelude.{◌≡◌, ◌<◌, ◌^◌, ◌-◌, OnOk, IfOk, drop, replicate, slice_get, slice_index, slice_set};
 ghost use Rattle.dae_base.specs.Words.{stored};
-ghost use Rattle.dae_unit.specs.Contents.{word_of, set_at, set_all, objects_set, files_set, literals_behind, content_of};
+ghost use Rattle.dae_unit.specs.Contents.{word_of, set_at, set_all, objects_set, files_set, literals_behind, all_behind, addresses_in, content_of};
 ghost use Rattle.dae_unit.specs.Placing.{first_place};
 
 use crate::meanings::behind;
@@ -94,4 +94,47 @@ fn push_literals(content: &mut Vec<u8>, literals: &[Items<u8>]) -> Result<(), Al
         content.push(0)?;
     }
     Ok(())
+}
+
+fn addresses_in(links: &[Links], file: usize) -> &[u32]
+    ensures { result.now ≡ addresses_in (slice_get links.now file) }
+{
+    match links.get(file) {
+        Some(links) => links.addresses.as_slice(),
+        None => &[],
+    }
+}
+
+fn set_files(content: &mut [u8], files: &[TypedFile], links: &[Links])
+    ensures { content.new ≡ files_set links.now content.old 0 files.now }
+{
+    for (number, file) in files.iter().enumerate() {
+        let parts = file.parts();
+        let literals = parts.literals.len();
+        set_objects(content, addresses_in(links, number), literals, parts.contents.as_slice());
+    }
+}
+
+fn push_all(content: &mut Vec<u8>, files: &[TypedFile]) -> Result<(), AllocError>
+    ensures { OnOk result (content.new.items ≡ all_behind content.old.items files.now) }
+{
+    for file in files {
+        push_literals(content, file.parts().literals.as_slice())?;
+    }
+    Ok(())
+}
+
+/// What the memory holds from address 16 on, where the objects end at an address.
+pub fn content_of(
+    alloc: Global,
+    files: &[TypedFile],
+    links: &[Links],
+    objects_end: u64,
+) -> Result<Vec<u8>, AllocError>
+    ensures { IfOk result (λ content. content.items ≡ content_of files.now links.now objects_end) }
+{
+    let mut content = vec![in alloc; 0; objects_end.saturating_sub(16) as usize]?;
+    set_files(content.as_mut_slice(), files, links);
+    push_all(&mut content, files)?;
+    Ok(content)
 }

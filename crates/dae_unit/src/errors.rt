@@ -1,6 +1,10 @@
 // Why files don't join.
 
+ghost use Rattle.std.specs.Prelude.{◌≡◌};
+ghost use Rattle.dae_unit.specs.declared.errors.JoinError.TheVariants.{Memory};
+
 use dae_base::Place;
+use std::alloc::{AllocError, AllocFailed};
 
 /// How two declarations of one name can clash: both are definitions, or their types differ.
 #[derive(Clone, Copy)]
@@ -20,4 +24,20 @@ pub enum JoinError {
     NoMain,
     DataTooLarge(u64),
     Memory,
+}
+
+impl From<AllocError> for JoinError {
+    ghost from_gives = { λ _ e. e ≡ Memory };
+
+    fn from(_e: AllocError) -> JoinError {
+        JoinError::Memory
+    }
+}
+
+impl<T: Drop> From<AllocFailed<T>> for JoinError {
+    ghost from_gives = { λ _ e. e ≡ Memory };
+
+    fn from(_e: AllocFailed<T>) -> JoinError {
+        JoinError::Memory
+    }
 }

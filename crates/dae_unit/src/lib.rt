@@ -3,6 +3,7 @@
 #![tactic(auto)]
 
 pub use errors::{Clash, JoinError};
+pub use joining::ProgramParts;
 pub use rows::FileRow;
 
 mod across;
@@ -10,6 +11,7 @@ mod causes;
 mod clashes;
 mod contents;
 mod errors;
+mod joining;
 mod linkage;
 mod meanings;
 mod placing;

@@ -1,9 +1,11 @@
 // What the numbers of each file mean.
 
-ghost use Rattle.std.specs.Prelude.{◌≡◌, ◌<◌, ◌≤◌, ◌^◌, ◌++◌, ◌∷◌, [], IfOk, OnOk, OnErr, length, take, drop, slice_index};
+ghost use Rattle.std.specs.Prelude.{◌≡◌, ◌<◌, ◌≤◌, ◌^◌, ◌++◌, ◌∷◌, [], IfOk, IfErr, OnOk, length, take, drop, slice_index};
+ghost use Rattle.dae_unit.specs.declared.errors.JoinError.TheVariants.{Memory};
 ghost use Rattle.dae_unit.specs.Meanings.{number_from, object_place, object_places, body_rows, bodies_of, function_number, function_numbers, main_from, links_in, links_of, functions_in, functions_from};
 
 use crate::clashes::is_main;
+use crate::errors::JoinError;
 use crate::linkage::{external_name, is_one, same_name};
 use crate::rows::FileRow;
 use dae_base::Items;
@@ -219,4 +221,19 @@ fn push_functions(
         })?;
     }
     Ok(())
+}
+
+/// The functions of the program, in the order of the files and of the text, where there are fewer than 2^32 files.
+#[tactic(auto, using(crate::proofs::Behind::files_behind))]
+pub fn functions_of(alloc: Global, files: Vec<TypedFile>) -> Result<Vec<Function>, JoinError>
+    ensures ok { IfOk result (λ functions. functions.items ≡ functions_from [] 0 files.items) }
+    ensures err { IfErr result (λ e. e ≡ Memory) }
+{
+    let mut functions = Vec::new(alloc);
+    let mut number: u32 = 0;
+    for file in files {
+        push_functions(&mut functions, number, file.into_parts().functions)?;
+        number = number.checked_add(1).ok_or(JoinError::Memory)?;
+    }
+    Ok(functions)
 }

@@ -1,6 +1,6 @@
 // Where objects and literals stand.
 
-ghost use Rattle.std.specs.Prelude.{◌≡◌, [], IfOk, OnOk, slice_get};
+ghost use Rattle.std.specs.Prelude.{◌≡◌, [], IfOk, IfSome, OnOk, slice_get};
 ghost use Rattle.std.specs.List.{list_any};
 ghost use Rattle.dae_kinds.specs.Types.{layout_of, layout_else, repeated, layout_within, layout_at};
 ghost use Rattle.dae_typed.specs.Sound.{tables_of};
@@ -135,7 +135,8 @@ fn layout_of_row(files: &[TypedFile], row: FileRow) -> Layout
     }
 }
 
-fn object_layouts(
+/// The room of each object.
+pub fn object_layouts(
     alloc: Global,
     files: &[TypedFile],
     placed: &[FileRow],
@@ -225,4 +226,18 @@ pub fn end_of(rooms: &[Layout]) -> u64
         place = place_behind(place, *room);
     }
     place
+}
+
+/// The same numbers as words, or None where one isn't.
+pub fn words_of(alloc: Global, places: &[u64]) -> Result<Option<Vec<u32>>, AllocError>
+    ensures { IfOk result (λ words. IfSome words (λ w. w.items ≡ places.now)) }
+{
+    let mut words = Vec::new(alloc);
+    for place in places {
+        match u32::try_from(*place) {
+            Ok(word) => words.push(word)?,
+            Err(_) => return Ok(None),
+        }
+    }
+    Ok(Some(words))
 }
