@@ -1,6 +1,6 @@
 // Why files don't join.
 
-ghost use Rattle.std.specs.Prelude.{◌≡◌};
+ghost use Rattle.std.specs.Prelude.{◌≡◌, ◌≤◌, IfNone};
 ghost use Rattle.dae_unit.specs.Joining.{cause_by};
 
 use crate::clashes::{first_clash, first_missing, has_main};
@@ -16,7 +16,8 @@ pub fn cause_by(
     frames: u64,
     memory: u32,
 ) -> Option<JoinError>
-    ensures { result ≡ cause_by files.now rows.now frames memory }
+    ensures first { result ≡ cause_by files.now rows.now frames memory }
+    ensures fits { IfNone result (frames ≤ memory) }
 {
     if let Some((x, y)) = first_clash(files, Clash::Definitions, rows) {
         return Some(JoinError::DefinedTwice(x.declaration.place, y.declaration.place));

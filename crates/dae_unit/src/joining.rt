@@ -66,3 +66,30 @@ fn make(
         main: main as u32,
     })
 }
+
+/// The program that files come to in a memory of so many bytes, or the first cause why they don't join. The files are given
+/// up.
+pub fn join_parts(
+    alloc: Global,
+    files: Vec<TypedFile>,
+    memory: u32,
+) -> Result<ProgramParts, JoinError>
+    ensures ok { IfOk result (λ p. Joins files.items memory p) }
+    ensures err { IfErr result (IsRefused files.items memory) }
+{
+    let rows = rows_of(alloc, files.as_slice())?;
+    let placed = placed_rows(alloc, files.as_slice(), rows.as_slice())?;
+    let rooms = rooms_of(alloc, files.as_slice(), placed.as_slice())?;
+    let frames = rounded_up(end_of(rooms.as_slice()), 4);
+    if let Some(cause) = cause_by(files.as_slice(), rows.as_slice(), frames, memory) {
+        return Err(cause);
+    }
+    let places = places_of(alloc, rooms.as_slice())?;
+    match words_of(alloc, places.as_slice())? {
+        Some(places) => {
+            let frames = frames as u32;
+            make(alloc, files, placed.as_slice(), places.as_slice(), frames)
+        }
+        None => Err(JoinError::Memory),
+    }
+}

@@ -3,7 +3,7 @@
 #![tactic(auto)]
 
 pub use errors::{Clash, JoinError};
-pub use joining::ProgramParts;
+pub use joining::{ProgramParts, join_parts};
 pub use rows::FileRow;
 
 mod across;
