@@ -1,5 +1,5 @@
 -- What files join to.
-use Rattle.std.specs.Prelude.{◌≡◌, ◌⊎◌, ℕ, List, [], Option, Some, None}
+use Rattle.std.specs.Prelude.{◌≡◌, ◌⊎◌, ℕ, List, [], Some, None}
 use Rattle.dae_typed.specs.declared.files.FileParts.{FileParts}
 use Rattle.dae_unit.specs.declared.errors.JoinError.{JoinError}
 use Rattle.dae_unit.specs.declared.errors.JoinError.TheVariants.{Memory}

@@ -1,6 +1,6 @@
 -- What the numbers of each file mean: its literals and objects by their addresses, its functions by their numbers in the
 -- program, where a number that isn't there stands for none. The functions stand in the order of the files and of the text.
-use Rattle.std.specs.Prelude.{ℕ, suc, Bool, true, false, List, [], ◌∷◌, ◌++◌, length, take, drop, Option, Some, None, nat_lt, if◌then◌else◌, slice_index, codes}
+use Rattle.std.specs.Prelude.{ℕ, suc, List, [], ◌∷◌, ◌++◌, length, take, drop, Some, nat_lt, if◌then◌else◌, slice_index, codes}
 use Rattle.dae_program.specs.declared.program.Function.{Function}
 use Rattle.dae_program.specs.declared.program.Links.{Links}
 use Rattle.dae_kinds.specs.declared.tables.Entity.{Entity}

@@ -111,7 +111,12 @@ fn set_files(content: &mut [u8], files: &[TypedFile], links: &[Links])
     for (number, file) in files.iter().enumerate() {
         let parts = file.parts();
         let literals = parts.literals.len();
-        set_objects(content, addresses_in(links, number), literals, parts.contents.as_slice());
+        set_objects(
+            content,
+            addresses_in(links, number),
+            literals,
+            parts.contents.as_slice(),
+        );
     }
 }
 

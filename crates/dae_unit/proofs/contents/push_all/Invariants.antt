@@ -1,4 +1,4 @@
-use Rattle.std.proofs.Common.{◌≡◌, drop, take, length, []}
+use Rattle.std.proofs.Common.{◌≡◌, drop}
 use Rattle.dae_unit.specs.Contents.{all_behind}
 use Rattle.dae_unit.proofs.contents.push_all.Given as goal
 

@@ -1,4 +1,4 @@
-use Rattle.std.proofs.Common.{◌≡◌, drop, take, length, []}
+use Rattle.std.proofs.Common.{◌≡◌, drop}
 use Rattle.dae_unit.specs.Contents.{files_set}
 use Rattle.dae_unit.proofs.contents.set_files.Given as goal
 

@@ -1,4 +1,4 @@
-use Rattle.std.proofs.Common.{◌≡◌, drop, [], length}
+use Rattle.std.proofs.Common.{◌≡◌, drop}
 use Rattle.dae_unit.specs.Meanings.{bodies_from, bodies_of}
 use Rattle.dae_unit.proofs.meanings.bodies_of.Given as goal
 

@@ -1,4 +1,4 @@
-use Rattle.std.proofs.Common.{◌≡◌, drop, [], length}
+use Rattle.std.proofs.Common.{◌≡◌, drop, []}
 use Rattle.dae_unit.specs.Meanings.{function_numbers}
 use Rattle.dae_unit.proofs.meanings.function_numbers.Given as goal
 

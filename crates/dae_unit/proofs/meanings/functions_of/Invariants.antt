@@ -1,4 +1,4 @@
-use Rattle.std.proofs.Common.{◌≡◌, drop, take, length, []}
+use Rattle.std.proofs.Common.{◌≡◌, length, []}
 use Rattle.dae_unit.specs.Meanings.{functions_from}
 use Rattle.dae_unit.proofs.meanings.functions_of.Given as goal
 

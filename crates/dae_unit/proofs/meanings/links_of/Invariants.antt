@@ -1,4 +1,4 @@
-use Rattle.std.proofs.Common.{◌≡◌, drop, [], length}
+use Rattle.std.proofs.Common.{◌≡◌, drop}
 use Rattle.dae_unit.specs.Meanings.{links_from, links_of}
 use Rattle.dae_unit.proofs.meanings.links_of.Given as goal
 

@@ -1,4 +1,4 @@
-use Rattle.std.proofs.Common.{◌≡◌, drop, [], length}
+use Rattle.std.proofs.Common.{◌≡◌, drop}
 use Rattle.dae_unit.specs.Meanings.{number_from}
 use Rattle.dae_unit.proofs.meanings.number_of.Given as goal
 

@@ -1,4 +1,4 @@
-use Rattle.std.proofs.Common.{◌≡◌, drop, [], length}
+use Rattle.std.proofs.Common.{◌≡◌, drop}
 use Rattle.dae_unit.specs.Meanings.{object_places}
 use Rattle.dae_unit.proofs.meanings.push_places.Given as goal
 

@@ -1,4 +1,4 @@
-use Rattle.std.proofs.Common.{◌≡◌, drop, take, length, []}
+use Rattle.std.proofs.Common.{◌≡◌, take}
 use Rattle.dae_unit.proofs.placing.words_of.Given as goal
 
 abbrev pub invariant-loop-place : goal.invariant-loop-place
