@@ -20,7 +20,7 @@ use Rattle.dae_kinds.specs.Types.{shape_of, layout_of, same, composite, layout_a
 use Rattle.dae_kinds.specs.Values.{converted, combination, fits, joined}
 use Rattle.dae_rules.specs.Plan.{check_of, ask_all}
 use Rattle.dae_plans.specs.Steps.{parameter_types}
-use Rattle.dae_file_plans.specs.Files.{plan_file, start_of, Product, Data, Body}
+use Rattle.dae_file_plans.specs.Files.{plan_file, start_of, Product, Declares, Data, Body}
 
 abbrev at : ℕ → Place
 at n = record { file = 0; line = 1; col = n }
@@ -33,6 +33,7 @@ constant w u = record { value = w; unsigned = u }
 
 abbrev bodies : List Product → List program.Statements
 bodies [] = []
+bodies (Declares d ∷ xs) = bodies xs
 bodies (Data o items ∷ xs) = bodies xs
 bodies (Body f ls ss x ∷ xs) = x ∷ bodies xs
 

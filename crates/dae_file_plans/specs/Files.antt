@@ -31,11 +31,16 @@ use Rattle.dae_rules.specs.Sites.{Site, AtFunction, AtObject, AtEndOfFile, AtDef
 use Rattle.dae_rules.specs.Plan.{Plan, pure, node, chain}
 use Rattle.dae_plans.specs.Steps.{at, does, nothing, looks, changes_to, ends, settles_name, declared_place, base_at, is_main}
 use Rattle.dae_plans.specs.Expressions.{plan_specifiers, plan_declarator}
+use Rattle.dae_file_plans.specs.declared.declarations.FileDeclaration.{FileDeclaration}
+use Rattle.dae_file_plans.specs.declared.declarations.Role.{Role}
+use Rattle.dae_file_plans.specs.declared.declarations.Role.TheVariants.{Reference, Tentative, Definition}
 use Rattle.dae_file_plans.specs.Initialisers.{Content, plan_content, plan_unused_initialiser}
 use Rattle.dae_file_plans.specs.Statements.{Surrounding, plan_block, typedef_at, own_of, is_alone}
 
--- ---- what a file comes to: the content of its objects that are initialised, and its functions with their bodies
+-- ---- what a file comes to: its declarations of objects and functions, the content of its objects that are initialised, and
+-- its functions with their bodies
 pub data Product : Type 0 where
+  Declares : FileDeclaration → Product
   Data : (object : ℕ) → List program.Setting → Product
   Body : (routine : ℕ) → List Local → List Storage → program.Statements → Product
 
@@ -89,6 +94,22 @@ abbrev pub object_at : Place → Option Keyword → Bool → Option Name → Pla
 object_at p k given n m =
     settles_name n (at (λ s t. AtObject p k given (own_of s n) s t) (λ s t. let x = declared_object p n k given t (own_of s n) s in (x.0, Some x.1)) m)
 
+-- ---- what a declaration is for an object or a function (C90 6.7.2)
+
+abbrev pub role_of : (given placing : Bool) → Role
+role_of given placing = if given then Definition else (if placing then Tentative else Reference)
+
+abbrev pub declares_object : Place → Role → Option ℕ → List Product
+declares_object p role None = []
+declares_object p role (Some o) = Declares (record { entity = entity.Object o; place = p; role = role }) ∷ []
+
+abbrev pub declares_function : Place → Role → Option ℕ → List Product
+declares_function p role None = []
+declares_function p role (Some f) = Declares (record { entity = entity.Function f; place = p; role = role }) ∷ []
+
+abbrev pub produced : List Product → Plan (List Product) → Plan (List Product)
+produced done m = does (λ s xs. (s, done ++ xs)) m
+
 -- ---- initialisers of static storage
 
 abbrev pub type_of_object : Tables → ℕ → ℕ
@@ -109,10 +130,12 @@ plan_data p (Some x) (Some o) = chain int_id (looks (λ s. type_of_object s o)) 
 -- ---- declarations
 
 abbrev pub plan_function : Place → Option Keyword → Item → ℕ → Plan (List Product)
-plan_function p k i t = does (λ s f. (s, [])) (function_at p (is_static k) (is_some i.initialiser) (declared_name i.declarator) (pure t))
+plan_function p k i t = does (λ s f. (s, declares_function p Reference f)) (function_at p (is_static k) (is_some i.initialiser) (declared_name i.declarator) (pure t))
 
 abbrev pub plan_object : Place → Option Keyword → Item → ℕ → Plan (List Product)
-plan_object p k i t = chain None (object_at p k (is_some i.initialiser) (declared_name i.declarator) (pure t)) (plan_data p i.initialiser)
+plan_object p k i t =
+    let given = is_some i.initialiser in
+    chain None (object_at p k given (declared_name i.declarator) (pure t)) (λ o. produced (declares_object p (role_of given (not (is_extern k))) o) (plan_data p i.initialiser o))
 
 abbrev pub plan_either : Place → Option Keyword → Item → ℕ → Bool → Plan (List Product)
 plan_either p k i t true = plan_function p k i t
@@ -129,9 +152,6 @@ some_type m = does (λ s x. (s, Some x.type_id)) m
 abbrev pub plan_item_at : Bool → Place → Option Keyword → ℕ → Item → Plan (List Product)
 plan_item_at true p k b i = does (λ s x. (s, [])) (typedef_at p false (is_some i.initialiser) (declared_name i.declarator) (plan_declarator p false b i.declarator))
 plan_item_at false p k b i = chain None (settles_name (declared_name i.declarator) (some_type (plan_declarator p false b i.declarator))) (plan_typed p k i)
-
-abbrev pub produced : List Product → Plan (List Product) → Plan (List Product)
-produced done m = does (λ s xs. (s, done ++ xs)) m
 
 abbrev pub plan_items : Bool → Place → Option Keyword → ℕ → List Product → List Item → Plan (List Product)
 plan_items is_typedef q k b done [] = pure done
@@ -244,7 +264,8 @@ plan_body_of p n ps ds ss t f = chain tt (named_at p ps) (λ x. chain first_surr
 -- of a function whose type is faulty the body is looked at
 abbrev pub plan_defined_as : Place → Option Keyword → Option Name → Parameters → List Declaration → Statements → Option ℕ → Plan (List Product)
 plan_defined_as p k n ps ds ss None = plan_body_of p n ps ds ss None None
-plan_defined_as p k n ps ds ss (Some t) = chain None (second_at p (function_at p (is_static k) false n (pure t))) (plan_body_of p n ps ds ss (Some t))
+plan_defined_as p k n ps ds ss (Some t) =
+    chain None (second_at p (function_at p (is_static k) false n (pure t))) (λ f. produced (declares_function p Definition f) (plan_body_of p n ps ds ss (Some t) f))
 
 abbrev pub some_of : Plan ℕ → Plan (Option ℕ)
 some_of m = does (λ s t. (s, Some t)) m

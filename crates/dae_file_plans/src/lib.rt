@@ -2,6 +2,10 @@
 // here runs; the code of the checker stands above.
 #![tactic(auto)]
 
+pub use declarations::{FileDeclaration, Role};
+
+mod declarations;
+
 ghost use Rattle.dae_file_plans.specs.Promise.{FilesAreChecked};
 
 /// A check of a file answers a rule that is broken, at its place, or none is broken and what it gives is what the file comes

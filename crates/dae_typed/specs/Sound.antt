@@ -1,0 +1,125 @@
+-- What a joiner may rely on: wherever it puts the objects that a file uses, with room for each, and whatever functions it
+-- takes for those that the file calls, with as many parameters, the file's functions pass the test of a program. And each
+-- structure is laid out as its members say (C90 6.5.2.1).
+use Rattle.std.specs.Prelude.{◌≡◌, ℕ, ◌+◌, ◌%◌, ◌^◌, ◌≤◌, List, [], ◌∷◌, length, Option, Some, None, Bool, true, false, ◌&&◌, ◌||◌, not, nat_eq, slice_get, codes, filter}
+use Rattle.std.specs.List.{list_all, list_any}
+use Rattle.std.specs.Str.{bytes_eq}
+use Rattle.dae_program.specs.Lawful.{is_lawful_body}
+use Rattle.dae_program.specs.Trees as tree
+use Rattle.dae_program.specs.Views.{view_statements}
+use Rattle.dae_kinds.specs.declared.types.Layout.{Layout}
+use Rattle.dae_kinds.specs.declared.tables.Component.{Component}
+use Rattle.dae_kinds.specs.declared.tables.Entity.{Entity}
+use Rattle.dae_kinds.specs.declared.tables.Entity.TheVariants as entity
+use Rattle.dae_kinds.specs.declared.tables.Routine.{Routine}
+use Rattle.dae_kinds.specs.declared.tables.Use.{Use}
+use Rattle.dae_kinds.specs.Tables.{Tables}
+use Rattle.dae_kinds.specs.Types.{layout, layout_of, layout_at, placed, finished}
+use Rattle.dae_kinds.specs.Values.{object_type}
+use Rattle.dae_plans.specs.Steps.{parameter_types}
+use Rattle.dae_typed.specs.declared.files.FileParts.{FileParts}
+use Rattle.dae_typed.specs.declared.files.TypedFunction.{TypedFunction}
+
+-- the tables of what a file declares
+abbrev pub tables_of : FileParts → Tables
+tables_of f =
+    record {
+      shapes = f.shapes;
+      structures = f.structures;
+      components = f.components;
+      names = [];
+      tags = [];
+      innermost = record { names = 0; tags = 0 };
+      kept_names = [];
+      kept_tags = [];
+      objects = f.objects;
+      routines = f.routines;
+      locals = [];
+      storages = [];
+      uses = [];
+      literals = f.literals;
+      main = None;
+    }
+
+-- ---- names and uses
+
+abbrev pub bytes_or : Option (List ℕ) → List ℕ
+bytes_or None = []
+bytes_or (Some bytes) = bytes
+
+-- the bytes of a name
+abbrev pub bytes_of : List (List ℕ) → ℕ → List ℕ
+bytes_of names n = bytes_or (slice_get names n)
+
+abbrev pub routine_named : List (List ℕ) → Option Routine → List ℕ
+routine_named names None = []
+routine_named names (Some r) = bytes_of names r.name
+
+abbrev pub is_called_main : FileParts → ℕ → Bool
+is_called_main file f = bytes_eq (routine_named file.names (slice_get file.routines f)) (codes "main")
+
+abbrev pub same_entity : Entity → Entity → Bool
+same_entity (entity.Object m) (entity.Object n) = nat_eq m n
+same_entity (entity.Function m) (entity.Function n) = nat_eq m n
+same_entity _ _ = false
+
+abbrev pub is_use_of : Entity → Use → Bool
+is_use_of e u = same_entity e u.entity
+
+abbrev pub is_used : List Use → Entity → Bool
+is_used uses e = list_any (is_use_of e) uses
+
+-- ---- what the joiner owes
+
+-- an object of a layout has room at an address
+pub record HasRoom (memory address : ℕ) (l : Layout) : Type 0 where
+  pub aligned : address % l.align ≡ 0
+  pub low : 16 ≤ address
+  pub fits : address + l.size ≤ memory
+
+-- the objects that a file uses have room, each at its address; among a file's objects the literals come first
+abbrev pub HaveRoom : FileParts → (memory : ℕ) → (ℕ → ℕ) → Type 0
+HaveRoom f memory address =
+    (n : ℕ) → is_used f.uses (entity.Object n) ≡ true →
+    HasRoom memory (address (length f.literals + n)) (layout_at (tables_of f) (object_type (slice_get f.objects n)))
+
+-- the functions that a file calls have as many parameters as its declarations say
+abbrev pub AreCallable : FileParts → (ℕ → Option ℕ) → Type 0
+AreCallable f parameters =
+    (n : ℕ) → is_used f.uses (entity.Function n) ≡ true → parameters n ≡ Some (length (parameter_types (tables_of f) n))
+
+-- ---- what the file owes
+
+abbrev pub function_at : (ℕ → ℕ) → TypedFunction → tree.Function
+function_at address f = record {
+  address = address;
+  callee = λ k. 0;
+  parameters = f.parameters;
+  frame = f.frame;
+  body = view_statements f.body;
+}
+
+-- a function has the parameters of its type; main has none, and doesn't return
+abbrev pub is_sound_function : FileParts → (memory : ℕ) → (ℕ → ℕ) → (ℕ → Option ℕ) → TypedFunction → Bool
+is_sound_function file memory address parameters f =
+    (nat_eq (length f.parameters) (length (parameter_types (tables_of file) f.routine))
+    && is_lawful_body memory f.variables parameters true (function_at address f))
+    && (not (is_called_main file f.routine)
+    || (nat_eq (length f.parameters) 0 && is_lawful_body memory f.variables parameters false (function_at address f)))
+
+-- the members of a structure, in order
+abbrev pub is_member_of : ℕ → Component → Bool
+is_member_of structure c = nat_eq c.structure structure
+
+abbrev pub members_of : Tables → ℕ → List Component
+members_of s n = filter (is_member_of n) s.components
+
+abbrev pub laid_out : Tables → Layout → List Component → Layout
+laid_out s l [] = finished l
+laid_out s l (c ∷ cs) = laid_out s (placed l (layout_at s c.type_id)) cs
+
+pub record IsSound (f : FileParts) : Type 0 where
+  pub bodies :
+      (memory : ℕ) (address : ℕ → ℕ) (parameters : ℕ → Option ℕ) → memory ≤ 2 ^ 26 → HaveRoom f memory address → AreCallable f parameters →
+      list_all (is_sound_function f memory address parameters) f.functions ≡ true
+  pub layouts : (n : ℕ) (l : Layout) → layout_of (tables_of f) n ≡ Some l → l ≡ laid_out (tables_of f) (layout 0 1) (members_of (tables_of f) n)

@@ -1,0 +1,4 @@
+pub mod Behind
+pub mod Counted
+pub mod Deeper
+mod Examples

@@ -1,0 +1,18 @@
+// Several typed files joined to one program: which sets of files join, where their objects and literals stand, and what the
+// numbers of each file mean (C90 5.1.1.1, 6.1.2.2 and 6.7).
+#![tactic(auto)]
+
+pub use errors::{Clash, JoinError};
+pub use joining::{ProgramParts, join_parts};
+pub use rows::FileRow;
+
+mod across;
+mod causes;
+mod clashes;
+mod contents;
+mod errors;
+mod joining;
+mod linkage;
+mod meanings;
+mod placing;
+mod rows;

@@ -1,0 +1,128 @@
+// Names that several files share.
+
+ghost use Rattle.std.specs.Prelude.{◌≡◌, slice_get, option_copied};
+ghost use Rattle.dae_typed.specs.Sound.{same_entity};
+ghost use Rattle.dae_unit.specs.Linkage.{external_name, name_in, object_name, routine_name, same_name, is_one, defines, refers};
+
+use crate::rows::FileRow;
+use dae_file_plans::Role;
+use dae_kinds::Entity;
+use dae_typed::{FileParts, TypedFile};
+
+/// Whether a declaration is a definition.
+pub fn defines(row: FileRow) -> bool
+    ensures { result ≡ defines row }
+{
+    match row.declaration.role {
+        Role::Definition => true,
+        Role::Reference | Role::Tentative => false,
+    }
+}
+
+/// Whether a declaration is a mere reference.
+pub fn refers(row: FileRow) -> bool
+    ensures { result ≡ refers row }
+{
+    match row.declaration.role {
+        Role::Reference => true,
+        Role::Tentative | Role::Definition => false,
+    }
+}
+
+fn name_at(parts: &FileParts, number: u32) -> Option<&[u8]>
+    ensures { option_copied result ≡ slice_get parts.now.names number }
+{
+    match parts.names.as_slice().get(number as usize) {
+        Some(bytes) => Some(bytes.as_slice()),
+        None => None,
+    }
+}
+
+fn object_name(parts: &FileParts, number: usize) -> Option<&[u8]>
+    ensures { option_copied result ≡ object_name parts.now (slice_get parts.now.objects number) }
+{
+    match parts.objects.as_slice().get(number) {
+        Some(object) => {
+            if object.own {
+                None
+            } else {
+                name_at(parts, object.name)
+            }
+        }
+        None => None,
+    }
+}
+
+fn routine_name(parts: &FileParts, number: usize) -> Option<&[u8]>
+    ensures { option_copied result ≡ routine_name parts.now (slice_get parts.now.routines number) }
+{
+    match parts.routines.as_slice().get(number) {
+        Some(routine) => {
+            if routine.own || routine.library.is_some() {
+                None
+            } else {
+                name_at(parts, routine.name)
+            }
+        }
+        None => None,
+    }
+}
+
+fn name_in(parts: &FileParts, entity: Entity) -> Option<&[u8]>
+    ensures { option_copied result ≡ name_in parts.now entity }
+{
+    match entity {
+        Entity::Object(number) => object_name(parts, number),
+        Entity::Function(number) => routine_name(parts, number),
+        Entity::Local(_) => None,
+        Entity::Type(_) => None,
+        Entity::Enumerator(_) => None,
+    }
+}
+
+/// The name by which other files know an object or a function of a file, where they do.
+#[tactic(auto, unfolding(crate::specs::Linkage::external_name))]
+pub fn external_name(files: &[TypedFile], file: usize, entity: Entity) -> Option<&[u8]>
+    ensures { option_copied result ≡ external_name files.now file entity }
+{
+    match files.get(file) {
+        Some(file) => name_in(file.parts(), entity),
+        None => None,
+    }
+}
+
+/// Whether two external names are there and the same.
+pub fn same_name(left: Option<&[u8]>, right: Option<&[u8]>) -> bool
+    ensures { result ≡ same_name (option_copied left.entry) (option_copied right.entry) }
+{
+    match (left, right) {
+        (Some(left), Some(right)) => left == right,
+        _ => false,
+    }
+}
+
+fn same_entity(left: Entity, right: Entity) -> bool
+    ensures { result ≡ same_entity left right }
+{
+    match (left, right) {
+        (Entity::Object(left), Entity::Object(right)) => left == right,
+        (Entity::Function(left), Entity::Function(right)) => left == right,
+        _ => false,
+    }
+}
+
+/// Whether an object or function of a file is that of another, or of the same.
+#[tactic(auto, unfolding(crate::specs::Linkage::is_one))]
+pub fn is_one(
+    files: &[TypedFile],
+    file: usize,
+    entity: Entity,
+    other_file: usize,
+    other: Entity,
+) -> bool
+    ensures { result ≡ is_one files.now file entity other_file other }
+{
+    let name = external_name(files, file, entity);
+    let shared = same_name(name, external_name(files, other_file, other));
+    shared || (file == other_file && same_entity(entity, other))
+}

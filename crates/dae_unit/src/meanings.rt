@@ -1,0 +1,239 @@
+// What the numbers of each file mean.
+
+ghost use Rattle.std.specs.Prelude.{◌≡◌, ◌<◌, ◌≤◌, ◌^◌, ◌++◌, ◌∷◌, [], IfOk, IfErr, OnOk, length, take, drop, slice_index};
+ghost use Rattle.dae_unit.specs.declared.errors.JoinError.TheVariants.{Memory};
+ghost use Rattle.dae_unit.specs.Meanings.{number_from, object_place, object_places, body_rows, bodies_of, function_number, function_numbers, main_from, links_in, links_of, functions_in, functions_from};
+
+use crate::clashes::is_main;
+use crate::errors::JoinError;
+use crate::linkage::{external_name, is_one, same_name};
+use crate::rows::FileRow;
+use dae_base::Items;
+use dae_file_plans::{FileDeclaration, Role};
+use dae_kinds::{Entity, Object, Routine};
+use dae_program::{Function, Links};
+use dae_typed::{FileParts, TypedFile, TypedFunction};
+use std::alloc::{AllocError, Global};
+
+/// The number of the first declaration of an object or function, or that behind all.
+fn number_of(files: &[TypedFile], file: usize, entity: Entity, rows: &[FileRow]) -> usize
+    ensures number { result ≡ number_from files.now 0 file entity rows.now }
+    ensures within { result ≤ length rows.now }
+{
+    for (number, row) in rows.iter().enumerate() {
+        if is_one(files, file, entity, row.file, row.declaration.entity) {
+            return number;
+        }
+    }
+    rows.len()
+}
+
+/// Declarations that give room, and the places of objects and literals.
+#[derive(Clone, Copy)]
+pub struct Rooms<'r> {
+    pub placed: &'r [FileRow],
+    pub places: &'r [u32],
+}
+
+fn object_place(files: &[TypedFile], rooms: Rooms, file: usize, entity: Entity) -> u32
+    ensures { result ≡ object_place files.now rooms.entry.placed.now rooms.entry.places.now file entity }
+{
+    let number = number_of(files, file, entity, rooms.placed);
+    if number < rooms.placed.len() {
+        match rooms.places.get(number) {
+            Some(place) => *place,
+            None => 0,
+        }
+    } else {
+        0
+    }
+}
+
+fn push_places(
+    addresses: &mut Vec<u32>,
+    files: &[TypedFile],
+    rooms: Rooms,
+    file: usize,
+    objects: &[Object],
+) -> Result<(), AllocError>
+    ensures { OnOk result (addresses.new.items ≡ object_places files.now rooms.entry.placed.now rooms.entry.places.now file addresses.old.items 0 objects.now) }
+{
+    for (number, _) in objects.iter().enumerate() {
+        addresses.push(object_place(files, rooms, file, Entity::Object(number)))?;
+    }
+    Ok(())
+}
+
+fn push_bodies(
+    bodies: &mut Vec<FileRow>,
+    file: usize,
+    functions: &[TypedFunction],
+) -> Result<(), AllocError>
+    ensures { OnOk result (bodies.new.items ≡ body_rows bodies.old.items file functions.now) }
+{
+    for function in functions {
+        bodies.push(FileRow {
+            file,
+            declaration: FileDeclaration {
+                entity: Entity::Function(function.routine),
+                place: function.place,
+                role: Role::Definition,
+            },
+        })?;
+    }
+    Ok(())
+}
+
+/// The functions with bodies of all files.
+pub fn bodies_of(alloc: Global, files: &[TypedFile]) -> Result<Vec<FileRow>, AllocError>
+    ensures { IfOk result (λ bodies. bodies.items ≡ bodies_of files.now) }
+{
+    let mut bodies = Vec::new(alloc);
+    for (number, file) in files.iter().enumerate() {
+        push_bodies(&mut bodies, number, file.parts().functions.as_slice())?;
+    }
+    Ok(bodies)
+}
+
+#[tactic(auto, unfolding(crate::specs::Meanings::function_number))]
+fn function_number(files: &[TypedFile], bodies: &[FileRow], file: usize, entity: Entity) -> u32
+    requires { length bodies.now < 2 ^ 32 }
+    ensures { result ≡ function_number files.now bodies.now file entity }
+{
+    if same_name(external_name(files, file, entity), Some(b"main")) {
+        bodies.len() as u32
+    } else {
+        number_of(files, file, entity, bodies) as u32
+    }
+}
+
+fn function_numbers(
+    alloc: Global,
+    files: &[TypedFile],
+    bodies: &[FileRow],
+    file: usize,
+    routines: &[Routine],
+) -> Result<Vec<u32>, AllocError>
+    requires { length bodies.now < 2 ^ 32 }
+    ensures { IfOk result (λ numbers. numbers.items ≡ function_numbers files.now bodies.now file [] 0 routines.now) }
+{
+    let mut numbers = Vec::new(alloc);
+    for (number, _) in routines.iter().enumerate() {
+        numbers.push(function_number(files, bodies, file, Entity::Function(number)))?;
+    }
+    Ok(numbers)
+}
+
+/// The number of main among the functions with bodies, or that behind all.
+pub fn main_of(files: &[TypedFile], bodies: &[FileRow]) -> usize
+    ensures number { result ≡ main_from files.now 0 bodies.now }
+    ensures within { result ≤ length bodies.now }
+{
+    for (number, row) in bodies.iter().enumerate() {
+        if is_main(files, *row) {
+            return number;
+        }
+    }
+    bodies.len()
+}
+
+fn front(places: &[u32], count: usize) -> &[u32]
+    ensures { result.now ≡ take count places.now }
+{
+    if count < places.len() {
+        &places[..count]
+    } else {
+        places
+    }
+}
+
+/// The items behind the first ones.
+pub fn behind(places: &[u32], count: usize) -> &[u32]
+    ensures { result.now ≡ drop count places.now }
+{
+    if count < places.len() {
+        &places[count..]
+    } else {
+        &[]
+    }
+}
+
+fn links_in(
+    alloc: Global,
+    files: &[TypedFile],
+    rooms: Rooms,
+    bodies: &[FileRow],
+    literals: &[u32],
+    file: usize,
+    parts: &FileParts,
+) -> Result<Links, AllocError>
+    requires { length bodies.now < 2 ^ 32 }
+    ensures { IfOk result (λ links. links ≡ links_in files.now rooms.entry.placed.now bodies.now rooms.entry.places.now literals.now file parts.now) }
+{
+    let mut addresses = Vec::from_slice(alloc, literals)?;
+    push_places(&mut addresses, files, rooms, file, parts.objects.as_slice())?;
+    let functions = function_numbers(alloc, files, bodies, file, parts.routines.as_slice())?;
+    Ok(Links {
+        addresses: Items::from_vec(addresses),
+        functions: Items::from_vec(functions),
+    })
+}
+
+/// What the numbers of each file mean.
+pub fn links_of(
+    alloc: Global,
+    files: &[TypedFile],
+    rooms: Rooms,
+    bodies: &[FileRow],
+) -> Result<Vec<Links>, AllocError>
+    requires { length bodies.now < 2 ^ 32 }
+    ensures { IfOk result (λ links. links.items ≡ links_of files.now rooms.entry.placed.now bodies.now rooms.entry.places.now) }
+{
+    let mut links = Vec::new(alloc);
+    let mut rest = behind(rooms.places, rooms.placed.len());
+    for (number, file) in files.iter().enumerate() {
+        let parts = file.parts();
+        let count = parts.literals.len();
+        let literals = front(rest, count);
+        links.push(links_in(alloc, files, rooms, bodies, literals, number, parts)?)?;
+        rest = behind(rest, count);
+    }
+    Ok(links)
+}
+
+#[tactic(auto, using(crate::proofs::Behind::functions_behind))]
+fn push_functions(
+    functions: &mut Vec<Function>,
+    file: u32,
+    bodies: Items<TypedFunction>,
+) -> Result<(), AllocError>
+    ensures { OnOk result (functions.new.items ≡ functions_in functions.old.items file bodies) }
+{
+    for body in bodies.into_vec() {
+        functions.push(Function {
+            name: body.name,
+            place: body.place,
+            file,
+            parameters: body.parameters,
+            variables: body.variables,
+            frame: body.frame,
+            body: body.body,
+        })?;
+    }
+    Ok(())
+}
+
+/// The functions of the program, in the order of the files and of the text, where there are fewer than 2^32 files.
+#[tactic(auto, using(crate::proofs::Behind::files_behind))]
+pub fn functions_of(alloc: Global, files: Vec<TypedFile>) -> Result<Vec<Function>, JoinError>
+    ensures ok { IfOk result (λ functions. functions.items ≡ functions_from [] 0 files.items) }
+    ensures err { IfErr result (λ e. e ≡ Memory) }
+{
+    let mut functions = Vec::new(alloc);
+    let mut number: u32 = 0;
+    for file in files {
+        push_functions(&mut functions, number, file.into_parts().functions)?;
+        number = number.checked_add(1).ok_or(JoinError::Memory)?;
+    }
+    Ok(functions)
+}
