@@ -156,6 +156,20 @@ impl Checker {
         self.shapes.len()
     }
 
+    /// The members of all structures so far.
+    pub fn components(&self) -> &[Component]
+        ensures { result.now ≡ (tables self.now).components }
+    {
+        self.components.as_slice()
+    }
+
+    /// The parameters and local objects so far.
+    pub fn locals(&self) -> &[Local]
+        ensures { result.now ≡ (tables self.now).locals }
+    {
+        self.locals.as_slice()
+    }
+
     /// The number of parameters and local objects so far.
     pub fn count_locals(&self) -> usize
         ensures { result ≡ length (tables self.now).locals }
