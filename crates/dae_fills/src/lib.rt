@@ -2,7 +2,7 @@
 #![tactic(auto)]
 
 pub use formats::{format_pieces, kinds_of_arguments};
-pub use slots::{Rest, Slot, is_text_array, next_slot, parts_of};
+pub use slots::{Rest, Slot, descend, is_text_array, next_slot, parts_of};
 
 mod formats;
 mod slots;

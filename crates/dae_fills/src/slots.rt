@@ -1,14 +1,15 @@
 // What of an aggregate is still to be filled, as a stack, and the object that is next (C90 6.5.7).
 
 ghost use Rattle.std.specs.Prelude.{◌≡◌, List, ◌∷◌, Option, Ok, slice_get};
-ghost use Rattle.dae_file_plans.specs.Initialisers.{Rest as PlainRest, Slot as PlainSlot, components_of, element_slot, is_before, is_text_array, member_slot, next_slot, parts_of};
+ghost use Rattle.dae_file_plans.specs.Initialisers.{Rest as PlainRest, Slot as PlainSlot, components_of, descend, element_slot, is_before, is_text_array, member_slot, next_slot, parts_of};
 ghost use Rattle.dae_rules.specs.Plan.{Gives};
 ghost use Rattle.dae_tables.specs.Seen.{tables};
 ghost use Rattle.dae_fills.specs.Slots.{slot_or, view_rest, view_slot, view_stack};
 ghost use Rattle.dae_fills.specs.Filled.{seen};
 
 use dae_kinds::{CheckError, Component, Shape};
-use dae_tables::{Checker, is_character};
+use dae_tables::{Checker, is_character, is_scalar, is_structure};
+use std::alloc::Global;
 
 /// One object of a type at an offset; the elements of an array from one on, up to its count if it has one; or the members of
 /// a structure from one on. Offsets are in bytes.
@@ -173,4 +174,64 @@ pub fn is_text_array(checker: &Checker, shape: Shape) -> bool
         Shape::Array(element, _) => is_character(checker.shape_of(element)),
         _ => false,
     }
+}
+
+/// Down to the object that an item is for: a scalar, an array of characters for a literal, or a structure for a structure.
+pub fn descend(
+    alloc: Global,
+    checker: &Checker,
+    literal: bool,
+    structure: bool,
+    depth: usize,
+    slot: Slot,
+) -> Result<Slot, CheckError>
+    ensures { Gives view_slot result (Ok (descend depth (tables checker.now) literal structure (view_slot slot))) }
+{
+    if depth == 0 {
+        return Ok(slot);
+    }
+    let shape = checker.shape_of(slot.type_id);
+    let text = literal && is_text_array(checker, shape);
+    if is_scalar(shape) || (text || (structure && is_structure(shape))) {
+        return Ok(slot);
+    }
+    match first_part(alloc, checker, &slot, shape)? {
+        Some(inner) => descend(alloc, checker, literal, structure, depth - 1, inner),
+        None => descend(alloc, checker, literal, structure, depth - 1, slot),
+    }
+}
+
+/// The first object of an aggregate of this shape, or what is next behind it.
+fn first_part(
+    alloc: Global,
+    checker: &Checker,
+    slot: &Slot,
+    shape: Shape,
+) -> Result<Option<Slot>, CheckError>
+    ensures { Gives (seen view_slot) result (Ok (next_slot (tables checker.now) (parts_of slot.now.offset slot.now.type_id shape ∷ view_stack slot.now.rest.items))) }
+{
+    let part = parts_of(slot.offset, slot.type_id, shape);
+    let rest = with_part(alloc, &slot.rest, part)?;
+    next_slot(checker, rest)
+}
+
+/// A copy of a stack with a part on top.
+#[tactic(auto, using(crate::proofs::Stacks::stack_push))]
+fn with_part(alloc: Global, rest: &[Rest], part: Rest) -> Result<Vec<Rest>, CheckError>
+    ensures { Gives (λ v. view_stack v.items) result (Ok (view_rest part ∷ view_stack rest.now)) }
+{
+    let mut stack = copy_stack(alloc, rest)?;
+    stack.push(part)?;
+    Ok(stack)
+}
+
+/// A copy of a stack.
+fn copy_stack(alloc: Global, rest: &[Rest]) -> Result<Vec<Rest>, CheckError>
+    ensures { Gives (λ v. v.items) result (Ok rest.now) }
+{
+    let mut stack = Vec::new(alloc);
+    for part in rest {
+        stack.push(*part)?;
+    }
+    Ok(stack)
 }
