@@ -12,3 +12,8 @@ mod Agreeing
 mod Small
 mod SmallStatements
 mod Counts
+mod Marked
+mod MarkedExpressions
+mod MarkedStatements
+mod Loads
+mod Examples

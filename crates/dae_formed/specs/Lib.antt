@@ -3,3 +3,5 @@ pub mod Bytes
 pub mod Formed
 pub mod Order
 pub mod Sizes
+pub mod Constants
+pub mod Bounds
