@@ -12,8 +12,5 @@ mod Agreeing
 mod Small
 mod SmallStatements
 mod Counts
-mod Marked
-mod MarkedExpressions
-mod MarkedStatements
-mod Loads
 mod Examples
+pub mod Laws

@@ -3,5 +3,3 @@ pub mod Bytes
 pub mod Formed
 pub mod Order
 pub mod Sizes
-pub mod Constants
-pub mod Bounds

@@ -1,7 +1,6 @@
 // What is proved of the forms of programs in memory.
 
 ghost use Rattle.dae_formed.specs.Formed.{FormsScoped, FormsSetFirst, MadeSetFirst};
-ghost use Rattle.dae_formed.specs.Bounds.{LoadsBounded};
 ghost use Rattle.dae_formed.specs.Order.{FormsDoPrograms, LoweredDoPrograms};
 ghost use Rattle.dae_formed.specs.Sizes.{FormsSmall};
 
@@ -46,9 +45,3 @@ pub fn lowered_do_programs()
     forms_scoped();
     forms_do_programs();
 }
-
-/// In the form of a program each function has at most as many loads into variables that lead to addresses as it has wanted
-/// expressions that designate a scalar in memory.
-pub fn loads_bounded()
-    ensures { LoadsBounded }
-{}

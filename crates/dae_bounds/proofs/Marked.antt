@@ -20,7 +20,7 @@ use Rattle.dae_ir.specs.declared.form.Value.TheVariants.{Same, Extended, Binary}
 use Rattle.dae_meaning.specs.declared.Operator.{Operator}
 use Rattle.dae_program.specs.Expressions.{divides}
 use Rattle.dae_lower.specs.Lowering.{Made, ◌⨾◌, ◌≫◌, nothing, only, one, set, variable, fetched, held, put_in, operated, narrowed, checks, may_be_zero, Spot, Local, Placed, Condition, branches, gives}
-use Rattle.dae_formed.proofs.Good.{and_true}
+use Rattle.dae_formed.proofs.Laws.{and_true}
 
 abbrev pub AnyTest : Test → Type 0
 AnyTest t = Unit {0}

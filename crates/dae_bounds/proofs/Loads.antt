@@ -22,14 +22,12 @@ use Rattle.dae_program.specs.Programs.{program_of}
 use Rattle.dae_program.specs.Resolved.{function_in, variables_in}
 use Rattle.dae_program.specs.Wanted.{Wants, KeepStatements, AreKept, wanted_in, wanted_reads}
 use Rattle.dae_lower.specs.Lowering.{◌⨾◌, ◌≫◌, one, checks, is_closed, closed, parameters_stored, statements, function_code}
-use Rattle.dae_formed.specs.Bounds.{LoadsBounded}
-use Rattle.dae_formed.specs.Constants.{InitialisesConstants}
+use Rattle.dae_bounds.specs.Bounds.{LoadsBounded}
+use Rattle.dae_bounds.specs.Constants.{InitialisesConstants}
 use Rattle.dae_formed.specs.Formed.{plain, IsFunctionFormOf, IsLowered}
-use Rattle.dae_formed.proofs.Expressions.{first, second, equal}
-use Rattle.dae_formed.proofs.Functions.{bounds_of, within}
-use Rattle.dae_formed.proofs.Programs.{form_there, function_there, same, each_at, lawful_at, counts}
-use Rattle.dae_formed.proofs.Marked.{AnyTest, loads_into, loads_then, each_then, joined, joined_first, joined_second, Any, Marked}
-use Rattle.dae_formed.proofs.MarkedStatements.{function_does}
+use Rattle.dae_formed.proofs.Laws.{first, second, equal, bounds_of, within, form_there, function_there, same, each_at, lawful_at, counts}
+use Rattle.dae_bounds.proofs.Marked.{AnyTest, loads_into, loads_then, each_then, joined, joined_first, joined_second, Any, Marked}
+use Rattle.dae_bounds.proofs.MarkedStatements.{function_does}
 
 -- ---- more loads into more variables
 

@@ -23,11 +23,10 @@ use Rattle.dae_program.specs.declared.program.Slot.{Slot}
 use Rattle.dae_program.specs.declared.statements.Piece.{Piece}
 use Rattle.dae_program.specs.declared.statements.Piece.TheVariants as piece
 use Rattle.dae_lower.specs.Lowering.{Made, ◌≫◌, nothing, emit, one, nowhere, or, assigned_all, test_of, Links, ways, operands, leave_unless, leave_unless_some, effect_of_some, loop, text_loop, prints, zeros, settings, arms_continue, search_labels, search, switch, statements, arms_from, parameters_stored}
-use Rattle.dae_formed.specs.Constants.{IsConstant, AreConstant, InitialisesConstants, ArmsInitialiseConstants}
-use Rattle.dae_formed.proofs.Good.{and_true}
-use Rattle.dae_formed.proofs.Expressions.{first, second}
-use Rattle.dae_formed.proofs.Marked.{AnyTest, loads_into, loads_then, each_then, joined, agrees_first, agrees_second, Leads, Any, OwnFits, Marked, chain, more, plain_code, one_new, nothing_marked, branches_marked}
-use Rattle.dae_formed.proofs.MarkedExpressions.{WaysDo, AllLead, expression_does}
+use Rattle.dae_bounds.specs.Constants.{IsConstant, AreConstant, InitialisesConstants, ArmsInitialiseConstants}
+use Rattle.dae_formed.proofs.Laws.{and_true, first, second}
+use Rattle.dae_bounds.proofs.Marked.{AnyTest, loads_into, loads_then, each_then, joined, agrees_first, agrees_second, Leads, Any, OwnFits, Marked, chain, more, plain_code, one_new, nothing_marked, branches_marked}
+use Rattle.dae_bounds.proofs.MarkedExpressions.{WaysDo, AllLead, expression_does}
 
 same_is : (n : ℕ) → nat_eq n n ≡ true
 same_is n = grind (arith, nat_tests)

@@ -21,9 +21,8 @@ use Rattle.dae_program.specs.Wanted.{Wants, IfSo, KeepsWants, KeepArguments, wan
 use Rattle.dae_program.specs.Trees as tree
 use Rattle.dae_program.specs.Trees.{Expression, Target, Expressions}
 use Rattle.dae_lower.specs.Lowering.{Made, ◌≫◌, nothing, only, emit, skip, one, set, or, assigned, assigned_all, fetched, held, put_in, operated, narrowed, Spot, Local, Placed, test_of, related, isnt_zero, turn, gives, Ways, by_value, chosen, variable, advanced, stepped, assigned_target, Links, ways, spot, operands}
-use Rattle.dae_formed.proofs.Good.{and_true}
-use Rattle.dae_formed.proofs.Expressions.{first, second, below}
-use Rattle.dae_formed.proofs.Marked.{Leads, Any, OwnFits, Marked, chain, more, with_new, plain_code, one_new, nothing_marked, set_marked, variable_marked, fetched_marked, HeldLeads, held_marked, PutLeads, put_marked, operated_marked, narrowed_marked, gives_marked, branches_marked}
+use Rattle.dae_formed.proofs.Laws.{and_true, first, second, below}
+use Rattle.dae_bounds.proofs.Marked.{Leads, Any, OwnFits, Marked, chain, more, with_new, plain_code, one_new, nothing_marked, set_marked, variable_marked, fetched_marked, HeldLeads, held_marked, PutLeads, put_marked, operated_marked, narrowed_marked, gives_marked, branches_marked}
 
 either_left : (a b : Bool) → a ≡ true → (a || b) ≡ true
 either_left true b h = refl

@@ -13,7 +13,7 @@ use Rattle.dae_program.specs.declared.program.Function.{Function}
 use Rattle.dae_program.specs.declared.program.Program.{Program}
 use Rattle.dae_program.specs.Programs.{program_of}
 use Rattle.dae_program.specs.Wanted.{Wants, AreKept, wanted_reads}
-use Rattle.dae_formed.specs.Constants.{InitialisesConstants}
+use Rattle.dae_bounds.specs.Constants.{InitialisesConstants}
 use Rattle.dae_formed.specs.Formed.{plain, IsLowered}
 
 -- for any set of wanted variables that is kept, and so for the least; with the least classes of the form
