@@ -12,3 +12,5 @@ mod Agreeing
 mod Small
 mod SmallStatements
 mod Counts
+mod Examples
+pub mod Laws

@@ -78,11 +78,11 @@ module _ (p : Program) (ir : Ir) (low : IsLowered p ir) where
   all_lawful : list_all (is_lawful_in p.memory p.links p.functions true) p.functions ≡ true
   all_lawful = second (list_all (spares p.main) p.links) _ (second (is_lawful_memory p.memory p.frames (length p.content) && is_main p.memory p.links p.functions (slice_get p.functions p.main)) _ low.lawful)
 
-  abbrev counts : Function → ℕ → Option ℕ
+  abbrev pub counts : Function → ℕ → Option ℕ
   counts f k = parameter_count (slice_get p.functions (let g = plain p f in g.callee k))
 
   -- main may not return, and each other function may
-  lawful_at : (k : ℕ) (f : Function) → slice_get p.functions k ≡ Some f → is_lawful_body p.memory f.variables (counts f) (not (nat_eq k p.main)) (plain p f) ≡ true
+  pub lawful_at : (k : ℕ) (f : Function) → slice_get p.functions k ≡ Some f → is_lawful_body p.memory f.variables (counts f) (not (nat_eq k p.main)) (plain p f) ≡ true
   lawful_at k f e = by (nat_eq k p.main) refl where
     main_so : (o : Option Function) → o ≡ Some f → is_main p.memory p.links p.functions o ≡ true → is_lawful_body p.memory f.variables (counts f) false (plain p f) ≡ true
     main_so None e h = absurd (let c : false ≡ true = h in cc)
