@@ -1,11 +1,9 @@
 -- For a file at most one answer is due, but for want of memory and for the place where tokens have no tree.
-use Rattle.std.proofs.Common.{◌≡◌, ◌⊎◌, inl, inr, ℕ, ◌<◌, ◌≤◌, List, take, length, refl, ap, sym, ◌∙◌, subst, arith}
+use Rattle.std.proofs.Common.{◌≡◌, inl, inr, ℕ, ◌<◌, ◌≤◌, List, refl, ap, sym, ◌∙◌, subst, arith}
 use Rattle.std.specs.Prelude.{◌≢◌, Option, Some, None, IfSome, Result, Ok, Err}
 use Rattle.dae_base.specs.declared.Place.{Place}
 use Rattle.dae_image.specs.declared.Image.{Image}
 use Rattle.dae_image.specs.declared.fault.ImageError.{ImageError}
-use Rattle.dae_image.specs.Images.{contents}
-use Rattle.dae_image.specs.Reading.{image_at}
 use Rattle.dae_tree.specs.Depth.{nodes_file, first_deeper, greatest_depth, first_too_long}
 use Rattle.dae_tree.specs.Marks.{marks}
 use Rattle.dae_tree.specs.Reading.{Reading}
@@ -24,12 +22,11 @@ use Rattle.dae_drive.specs.Notes.{image_line}
 use Rattle.dae_drive.specs.Puts.{Answer, told}
 use Rattle.dae_drive.specs.Images.{DueOfImage}
 use Rattle.dae_drive.proofs.Laws.{one_of_image}
-use Rattle.dae_cli.specs.ImageFiles.{most_bytes, DueOfBytes, due_image, due_no_image, due_memory_to_decode, DueOfImageFile, due_bytes, due_no_bytes, due_memory_for_bytes}
+use Rattle.dae_cli.specs.ImageFiles.{DueOfBytes, due_image, due_no_image, due_memory_to_decode, DueOfImageFile, due_bytes, due_no_bytes, due_memory_for_bytes}
 use Rattle.dae_cli.specs.Answers.{IsDue, due_file, due_image_file, due_words}
-use Rattle.dae_cli.specs.One.{AreOne, TellsNoTree}
+use Rattle.dae_cli.specs.One.{AreOne}
 use Rattle.dae_cli.specs.Refusals.{lex_line, tree_line}
 use Rattle.dae_cli.specs.Sources.{IsRead, around_read, whole_room, DueOfProgram, DueOfText, due_too_long, due_no_tokens, due_no_tree, due_program, due_not_built, due_memory_to_read, DueOfFile, due_text, due_read, due_memory_to_fetch}
-use Rattle.dae_cli.specs.Words.{SpellsExec, SpellsRun}
 use Rattle.dae_cli.proofs.OneJob.{one_exec, one_run_name, run_or_exec}
 use Rattle.dae_cli.proofs.OneProgram.{by_contents, one_of_program}
 

@@ -1,6 +1,6 @@
 -- Words spell at most one job.
-use Rattle.std.proofs.Common.{◌≡◌, ℕ, suc, zero, ◌<◌, ◌^◌, nat_eq, if◌then◌else◌, List, [], ◌∷◌, ◌++◌, length, get_or, drop, map, refl, ap, sym, ◌∙◌, subst, arith}
-use Rattle.std.specs.Prelude.{◌≢◌, Option, None, Some, codes, decimal}
+use Rattle.std.proofs.Common.{◌≡◌, ℕ, suc, ◌<◌, ◌^◌, nat_eq, if◌then◌else◌, List, [], ◌∷◌, ◌++◌, length, get_or, drop, map, refl, ap, sym, ◌∙◌, subst, arith}
+use Rattle.std.specs.Prelude.{Option, None, Some, codes, decimal}
 use Rattle.std.specs.List.{AllByRecursion}
 use Rattle.std.specs.Option.{option_to_list}
 use Rattle.std.specs.Str.Parse.{digits_value}
@@ -15,7 +15,7 @@ use Rattle.dae_drive.specs.declared.options.RunOptions.{RunOptions}
 use Rattle.dae_cli.specs.declared.options.Setting.{Setting}
 use Rattle.dae_cli.specs.declared.options.Setting.TheVariants.{Depth, Schedule as Order, Steps, Show}
 use Rattle.dae_cli.specs.declared.options.Chosen.{Chosen}
-use Rattle.dae_cli.specs.Options.{option_name, queue_option, schedule_text, shown_text, text_of, value_text, options_of, AreChosen, IsInRange, IsSchedule, IsShown, IsWithin}
+use Rattle.dae_cli.specs.Options.{option_name, queue_option, schedule_text, shown_text, text_of, value_text, options_of, AreChosen, IsInRange, IsSchedule, IsShown}
 use Rattle.dae_cli.specs.Words.{SpellsExec, SpellsRun}
 use Rattle.dae_cli.proofs.Spelling.{Lacks, lacks_at, name_lacks, no_comma_in}
 

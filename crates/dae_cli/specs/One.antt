@@ -1,5 +1,5 @@
 -- When two answers count as one.
-use Rattle.std.specs.Prelude.{◌≡◌, ◌≢◌, ◌⊎◌, ℕ, List, Option, Some}
+use Rattle.std.specs.Prelude.{◌≡◌, ◌≢◌, ◌⊎◌, ℕ, List}
 use Rattle.dae_base.specs.declared.Place.{Place}
 use Rattle.dae_parse.specs.declared.error.ParseError.TheVariants.{Syntax}
 use Rattle.dae_drive.specs.Puts.{Answer, told}

@@ -30,7 +30,7 @@ use Rattle.dae_straight_compiler.specs.declared.Ending.TheVariants.{Store, Print
 use Rattle.dae_straight_compiler.specs.Plan.{step_of_link, pending_after, link_steps, sum_steps, statement_rounds, statements_rounds, program_rounds}
 use Rattle.dae_straight_compiler.specs.Code.{access_code, execute_code}
 use Rattle.dae_straight_compiler.specs.Order.{picks_from}
-use Rattle.dae_straight_compiler.specs.Budget.{names_in_factor, names_in_links, names_in, sum_of, most_names, assigns, budget_of}
+use Rattle.dae_straight_compiler.specs.Budget.{names_in_factor, names_in_links, names_in, sum_of, most_names, assigns}
 use Rattle.dae_base.specs.Budgets.{Reaches}
 use Rattle.dae_straight_compiler.specs.Compiled.{IsCompiled, IsImageOf}
 use Rattle.dae_straight_compiler.proofs.Instructions.{CodeAt, Values}
