@@ -53,7 +53,7 @@ of_text a (due_not_built r file read tree none) e = tt
 of_text a due_memory_to_read e = tt
 
 of_bytes : {bytes : List ℕ} {o : RunOptions} (a : Answer) → DueOfBytes bytes o a → a.status ≡ 7 → AreNotes a.puts
-of_bytes a (due_image i spells d) e = of_image a d e
+of_bytes a (due_image i spells read d) e = of_image a d e
 of_bytes a (due_no_image x never exact none) e = tt
 of_bytes a due_memory_to_decode e = tt
 

@@ -90,7 +90,7 @@ same_answer s s' p ps qs qs' hs hn = rw (hs, hn) refl
 -- what is due for a program's image is due for the program
 module _ (p : StraightProgram) (image : Image) (picks : List Pick) (compiled : IsCompiled p image picks) where
   abbrev ends : EndsSo p image picks USUAL.depths
-  ends = compiled.ends USUAL.depths (reaches image.budget p.statements compiled.budget)
+  ends = compiled.ends USUAL.depths (reaches image.budget p.statements compiled.made.budget)
 
   abbrev run_of : Run p
   run_of = record { image = image; picks = picks; compiled = compiled; status = ends.status; after = ends.after; means = ends.means }
@@ -103,7 +103,7 @@ module _ (p : StraightProgram) (image : Image) (picks : List Pick) (compiled : I
 
   budget_due : (a : Answer) → DueAfterBudget image USUAL a → DueOfProgram p (answer a.status (Note (budget_line image.budget) ∷ a.puts))
   budget_due a (due_turns none (due_end end how turns rested)) = turns_due end how turns rested
-  budget_due a (due_depth queue found) = absurd (let none = (none_below USUAL.depths image.budget).1 (reaches image.budget p.statements compiled.budget) in cc)
+  budget_due a (due_depth queue found) = absurd (let none = (none_below USUAL.depths image.budget).1 (reaches image.budget p.statements compiled.made.budget) in cc)
   budget_due a (due_memory_for_machine none) = due_memory_to_open run_of
 
   pub image_due : (a : Answer) → DueOfImage image USUAL a → DueOfProgram p a

@@ -8,3 +8,6 @@ mod Spelling
 mod Ending
 mod Choosing
 mod Ranges
+mod OneProgram
+mod OneJob
+mod OneDue

@@ -83,7 +83,7 @@ take_short (suc n) [] = omega arith
 take_short (suc n) (x ∷ xs) = omega (arith, take_short n xs)
 
 read_due : {a : Answer} {o : RunOptions} (held text : List ℕ) → text ≡ take 536870912 held → DueOfBytes text o a → DueOfBytes held o a
-read_due {a} {o} held text e (due_image i spells d) = subst (λ (bytes : List ℕ). DueOfBytes bytes o a) (same_text held text i e (inl spells)) (due_image i spells d)
+read_due {a} {o} held text e (due_image i spells read d) = subst (λ (bytes : List ℕ). DueOfBytes bytes o a) (same_text held text i e (inl spells)) (due_image i spells read d)
 read_due held text e (due_no_image error never exact none) =
     let short : take 536870912 text ≡ text = take_all 536870912 text (omega (arith, ap length e, take_short 536870912 held)) in
     due_no_image error never (rw (← e, ← short) exact) (λ i spells. none i (subst (λ (bytes : List ℕ). Spells bytes (contents i)) (sym (same_text held text i e (inr spells))) spells))

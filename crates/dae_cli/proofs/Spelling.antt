@@ -82,7 +82,7 @@ not_parted c text xs ys ascii split none e = split_after c text xs ys None split
 digits_lack : (c n : ℕ) → n < 2 ^ 64 → ¬ (IsByteFrom 48 57 c) → Lacks c (decimal n)
 digits_lack c n small other = let own = numerals_by_value _ tells_digits in not_in_digits own (decimal n) c (digits_decimal own n small) other
 
-no_comma_in : (n : ℕ) → IsWithin 0 4294967295 n → Lacks 44 (decimal n)
+pub no_comma_in : (n : ℕ) → IsWithin 0 4294967295 n → Lacks 44 (decimal n)
 no_comma_in n w = digits_lack 44 n (omega (arith, w.most_is)) (λ h. absurd (omega (arith, h.0)))
 
 -- what is shown
@@ -149,7 +149,7 @@ queue_lacks Ab = refl
 queue_lacks Eb = refl
 queue_lacks Cq = refl
 
-name_lacks : (s : Setting) → lacks 61 (option_name s) ≡ true
+pub name_lacks : (s : Setting) → lacks 61 (option_name s) ≡ true
 name_lacks (Depth q n) = queue_lacks q
 name_lacks (Order s) = refl
 name_lacks (Steps n) = refl

@@ -1,5 +1,5 @@
 -- What is due for the bytes of an image's file, and for the file.
-use Rattle.std.specs.Prelude.{◌≡◌, ◌≢◌, ℕ, List, take, Option, IfSome, Err}
+use Rattle.std.specs.Prelude.{◌≡◌, ◌≢◌, ℕ, List, take, Option, IfSome, Ok, Err}
 use Rattle.dae_image.specs.declared.Image.{Image}
 use Rattle.dae_image.specs.declared.fault.ImageError.{ImageError}
 use Rattle.dae_image.specs.declared.fault.ImageError.TheVariants as errors
@@ -16,10 +16,10 @@ use Rattle.dae_drive.specs.Images.{DueOfImage}
 abbrev pub most_bytes : ℕ
 most_bytes = 536870912
 
--- what is due for the bytes of an image's file: an image spells them; or none does, and the first fault is told; or
+-- what is due for the bytes of an image's file: an image spells them, and is read; or none does, and the first fault is told; or
 -- memory was wanting
 pub data DueOfBytes (bytes : List ℕ) (o : RunOptions) : Answer → Type 0 where
-  due_image : {a : Answer} (i : Image) → image.Spells bytes (contents i) → DueOfImage i o a → DueOfBytes bytes o a
+  due_image : {a : Answer} (i : Image) → image.Spells bytes (contents i) → image_at (take most_bytes bytes) ≡ Ok (contents i) → DueOfImage i o a → DueOfBytes bytes o a
   due_no_image : (e : ImageError) → e ≢ errors.Memory → image_at (take most_bytes bytes) ≡ Err e → ((i : Image) → ¬ (image.Spells bytes (contents i))) → DueOfBytes bytes o (told 8 (image_line e))
   due_memory_to_decode : DueOfBytes bytes o (told 7 memory_line)
 

@@ -4,3 +4,4 @@ pub mod Refusals
 pub mod ImageFiles
 pub mod Sources
 pub mod Answers
+pub mod One

@@ -1,11 +1,12 @@
 // The job `exec`: the file of an image is fetched, read and run.
-ghost use Rattle.std.specs.Prelude.{◌≡◌, ◌≤◌, length, IfOk, IfErr, IfSome};
+ghost use Rattle.std.specs.Prelude.{◌≡◌, ◌≤◌, length, take, Ok, IfOk, IfErr, IfSome};
 ghost use Rattle.dae_core.specs.Held.{CanHold};
 ghost use Rattle.dae_io.specs.Faults.{Rose, fetch_of};
 ghost use Rattle.dae_io.specs.Told.{TellsSame};
 ghost use Rattle.dae_image.specs.Images.{contents};
+ghost use Rattle.dae_image.specs.Reading.{image_at};
 ghost use Rattle.dae_image.specs.Spelling.{Spells};
-ghost use Rattle.dae_cli.specs.ImageFiles.{DueOfBytes, DueOfImageFile};
+ghost use Rattle.dae_cli.specs.ImageFiles.{DueOfBytes, DueOfImageFile, most_bytes};
 ghost use Rattle.dae_drive.specs.Puts.{GivesDue, sinks, stop_answer};
 ghost use Rattle.dae_drive.specs.declared.options.RunOptions.{RunOptions};
 
@@ -65,6 +66,7 @@ fn exec_bytes<O: Sink, N: Sink>(
 fn image_of(alloc: Global, bytes: &[u8]) -> Result<Image, Stop>
     requires { length bytes.now ≤ 536870912 }
     ensures found { IfOk result (λ image. Spells bytes.now (contents image)) }
+    ensures read { IfOk result (λ image. image_at (take most_bytes bytes.now) ≡ Ok (contents image)) }
     ensures err { IfErr result (λ stop. (o : RunOptions) → DueOfBytes bytes.now o (stop_answer stop)) }
 {
     match read(alloc, bytes) {

@@ -19,6 +19,7 @@ mod files;
 #[cfg(test)]
 mod images;
 mod job;
+mod laws;
 mod options;
 mod refusals;
 mod run;

@@ -1,4 +1,4 @@
--- What other crates may use of runs from an image's opened state.
+-- What other crates may use of runs from an image's opened state, and of what is due for an image.
 use Rattle.std.proofs.Common.{◌≡◌, List, length, refl, arith}
 use Rattle.std.specs.List.{concat}
 use Rattle.dae_image.specs.declared.Image.{Image}
@@ -6,6 +6,7 @@ use Rattle.dae_machine.specs.declared.Pick.{Pick}
 use Rattle.dae_machine.specs.Machine.{Setup, State, Runs}
 use Rattle.dae_machine.specs.Opened.{opened}
 use Rattle.dae_drive.specs.Pieces.{pieces}
+pub use Rattle.dae_drive.proofs.OneAnswer.{one_of_image}
 use Rattle.dae_drive.proofs.Executed.{opened_counted}
 use Rattle.dae_drive.proofs.Outcome.{run_keeps}
 use Rattle.dae_drive.proofs.Printed.{pieces_printed}

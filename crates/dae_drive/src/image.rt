@@ -122,6 +122,7 @@ fn tell_end<N: Sink>(
 }
 
 fn status_of(driven: Driven) -> u8
+    requires { driven ≢ Driven.SinkFailed }
     ensures { result ≡ status_of driven }
 {
     match driven {
@@ -129,7 +130,7 @@ fn status_of(driven: Driven) -> u8
         Driven::Final(End::Trapped(_)) => 1,
         Driven::Stuck => 9,
         Driven::Spent => 3,
-        Driven::SinkFailed => 6,
+        Driven::SinkFailed => unreachable!(),
     }
 }
 

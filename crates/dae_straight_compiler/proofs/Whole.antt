@@ -30,9 +30,9 @@ use Rattle.dae_straight_compiler.specs.declared.Ending.TheVariants.{Store, Print
 use Rattle.dae_straight_compiler.specs.Plan.{step_of_link, pending_after, link_steps, sum_steps, statement_rounds, statements_rounds, program_rounds}
 use Rattle.dae_straight_compiler.specs.Code.{access_code, execute_code}
 use Rattle.dae_straight_compiler.specs.Order.{picks_from}
-use Rattle.dae_straight_compiler.specs.Budget.{names_in_factor, names_in_links, names_in, sum_of, most_names, assigns, budget_of}
+use Rattle.dae_straight_compiler.specs.Budget.{names_in_factor, names_in_links, names_in, sum_of, most_names, assigns}
 use Rattle.dae_base.specs.Budgets.{Reaches}
-use Rattle.dae_straight_compiler.specs.Compiled.{IsCompiled}
+use Rattle.dae_straight_compiler.specs.Compiled.{IsCompiled, IsImageOf}
 use Rattle.dae_straight_compiler.proofs.Instructions.{CodeAt, Values}
 use Rattle.dae_straight_compiler.proofs.Access.{work_addresses, step_addresses, Lies}
 use Rattle.dae_straight_compiler.proofs.Rounds.{boundary, Deep}
@@ -140,18 +140,6 @@ statements_good objects most stores (s ∷ ss) all few one =
 abbrev zeros : Values
 zeros = record { sum = 0; term = 0; constant = 0; argument = 0; call = 0 }
 
--- an image of the program, as the compiler makes it
-pub record IsImageOf (p : StraightProgram) (image : Image) : Type 0 where
-  pub budget : image.budget ≡ budget_of p.statements
-  pub memory : image.memory ≡ 1048576
-  pub private_a : image.private_a ≡ 0
-  pub private_e : image.private_e ≡ 0
-  pub entry_a : image.entry_a ≡ 0
-  pub entry_e : image.entry_e ≡ 0
-  pub code_a : image.code_a ≡ map encoded (access_code (program_rounds p))
-  pub code_e : image.code_e ≡ map encoded (execute_code (program_rounds p))
-  pub content : image.content ≡ data_of p
-
 opened_is : (p : StraightProgram) (image : Image) → IsImageOf p image → opened image ≡ boundary 0 0 zeros 0 0 0 (memory_of 1048576 (data_of p)) [] 0
 opened_is p image is = rw (is.private_a, is.private_e, is.entry_a, is.entry_e, is.content, is.memory) refl
 
@@ -191,8 +179,7 @@ means_so p image bound straight memory = rw (memory, statements_done (p.objects)
 
 pub whole : (p : StraightProgram) (image : Image) (picks : List Pick) → IsStraight p → 3 * p.objects ≤ 8192 → IsImageOf p image → picks ≡ picks_from 0 (program_rounds p) → IsCompiled p image picks
 whole p image picks straight few is order = record {
-  memory = is.memory;
-  budget = is.budget;
+  made = is;
   short = (let b = program_bounded p in let a = b.access in let e = b.execute in let l = b.loads in let s = picks_short 0 (program_rounds p) in let f = straight.small in let same : length picks ≡ length (picks_from 0 (program_rounds p)) = ap length order in omega arith);
   ends = λ depths reaches.
       let f = finished p image depths straight few is reaches in

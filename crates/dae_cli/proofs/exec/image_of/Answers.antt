@@ -5,6 +5,9 @@ use Rattle.dae_cli.proofs.Fetched.{bytes_due}
 use Rattle.dae_cli.proofs.NoImage.{refused_bytes}
 use Rattle.dae_cli.proofs.exec.image_of.Goals as goal
 
+pub returns-in-Ok-clause-read : goal.returns-in-Ok-clause-read
+returns-in-Ok-clause-read c = rw (take_all 536870912 c.args.bytes.now c.requires) c.in-Ok.ensures.exact
+
 pub returns-in-Err-Memory-clause-err : goal.returns-in-Err-Memory-clause-err
 returns-in-Err-Memory-clause-err c = λ o. due_memory_to_decode
 

@@ -46,4 +46,4 @@ returns c =
     let content : c.from_vec-3.result ≡ data_of c.args.program.now = search rules in
     let order : c.from_vec-4.result ≡ picks_from 0 (program_rounds c.args.program.now) = search rules in
     whole c.args.program.now _ c.from_vec-4.result c.requires (objects_few c.args.program.now c.requires)
-    (record { budget = budget; memory = refl; private_a = refl; private_e = refl; entry_a = refl; entry_e = refl; code_a = code_a; code_e = code_e; content = content }) order
+    (record { budget = budget; memory = refl; calls = refl; private_a = refl; private_e = refl; entry_a = refl; entry_e = refl; code_a = code_a; code_e = code_e; content = content; lines = search rules; names = search rules }) order
