@@ -1,2 +1,3 @@
 mod Rows
 mod Counts
+pub mod Laws

@@ -1,5 +1,6 @@
 -- What is appended stands behind.
 use Rattle.std.proofs.Common.{◌≡◌, ℕ, ◌+◌, Bool, true, false, List, [], ◌∷◌, ◌++◌, refl, ap, sym, ◌∙◌}
+use Rattle.std.specs.Prelude.{if◌then◌else◌}
 use Rattle.dae_base.specs.declared.Place.{Place}
 use Rattle.dae_ir.specs.Code.{Done, Do, If, Loop}
 use Rattle.dae_ir.specs.Form.{Form, form_of, before}
@@ -76,3 +77,9 @@ written_on {X} {Y} made f a b c x y g h = record {
 } where
   both : {A : Type 0} (k : X → ℕ → A) → k x b.next ≡ k made.given made.next
   both k = ap (λ z. k z b.next) g.given ∙ ap (λ z. k made.given z) g.next
+
+-- one after the other, of which the flag says which is given
+pub picked_written : {X : Type 0} (flag : Bool) (made : Made X) (f : X → ℕ → Made X) (a b c : Written) (x y : X) → Writes made a b x → Writes (f x b.next) b c y → Writes (made ≫ λ x n. f x n ≫ λ y. nothing (if flag then y else x)) a c (if flag then y else x)
+picked_written flag made f a b c x y g h =
+    written_on made (λ x n. f x n ≫ λ y. nothing (if flag then y else x)) a b c x (if flag then y else x) g
+    (written_on (f x b.next) (λ y. nothing (if flag then y else x)) b c c y (if flag then y else x) h (nothing_written c (if flag then y else x)))

@@ -12,7 +12,8 @@ use Rattle.dae_ir.specs.declared.form.Item.TheVariants.{Load, Expect, Call}
 use Rattle.dae_ir.specs.declared.form.Check.TheVariants.{Room}
 use Rattle.dae_ir.specs.declared.form.Operand.{Operand}
 use Rattle.dae_ir.specs.declared.form.Operand.TheVariants.{Variable}
-use Rattle.dae_lower.specs.Lowering.{Made, only, one, ◌⨾◌}
+use Rattle.dae_lower.specs.Lowering.{Made, only, one, nothing, operated, narrowed, ◌⨾◌, ◌≫◌}
+use Rattle.dae_meaning.specs.declared.Operator.{Operator}
 use Rattle.dae_lower.specs.Lowering as form
 
 -- the form so far, and the next variable
@@ -59,3 +60,13 @@ forked place c p q = if c.turned then If place c.test q p Done else If place c.t
 -- a call into the next variable, behind its check
 abbrev pub called_with : Place → (function : ℕ) → List Operand → ℕ → Made Operand
 called_with place f xs n = only (Do place (Expect (Room f)) (one place (Call n f xs))) (Variable n) (n + 1)
+
+-- an assigned place gets the result of an operation on what it held and an operand, narrowed to its type
+abbrev pub updated_in : Place → LoadKind → Operator → Spot → (x y : Operand) → ℕ → Made Operand
+updated_in place kind operator spot x y n =
+    operated place operator x y n ≫ λ z n. narrowed place kind z n ≫ form.put_in place kind (spot_of spot)
+
+-- one more or less, where the flag says whether the old value is a copy
+abbrev pub stepped_in : Place → LoadKind → (change : ℕ) → (new flag : Bool) → Spot → ℕ → Made Operand
+stepped_in place kind change new flag spot n =
+    held_in place kind flag spot n ≫ λ x n. advanced_in place kind change spot x n ≫ λ y. nothing (if new then y else x)

@@ -86,6 +86,7 @@ impl Maker {
     ghost use Rattle.dae_lower.specs.Lowering.{put_in, set, variable, Placed};
     ghost use Rattle.dae_maker.specs.Making.{Appends, advanced_in, called_with, condition_of};
     ghost use Rattle.dae_maker.specs.Making.{forked, held_in, loaded_next, so_far, spot_of};
+    ghost use Rattle.dae_maker.specs.Making.{stepped_in, updated_in};
 
     /// No statements yet, of a function with so many variables.
     pub fn new(alloc: Global, variables: u32) -> Maker
@@ -283,6 +284,42 @@ impl Maker {
         let w = self.narrowed(place, kind, z)?;
         let y = self.put_in(place, kind, spot, w)?;
         Ok(y)
+    }
+
+    /// What is assigned gets the result of an operation on what it held and an operand, narrowed to its type.
+    pub fn updated(
+        &mut self,
+        place: Place,
+        kind: LoadKind,
+        operator: Operator,
+        spot: Spot,
+        x: Operand,
+        y: Operand,
+    ) -> Result<Operand, AllocError>
+        ensures { IfOk result (Appends (updated_in place kind operator spot x y) self.old self.new) }
+    {
+        let z = self.operated(place, operator, x, y)?;
+        let w = self.narrowed(place, kind, z)?;
+        let result = self.put_in(place, kind, spot, w)?;
+        Ok(result)
+    }
+
+    /// What is assigned gets a number more, and the new value is given or the old one, which is a copy where the flag says
+    /// so.
+    pub fn stepped(
+        &mut self,
+        place: Place,
+        kind: LoadKind,
+        change: u32,
+        new: bool,
+        flag: bool,
+        spot: Spot,
+    ) -> Result<Operand, AllocError>
+        ensures { IfOk result (Appends (stepped_in place kind change new flag spot) self.old self.new) }
+    {
+        let x = self.held(place, kind, flag, spot)?;
+        let y = self.advanced(place, kind, change, spot, x)?;
+        Ok(if new { y } else { x })
     }
 
     /// 1 where the comparison of two operands holds, and else 0. The flag says that they are compared the other way round.
