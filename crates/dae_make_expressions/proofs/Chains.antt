@@ -75,8 +75,10 @@ branched place cond f g a b d e z c inner outer w i j p = record {
 } where
   first : form_of inner ≡ (f cond.next).code
   first = i.block ∙ ap (λ n. (f n).code) w.next
+
   between : d.next ≡ (f cond.next).next
   between = i.next ∙ ap (λ n. (f n).next) w.next
+
   second : form_of outer ≡ (g (f cond.next).next).code
   second = j.block ∙ ap (λ n. (g n).code) between
 

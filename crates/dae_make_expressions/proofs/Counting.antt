@@ -108,6 +108,9 @@ mutual
 pub assigned_told : (e : Expression) → is_counted (assignments e) ≡ assigned e
 assigned_told e = same_counts (is_counted (assignments e)) (assigned e) (told e)
 
+pub both_told : (a b : Expression) → is_counted (both (assignments a) (assignments b)) ≡ or (assigned a) (assigned b)
+both_told a b = counted_both (assignments a) (assignments b) ∙ ap (λ s. or s (is_counted (assignments b))) (assigned_told a) ∙ ap (or (assigned a)) (assigned_told b)
+
 pub all_told : (xs : Expressions) → is_counted (all_assignments xs) ≡ assigned_all xs
 all_told xs = same_counts (is_counted (all_assignments xs)) (assigned_all xs) (told_all xs)
 

@@ -1,20 +1,21 @@
 // Parts of expressions that hold no others.
 
-ghost use Rattle.std.specs.Prelude.{◌≡◌, ℕ, IfOk, Some};
+ghost use Rattle.std.specs.Prelude.{◌≡◌, ◌||◌, not, IfOk, Some};
 ghost use Rattle.dae_base.specs.Words.{plus};
 ghost use Rattle.dae_ir.specs.Form.{form_of};
 ghost use Rattle.dae_ir.specs.declared.form.Item.TheVariants.{Assign};
 ghost use Rattle.dae_ir.specs.declared.form.Operand.TheVariants.{Number};
 ghost use Rattle.dae_ir.specs.declared.form.Value.TheVariants.{Same};
-ghost use Rattle.dae_lower.specs.Lowering.{one};
+ghost use Rattle.dae_lower.specs.Lowering.{isnt_zero, one, turn};
 ghost use Rattle.dae_make_expressions.specs.Lowered.{is_copied, links_in};
 ghost use Rattle.dae_maker.specs.Counting.{counts_of, is_counted};
-ghost use Rattle.dae_maker.specs.Making.{spot_of};
+ghost use Rattle.dae_maker.specs.Making.{condition_of, spot_of};
 ghost use Rattle.dae_program.specs.Resolved.{address_in, callee_in};
 
 use dae_base::Place;
 use dae_ir::{Item, Operand, Statement, Value};
-use dae_maker::{Later, Spot};
+use dae_maker::{Condition, Later, Spot, related};
+use dae_meaning::Comparison;
 use dae_program::Links;
 use std::alloc::{AllocError, Global};
 
@@ -76,4 +77,31 @@ pub fn constant(
     let value = Value::Same(Operand::Number(number));
     block.push(Statement::Simple(place, Item::Assign(v, value)))?;
     Ok(block)
+}
+
+/// Whether the old value is copied where a place gets a number more: where it is given, or what is to come assigns it.
+pub fn is_kept(later: &Later, new: bool, spot: Spot) -> bool
+    ensures { result ≡ (not new || is_copied (is_counted (counts_of later.now)) (spot_of spot)) }
+{
+    !new || is_copied(later, spot)
+}
+
+/// A number is a condition where it isn't 0.
+pub fn nonzero(x: Operand) -> Condition
+    ensures { condition_of result ≡ isnt_zero x }
+{
+    Condition {
+        test: related(Comparison::NotEqual, false, x, Operand::Number(0)),
+        turned: false,
+    }
+}
+
+/// The other way round.
+pub fn turn(condition: Condition) -> Condition
+    ensures { condition_of result ≡ turn (condition_of condition) }
+{
+    Condition {
+        test: condition.test,
+        turned: !condition.turned,
+    }
 }

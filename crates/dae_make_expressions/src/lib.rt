@@ -7,6 +7,5 @@
 pub use lowerer::Lowerer;
 
 mod assignments;
-
 mod leaves;
 mod lowerer;
