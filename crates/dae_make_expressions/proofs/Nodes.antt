@@ -263,8 +263,10 @@ behind_nothing (x ∷ xs) = ap (λ zs. x ∷ zs) (behind_nothing xs)
 pub record Listed (l : Links) (xs : Expressions) (a now : State) (done : List Operand) (ys : Expressions) : Type 0 where
   pub follows : (b : State) (zs : List Operand) → Lowers (operands l ys) (all_assignments ys) now b zs → Lowers (operands l xs) (all_assignments xs) a b (done ++ zs)
 
-pub first_listed : (l : Links) (xs : Expressions) (a : State) → Listed l xs a a [] xs
-first_listed l xs a = record { follows = λ b zs h. h }
+pub first_listed : (l : Links) (xs : Expressions) (a : State) (done : List Operand) → done ≡ [] → Listed l xs a a done xs
+first_listed l xs a done e = record {
+  follows = λ b zs h. subst (λ (os : List Operand). Lowers (operands l xs) (all_assignments xs) a b (os ++ zs)) (sym e) h;
+}
 
 pub next_listed : (l : Links) (xs : Expressions) (a now new : State) (done more : List Operand) (y : Expression) (ys zs : Expressions) (x : Operand) → zs ≡ expression_then y ys → more ≡ done ++ x ∷ [] → Listed l xs a now done zs → Lowers (ways l y).value (assignments y) now new x → Listed l xs a new more ys
 next_listed l xs a now new done more y ys zs x e m h k = record {

@@ -7,5 +7,6 @@
 pub use lowerer::Lowerer;
 
 mod assignments;
+mod expressions;
 mod leaves;
 mod lowerer;
