@@ -8,9 +8,9 @@ use Rattle.dae_ir.specs.Form.{Form, form_of}
 use Rattle.dae_ir.specs.declared.form.Operand.{Operand}
 use Rattle.dae_ir.specs.declared.form.Operand.TheVariants.{Variable}
 use Rattle.dae_ir.specs.declared.form.Statement.{Statement}
-use Rattle.dae_lower.specs.Lowering.{Made, Condition, Spot, Local, Placed, ◌≫◌, ◌⨾◌, nothing, skip, emit, or, branches, held}
+use Rattle.dae_lower.specs.Lowering.{nowhere, Made, Condition, Spot, Local, Placed, ◌≫◌, ◌⨾◌, nothing, skip, emit, or, branches, held}
 use Rattle.dae_make_expressions.proofs.Counting.{with_never, never_with, part_last, counted_both}
-use Rattle.dae_make_expressions.specs.Lowered.{State, Lowers, Parts, IsBlock, is_copied}
+use Rattle.dae_make_expressions.specs.Lowered.{State, Lowers, Parts, IsBlock, Whole, is_copied}
 use Rattle.dae_maker.proofs.Laws.{behind_behind, nothing_written, written_on}
 use Rattle.dae_maker.specs.Counting.{Counts, never, both, is_counted, Changes}
 use Rattle.dae_maker.specs.declared.later.Change.TheVariants.{Add, Remove}
@@ -91,4 +91,10 @@ reserved_lowered f some a b c v is after same h = record {
       let w = subst (λ (s : Written). Writes (f v (is_counted rest) s.next) s c.written tt) after k.1 in
       let u = written_on (f v (is_counted rest) (v + 1)) (λ x. nothing (Variable v)) start c.written c.written tt (Variable v) w (nothing_written c.written (Variable v)) in
       (k.0, subst (λ (n : ℕ). Writes (f n (is_counted rest) (n + 1) ≫ λ x. nothing (Variable n)) a.written c.written (Variable v)) is (record { code = u.code; given = u.given; next = u.next }));
+}
+
+-- what is counted first, and lowered then, is a whole
+pub whole_made : {Y : Type 0} (made : VariableSet → ℕ → Made Y) (some old now : Counts) (a : Written) (b : State) (y : Y) → Changes Add some old now → Lowers made some (record { written = a; later = now }) b y → Whole (made nowhere) (record { written = a; later = old }) b y
+whole_made made some old now a b y h k = record {
+  by = λ e. let i = k.by never (h ∙ ap (λ c. both c some) e) in (i.0, i.1);
 }

@@ -9,7 +9,7 @@ use Rattle.dae_base.specs.declared.Place.{Place}
 use Rattle.dae_make_expressions.specs.declared.lowerer.Lowerer.{Lowerer}
 use Rattle.dae_make_expressions.specs.declared.leaves.Part.{Part}
 use Rattle.dae_make_expressions.specs.declared.leaves.Part.TheVariants.{Value, Truth, Effect}
-use Rattle.dae_maker.specs.Counting.{Counts, both, is_counted, counts_of}
+use Rattle.dae_maker.specs.Counting.{Counts, both, never, is_counted, counts_of}
 use Rattle.dae_maker.specs.Making.{Written, Writes, so_far}
 use Rattle.dae_program.specs.Resolved.{address_in, callee_in}
 use Rattle.dae_program.specs.declared.program.Links.{Links as FileLinks}
@@ -62,3 +62,10 @@ is_copied c (Placed checked x) = false
 -- a condition, which knows what the parts of its branches assign, and its branches
 abbrev pub chosen_by : Place → Part → (a b c : Ways) → VariableSet → VariableSet → ℕ → Made (Unit {0})
 chosen_by place part a b c s later n = branches place (a.condition (or later s) n) (used part b later) (used part c later)
+
+-- nothing is still to come before and behind, and what is made is written
+pub record Whole {Y : Type 0} (made : ℕ → Made Y) (a b : State) (y : Y) : Type 0 where
+  pub by : a.later ≡ never → (b.later ≡ never) × Writes (made a.written.next) a.written b.written y
+
+abbrev pub MakesWhole : {Y : Type 0} → (ℕ → Made Y) → Lowerer → Lowerer → Y → Type 0
+MakesWhole made old new y = Whole made (state_of old) (state_of new) y

@@ -10,3 +10,4 @@ mod assignments;
 mod expressions;
 mod leaves;
 mod lowerer;
+mod whole;
