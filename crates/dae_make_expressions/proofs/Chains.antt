@@ -1,19 +1,17 @@
 -- Parts of expressions, one behind the outer.
-use Rattle.std.proofs.Common.{◌≡◌, ℕ, ◌+◌, Bool, true, false, not, ◌||◌, List, [], ◌∷◌, if◌then◌else◌, refl, ap, sym, ◌∙◌, subst}
+use Rattle.std.proofs.Common.{◌≡◌, ℕ, ◌+◌, List, refl, ap, ◌∙◌, subst}
 use Rattle.dae_base.specs.declared.Place.{Place}
 use Rattle.dae_base.specs.declared.LoadKind.{LoadKind}
 use Rattle.dae_ir.specs.Classes.{VariableSet}
-use Rattle.dae_ir.specs.Code.{Done}
 use Rattle.dae_ir.specs.Form.{Form, form_of}
-use Rattle.dae_ir.specs.declared.form.Operand.{Operand}
 use Rattle.dae_ir.specs.declared.form.Operand.TheVariants.{Variable}
 use Rattle.dae_ir.specs.declared.form.Statement.{Statement}
 use Rattle.dae_lower.specs.Lowering.{nowhere, Made, Condition, Spot, Local, Placed, ◌≫◌, ◌⨾◌, nothing, skip, emit, or, branches, held}
-use Rattle.dae_make_expressions.proofs.Counting.{with_never, never_with, part_last, counted_both}
-use Rattle.dae_make_expressions.specs.Lowered.{State, Lowers, Parts, IsBlock, Whole, is_copied}
+use Rattle.dae_make_expressions.proofs.Counting.{with_never, part_last, counted_both}
+use Rattle.dae_make_expressions.specs.Lowered.{State, Lowers, IsBlock, Whole, is_copied}
 use Rattle.dae_maker.proofs.Laws.{behind_behind, nothing_written, written_on}
 use Rattle.dae_maker.specs.Counting.{Counts, never, both, is_counted, Changes}
-use Rattle.dae_maker.specs.declared.later.Change.TheVariants.{Add, Remove}
+use Rattle.dae_maker.specs.declared.later.Change.TheVariants.{Add}
 use Rattle.dae_maker.specs.Making.{Written, Writes, forked}
 
 -- what holds no others

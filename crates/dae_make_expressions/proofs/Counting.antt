@@ -1,9 +1,8 @@
 -- Numbers of assignments tell what is assigned.
 use Rattle.std.proofs.Common.{◌≡◌, ℕ, ◌+◌, Bool, true, false, not, ◌||◌, nat_eq, if◌then◌else◌, refl, ap, sym, ◌∙◌, arith}
 use Rattle.std.proofs.lemmas.Bool.Decides.{nat_tests}
-use Rattle.dae_ir.specs.Classes.{VariableSet}
 use Rattle.dae_lower.specs.Lowering.{or, assigned, assigned_in, assigned_target, assigned_all}
-use Rattle.dae_maker.specs.Counting.{Counts, never, once, both, is_counted, Changes}
+use Rattle.dae_maker.specs.Counting.{Counts, never, both, is_counted, Changes}
 use Rattle.dae_maker.specs.declared.later.Change.{Change}
 use Rattle.dae_maker.specs.declared.later.Change.TheVariants.{Add, Remove}
 use Rattle.dae_make_expressions.specs.Assignments.{assignments, target_assignments, all_assignments}

@@ -6,7 +6,7 @@ use Rattle.dae_meaning.specs.declared.Operator.{Operator}
 use Rattle.dae_base.specs.declared.Place.{Place}
 use Rattle.dae_ir.specs.Classes.{VariableSet}
 use Rattle.dae_ir.specs.Code.{Done}
-use Rattle.dae_ir.specs.Form.{Form, form_of}
+use Rattle.dae_ir.specs.Form.{form_of}
 use Rattle.dae_ir.specs.declared.form.Item.TheVariants as item
 use Rattle.dae_ir.specs.declared.form.Operand.{Operand}
 use Rattle.dae_ir.specs.declared.form.Operand.TheVariants.{Variable, Number}
@@ -18,7 +18,7 @@ use Rattle.dae_make_expressions.proofs.Counting.{never_with, part_last, parts_to
 use Rattle.dae_make_expressions.specs.Assignments.{assignments, target_assignments, all_assignments}
 use Rattle.dae_make_expressions.specs.Lowered.{State, Lowers, Parts, IsBlock, used, chosen_by, is_copied}
 use Rattle.dae_make_expressions.specs.declared.leaves.Part.{Part}
-use Rattle.dae_make_expressions.specs.declared.leaves.Part.TheVariants.{Value, Truth, Effect}
+use Rattle.dae_make_expressions.specs.declared.leaves.Part.TheVariants.{Value, Truth}
 use Rattle.dae_maker.proofs.Laws.{nothing_written, written_on}
 use Rattle.dae_maker.specs.Counting.{Counts, never, once, both, is_counted, Changes}
 use Rattle.dae_maker.specs.declared.later.Change.TheVariants.{Add, Remove}
@@ -139,9 +139,11 @@ step_lowered l place kind t change new flag a b c o z h f same w = record {
   by = λ rest q.
       let i = h.by rest q in
       let set = ap is_counted i.0 in
-      let e = step_held l place kind t (is_counted rest) a.written.next o new flag i.1.given (f ∙ ap (λ c. not new || is_copied c o) set) in
-      (same ∙ i.0, written_on (spot l t (is_counted rest) a.written.next) (λ o n. held place kind (if new then is_counted rest else or (is_counted rest) (assigned_target t)) o n ≫ λ x n. advanced place kind change o x n ≫ λ y. nothing (if new then y else x)) a.written b.written c.written o z i.1
-      (subst (λ (g : ℕ → Made Operand). Writes (g b.written.next ≫ λ x n. advanced place kind change o x n ≫ λ y. nothing (if new then y else x)) b.written c.written z) e w));
+      let e = step_held l place kind t (is_counted rest) a.written.next o new flag i.1.given (f ∙ ap (λ c. not new || is_copied c o) set) in (
+        same ∙ i.0,
+        written_on (spot l t (is_counted rest) a.written.next) (λ o n. held place kind (if new then is_counted rest else or (is_counted rest) (assigned_target t)) o n ≫ λ x n. advanced place kind change o x n ≫ λ y. nothing (if new then y else x)) a.written b.written c.written o z i.1
+            (subst (λ (g : ℕ → Made Operand). Writes (g b.written.next ≫ λ x n. advanced place kind change o x n ≫ λ y. nothing (if new then y else x)) b.written c.written z) e w),
+      );
 }
 
 pub update_lowered : (l : Links) (place : Place) (kind : LoadKind) (t : Target) (operator : Operator) (e : Expression) (flag : Bool) (a b c d z : State) (o : Spot) (x y w : Operand)

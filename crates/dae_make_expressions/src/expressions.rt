@@ -22,12 +22,7 @@ use std::alloc::AllocError;
 impl Lowerer {
     /// The operand that holds an expression's value. `none` is the number of no function.
     #[cycle(lower)]
-    pub fn value(
-        &mut self,
-        links: &Links,
-        none: u32,
-        e: &Expression,
-    ) -> Result<Operand, AllocError>
+    pub fn value(&mut self, links: &Links, none: u32, e: &Expression) -> Result<Operand, AllocError>
         ensures { IfOk result (LowersTo (ways (links_in none links.now) (view e.now)).value (assignments (view e.now)) self.old self.new) }
     {
         match e {
@@ -56,7 +51,9 @@ impl Lowerer {
             }
             Expression::Not(place, a) => {
                 let x = self.value(links, none, a)?;
-                let z = self.maker.compared(*place, Comparison::Equal, false, x, Operand::Number(0))?;
+                let z = self
+                    .maker
+                    .compared(*place, Comparison::Equal, false, x, Operand::Number(0))?;
                 Ok(z)
             }
             Expression::Binary(place, operator, a, b) => {
@@ -123,7 +120,11 @@ impl Lowerer {
             }
             Expression::Call(place, function, xs) => {
                 let arguments = self.operands(links, none, xs)?;
-                let z = self.maker.called(*place, callee(none, links, *function), Items::from_vec(arguments))?;
+                let z = self.maker.called(
+                    *place,
+                    callee(none, links, *function),
+                    Items::from_vec(arguments),
+                )?;
                 Ok(z)
             }
             Expression::Putchar(place, a) => {

@@ -1,5 +1,5 @@
 use Rattle.std.proofs.Common.{drop, ◌+◌, refl}
-use Rattle.std.specs.Prelude.{true, false, Some}
+use Rattle.std.specs.Prelude.{false, Some}
 use Rattle.dae_base.specs.Words.{plus}
 use Rattle.dae_base.specs.declared.LoadKind.TheVariants.{U8}
 use Rattle.dae_ir.specs.declared.form.Check.TheVariants.{Abort}
@@ -8,16 +8,15 @@ use Rattle.dae_ir.specs.declared.form.Operand.TheVariants.{Number}
 use Rattle.dae_ir.specs.declared.form.Value.TheVariants.{Same, Holds, Extended, FrameAddress}
 use Rattle.dae_meaning.specs.declared.Spelling.TheVariants.{Byte}
 use Rattle.dae_meaning.specs.declared.Comparison.TheVariants.{Equal}
-use Rattle.dae_lower.specs.Lowering.{emit, ◌≫◌, nothing, only, one, or, assigned, fetched, narrowed, operands, operated, put_in, related, set, spot, test_of, turn, isnt_zero, variable, ways, Placed}
-use Rattle.dae_make_expressions.proofs.Chains.{leaf_lowered, nothing_lowered, then_lowered, dropped_lowered, given_lowered, both_lowered, same_lowered, held_by, reserved_lowered}
+use Rattle.dae_lower.specs.Lowering.{emit, ◌≫◌, nothing, only, one, or, assigned, fetched, narrowed, operands, operated, put_in, related, set, spot, test_of, turn, variable, ways, Placed}
+use Rattle.dae_make_expressions.proofs.Chains.{leaf_lowered, nothing_lowered, then_lowered, dropped_lowered, given_lowered, both_lowered}
 use Rattle.dae_make_expressions.proofs.Counting.{assigned_told, both_told}
 use Rattle.dae_make_expressions.proofs.Nodes.{removed_lowered, truth_lowered, and_lowered, or_lowered, chosen_lowered, picked_lowered, block_made, step_lowered, update_lowered, IsPlain, IsTested, plain_lowered, tested_lowered, first_listed, next_listed, last_listed}
 use Rattle.dae_make_expressions.proofs.Views.{by_call, view_at, view_end}
-use Rattle.dae_make_expressions.specs.Assignments.{assignments, target_assignments}
-use Rattle.dae_make_expressions.specs.Lowered.{Lowers, state_of, links_in, chosen_by, used}
-use Rattle.dae_make_expressions.specs.declared.leaves.Part.TheVariants.{Value, Truth, Effect}
-use Rattle.dae_maker.specs.Making.{called_with, condition_of, spot_of, so_far}
-use Rattle.dae_maker.specs.Counting.{both, counts_of}
+use Rattle.dae_make_expressions.specs.Assignments.{assignments}
+use Rattle.dae_make_expressions.specs.Lowered.{Lowers, state_of, links_in, used}
+use Rattle.dae_make_expressions.specs.declared.leaves.Part.TheVariants.{Value, Effect}
+use Rattle.dae_maker.specs.Making.{called_with, spot_of, so_far}
 use Rattle.dae_maker.proofs.Laws.{item_given, nothing_written, written_on}
 use Rattle.dae_program.specs.Resolved.{address_in, callee_in}
 use Rattle.dae_program.specs.Views.{view, view_target, view_expressions}
@@ -314,4 +313,3 @@ operands-loop-e-preserved t c =
 pub operands-returns : goal.operands-returns
 operands-returns t c =
     last_listed (links_in c.args.none c.args.links.now) (view_expressions c.args.xs.now) (state_of c.args.self.now) (state_of c.loop-e.self) c.loop-e.operands.items (view_expressions (drop c.loop-e.e-index c.args.xs.now)) (view_end c.args.xs.now c.loop-e.e-index c.loop-e-test.false) c.loop-e.invariant
-
