@@ -1,1 +1,3 @@
 mod Rows
+mod Counts
+pub mod Laws

@@ -1,6 +1,6 @@
 -- What is appended stands behind.
-use Rattle.std.proofs.Common.{◌≡◌, ℕ, zero, suc, ◌+◌, ◌<◌, ◌≤◌, Bool, true, false, List, [], ◌∷◌, ◌++◌, refl, ap, sym, ◌∙◌, length, arith}
-use Rattle.std.specs.Prelude.{slice_index_or}
+use Rattle.std.proofs.Common.{◌≡◌, ℕ, ◌+◌, Bool, true, false, List, [], ◌∷◌, ◌++◌, refl, ap, sym, ◌∙◌}
+use Rattle.std.specs.Prelude.{if◌then◌else◌}
 use Rattle.dae_base.specs.declared.Place.{Place}
 use Rattle.dae_ir.specs.Code.{Done, Do, If, Loop}
 use Rattle.dae_ir.specs.Form.{Form, form_of, before}
@@ -8,7 +8,6 @@ use Rattle.dae_ir.specs.declared.form.Item.{Item}
 use Rattle.dae_ir.specs.declared.form.Operand.{Operand}
 use Rattle.dae_ir.specs.declared.form.Operand.TheVariants.{Variable}
 use Rattle.dae_ir.specs.declared.form.Statement.{Statement, Simple, If', Loop'}
-use Rattle.dae_maker.specs.Assigned.{among}
 use Rattle.dae_lower.specs.Lowering.{Made, ◌≫◌, nothing, only, one, checks, ◌⨾◌}
 use Rattle.dae_maker.specs.Making.{Written, Writes}
 
@@ -29,13 +28,17 @@ before_then (Simple place item) k c = refl
 before_then (If' place test s p t q) k c = refl
 before_then (Loop' place s body t step) k c = refl
 
-pub form_of_pushed : (xs : List Statement) (place : Place) (item : Item) → form_of (xs ++ Simple place item ∷ []) ≡ (form_of xs ⨾ one place item)
-form_of_pushed [] place item = refl
-form_of_pushed (x ∷ xs) place item = ap (λ f. before x f) (form_of_pushed xs place item) ∙ before_then x (form_of xs) (one place item)
+pub form_of_pushed : (xs : List Statement) (s : Statement) → form_of (xs ++ s ∷ []) ≡ (form_of xs ⨾ before s Done)
+form_of_pushed [] s = refl
+form_of_pushed (x ∷ xs) s = ap (λ f. before x f) (form_of_pushed xs s) ∙ before_then x (form_of xs) (before s Done)
+
+-- a statement
+pub statement_written : (xs : List Statement) (n : ℕ) (s : Statement) (code : Form) → before s Done ≡ code → Writes (only code (tt {0}) n) (record { code = form_of xs; next = n }) (record { code = form_of (xs ++ s ∷ []); next = n }) tt
+statement_written xs n s code e = record { code = form_of_pushed xs s ∙ ap (λ k. form_of xs ⨾ k) e; given = refl; next = refl }
 
 -- an item
 pub item_written : (xs : List Statement) (n : ℕ) (place : Place) (item : Item) → Writes (only (one place item) (tt {0}) n) (record { code = form_of xs; next = n }) (record { code = form_of (xs ++ Simple place item ∷ []); next = n }) tt
-item_written xs n place item = record { code = form_of_pushed xs place item; given = refl; next = refl }
+item_written xs n place item = statement_written xs n (Simple place item) (one place item) refl
 
 -- nothing more
 pub nothing_written : {Y : Type 0} (a : Written) (y : Y) → Writes (nothing y a.next) a a y
@@ -75,13 +78,8 @@ written_on {X} {Y} made f a b c x y g h = record {
   both : {A : Type 0} (k : X → ℕ → A) → k x b.next ≡ k made.given made.next
   both k = ap (λ z. k z b.next) g.given ∙ ap (λ z. k made.given z) g.next
 
--- a flag in a list is that of its variable
-pub among_read : (bs : List Bool) (v : ℕ) (d : Bool) → v < length bs → slice_index_or bs v d ≡ among bs v
-among_read [] v d h = absurd (omega (arith, h))
-among_read (b ∷ bs) zero d h = refl
-among_read (b ∷ bs) (suc v) d h = among_read bs v d (omega (arith, h))
-
-pub among_past : (bs : List Bool) (v : ℕ) → length bs ≤ v → among bs v ≡ false
-among_past [] v h = refl
-among_past (b ∷ bs) zero h = absurd (omega (arith, h))
-among_past (b ∷ bs) (suc v) h = among_past bs v (omega (arith, h))
+-- one after the other, of which the flag says which is given
+pub picked_written : {X : Type 0} (flag : Bool) (made : Made X) (f : X → ℕ → Made X) (a b c : Written) (x y : X) → Writes made a b x → Writes (f x b.next) b c y → Writes (made ≫ λ x n. f x n ≫ λ y. nothing (if flag then y else x)) a c (if flag then y else x)
+picked_written flag made f a b c x y g h =
+    written_on made (λ x n. f x n ≫ λ y. nothing (if flag then y else x)) a b c x (if flag then y else x) g
+    (written_on (f x b.next) (λ y. nothing (if flag then y else x)) b c c y (if flag then y else x) h (nothing_written c (if flag then y else x)))

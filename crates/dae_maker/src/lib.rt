@@ -1,6 +1,8 @@
 // What lowering writes: statements of the structured form behind one another, in single items.
 #![tactic(auto)]
 
-pub use maker::{Maker, Spot};
+pub use later::{Change, Later, one_more};
+pub use maker::{Condition, Maker, Spot, related};
 
+mod later;
 mod maker;

@@ -1,0 +1,4 @@
+mod Counting
+mod Views
+mod Chains
+mod Nodes

@@ -1,0 +1,2 @@
+-- Laws for the crates above: of what is written behind.
+pub use Rattle.dae_maker.proofs.Rows.{behind_behind, behind_done, item_given, nothing_written, written_on}
