@@ -1,5 +1,5 @@
 -- What an image is that is compiled of a form, and what linking asks of a pair.
-use Rattle.std.specs.Prelude.{◌≡◌, ℕ, ◌-◌, ◌%◌, ◌≤◌, ◌<◌, List, length, IsTrue}
+use Rattle.std.specs.Prelude.{◌≡◌, ◌⊎◌, ℕ, ◌-◌, ◌%◌, ◌^◌, ◌≤◌, ◌<◌, List, length, IsTrue}
 use Rattle.std.specs.List.{All, list_all}
 use Rattle.dae_base.specs.declared.Side.TheVariants.{A, E}
 use Rattle.dae_base.specs.declared.Depths.{Depths}
@@ -12,8 +12,10 @@ use Rattle.dae_ir.specs.declared.stream.Class.{Class}
 use Rattle.dae_ir.specs.declared.stream.Pair.{Pair}
 use Rattle.dae_ir.specs.Programs.{AreClassesOf, IsPairOf}
 use Rattle.dae_ir.specs.Budgets.{IsBudgetOf}
-use Rattle.dae_faithful.specs.Made.{IsMade}
+use Rattle.dae_faithful.specs.Made.{IsMade, IsReady}
+use Rattle.dae_runs.specs.Promises.{DoesForm}
 use Rattle.dae_sides.specs.Sides.{HasLimits}
+use Rattle.dae_sides.specs.Sizes.{most_words}
 
 -- the two streams of one program, within what an image can hold, with data and names that it can hold
 pub record CanLink (pair : Pair) (budget : Depths) (content : List ℕ) (names : List (List ℕ)) : Type 0 where
@@ -51,6 +53,17 @@ pub record IsCompiledOf (ir : Ir) (cap : ℕ) (image : Image) : Type 0 where
   pub made : IsMade ir tables cap image
 
 -- of each form whose pair and budget these are
-abbrev pub IsCompiled : Pair → Depths → Ir → ℕ → Image → Type 0
-IsCompiled pair budget ir cap image =
-    (tables : List (List Class)) → AreClassesOf ir tables → IsPairOf ir tables cap pair → IsBudgetOf pair budget → IsCompiledOf ir cap image
+abbrev pub IsCompiled : Pair → Depths → Image → Type 0
+IsCompiled pair budget image =
+    (ir : Ir) (tables : List (List Class)) (cap : ℕ) → AreClassesOf ir tables → IsPairOf ir tables cap pair
+    → IsBudgetOf pair budget → IsCompiledOf ir cap image
+
+-- and of each that is ready every run of the image does what the form does
+abbrev pub IsFaithful : Pair → Depths → Image → Type 0
+IsFaithful pair budget image =
+    (ir : Ir) (tables : List (List Class)) (cap : ℕ) → IsReady ir → AreClassesOf ir tables → IsPairOf ir tables cap pair
+    → IsBudgetOf pair budget → DoesForm ir image 14
+
+-- what bounds one of the codes is more than a code may have
+abbrev pub IsTooLong : Pair → Type 0
+IsTooLong pair = (2 ^ 25 < most_words pair.a) ⊎ (2 ^ 25 < most_words pair.e)

@@ -1,15 +1,8 @@
 // The image of a pair.
 
-ghost use Rattle.std.specs.Prelude.{◌≡◌, ◌⊎◌, ℕ, ◌<◌, ◌^◌, List, IfOk, IfErr};
-ghost use Rattle.dae_ir.specs.declared.form.Ir.{Ir};
-ghost use Rattle.dae_ir.specs.declared.stream.Class.{Class};
-ghost use Rattle.dae_ir.specs.Programs.{AreClassesOf, IsPairOf};
-ghost use Rattle.dae_ir.specs.Budgets.{IsBudgetOf};
-ghost use Rattle.dae_faithful.specs.Made.{IsReady};
-ghost use Rattle.dae_runs.specs.Promises.{DoesForm};
-ghost use Rattle.dae_sides.specs.Sizes.{most_words};
+ghost use Rattle.std.specs.Prelude.{◌≡◌, IfOk, IfErr};
 ghost use Rattle.dae_sides.specs.declared.error.CodeError.TheVariants as errors;
-ghost use Rattle.dae_link.specs.Linked.{CanLink, HasGiven, IsCompiled};
+ghost use Rattle.dae_link.specs.Linked.{CanLink, HasGiven, IsCompiled, IsFaithful, IsTooLong};
 
 use dae_base::{Depths, Items, Text};
 use dae_faithful::made_does_form;
@@ -29,9 +22,9 @@ pub fn link(
 ) -> Result<Image, CodeError>
     requires { CanLink pair.now budget content names }
     ensures given { IfOk result (λ image. HasGiven pair.now budget content names image) }
-    ensures compiled { IfOk result (λ image. (ir : Ir) (cap : ℕ) → IsCompiled pair.now budget ir cap image) }
-    ensures err { IfErr result (λ e. e ≡ errors.Code → (2 ^ 25 < most_words pair.now.a) ⊎ (2 ^ 25 < most_words pair.now.e)) }
-    ensures does { IfOk result (λ image. (ir : Ir) (tables : List (List Class)) (cap : ℕ) → IsReady ir → AreClassesOf ir tables → IsPairOf ir tables cap pair.now → IsBudgetOf pair.now budget → DoesForm ir image 14) }
+    ensures compiled { IfOk result (λ image. IsCompiled pair.now budget image) }
+    ensures does { IfOk result (λ image. IsFaithful pair.now budget image) }
+    ensures err { IfErr result (λ e. e ≡ errors.Code → IsTooLong pair.now) }
 {
     made_does_form();
     let a = side_code(alloc, &pair.a)?;

@@ -20,10 +20,14 @@ opening_code plan main frames = start_code plan main frames ++ finish_code plan.
 abbrev pub whole_code : Plan → (ℕ → ℕ) → ℕ → ℕ → List StreamFunction → List Inst
 whole_code plan variables main frames fs = opening_code plan main frames ++ functions_code plan variables 0 fs
 
+-- the layout of a function that is entered at a word, with so many words before its actions
+abbrev pub moved : FunctionLayout → ℕ → ℕ → FunctionLayout
+moved l word entry = record { homes = l.homes; variables = l.variables; frame = l.frame; entry = word; start = word + entry }
+
 -- the layouts of the functions from the k-th on, where the first of them is entered at a word
 abbrev pub placed : Plan → (ℕ → ℕ) → ℕ → ℕ → List StreamFunction → List FunctionLayout → List FunctionLayout
 placed plan variables word k [] ls = []
 placed plan variables word k (f ∷ fs) [] = []
 placed plan variables word k (f ∷ fs) (l ∷ ls) =
-    record { homes = l.homes; variables = l.variables; frame = l.frame; entry = word; start = word + length (entry_code plan variables k (live (actions_of f.body) nowhere)) }
+    moved l word (length (entry_code plan variables k (live (actions_of f.body) nowhere)))
     ∷ placed plan variables (word + length (function_code plan variables k (actions_of f.body))) (k + 1) fs ls

@@ -10,6 +10,7 @@ use Rattle.dae_ir.specs.declared.stream.StreamFunction.{StreamFunction}
 use Rattle.dae_blocks.specs.Code.{start_code}
 use Rattle.dae_blocks.specs.Laws.{opened_with}
 use Rattle.dae_select.specs.Layouts.{is_a, plan_of, variables_of}
+use Rattle.dae_select.specs.declared.layouts.FunctionLayout.{FunctionLayout}
 use Rattle.dae_select.specs.declared.layouts.Layouts.{Layouts}
 use Rattle.dae_faithful.specs.Made.{IsSide}
 use Rattle.dae_sides.specs.Placed.{functions_code, opening_code, whole_code, placed}
@@ -53,11 +54,27 @@ IsCodeOf stream words private =
 
 -- ---- places
 
+-- the functions by their layouts, where the first of them is entered at a word; their code, and the word behind it
+abbrev pub placed_by : Layouts → ℕ → List StreamFunction → List FunctionLayout
+placed_by all first fs = placed (plan_of all) (variables_of all) first 0 fs all.functions
+
+abbrev pub functions_by : Layouts → List StreamFunction → List Inst
+functions_by all fs = functions_code (plan_of all) (variables_of all) 0 fs
+
+abbrev pub word_behind : Layouts → ℕ → List StreamFunction → ℕ
+word_behind all first fs = first + length (functions_by all fs)
+
+abbrev pub opening_by : Layouts → Stream → List Inst
+opening_by all stream = opening_code (plan_of all) stream.main stream.frames
+
+abbrev pub whole_by : Layouts → Stream → List Inst
+whole_by all stream = whole_code (plan_of all) (variables_of all) stream.main stream.frames stream.functions
+
 -- the functions stand in their order behind what begins and what main returns to
 abbrev pub at_places : Stream → Layouts → Layouts
 at_places stream all = record {
   side = all.side;
-  functions = placed (plan_of all) (variables_of all) (length (opening_code (plan_of all) stream.main stream.frames)) 0 stream.functions all.functions;
+  functions = placed_by all (length (opening_by all stream)) stream.functions;
   finish = length (start_code (plan_of all) stream.main stream.frames);
   largest = all.largest;
   private = all.private;
@@ -67,8 +84,8 @@ at_places stream all = record {
 
 -- and the last of them ends there
 abbrev pub end_of : Stream → Layouts → ℕ
-end_of stream all = length (opening_code (plan_of all) stream.main stream.frames) + length (functions_code (plan_of all) (variables_of all) 0 stream.functions)
+end_of stream all = word_behind all (length (opening_by all stream)) stream.functions
 
 -- the whole code, with the functions at their places
 abbrev pub code_at : Stream → Layouts → List Inst
-code_at stream all = whole_code (plan_of (at_places stream all)) (variables_of (at_places stream all)) stream.main stream.frames stream.functions
+code_at stream all = whole_by (at_places stream all) stream

@@ -1,8 +1,9 @@
 // Functions get their places in the code of a side, one behind the other.
 
-ghost use Rattle.std.specs.Prelude.{◌≡◌, ◌≢◌, ℕ, ◌+◌, ◌≤◌, ◌<◌, ◌^◌, List, length, slice_get, Some, IfOk, IfErr};
-ghost use Rattle.dae_select.specs.Layouts.{plan_of, variables_of, AreSmall};
-ghost use Rattle.dae_sides.specs.Placed.{functions_code, opening_code, placed};
+ghost use Rattle.std.specs.Prelude.{◌≡◌, ◌+◌, ◌≤◌, ◌<◌, ◌^◌, length, IfOk, IfErr};
+ghost use Rattle.dae_select.specs.Layouts.{AreSmall};
+ghost use Rattle.dae_sides.specs.Placed.{moved};
+ghost use Rattle.dae_sides.specs.Sides.{placed_by, word_behind};
 ghost use Rattle.dae_sides.specs.declared.error.CodeError.TheVariants as errors;
 
 use crate::MOST_WORDS;
@@ -13,7 +14,7 @@ use dae_select::{FunctionLayout, Layouts, function_code};
 use std::alloc::{AllocError, Global};
 
 /// The word behind so many words of code.
-fn word_behind(word: u32, words: usize) -> Result<u32, CodeError>
+fn word_after(word: u32, words: usize) -> Result<u32, CodeError>
     requires { word ≤ 2 ^ 25 }
     ensures ok { IfOk result (λ behind. (behind ≡ word + words) × (behind ≤ 2 ^ 25)) }
     ensures err { IfErr result (λ e. (e ≡ errors.Code) × (2 ^ 25 < word + words)) }
@@ -32,7 +33,7 @@ fn layout_at(
     entry: u32,
 ) -> Result<FunctionLayout, AllocError>
     requires { word + entry < 2 ^ 32 }
-    ensures { IfOk result (λ new. new ≡ record { homes = layout.now.homes; variables = layout.now.variables; frame = layout.now.frame; entry = word; start = word + entry }) }
+    ensures { IfOk result (λ new. new ≡ moved layout.now word entry) }
 {
     let mut homes = Vec::new(alloc);
     homes.extend_from_slice(layout.homes.as_slice())?;
@@ -56,9 +57,9 @@ pub fn place(
     requires count { length layouts.now.functions ≡ length functions.now }
     requires few { length functions.now ≤ 2 ^ 25 }
     requires low { first ≤ 2 ^ 25 }
-    ensures placed { IfOk result (λ all. all.items ≡ placed (plan_of layouts.now) (variables_of layouts.now) first 0 functions.now layouts.now.functions) }
-    ensures ends { IfOk result (λ all. first + length (functions_code (plan_of layouts.now) (variables_of layouts.now) 0 functions.now) ≤ 2 ^ 25) }
-    ensures err { IfErr result (λ e. e ≡ errors.Code → 2 ^ 25 < first + length (functions_code (plan_of layouts.now) (variables_of layouts.now) 0 functions.now)) }
+    ensures placed { IfOk result (λ all. all.items ≡ placed_by layouts.now first functions.now) }
+    ensures ends { IfOk result (λ all. word_behind layouts.now first functions.now ≤ 2 ^ 25) }
+    ensures err { IfErr result (λ e. e ≡ errors.Code → 2 ^ 25 < word_behind layouts.now first functions.now) }
 {
     let mut all = Vec::new(alloc);
     let mut word = first;
@@ -66,7 +67,7 @@ pub fn place(
     for index in 0..functions.len() {
         let body = functions[index].body.as_slice();
         let made = function_code(alloc, layouts, index as u32, body)?;
-        let behind = word_behind(word, made.code.len())?;
+        let behind = word_after(word, made.code.len())?;
         all.push(layout_at(alloc, &unplaced[index], word, made.entry as u32)?)?;
         word = behind;
     }

@@ -3,8 +3,9 @@
 ghost use Rattle.std.specs.Prelude.{◌≡◌, ℕ, ◌≤◌, ◌<◌, ◌^◌, ◌++◌, length, map, IfOk, OnOk};
 ghost use Rattle.std.specs.List.{All, AllByRecursion};
 ghost use Rattle.dae_encode.specs.Spelling.{InRange, encoded};
-ghost use Rattle.dae_select.specs.Layouts.{plan_of, variables_of, AreSmall};
-ghost use Rattle.dae_sides.specs.Placed.{functions_code, opening_code, whole_code};
+ghost use Rattle.dae_select.specs.Layouts.{plan_of, AreSmall};
+ghost use Rattle.dae_sides.specs.Placed.{opening_code};
+ghost use Rattle.dae_sides.specs.Sides.{functions_by, whole_by};
 
 use dae_encode::{Inst, encode};
 use dae_ir::{Stream, StreamFunction};
@@ -20,7 +21,7 @@ fn add_functions(
 ) -> Result<(), AllocError>
     requires small { AreSmall layouts.now }
     requires few { length functions.now ≤ 2 ^ 25 }
-    ensures { OnOk result (code.new.items ≡ code.old.items ++ functions_code (plan_of layouts.now) (variables_of layouts.now) 0 functions.now) }
+    ensures { OnOk result (code.new.items ≡ code.old.items ++ functions_by layouts.now functions.now) }
 {
     for index in 0..functions.len() {
         let body = functions[index].body.as_slice();
@@ -53,7 +54,7 @@ pub fn whole_code(
 ) -> Result<Vec<Inst>, AllocError>
     requires small { AreSmall layouts.now }
     requires few { length stream.now.functions ≤ 2 ^ 25 }
-    ensures { IfOk result (λ code. code.items ≡ whole_code (plan_of layouts.now) (variables_of layouts.now) stream.now.main stream.now.frames stream.now.functions) }
+    ensures { IfOk result (λ code. code.items ≡ whole_by layouts.now stream.now) }
 {
     let mut code = opening_code(alloc, layouts, stream.main, stream.frames)?;
     add_functions(alloc, &mut code, layouts, stream.functions.as_slice())?;

@@ -11,7 +11,7 @@ invariant_of-result c =
     rw lines (record { fits = linked_fits c.args.pair.now c.args.budget c.args.content c.args.names c.requires _ _ _ _ a.some a.few e.some e.few a.private e.private a.words e.words })
 
 pub returns-clause-compiled : goal.returns-clause-compiled
-returns-clause-compiled c = λ ir cap tables classes is_pair is_budget. record {
+returns-clause-compiled c = λ ir tables cap classes is_pair is_budget. record {
   tables = tables;
   pair = c.args.pair.now;
   classes = classes;
