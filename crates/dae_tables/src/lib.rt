@@ -1,0 +1,17 @@
+// What a C file declares, in memory: the tables that the rules of types ask, and how they grow and go back at the ends of
+// scopes. A look-up by name goes through its table from the latest row: at most 65,536 uses of 10,000 names are about a second.
+#![tactic(auto)]
+
+pub use checker::Checker;
+pub use shapes::{
+    broken, is_array, is_character, is_function, is_integer, is_pointer, is_scalar, is_structure,
+    is_unsigned, is_void,
+};
+
+mod checker;
+mod entries;
+mod layouts;
+mod lookups;
+mod sameness;
+mod scopes;
+mod shapes;
