@@ -149,6 +149,13 @@ impl Checker {
         self.storages.get(number).copied()
     }
 
+    /// The number of shapes so far.
+    pub fn count_shapes(&self) -> usize
+        ensures { result ≡ length (tables self.now).shapes }
+    {
+        self.shapes.len()
+    }
+
     /// The number of parameters and local objects so far.
     pub fn count_locals(&self) -> usize
         ensures { result ≡ length (tables self.now).locals }
