@@ -6,10 +6,11 @@ ghost use Rattle.dae_kinds.specs.Values.{is_zero, is_number, is_known, known_as,
 ghost use Rattle.dae_folding.specs.Views.{view_deed};
 
 use crate::operators::{Deed, apply, compare, divides};
-use crate::shapes::{is_integer, is_pointer, is_void, load_kind};
+use crate::shapes::load_kind;
 use dae_base::{LoadKind, extend};
 use dae_kinds::{Known, Shape};
 use dae_meaning::Operator;
+use dae_tables::{is_integer, is_pointer, is_void};
 
 /// Whether this is an integer constant expression with the value 0.
 pub fn is_zero(known: Known) -> bool

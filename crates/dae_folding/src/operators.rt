@@ -5,9 +5,10 @@ ghost use Rattle.dae_meaning.specs.Operations.{combined, compared};
 ghost use Rattle.dae_kinds.specs.Values.{deed, is_shift, is_equality, is_comparison, is_sum, is_difference, operator_of, divides, is_unsigned_for, type_for};
 ghost use Rattle.dae_folding.specs.Views.{view_deed};
 
-use crate::shapes::is_unsigned;
+use crate::shapes::{INT, UNSIGNED};
 use dae_kinds::Shape;
 use dae_meaning::{Comparison, Operator};
+use dae_tables::is_unsigned;
 use dae_tree::{AssignmentOperator, BinaryOperator};
 
 /// An operation, or a comparison with whether its operands are turned.
@@ -170,9 +171,9 @@ pub fn type_for(operator: BinaryOperator, unsigned: bool) -> usize
     ensures { result ≡ type_for operator unsigned }
 {
     if !is_comparison(operator) && unsigned {
-        7
+        UNSIGNED
     } else {
-        6
+        INT
     }
 }
 

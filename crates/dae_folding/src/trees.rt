@@ -4,7 +4,7 @@ ghost use Rattle.std.specs.Prelude.{◌≡◌, Ok};
 ghost use Rattle.dae_program.specs.Views.{view, view_target};
 ghost use Rattle.dae_rules.specs.Plan.{Gives};
 ghost use Rattle.dae_kinds.specs.Values.{changes, changed, further, scaled, sum_of, difference_of, tree_by, address_tree, operated, target_of};
-ghost use Rattle.dae_folding.specs.Views.{view_value, view_deed};
+ghost use Rattle.dae_folding.specs.Views.{MakesTree, MakesValue, view_deed, view_value};
 
 use crate::knowing::known_by;
 use crate::operators::Deed;
@@ -37,7 +37,7 @@ pub fn changed(
     to: LoadKind,
     tree: Expression,
 ) -> Result<Expression, CheckError>
-    ensures { Gives view result (Ok (changed place from to (view tree))) }
+    ensures { MakesTree result (changed place from to (view tree)) }
 {
     if changes(from, to) {
         Ok(Expression::Convert(place, to, Box::new(alloc, tree)?))
@@ -54,7 +54,7 @@ fn binary(
     left: Expression,
     right: Expression,
 ) -> Result<Expression, CheckError>
-    ensures { Gives view result (Ok (tree.Binary place operator (view left) (view right))) }
+    ensures { MakesTree result (tree.Binary place operator (view left) (view right)) }
 {
     let left = Box::new(alloc, left)?;
     let right = Box::new(alloc, right)?;
@@ -70,7 +70,7 @@ pub fn further(
     address: Expression,
     bytes: u32,
 ) -> Result<Expression, CheckError>
-    ensures { Gives view result (Ok (further place (view address) bytes)) }
+    ensures { MakesTree result (further place (view address) bytes) }
 {
     match address {
         Expression::Number(word) => Ok(Expression::Number(word.wrapping_add(bytes))),
@@ -97,7 +97,7 @@ pub fn scaled(
     index: Expression,
     size: u32,
 ) -> Result<Expression, CheckError>
-    ensures { Gives view result (Ok (scaled place (view index) size)) }
+    ensures { MakesTree result (scaled place (view index) size) }
 {
     match index {
         Expression::Number(word) => Ok(Expression::Number(word.wrapping_mul(size))),
@@ -119,7 +119,7 @@ pub fn sum_of(
     left: Expression,
     right: Expression,
 ) -> Result<Expression, CheckError>
-    ensures { Gives view result (Ok (sum_of place (view left) (view right))) }
+    ensures { MakesTree result (sum_of place (view left) (view right)) }
 {
     match (left, right) {
         (address, Expression::Number(bytes)) => further(alloc, place, address, bytes),
@@ -135,7 +135,7 @@ pub fn difference_of(
     left: Expression,
     right: Expression,
 ) -> Result<Expression, CheckError>
-    ensures { Gives view result (Ok (difference_of place (view left) (view right))) }
+    ensures { MakesTree result (difference_of place (view left) (view right)) }
 {
     match right {
         Expression::Number(bytes) => further(alloc, place, left, 0u32.wrapping_sub(bytes)),
@@ -151,7 +151,7 @@ pub fn tree_by(
     left: Expression,
     right: Expression,
 ) -> Result<Expression, CheckError>
-    ensures { Gives view result (Ok (tree_by place (view_deed deed) (view left) (view right))) }
+    ensures { MakesTree result (tree_by place (view_deed deed) (view left) (view right)) }
 {
     match deed {
         Deed::Operates(operator) => binary(alloc, place, operator, left, right),
@@ -182,7 +182,7 @@ pub fn operated(
     x: Value,
     y: Value,
 ) -> Result<Value, CheckError>
-    ensures { Gives view_value result (Ok (operated place (view_deed deed) type_id (view_value x) (view_value y))) }
+    ensures { MakesValue result (operated place (view_deed deed) type_id (view_value x) (view_value y)) }
 {
     let known = known_by(deed, x.known, y.known);
     let tree = tree_by(alloc, place, deed, x.tree, y.tree)?;
