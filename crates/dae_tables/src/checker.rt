@@ -3,6 +3,7 @@
 ghost use Rattle.std.specs.Prelude.{◌≡◌, IfOk};
 ghost use Rattle.dae_tables.specs.Seen.{tables, bare};
 
+use crate::basic::FIRST_SHAPES;
 use dae_base::Items;
 use dae_kinds::{
     CheckError, Component, Designation, Innermost, Local, Object, Routine, Shape, Storage,
@@ -10,7 +11,7 @@ use dae_kinds::{
 };
 use std::alloc::Global;
 
-/// What has been declared so far. Rows stand in the order of the text, and a row's number is its place.
+/// What has been declared so far. Rows stand in the order of the text; a row's number is its place.
 #[derive(Drop)]
 pub struct Checker {
     pub(crate) shapes: Vec<Shape>,
@@ -30,21 +31,9 @@ pub struct Checker {
     pub(crate) main: Option<u32>,
 }
 
-/// The basic types, by their numbers from 0 on, and the empty list of parameters.
-const FIRST_SHAPES: [Shape; 9] = [
-    Shape::Void,
-    Shape::Char,
-    Shape::SignedChar,
-    Shape::UnsignedChar,
-    Shape::Short,
-    Shape::UnsignedShort,
-    Shape::Int,
-    Shape::Unsigned,
-    Shape::NoParameters,
-];
-
 impl Checker {
-    /// The tables of a file with these literals, in which the name main has this number, where nothing is declared yet.
+    /// The tables of a file with these literals, in which the name main has this number, before
+    /// anything is declared.
     pub fn new(
         alloc: Global,
         literals: Items<Items<u8>>,

@@ -2,12 +2,18 @@
 // scopes. A look-up by name goes through its table from the latest row: at most 65,536 uses of 10,000 names are about a second.
 #![tactic(auto)]
 
+pub use basic::{
+    CHAR_ID, INT_ID, NO_PARAMETERS_ID, SHORT_ID, SIGNED_CHAR_ID, UNSIGNED_CHAR_ID, UNSIGNED_ID,
+    UNSIGNED_SHORT_ID, VOID_ID,
+};
 pub use checker::Checker;
+pub use layouts::{MOST_BYTES, finish_layout, place_member, round_up};
 pub use shapes::{
     broken, is_array, is_character, is_function, is_integer, is_pointer, is_scalar, is_structure,
     is_unsigned, is_void,
 };
 
+mod basic;
 mod checker;
 mod entries;
 mod layouts;
