@@ -1,0 +1,40 @@
+// The image of a form.
+
+ghost use Rattle.std.specs.Prelude.{◌≡◌, ◌≤◌, IfOk};
+ghost use Rattle.dae_pair.specs.Budget.{IsWithinCap};
+ghost use Rattle.dae_faithful.specs.Made.{IsReady};
+ghost use Rattle.dae_runs.specs.Promises.{DoesForm};
+ghost use Rattle.dae_link.specs.Linked.{IsCompiledOf};
+ghost use Rattle.dae_generate.specs.Generated.{FitsMachine};
+
+use dae_base::{Items, Text};
+use dae_decouple::decouple;
+use dae_image::Image;
+use dae_ir::Ir;
+use dae_link::link;
+use dae_sides::CodeError;
+use std::alloc::Global;
+
+/// The image of a form with these data and file names, where a group holds at most `cap` loads for E and as many copies, from
+/// 1 to 64.
+pub fn generate(
+    alloc: Global,
+    ir: &Ir,
+    cap: u8,
+    content: Items<u8>,
+    names: Items<Text>,
+) -> Result<Image, CodeError>
+    requires ready { IsReady ir.now }
+    requires some { 1 ≤ cap }
+    requires few { cap ≤ 64 }
+    requires fits { FitsMachine ir.now content names }
+    ensures does { IfOk result (λ image. DoesForm ir.now image 14) }
+    ensures compiled { IfOk result (λ image. IsCompiledOf ir.now cap image) }
+    ensures budget { IfOk result (λ image. IsWithinCap cap image.budget) }
+    ensures content { IfOk result (λ image. image.content ≡ content) }
+    ensures names { IfOk result (λ image. image.names ≡ names) }
+{
+    let decoupled = decouple(alloc, ir, cap)?;
+    let image = link(alloc, &decoupled.pair, decoupled.budget, content, names)?;
+    Ok(image)
+}
