@@ -16,7 +16,7 @@ use Rattle.dae_tree.specs.declared.expressions.Declarator.TheVariants as declara
 use Rattle.dae_tree.specs.declared.expressions.Parameter.{Parameter}
 use Rattle.dae_tree.specs.Trees as tree
 use Rattle.dae_tree.specs.Depth.{place_of}
-use Rattle.dae_tree.specs.Views.{view, views, view_specifier, views_specifiers, views_members, views_enumerators, view_declarator, views_parameters}
+use Rattle.dae_tree.specs.Views.{view, views, view_specifier, views_members, views_enumerators, view_declarator, views_parameters}
 use Rattle.dae_tree.proofs.Laws.{view_call, view_sizeof_type, view_cast, view_structure_body, view_enumeration_body, view_function}
 use Rattle.dae_kinds.specs.declared.rules.Breach.{Breach}
 use Rattle.dae_kinds.specs.declared.rules.CheckError.{CheckError}

@@ -13,7 +13,7 @@ use Rattle.dae_kinds.specs.declared.rules.CheckError.{CheckError}
 use Rattle.dae_kinds.specs.declared.rules.CheckError.TheVariants as errors
 use Rattle.dae_kinds.specs.Tables.{Tables}
 use Rattle.dae_kinds.specs.Values.{Typed}
-use Rattle.dae_rules.specs.Plan.{Plan, pure, both, Gives, Fails, check_of, ◌>>=◌}
+use Rattle.dae_rules.specs.Plan.{Plan, pure, both, Gives, Fails, check_of}
 use Rattle.dae_plans.specs.Steps.{assignment_at, binary_at, prefix_at}
 
 -- what a step does on a part that gives this

@@ -1,4 +1,4 @@
-use Rattle.std.proofs.Common.{◌≡◌, ℕ, [], None, drop}
+use Rattle.std.proofs.Common.{◌≡◌, [], None, drop}
 use Rattle.dae_tree.specs.Views.{views, views_specifiers, views_members, views_declarators, views_enumerators, views_parameters}
 use Rattle.dae_kinds.specs.Types.{layout, no_parameters_id}
 use Rattle.dae_rules.specs.Plan.{check_of}
