@@ -24,6 +24,7 @@ use Rattle.dae_plans.specs.Steps.{at, asks, does, nothing, looks, scoped, settle
 use Rattle.dae_plans.specs.Expressions.{plan, plan_specifiers, plan_declarator, plan_value}
 use Rattle.dae_file_plans.specs.Initialisers.{Content, plan_content, plan_unused_initialiser, literal_bytes}
 use Rattle.dae_file_plans.specs.Formats.{InText, pieces_from, letters}
+use Rattle.dae_file_plans.specs.Naming.{names_variable}
 
 -- ---- statements that are done, and one behind them
 
@@ -79,9 +80,24 @@ abbrev pub frame_offset : Option Storage → ℕ
 frame_offset (Some (storage.Frame o)) = o
 frame_offset _ = 0
 
+abbrev pub assigned_to : Place → Tables → ℕ → program.Expression → program.Expression
+assigned_to p s k e = program.Assign p (load_kind (shape_of s (type_of_local s k))) (storage_target (slice_get s.storages k) p) e
+
 -- a local scalar gets a value
 abbrev pub set_to : Place → Tables → ℕ → program.Expression → program.Statements
-set_to p s k e = evaluate p (program.Assign p (load_kind (shape_of s (type_of_local s k))) (storage_target (slice_get s.storages k) p) e)
+set_to p s k e = evaluate p (assigned_to p s k e)
+
+-- what is kept in a variable is named in an expression
+abbrev pub names_stored : Option Storage → program.Expression → Bool
+names_stored (Some (storage.Variable n)) e = names_variable n e
+names_stored _ e = false
+
+-- a local scalar gets the value of its initialiser. Where that names it, what it names is 0: so each variable is set before it
+-- is read.
+abbrev pub set_by_own : Place → Tables → ℕ → program.Expression → program.Statements
+set_by_own p s k e =
+    if names_stored (slice_get s.storages k) e then program.Evaluate p (assigned_to p s k (program.Number 0)) (set_to p s k e)
+    else set_to p s k e
 
 -- a scalar's initialiser is any expression, perhaps in braces
 abbrev pub is_list_of_one : tree.Initialisers → Bool
@@ -89,7 +105,7 @@ is_list_of_one (tree.initialiser_then x tree.no_initialisers) = true
 is_list_of_one _ = false
 
 abbrev pub scalar_value_at : Place → Place → ℕ → Plan Typed → Plan program.Statements
-scalar_value_at p q k m = at (λ s x. AtAssign q s x (type_of_local s k)) (λ s x. (s, set_to p s k (converted q s x (type_of_local s k)).tree)) m
+scalar_value_at p q k m = at (λ s x. AtAssign q s x (type_of_local s k)) (λ s x. (s, set_by_own p s k (converted q s x (type_of_local s k)).tree)) m
 
 abbrev pub scalar_list_at : Place → tree.Initialisers → Plan (Unit {0})
 scalar_list_at q js = node (λ s x. if is_list_of_one js then [] else AtScalarList q ∷ []) (λ s x. (s, tt {0})) nothing
