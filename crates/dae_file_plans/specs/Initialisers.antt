@@ -215,13 +215,17 @@ begun_in [] n = n
 begun_in (Elements o t k count ∷ []) n = k
 begun_in (r ∷ rest) n = begun_in rest n
 
-abbrev pub list_ends : Filling → List Rest → Filling → Filling
-list_ends f behind g = record f { rest = behind; items = g.items; count = begun_in g.rest g.count }
+-- behind the list; the flag says whether no more is said there of what is too many
+abbrev pub list_ends : Bool → List Rest → Filling → Filling
+list_ends is_over behind g = record { rest = behind; items = g.items; count = begun_in g.rest g.count; over = is_over }
+
+abbrev pub opening_at : Place → Filling → Initialisers → Plan Opening
+opening_at p f js = node (λ s y. list_sites p s f js (next_slot s f.rest)) (λ s y. (s, opens s f js (next_slot s f.rest))) nothing
 
 abbrev pub list_at : Place → Filling → Initialisers → (Filling → Plan Filling) → Plan Filling
 list_at p f js fill =
     pardons (over f)
-    (chain (open_with f [] true []) (node (λ s y. list_sites p s f js (next_slot s f.rest)) (λ s y. (s, opens s f js (next_slot s f.rest))) nothing) (λ o. does (λ s g. (s, list_ends f o.behind g)) (fill o.inside)))
+    (chain (open_with f [] true []) (opening_at p f js) (λ o. does (λ s g. (s, list_ends f.over o.behind g)) (fill o.inside)))
 
 abbrev mutual
   pub plan_initialiser : Filling → Initialiser → Plan Filling
@@ -269,6 +273,10 @@ content_of f x = (x.0, record { items = f.items; type_id = x.1 })
 abbrev pub filled_at : Place → Plan Content → Plan Content
 filled_at p m = at (λ s x. AtFilled p s x.type_id) (λ s x. (s, x)) m
 
+-- what an object of this type, declared at this place, holds when it is filled
+abbrev pub content_at : Place → ℕ → Plan Filling → Plan Content
+content_at p t m = filled_at p (does (λ s f. content_of f (filled_type s t f.count (shape_of s t))) m)
+
 -- the whole initialiser of an object of this type that is declared at this place
 abbrev pub plan_content : Place → ℕ → Initialiser → Plan Content
-plan_content p t x = filled_at p (does (λ s f. content_of f (filled_type s t f.count (shape_of s t))) (chain false (looks (λ s. is_value_for s t x)) (whole_by t x)))
+plan_content p t x = content_at p t (chain false (looks (λ s. is_value_for s t x)) (whole_by t x))

@@ -22,6 +22,7 @@ use Rattle.dae_rules.specs.Sites.{Site, AtAssign, AtReturn, AtBreak, AtCase, AtD
 use Rattle.dae_rules.specs.Plan.{Plan, pure, both, node, chain}
 use Rattle.dae_plans.specs.Steps.{at, asks, does, nothing, looks, scoped, settles_name, declared_place, base_at, constant_at, integer_at, condition_at, name_in, with_named_local, is_taken, routine_in, count_of}
 use Rattle.dae_plans.specs.Expressions.{plan, plan_specifiers, plan_declarator, plan_value}
+use Rattle.dae_file_plans.specs.declared.surroundings.Surrounding.{Surrounding}
 use Rattle.dae_file_plans.specs.Initialisers.{Content, plan_content, plan_unused_initialiser, literal_bytes}
 use Rattle.dae_file_plans.specs.Formats.{InText, pieces_from, letters}
 use Rattle.dae_file_plans.specs.Naming.{names_variable}
@@ -161,25 +162,23 @@ abbrev pub plan_declarations : program.Statements → List Declaration → Plan 
 plan_declarations done [] = pure done
 plan_declarations done (d ∷ ds) = chain done (plan_declaration done d) (λ done. plan_declarations done ds)
 
--- ---- what stands round a statement: the result of its function, unless that is faulty, whether that is main, and what break
--- and continue end
-pub record Surrounding : Type 0 where
-  pub result : Option ℕ
-  pub is_main : Bool
-  pub loop : Bool
-  pub switch : Bool
+-- ---- what stands round a statement
 
 abbrev pub in_loop : Surrounding → Surrounding
-in_loop c = record c { loop = true }
+in_loop c = record { result = c.result; is_main = c.is_main; inside_loop = true; inside_switch = c.inside_switch }
 
 abbrev pub in_switch : Surrounding → Surrounding
-in_switch c = record c { switch = true }
+in_switch c = record { result = c.result; is_main = c.is_main; inside_loop = c.inside_loop; inside_switch = true }
 
 -- ---- return (C90 6.6.6.4). In main it ends the program.
 
 abbrev pub returned : Place → Bool → program.Expression → program.Statements
 returned p true e = evaluate p (program.Exit p e)
 returned p false e = program.Return p (Some e) program.Done
+
+abbrev pub nothing_returned : Place → Bool → program.Statements
+nothing_returned p true = evaluate p (program.Exit p (program.Number 0))
+nothing_returned p false = program.Return p None program.Done
 
 abbrev pub return_sites : Place → Tables → Option ℕ → Typed → List Site
 return_sites p s None x = []
@@ -193,7 +192,7 @@ abbrev pub return_at : Place → Surrounding → Plan Typed → Plan program.Sta
 return_at p c m = node (λ s x. return_sites p s c.result x) (λ s x. (s, returned p c.is_main (as_result p s c.result x))) m
 
 abbrev pub plan_return : Place → Surrounding → Option Expression → Plan program.Statements
-plan_return p c None = pure (if c.is_main then returned p true (program.Number 0) else program.Return p None program.Done)
+plan_return p c None = pure (nothing_returned p c.is_main)
 plan_return p c (Some e) = return_at p c (plan_value e)
 
 -- ---- printf, as a statement (C90 7.9.6.3)
@@ -295,7 +294,7 @@ is_seen l [] = false
 is_seen l (x ∷ xs) = same_label l x || is_seen l xs
 
 abbrev pub labelled : Option ℕ → Arming → Arming
-labelled l a = record { seen = l ∷ a.seen; arms = with_label l a.arms }
+labelled l a = record { seen = a.seen ++ (l ∷ []); arms = with_label l a.arms }
 
 abbrev pub case_at : Place → Arming → Plan ℕ → Plan Arming
 case_at p a m = at (λ s w. AtCase p (is_seen (Some w) a.seen)) (λ s w. (s, labelled (Some w) a)) m
@@ -326,8 +325,12 @@ abbrev pub plan_optional : Option Expression → Plan (Option program.Expression
 plan_optional None = pure None
 plan_optional (Some e) = does (λ s x. (s, Some x.tree)) (plan_value e)
 
+-- the tree of a value that is a condition
+abbrev pub test_at : Place → Plan Typed → Plan program.Expression
+test_at p m = does (λ s x. (s, x.tree)) (condition_at p m)
+
 abbrev pub plan_condition : Expression → Plan program.Expression
-plan_condition e = does (λ s x. (s, x.tree)) (condition_at (place_of e) (plan e))
+plan_condition e = test_at (place_of e) (plan e)
 
 abbrev pub plan_test : Option Expression → Plan (Option program.Expression)
 plan_test None = pure None
@@ -341,6 +344,13 @@ abbrev pub starting_place : Place → Option Expression → Place
 starting_place p None = p
 starting_place p (Some e) = place_of e
 
+-- break ends a loop or a switch, continue a turn of a loop (C90 6.6.6.2 and 6.6.6.3)
+abbrev pub break_at : Place → Surrounding → Plan program.Statements
+break_at p c = asks (λ s x. AtBreak p (c.inside_loop || c.inside_switch)) (pure (program.Break p program.Done))
+
+abbrev pub continue_at : Place → Surrounding → Plan program.Statements
+continue_at p c = asks (λ s x. AtBreak p c.inside_loop) (pure (program.Continue p program.Done))
+
 abbrev mutual
   pub plan_statement : Surrounding → Statement → Plan program.Statements
   plan_statement c (tree.Block p ds ss) = scoped (chain program.Done (plan_declarations program.Done ds) (λ done. plan_statements c done ss))
@@ -352,8 +362,8 @@ abbrev mutual
   plan_statement c (tree.Do p t q r e u) = does (λ s x. (s, program.Do p x.0 x.1 program.Done)) (both (plan_statement (in_loop c) t) (plan_condition e))
   plan_statement c (tree.For p q a r b u d t) =
       does (λ s x. (s, started (starting_place p a) x.0 (program.Loop p x.1.0 x.1.1.1 x.1.1.0 program.Done))) (both (plan_optional a) (both (plan_test b) (both (plan_optional d) (plan_statement (in_loop c) t))))
-  plan_statement c (tree.Break p q) = asks (λ s x. AtBreak p (c.loop || c.switch)) (pure (program.Break p program.Done))
-  plan_statement c (tree.Continue p q) = asks (λ s x. AtBreak p c.loop) (pure (program.Continue p program.Done))
+  plan_statement c (tree.Break p q) = break_at p c
+  plan_statement c (tree.Continue p q) = continue_at p c
   plan_statement c (tree.Return p e q) = plan_return p c e
   plan_statement c (tree.Switch p q e t) = switch_of p (integer_at (place_of e) (plan_value e)) (plan_body (in_switch c) t (plan_statement (in_switch c) t))
   plan_statement c (tree.Case p e t) = chain 0 (chain tt (asks (λ s x. AtCaseOutside p) nothing) (λ x. label_at e)) (λ w. plan_statement c t)
