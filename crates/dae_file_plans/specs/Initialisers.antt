@@ -135,8 +135,13 @@ abbrev pub size_in : Shape → Option ℕ
 size_in (shape.Array t count) = count
 size_in _ = None
 
+-- the bytes of a literal, without the zero byte at its end
+abbrev pub literal_bytes : Tables → Option ℕ → List ℕ
+literal_bytes s None = []
+literal_bytes s (Some n) = elim (slice_get s.literals n) [ None ↦ [] | Some bytes ↦ bytes ]
+
 abbrev pub item_sites_at : Place → Tables → Option ℕ → Typed → ℕ → Shape → List Site
-item_sites_at p s n x t (shape.Array u count) = AtString p (elim n [ None ↦ 0 | Some k ↦ elim (slice_get s.literals k) [ None ↦ 0 | Some bytes ↦ length bytes ] ]) count ∷ []
+item_sites_at p s n x t (shape.Array u count) = AtString p (length (literal_bytes s n)) count ∷ []
 item_sites_at p s n x t (shape.Struct k) = AtAggregate p s x t ∷ []
 item_sites_at p s n x t u = AtItem p s x t ∷ []
 
@@ -154,13 +159,12 @@ constant_tree _ = program.Number 0
 abbrev pub setting : ℕ → Shape → program.Expression → program.Setting
 setting o t e = record { offset = o; width = width_of (load_kind t); value = e }
 
+abbrev pub byte_setting : ℕ → LoadKind → ℕ → program.Setting
+byte_setting o k b = record { offset = o; width = width_of k; value = program.Number (extended k b) }
+
 abbrev pub byte_settings : ℕ → LoadKind → List ℕ → List program.Setting
 byte_settings o k [] = []
-byte_settings o k (b ∷ bs) = record { offset = o; width = width_of k; value = program.Number (extended k b) } ∷ byte_settings (suc o) k bs
-
-abbrev pub literal_bytes : Tables → Option ℕ → List ℕ
-literal_bytes s None = []
-literal_bytes s (Some n) = elim (slice_get s.literals n) [ None ↦ [] | Some bytes ↦ bytes ]
+byte_settings o k (b ∷ bs) = byte_setting o k b ∷ byte_settings (suc o) k bs
 
 abbrev pub item_by : Tables → Option ℕ → Typed → Slot → Shape → Filling → Filling
 item_by s n x z (shape.Array u count) f = record f { items = f.items ++ byte_settings z.offset (load_kind (shape_of s u)) (literal_bytes s n); count = suc (length (literal_bytes s n)) }
@@ -184,8 +188,12 @@ abbrev pub is_one : Initialisers → Bool
 is_one (tree.initialiser_then x tree.no_initialisers) = true
 is_one _ = false
 
+abbrev pub is_literal : Initialiser → Bool
+is_literal (tree.Value e) = has_literal (literal_in e)
+is_literal (tree.Listed p js comma) = false
+
 abbrev pub is_one_literal : Initialisers → Bool
-is_one_literal (tree.initialiser_then (tree.Value e) tree.no_initialisers) = has_literal (literal_in e)
+is_one_literal (tree.initialiser_then x tree.no_initialisers) = is_literal x
 is_one_literal _ = false
 
 -- a list fills one object: what is in it, and what stands behind it

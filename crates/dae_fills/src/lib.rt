@@ -1,8 +1,15 @@
-// Formats of printf as pieces, and the objects within an aggregate in the order in which an initialiser fills them.
+// Formats of printf as pieces, and the objects within an aggregate in the order in which an initialiser fills them, with what
+// each item writes.
 #![tactic(auto)]
 
+pub use filling::{Destination, Filling, Landing, has_literal, land};
 pub use formats::{format_pieces, kinds_of_arguments};
+pub use items::fill_item;
+pub use lists::{Content, Opening, close_list, finish_content, open_list};
 pub use slots::{Rest, Slot, descend, is_text_array, next_slot, parts_of};
 
+mod filling;
 mod formats;
+mod items;
+mod lists;
 mod slots;
