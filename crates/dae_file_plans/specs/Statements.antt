@@ -23,7 +23,7 @@ use Rattle.dae_rules.specs.Plan.{Plan, pure, both, node, chain}
 use Rattle.dae_plans.specs.Steps.{at, asks, does, nothing, looks, scoped, settles_name, declared_place, base_at, constant_at, integer_at, condition_at, name_in, with_named_local, is_taken, routine_in, count_of}
 use Rattle.dae_plans.specs.Expressions.{plan, plan_specifiers, plan_declarator, plan_value}
 use Rattle.dae_file_plans.specs.declared.surroundings.Surrounding.{Surrounding}
-use Rattle.dae_file_plans.specs.Initialisers.{Content, plan_content, plan_unused_initialiser, literal_bytes}
+use Rattle.dae_file_plans.specs.Initialisers.{Content, plan_content, plan_unused_initialiser, is_one, literal_bytes, literal_in}
 use Rattle.dae_file_plans.specs.Formats.{InText, pieces_from, letters}
 use Rattle.dae_file_plans.specs.Naming.{names_variable}
 
@@ -101,15 +101,11 @@ set_by_own p s k e =
     else set_to p s k e
 
 -- a scalar's initialiser is any expression, perhaps in braces
-abbrev pub is_list_of_one : tree.Initialisers → Bool
-is_list_of_one (tree.initialiser_then x tree.no_initialisers) = true
-is_list_of_one _ = false
-
 abbrev pub scalar_value_at : Place → Place → ℕ → Plan Typed → Plan program.Statements
 scalar_value_at p q k m = at (λ s x. AtAssign q s x (type_of_local s k)) (λ s x. (s, set_by_own p s k (converted q s x (type_of_local s k)).tree)) m
 
 abbrev pub scalar_list_at : Place → tree.Initialisers → Plan (Unit {0})
-scalar_list_at q js = node (λ s x. if is_list_of_one js then [] else AtScalarList q ∷ []) (λ s x. (s, tt {0})) nothing
+scalar_list_at q js = node (λ s x. if is_one js then [] else AtScalarList q ∷ []) (λ s x. (s, tt {0})) nothing
 
 abbrev mutual
   pub plan_scalar : Place → ℕ → Initialiser → Plan program.Statements
@@ -209,10 +205,10 @@ abbrev pub arguments_of : Expression → Expressions
 arguments_of (tree.Call f p xs) = xs
 arguments_of _ = tree.no_expressions
 
--- a format's pieces, where it is a literal
-abbrev pub format_of : Tables → Expression → Option (List Piece)
-format_of s (tree.Literal p n) = pieces_from InText 0 (literal_bytes s (Some n))
-format_of s _ = None
+-- a format's pieces, where it is a literal, of this number
+abbrev pub format_of : Tables → Option ℕ → Option (List Piece)
+format_of s None = None
+format_of s (Some n) = pieces_from InText 0 (literal_bytes s (Some n))
 
 abbrev pub wanted_by : Option (List Piece) → Option ℕ
 wanted_by None = None
@@ -222,8 +218,9 @@ abbrev pub pieces_or : Option (List Piece) → List Piece
 pieces_or None = []
 pieces_or (Some ps) = ps
 
-abbrev pub format_at : Expression → ℕ → Plan (List Piece)
-format_at e given = at (λ s x. AtFormat (place_of e) (wanted_by (format_of s e)) given) (λ s x. (s, pieces_or (format_of s e))) nothing
+-- the format of a printf with so many arguments behind it
+abbrev pub format_at : Place → Option ℕ → ℕ → Plan (List Piece)
+format_at p n given = at (λ s x. AtFormat p (wanted_by (format_of s n)) given) (λ s x. (s, pieces_or (format_of s n))) nothing
 
 abbrev pub printed_sites : Place → Tables → Option Bool → Typed → List Site
 printed_sites p s None x = []
@@ -244,7 +241,7 @@ listed_all (e ∷ es) = program.expression_then e (listed_all es)
 abbrev pub plan_printf : Place → Expressions → Plan program.Statements
 plan_printf p tree.no_expressions = asks (λ s x. AtFormat p None 0) (pure program.Done)
 plan_printf p (tree.expression_then e es) =
-    chain [] (format_at e (count_of es)) (λ ps. does (λ s xs. (s, program.Print p (listed_all xs) ps program.Done)) (plan_printed (letters ps) 0 [] es))
+    chain [] (format_at (place_of e) (literal_in e) (count_of es)) (λ ps. does (λ s xs. (s, program.Print p (listed_all xs) ps program.Done)) (plan_printed (letters ps) 0 [] es))
 
 abbrev pub plan_evaluation : Expression → Bool → Plan program.Statements
 plan_evaluation e true = plan_printf (place_of e) (arguments_of e)

@@ -5,11 +5,16 @@
 pub use filling::{Destination, Filling, Landing, has_literal, land};
 pub use formats::{format_pieces, kinds_of_arguments};
 pub use items::fill_item;
-pub use lists::{Content, Opening, close_list, finish_content, open_list};
+pub use lists::{
+    Content, Opening, check_scalar_list, close_list, finish_content, is_value_for, open_list,
+    refuse_value,
+};
+pub use printing::{add_printed, literal_in, read_format};
 pub use slots::{Rest, Slot, descend, is_text_array, next_slot, parts_of};
 
 mod filling;
 mod formats;
 mod items;
 mod lists;
+mod printing;
 mod slots;

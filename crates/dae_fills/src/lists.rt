@@ -5,17 +5,21 @@ ghost use Rattle.dae_tree.specs.FileViews.{view_initialiser, views_initialisers}
 ghost use Rattle.dae_program.specs.Views.{view_settings};
 ghost use Rattle.dae_kinds.specs.Types.{shape_of};
 ghost use Rattle.dae_rules.specs.Plan.{Gives, pure};
-ghost use Rattle.dae_file_plans.specs.Initialisers.{begun_in, content_at, filled_type, is_literal, is_one, is_one_literal, list_ends, opening_at};
-ghost use Rattle.dae_tables.specs.Seen.{tables, FollowsBy, LeavesAnd};
+ghost use Rattle.dae_file_plans.specs.Initialisers.{aggregate_at, begun_in, content_at, filled_type, is_literal, is_one, is_one_literal, is_value_for, list_ends, opening_at};
+ghost use Rattle.dae_file_plans.specs.Statements.{scalar_list_at};
+ghost use Rattle.dae_folding.specs.Views.{view_value};
+ghost use Rattle.dae_tables.specs.Seen.{tables, Follows, FollowsBy, LeavesAnd};
 ghost use Rattle.dae_fills.specs.Slots.{view_rest, view_stack};
 ghost use Rattle.dae_fills.specs.Fillings.{filling_of, view_content, view_filling, view_opening};
 
-use crate::filling::Filling;
+use crate::filling::{Filling, has_literal};
+use crate::printing::literal_in;
 use crate::slots::{Rest, is_text_array, next_slot, parts_of};
 use dae_base::Place;
+use dae_folding::Value;
 use dae_kinds::{CheckError, Rule, Shape};
 use dae_program::Setting;
-use dae_tables::{Checker, MOST_BYTES, broken, is_scalar};
+use dae_tables::{Checker, MOST_BYTES, broken, is_scalar, is_structure};
 use dae_tree::{Expression, Initialiser};
 use std::alloc::Global;
 
@@ -187,4 +191,49 @@ pub fn finish_content(
         items: filling.items,
         type_id,
     })
+}
+
+/// Refuses a list of more than one for a scalar.
+#[tactic(auto, unfolding(dae_rules::specs::Plan::ask_all))]
+pub fn check_scalar_list(
+    checker: &Checker,
+    place: Place,
+    list: &[Initialiser],
+) -> Result<(), CheckError>
+    ensures { Follows checker.now result (scalar_list_at place (views_initialisers list.now)) checker.now }
+{
+    if is_one(list) {
+        return Ok(());
+    }
+    Err(broken(Rule::BadInitialiser, place))
+}
+
+/// Whether an initialiser is a value for a whole aggregate of this type.
+pub fn is_value_for(checker: &Checker, type_id: usize, initialiser: &Initialiser) -> bool
+    ensures { result ≡ is_value_for (tables checker.now) type_id (view_initialiser initialiser.now) }
+{
+    let shape = checker.shape_of(type_id);
+    match initialiser {
+        Initialiser::Value(e) => {
+            !is_scalar(shape) && !(is_text_array(checker, shape) && has_literal(literal_in(e)))
+        }
+        Initialiser::List(_, _, _) => false,
+    }
+}
+
+/// Refuses a value for a whole aggregate of this type.
+#[tactic(auto, unfolding(dae_rules::specs::Plan::ask_all))]
+pub fn refuse_value(
+    checker: &Checker,
+    place: Place,
+    type_id: usize,
+    x: &Value,
+) -> Result<Filling, CheckError>
+    ensures { FollowsBy view_filling checker.now result (aggregate_at place type_id (pure (view_value x.now))) checker.now }
+{
+    let is_value = is_structure(checker.shape_of(x.type_id));
+    if is_structure(checker.shape_of(type_id)) && is_value {
+        return Err(broken(Rule::StructureValue, place));
+    }
+    Err(broken(Rule::BadInitialiser, place))
 }
