@@ -11,6 +11,7 @@ use Rattle.dae_program.specs.Trees as program
 use Rattle.dae_kinds.specs.declared.tables.Context.TheVariants as context
 use Rattle.dae_kinds.specs.declared.tables.Entity.{Entity}
 use Rattle.dae_kinds.specs.declared.tables.Entity.TheVariants as entity
+use Rattle.dae_kinds.specs.declared.tables.Local.{Local}
 use Rattle.dae_kinds.specs.declared.tables.NamedType.{NamedType}
 use Rattle.dae_kinds.specs.declared.tables.Storage.{Storage}
 use Rattle.dae_kinds.specs.declared.tables.Storage.TheVariants as storage
@@ -117,8 +118,12 @@ abbrev mutual
   plan_first_scalar p k tree.no_initialisers = pure program.Done
   plan_first_scalar p k (tree.initialiser_then x xs) = plan_scalar p k x
 
+abbrev pub taken_or_not : Option Local → Bool
+taken_or_not None = false
+taken_or_not (Some x) = x.taken
+
 abbrev pub with_type : ℕ → ℕ → Tables → Tables
-with_type k t s = set_local k (record { type_id = t; taken = elim (slice_get s.locals k) [ None ↦ false | Some x ↦ x.taken ] }) s
+with_type k t s = set_local k (record { type_id = t; taken = taken_or_not (slice_get s.locals k) }) s
 
 -- an aggregate begins as zeros, and then its items are set
 abbrev pub initialised_at : Place → ℕ → Plan Content → Plan program.Statements
