@@ -201,7 +201,10 @@ fn fill_scalar(
     }
     let mut items = filling.items;
     let known = known_as(from, shape, x.known);
-    push_setting(&mut items, constant_setting(destination.offset, shape, known))?;
+    push_setting(
+        &mut items,
+        constant_setting(destination.offset, shape, known),
+    )?;
     Ok(Filling {
         rest: filling.rest,
         items,
