@@ -78,3 +78,13 @@ labels_share_an_arm = refl
 narrow_is_converted : check ((tree.Declared (record { specifiers = (tree.specifier_then (tree.Word (at 1) keyword.Char) tree.no_specifiers); items = (record { declarator = (tree.Pointer (at 5) [] (tree.Named (name 6 0))); initialiser = None } ∷ []); end = (at 1) })) ∷ (tree.Defined (tree.specifier_then (tree.Word (at 8) keyword.Int) tree.no_specifiers) (tree.Function (tree.Named (name 12 2)) (at 12) (tree.parameter_then (tree.specifier_then (tree.Word (at 14) keyword.Int) tree.no_specifiers) (tree.Named (name 18 1)) tree.no_parameters)) (at 20) ([]) (tree.statement_then (tree.Evaluate (tree.Assignment (tree.Identifier (name 21 0)) (at 21) assignment.Add (tree.Identifier (name 24 1))) (at 21)) (tree.statement_then (tree.Return (at 26) (Some (tree.Binary (tree.Cast (at 33) (tree.specifier_then (tree.Word (at 34) keyword.Char) tree.no_specifiers) tree.Absent (tree.Parenthesised (at 39) (tree.Binary (tree.Identifier (name 40 1)) (at 40) binary.Add (tree.Number (at 42) (constant 1 false))))) (at 33) binary.Add (tree.Parenthesised (at 45) (tree.Conditional (tree.Number (at 46) (constant 1 false)) (at 46) (tree.Number (at 48) (constant 2 false)) (tree.Binary (tree.Number (at 50) (constant 3 false)) (at 50) binary.Divide (tree.Number (at 52) (constant 0 false))))))) (at 26)) tree.no_statements))) ∷ []) (start_of false false (record { printf = None; putchar = None; exit = None; abort = None; main = None }) ([])) ≡ (program.Evaluate (at 21) (program.Update (at 21) kinds.I32 (program.AtAddress false (program.Address 0 0)) operator.Add (program.Variable (at 24) 1)) (program.Return (at 26) (Some (program.Binary (at 33) operator.Add (program.Convert (at 33) kinds.U8 (program.Binary (at 40) operator.Add (program.Variable (at 40) 1) (program.Number 1))) (program.Number 2))) program.Done)) ∷ []
 unfolding shape_of layout_of same composite layout_at found_name found_tag own_entity own_tag found_component converted combination fits joined combined compared parameter_types ask_all
 narrow_is_converted = refl
+
+-- A variable that its own initialiser names is 0 before: int f(void){int k=k+1;return k;}
+own_name_is_zero : check ((tree.Defined (tree.specifier_then (tree.Word (at 1) keyword.Int) tree.no_specifiers) (tree.Empty (tree.Named (name 5 0)) (at 5)) (at 12) ((record { specifiers = (tree.specifier_then (tree.Word (at 13) keyword.Int) tree.no_specifiers); items = (record { declarator = (tree.Named (name 17 1)); initialiser = Some ((at 19), (tree.Value (tree.Binary (tree.Identifier (name 19 1)) (at 19) binary.Add (tree.Number (at 21) (constant 1 false))))) } ∷ []); end = (at 13) }) ∷ []) (tree.statement_then (tree.Return (at 23) (Some (tree.Identifier (name 30 1))) (at 23)) tree.no_statements)) ∷ []) (start_of false false (record { printf = None; putchar = None; exit = None; abort = None; main = None }) ([])) ≡ (program.Evaluate (at 17) (program.Assign (at 17) kinds.I32 (program.InVariable 1) (program.Number 0)) (program.Evaluate (at 17) (program.Assign (at 17) kinds.I32 (program.InVariable 1) (program.Binary (at 19) operator.Add (program.Variable (at 19) 1) (program.Number 1))) (program.Return (at 23) (Some (program.Variable (at 30) 1)) program.Done))) ∷ []
+unfolding shape_of layout_of same composite layout_at found_name found_tag own_entity own_tag found_component converted combination fits joined combined compared parameter_types ask_all
+own_name_is_zero = refl
+
+-- A variable that stands in a size alone is set once: int f(int a){int k=sizeof k+a;return k;}
+size_names_nothing : check ((tree.Defined (tree.specifier_then (tree.Word (at 1) keyword.Int) tree.no_specifiers) (tree.Function (tree.Named (name 5 1)) (at 5) (tree.parameter_then (tree.specifier_then (tree.Word (at 7) keyword.Int) tree.no_specifiers) (tree.Named (name 11 0)) tree.no_parameters)) (at 13) ((record { specifiers = (tree.specifier_then (tree.Word (at 14) keyword.Int) tree.no_specifiers); items = (record { declarator = (tree.Named (name 18 2)); initialiser = Some ((at 20), (tree.Value (tree.Binary (tree.SizeofExpression (at 20) (tree.Identifier (name 27 2))) (at 20) binary.Add (tree.Identifier (name 29 0))))) } ∷ []); end = (at 14) }) ∷ []) (tree.statement_then (tree.Return (at 31) (Some (tree.Identifier (name 38 2))) (at 31)) tree.no_statements)) ∷ []) (start_of false false (record { printf = None; putchar = None; exit = None; abort = None; main = None }) ([])) ≡ (program.Evaluate (at 18) (program.Assign (at 18) kinds.I32 (program.InVariable 2) (program.Binary (at 20) operator.Add (program.Number 4) (program.Variable (at 29) 1))) (program.Return (at 31) (Some (program.Variable (at 38) 2)) program.Done)) ∷ []
+unfolding shape_of layout_of same composite layout_at found_name found_tag own_entity own_tag found_component converted combination fits joined combined compared parameter_types ask_all
+size_names_nothing = refl

@@ -35,7 +35,8 @@ use Rattle.dae_file_plans.specs.declared.declarations.FileDeclaration.{FileDecla
 use Rattle.dae_file_plans.specs.declared.declarations.Role.{Role}
 use Rattle.dae_file_plans.specs.declared.declarations.Role.TheVariants.{Reference, Tentative, Definition}
 use Rattle.dae_file_plans.specs.Initialisers.{Content, plan_content, plan_unused_initialiser}
-use Rattle.dae_file_plans.specs.Statements.{Surrounding, plan_block, typedef_at, own_of, is_alone}
+use Rattle.dae_file_plans.specs.declared.surroundings.Surrounding.{Surrounding}
+use Rattle.dae_file_plans.specs.Statements.{plan_block, typedef_at, own_of, is_alone}
 
 -- ---- what a file comes to: its declarations of objects and functions, the content of its objects that are initialised, and
 -- its functions with their bodies
@@ -253,10 +254,10 @@ result_type s None = None
 result_type s (Some t) = Some (result_of (shape_of s t))
 
 abbrev pub surrounding : Tables → Bool → Option ℕ → Surrounding
-surrounding s main t = record { result = result_type s t; is_main = main; loop = false; switch = false }
+surrounding s main t = record { result = result_type s t; is_main = main; inside_loop = false; inside_switch = false }
 
 abbrev pub first_surrounding : Surrounding
-first_surrounding = record { result = None; is_main = false; loop = false; switch = false }
+first_surrounding = record { result = None; is_main = false; inside_loop = false; inside_switch = false }
 
 abbrev pub plan_body_of : Place → Option Name → Parameters → List Declaration → Statements → Option ℕ → Option ℕ → Plan (List Product)
 plan_body_of p n ps ds ss t f = chain tt (named_at p ps) (λ x. chain first_surrounding (looks (λ s. surrounding s (is_main_name s n) t)) (λ c. twice (count_parameters ps) f (plan_block c ds ss)))

@@ -135,8 +135,13 @@ abbrev pub size_in : Shape → Option ℕ
 size_in (shape.Array t count) = count
 size_in _ = None
 
+-- the bytes of a literal, without the zero byte at its end
+abbrev pub literal_bytes : Tables → Option ℕ → List ℕ
+literal_bytes s None = []
+literal_bytes s (Some n) = elim (slice_get s.literals n) [ None ↦ [] | Some bytes ↦ bytes ]
+
 abbrev pub item_sites_at : Place → Tables → Option ℕ → Typed → ℕ → Shape → List Site
-item_sites_at p s n x t (shape.Array u count) = AtString p (elim n [ None ↦ 0 | Some k ↦ elim (slice_get s.literals k) [ None ↦ 0 | Some bytes ↦ length bytes ] ]) count ∷ []
+item_sites_at p s n x t (shape.Array u count) = AtString p (length (literal_bytes s n)) count ∷ []
 item_sites_at p s n x t (shape.Struct k) = AtAggregate p s x t ∷ []
 item_sites_at p s n x t u = AtItem p s x t ∷ []
 
@@ -154,13 +159,12 @@ constant_tree _ = program.Number 0
 abbrev pub setting : ℕ → Shape → program.Expression → program.Setting
 setting o t e = record { offset = o; width = width_of (load_kind t); value = e }
 
+abbrev pub byte_setting : ℕ → LoadKind → ℕ → program.Setting
+byte_setting o k b = record { offset = o; width = width_of k; value = program.Number (extended k b) }
+
 abbrev pub byte_settings : ℕ → LoadKind → List ℕ → List program.Setting
 byte_settings o k [] = []
-byte_settings o k (b ∷ bs) = record { offset = o; width = width_of k; value = program.Number (extended k b) } ∷ byte_settings (suc o) k bs
-
-abbrev pub literal_bytes : Tables → Option ℕ → List ℕ
-literal_bytes s None = []
-literal_bytes s (Some n) = elim (slice_get s.literals n) [ None ↦ [] | Some bytes ↦ bytes ]
+byte_settings o k (b ∷ bs) = byte_setting o k b ∷ byte_settings (suc o) k bs
 
 abbrev pub item_by : Tables → Option ℕ → Typed → Slot → Shape → Filling → Filling
 item_by s n x z (shape.Array u count) f = record f { items = f.items ++ byte_settings z.offset (load_kind (shape_of s u)) (literal_bytes s n); count = suc (length (literal_bytes s n)) }
@@ -184,8 +188,12 @@ abbrev pub is_one : Initialisers → Bool
 is_one (tree.initialiser_then x tree.no_initialisers) = true
 is_one _ = false
 
+abbrev pub is_literal : Initialiser → Bool
+is_literal (tree.Value e) = has_literal (literal_in e)
+is_literal (tree.Listed p js comma) = false
+
 abbrev pub is_one_literal : Initialisers → Bool
-is_one_literal (tree.initialiser_then (tree.Value e) tree.no_initialisers) = has_literal (literal_in e)
+is_one_literal (tree.initialiser_then x tree.no_initialisers) = is_literal x
 is_one_literal _ = false
 
 -- a list fills one object: what is in it, and what stands behind it
@@ -215,13 +223,17 @@ begun_in [] n = n
 begun_in (Elements o t k count ∷ []) n = k
 begun_in (r ∷ rest) n = begun_in rest n
 
-abbrev pub list_ends : Filling → List Rest → Filling → Filling
-list_ends f behind g = record f { rest = behind; items = g.items; count = begun_in g.rest g.count }
+-- behind the list; the flag says whether no more is said there of what is too many
+abbrev pub list_ends : Bool → List Rest → Filling → Filling
+list_ends is_over behind g = record { rest = behind; items = g.items; count = begun_in g.rest g.count; over = is_over }
+
+abbrev pub opening_at : Place → Filling → Initialisers → Plan Opening
+opening_at p f js = node (λ s y. list_sites p s f js (next_slot s f.rest)) (λ s y. (s, opens s f js (next_slot s f.rest))) nothing
 
 abbrev pub list_at : Place → Filling → Initialisers → (Filling → Plan Filling) → Plan Filling
 list_at p f js fill =
     pardons (over f)
-    (chain (open_with f [] true []) (node (λ s y. list_sites p s f js (next_slot s f.rest)) (λ s y. (s, opens s f js (next_slot s f.rest))) nothing) (λ o. does (λ s g. (s, list_ends f o.behind g)) (fill o.inside)))
+    (chain (open_with f [] true []) (opening_at p f js) (λ o. does (λ s g. (s, list_ends f.over o.behind g)) (fill o.inside)))
 
 abbrev mutual
   pub plan_initialiser : Filling → Initialiser → Plan Filling
@@ -269,6 +281,10 @@ content_of f x = (x.0, record { items = f.items; type_id = x.1 })
 abbrev pub filled_at : Place → Plan Content → Plan Content
 filled_at p m = at (λ s x. AtFilled p s x.type_id) (λ s x. (s, x)) m
 
+-- what an object of this type, declared at this place, holds when it is filled
+abbrev pub content_at : Place → ℕ → Plan Filling → Plan Content
+content_at p t m = filled_at p (does (λ s f. content_of f (filled_type s t f.count (shape_of s t))) m)
+
 -- the whole initialiser of an object of this type that is declared at this place
 abbrev pub plan_content : Place → ℕ → Initialiser → Plan Content
-plan_content p t x = filled_at p (does (λ s f. content_of f (filled_type s t f.count (shape_of s t))) (chain false (looks (λ s. is_value_for s t x)) (whole_by t x)))
+plan_content p t x = content_at p t (chain false (looks (λ s. is_value_for s t x)) (whole_by t x))

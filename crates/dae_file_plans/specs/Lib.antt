@@ -1,5 +1,6 @@
-pub mod Initialisers
-pub mod Formats
-pub mod Statements
 pub mod Files
+pub mod Formats
+pub mod Initialisers
+pub mod Naming
 pub mod Promise
+pub mod Statements

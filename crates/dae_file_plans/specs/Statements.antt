@@ -11,6 +11,7 @@ use Rattle.dae_program.specs.Trees as program
 use Rattle.dae_kinds.specs.declared.tables.Context.TheVariants as context
 use Rattle.dae_kinds.specs.declared.tables.Entity.{Entity}
 use Rattle.dae_kinds.specs.declared.tables.Entity.TheVariants as entity
+use Rattle.dae_kinds.specs.declared.tables.Local.{Local}
 use Rattle.dae_kinds.specs.declared.tables.NamedType.{NamedType}
 use Rattle.dae_kinds.specs.declared.tables.Storage.{Storage}
 use Rattle.dae_kinds.specs.declared.tables.Storage.TheVariants as storage
@@ -22,8 +23,10 @@ use Rattle.dae_rules.specs.Sites.{Site, AtAssign, AtReturn, AtBreak, AtCase, AtD
 use Rattle.dae_rules.specs.Plan.{Plan, pure, both, node, chain}
 use Rattle.dae_plans.specs.Steps.{at, asks, does, nothing, looks, scoped, settles_name, declared_place, base_at, constant_at, integer_at, condition_at, name_in, with_named_local, is_taken, routine_in, count_of}
 use Rattle.dae_plans.specs.Expressions.{plan, plan_specifiers, plan_declarator, plan_value}
-use Rattle.dae_file_plans.specs.Initialisers.{Content, plan_content, plan_unused_initialiser, literal_bytes}
+use Rattle.dae_file_plans.specs.declared.surroundings.Surrounding.{Surrounding}
+use Rattle.dae_file_plans.specs.Initialisers.{Content, plan_content, plan_unused_initialiser, is_one, literal_bytes, literal_in}
 use Rattle.dae_file_plans.specs.Formats.{InText, pieces_from, letters}
+use Rattle.dae_file_plans.specs.Naming.{names_variable}
 
 -- ---- statements that are done, and one behind them
 
@@ -79,20 +82,31 @@ abbrev pub frame_offset : Option Storage → ℕ
 frame_offset (Some (storage.Frame o)) = o
 frame_offset _ = 0
 
+abbrev pub assigned_to : Place → Tables → ℕ → program.Expression → program.Expression
+assigned_to p s k e = program.Assign p (load_kind (shape_of s (type_of_local s k))) (storage_target (slice_get s.storages k) p) e
+
 -- a local scalar gets a value
 abbrev pub set_to : Place → Tables → ℕ → program.Expression → program.Statements
-set_to p s k e = evaluate p (program.Assign p (load_kind (shape_of s (type_of_local s k))) (storage_target (slice_get s.storages k) p) e)
+set_to p s k e = evaluate p (assigned_to p s k e)
+
+-- what is kept in a variable is named in an expression
+abbrev pub names_stored : Option Storage → program.Expression → Bool
+names_stored (Some (storage.Variable n)) e = names_variable n e
+names_stored _ e = false
+
+-- a local scalar gets the value of its initialiser. Where that names it, what it names is 0: so each variable is set before it
+-- is read.
+abbrev pub set_by_own : Place → Tables → ℕ → program.Expression → program.Statements
+set_by_own p s k e =
+    if names_stored (slice_get s.storages k) e then program.Evaluate p (assigned_to p s k (program.Number 0)) (set_to p s k e)
+    else set_to p s k e
 
 -- a scalar's initialiser is any expression, perhaps in braces
-abbrev pub is_list_of_one : tree.Initialisers → Bool
-is_list_of_one (tree.initialiser_then x tree.no_initialisers) = true
-is_list_of_one _ = false
-
 abbrev pub scalar_value_at : Place → Place → ℕ → Plan Typed → Plan program.Statements
-scalar_value_at p q k m = at (λ s x. AtAssign q s x (type_of_local s k)) (λ s x. (s, set_to p s k (converted q s x (type_of_local s k)).tree)) m
+scalar_value_at p q k m = at (λ s x. AtAssign q s x (type_of_local s k)) (λ s x. (s, set_by_own p s k (converted q s x (type_of_local s k)).tree)) m
 
 abbrev pub scalar_list_at : Place → tree.Initialisers → Plan (Unit {0})
-scalar_list_at q js = node (λ s x. if is_list_of_one js then [] else AtScalarList q ∷ []) (λ s x. (s, tt {0})) nothing
+scalar_list_at q js = node (λ s x. if is_one js then [] else AtScalarList q ∷ []) (λ s x. (s, tt {0})) nothing
 
 abbrev mutual
   pub plan_scalar : Place → ℕ → Initialiser → Plan program.Statements
@@ -104,8 +118,12 @@ abbrev mutual
   plan_first_scalar p k tree.no_initialisers = pure program.Done
   plan_first_scalar p k (tree.initialiser_then x xs) = plan_scalar p k x
 
+abbrev pub taken_or_not : Option Local → Bool
+taken_or_not None = false
+taken_or_not (Some x) = x.taken
+
 abbrev pub with_type : ℕ → ℕ → Tables → Tables
-with_type k t s = set_local k (record { type_id = t; taken = elim (slice_get s.locals k) [ None ↦ false | Some x ↦ x.taken ] }) s
+with_type k t s = set_local k (record { type_id = t; taken = taken_or_not (slice_get s.locals k) }) s
 
 -- an aggregate begins as zeros, and then its items are set
 abbrev pub initialised_at : Place → ℕ → Plan Content → Plan program.Statements
@@ -145,25 +163,23 @@ abbrev pub plan_declarations : program.Statements → List Declaration → Plan 
 plan_declarations done [] = pure done
 plan_declarations done (d ∷ ds) = chain done (plan_declaration done d) (λ done. plan_declarations done ds)
 
--- ---- what stands round a statement: the result of its function, unless that is faulty, whether that is main, and what break
--- and continue end
-pub record Surrounding : Type 0 where
-  pub result : Option ℕ
-  pub is_main : Bool
-  pub loop : Bool
-  pub switch : Bool
+-- ---- what stands round a statement
 
 abbrev pub in_loop : Surrounding → Surrounding
-in_loop c = record c { loop = true }
+in_loop c = record { result = c.result; is_main = c.is_main; inside_loop = true; inside_switch = c.inside_switch }
 
 abbrev pub in_switch : Surrounding → Surrounding
-in_switch c = record c { switch = true }
+in_switch c = record { result = c.result; is_main = c.is_main; inside_loop = c.inside_loop; inside_switch = true }
 
 -- ---- return (C90 6.6.6.4). In main it ends the program.
 
 abbrev pub returned : Place → Bool → program.Expression → program.Statements
 returned p true e = evaluate p (program.Exit p e)
 returned p false e = program.Return p (Some e) program.Done
+
+abbrev pub nothing_returned : Place → Bool → program.Statements
+nothing_returned p true = evaluate p (program.Exit p (program.Number 0))
+nothing_returned p false = program.Return p None program.Done
 
 abbrev pub return_sites : Place → Tables → Option ℕ → Typed → List Site
 return_sites p s None x = []
@@ -177,7 +193,7 @@ abbrev pub return_at : Place → Surrounding → Plan Typed → Plan program.Sta
 return_at p c m = node (λ s x. return_sites p s c.result x) (λ s x. (s, returned p c.is_main (as_result p s c.result x))) m
 
 abbrev pub plan_return : Place → Surrounding → Option Expression → Plan program.Statements
-plan_return p c None = pure (if c.is_main then returned p true (program.Number 0) else program.Return p None program.Done)
+plan_return p c None = pure (nothing_returned p c.is_main)
 plan_return p c (Some e) = return_at p c (plan_value e)
 
 -- ---- printf, as a statement (C90 7.9.6.3)
@@ -194,10 +210,10 @@ abbrev pub arguments_of : Expression → Expressions
 arguments_of (tree.Call f p xs) = xs
 arguments_of _ = tree.no_expressions
 
--- a format's pieces, where it is a literal
-abbrev pub format_of : Tables → Expression → Option (List Piece)
-format_of s (tree.Literal p n) = pieces_from InText 0 (literal_bytes s (Some n))
-format_of s _ = None
+-- a format's pieces, where it is a literal, of this number
+abbrev pub format_of : Tables → Option ℕ → Option (List Piece)
+format_of s None = None
+format_of s (Some n) = pieces_from InText 0 (literal_bytes s (Some n))
 
 abbrev pub wanted_by : Option (List Piece) → Option ℕ
 wanted_by None = None
@@ -207,8 +223,9 @@ abbrev pub pieces_or : Option (List Piece) → List Piece
 pieces_or None = []
 pieces_or (Some ps) = ps
 
-abbrev pub format_at : Expression → ℕ → Plan (List Piece)
-format_at e given = at (λ s x. AtFormat (place_of e) (wanted_by (format_of s e)) given) (λ s x. (s, pieces_or (format_of s e))) nothing
+-- the format of a printf with so many arguments behind it
+abbrev pub format_at : Place → Option ℕ → ℕ → Plan (List Piece)
+format_at p n given = at (λ s x. AtFormat p (wanted_by (format_of s n)) given) (λ s x. (s, pieces_or (format_of s n))) nothing
 
 abbrev pub printed_sites : Place → Tables → Option Bool → Typed → List Site
 printed_sites p s None x = []
@@ -229,7 +246,7 @@ listed_all (e ∷ es) = program.expression_then e (listed_all es)
 abbrev pub plan_printf : Place → Expressions → Plan program.Statements
 plan_printf p tree.no_expressions = asks (λ s x. AtFormat p None 0) (pure program.Done)
 plan_printf p (tree.expression_then e es) =
-    chain [] (format_at e (count_of es)) (λ ps. does (λ s xs. (s, program.Print p (listed_all xs) ps program.Done)) (plan_printed (letters ps) 0 [] es))
+    chain [] (format_at (place_of e) (literal_in e) (count_of es)) (λ ps. does (λ s xs. (s, program.Print p (listed_all xs) ps program.Done)) (plan_printed (letters ps) 0 [] es))
 
 abbrev pub plan_evaluation : Expression → Bool → Plan program.Statements
 plan_evaluation e true = plan_printf (place_of e) (arguments_of e)
@@ -279,7 +296,7 @@ is_seen l [] = false
 is_seen l (x ∷ xs) = same_label l x || is_seen l xs
 
 abbrev pub labelled : Option ℕ → Arming → Arming
-labelled l a = record { seen = l ∷ a.seen; arms = with_label l a.arms }
+labelled l a = record { seen = a.seen ++ (l ∷ []); arms = with_label l a.arms }
 
 abbrev pub case_at : Place → Arming → Plan ℕ → Plan Arming
 case_at p a m = at (λ s w. AtCase p (is_seen (Some w) a.seen)) (λ s w. (s, labelled (Some w) a)) m
@@ -310,8 +327,12 @@ abbrev pub plan_optional : Option Expression → Plan (Option program.Expression
 plan_optional None = pure None
 plan_optional (Some e) = does (λ s x. (s, Some x.tree)) (plan_value e)
 
+-- the tree of a value that is a condition
+abbrev pub test_at : Place → Plan Typed → Plan program.Expression
+test_at p m = does (λ s x. (s, x.tree)) (condition_at p m)
+
 abbrev pub plan_condition : Expression → Plan program.Expression
-plan_condition e = does (λ s x. (s, x.tree)) (condition_at (place_of e) (plan e))
+plan_condition e = test_at (place_of e) (plan e)
 
 abbrev pub plan_test : Option Expression → Plan (Option program.Expression)
 plan_test None = pure None
@@ -325,6 +346,13 @@ abbrev pub starting_place : Place → Option Expression → Place
 starting_place p None = p
 starting_place p (Some e) = place_of e
 
+-- break ends a loop or a switch, continue a turn of a loop (C90 6.6.6.2 and 6.6.6.3)
+abbrev pub break_at : Place → Surrounding → Plan program.Statements
+break_at p c = asks (λ s x. AtBreak p (c.inside_loop || c.inside_switch)) (pure (program.Break p program.Done))
+
+abbrev pub continue_at : Place → Surrounding → Plan program.Statements
+continue_at p c = asks (λ s x. AtBreak p c.inside_loop) (pure (program.Continue p program.Done))
+
 abbrev mutual
   pub plan_statement : Surrounding → Statement → Plan program.Statements
   plan_statement c (tree.Block p ds ss) = scoped (chain program.Done (plan_declarations program.Done ds) (λ done. plan_statements c done ss))
@@ -336,8 +364,8 @@ abbrev mutual
   plan_statement c (tree.Do p t q r e u) = does (λ s x. (s, program.Do p x.0 x.1 program.Done)) (both (plan_statement (in_loop c) t) (plan_condition e))
   plan_statement c (tree.For p q a r b u d t) =
       does (λ s x. (s, started (starting_place p a) x.0 (program.Loop p x.1.0 x.1.1.1 x.1.1.0 program.Done))) (both (plan_optional a) (both (plan_test b) (both (plan_optional d) (plan_statement (in_loop c) t))))
-  plan_statement c (tree.Break p q) = asks (λ s x. AtBreak p (c.loop || c.switch)) (pure (program.Break p program.Done))
-  plan_statement c (tree.Continue p q) = asks (λ s x. AtBreak p c.loop) (pure (program.Continue p program.Done))
+  plan_statement c (tree.Break p q) = break_at p c
+  plan_statement c (tree.Continue p q) = continue_at p c
   plan_statement c (tree.Return p e q) = plan_return p c e
   plan_statement c (tree.Switch p q e t) = switch_of p (integer_at (place_of e) (plan_value e)) (plan_body (in_switch c) t (plan_statement (in_switch c) t))
   plan_statement c (tree.Case p e t) = chain 0 (chain tt (asks (λ s x. AtCaseOutside p) nothing) (λ x. label_at e)) (λ w. plan_statement c t)

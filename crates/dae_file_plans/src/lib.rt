@@ -3,8 +3,10 @@
 #![tactic(auto)]
 
 pub use declarations::{FileDeclaration, Role};
+pub use surroundings::Surrounding;
 
 mod declarations;
+mod surroundings;
 
 ghost use Rattle.dae_file_plans.specs.Promise.{FilesAreChecked};
 

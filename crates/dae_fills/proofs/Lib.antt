@@ -1,1 +1,3 @@
+mod Settings
+mod Shapes
 mod Stacks
