@@ -1,7 +1,6 @@
 -- The functions of all files, side by side with their rows.
-use Rattle.std.proofs.Common.{◌≡◌, ℕ, zero, suc, ◌+◌, Bool, true, false, inl, inr, List, [], ◌∷◌, ◌++◌, length, Option, Some, None, refl, sym, ap, subst, ◌∙◌, arith}
+use Rattle.std.proofs.Common.{◌≡◌, ℕ, zero, suc, ◌+◌, Bool, false, inl, inr, List, [], ◌∷◌, ◌++◌, length, Some, refl, sym, ap, subst, ◌∙◌, arith}
 use Rattle.std.specs.Prelude.{slice_get}
-use Rattle.std.specs.List.{AllByRecursion}
 use Rattle.dae_kinds.specs.declared.tables.Entity.{Entity}
 use Rattle.dae_kinds.specs.declared.tables.Entity.TheVariants as entity
 use Rattle.dae_program.specs.declared.program.Function.{Function}

@@ -1,9 +1,9 @@
 -- Each function that a file calls is there, with as many parameters; and main is there, with none.
-use Rattle.std.proofs.Common.{◌≡◌, ◌≢◌, ◌⊎◌, ℕ, zero, suc, ◌+◌, ◌^◌, ◌<◌, ◌≤◌, Bool, true, false, ◌&&◌, ◌||◌, inl, inr, List, [], ◌∷◌, length, Option, Some, None, refl, sym, ap, subst, ◌∙◌, arith}
-use Rattle.std.proofs.lemmas.Bool.{false≢true, and_parts, and_from, ltb-true}
+use Rattle.std.proofs.Common.{◌≡◌, ◌≢◌, ℕ, zero, suc, ◌+◌, ◌^◌, ◌<◌, ◌≤◌, Bool, true, false, ◌&&◌, ◌||◌, inl, inr, List, [], ◌∷◌, length, Option, Some, None, refl, sym, ap, subst, ◌∙◌, arith}
+use Rattle.std.proofs.lemmas.Bool.{false≢true, and_parts, ltb-true}
 use Rattle.std.proofs.lemmas.Bool.Decides.{nat_tests}
 use Rattle.std.specs.Prelude.{slice_get, nat_eq, not, is_some, if◌then◌else◌, codes}
-use Rattle.std.specs.List.{list_any, list_all, AllByRecursion}
+use Rattle.std.specs.List.{list_any, AllByRecursion}
 use Rattle.std.specs.Str.{bytes_eq}
 use Rattle.dae_kinds.specs.declared.tables.Entity.{Entity}
 use Rattle.dae_kinds.specs.declared.tables.Entity.TheVariants as entity
@@ -18,24 +18,23 @@ use Rattle.dae_program.specs.Lawful.{parameter_count, is_lawful_body}
 use Rattle.dae_program.specs.Resolved.{address_in, callee_in, number_or}
 use Rattle.dae_typed.specs.declared.files.FileParts.{FileParts}
 use Rattle.dae_typed.specs.declared.files.TypedFunction.{TypedFunction}
-use Rattle.dae_typed.specs.Linkage.{is_function, is_reference, name_in, routine_name, routine_type, same_name, type_in}
-use Rattle.dae_typed.specs.Sound.{tables_of, bytes_or, bytes_of, routine_named, is_called_main, is_used, is_there, is_sound_function, function_at, IsSound, IsSoundDeclaration, AreCallable}
+use Rattle.dae_typed.specs.Linkage.{is_function, name_in, routine_name, routine_type, same_name, type_in}
+use Rattle.dae_typed.specs.Sound.{tables_of, bytes_or, routine_named, is_called_main, is_used, is_there, is_sound_function, function_at, IsSound, IsSoundDeclaration, AreCallable}
 use Rattle.dae_unit.specs.declared.rows.FileRow.{FileRow}
 use Rattle.dae_unit.specs.Across.{same_across}
-use Rattle.dae_unit.specs.Linkage.{entity_of, defines, refers, is_one, external_name, rows_of}
-use Rattle.dae_unit.specs.Clashes.{is_main, name_of}
-use Rattle.dae_unit.specs.Meanings.{body_row, bodies_of, function_of, functions_from, function_number, number_from, main_from, links_in, links_of}
+use Rattle.dae_unit.specs.Linkage.{entity_of, refers, is_one, external_name, rows_of}
+use Rattle.dae_unit.specs.Meanings.{body_row, bodies_of, functions_from, function_number, number_from, links_of}
 use Rattle.dae_unit.specs.Joined.{placed_in, places_in}
-use Rattle.dae_join.proofs.Among.{Among, any_among, among_any, all_among, passes_among, among_get}
-use Rattle.dae_join.proofs.Bodies.{IsBody, ArePaired, paired, HasFunction, paired_at, has_body, routine_among, HasBody, body_named, routine_defined, HasDeclaration, declared_routine}
+use Rattle.dae_join.proofs.Among.{Among, among_any, all_among, passes_among}
+use Rattle.dae_join.proofs.Bodies.{paired, paired_at, has_body, routine_among, body_named, routine_defined, HasDeclaration, declared_routine}
 use Rattle.dae_join.proofs.Causes.{HasNoCause}
 use Rattle.dae_join.proofs.Links.{number_at}
-use Rattle.dae_join.proofs.Numbers.{IsFound, first_from, found_first, number_first, main_first, main_parts}
+use Rattle.dae_join.proofs.Numbers.{found_first, number_first}
 use Rattle.dae_join.proofs.Ones.{AreRelated, name_at}
 use Rattle.dae_join.proofs.Parameters.{count_of, parameters_alike}
 use Rattle.dae_join.proofs.Room.{have_room, linked}
 use Rattle.dae_join.proofs.Rows.{row, IsRow, rows_sound, file_sound, has_row}
-use Rattle.dae_join.proofs.Uses.{IsDeclaredAs, declared, IsGiven, given, IsOneOf, one_of}
+use Rattle.dae_join.proofs.Uses.{declared, given, one_of}
 
 -- ---- names
 

@@ -1,9 +1,9 @@
 -- Layouts of types: their alignment, what is incomplete, and that a type which is the same in two files is laid out alike.
-use Rattle.std.proofs.Common.{◌≡◌, ℕ, zero, suc, ◌+◌, ◌<◌, ◌≤◌, Bool, true, false, ◌&&◌, List, [], ◌∷◌, length, Option, Some, None, inl, inr, refl, sym, ap, subst, ◌∙◌, arith}
+use Rattle.std.proofs.Common.{◌≡◌, ℕ, zero, suc, ◌<◌, ◌≤◌, Bool, true, false, ◌&&◌, List, [], ◌∷◌, length, Option, Some, None, inl, inr, refl, sym, ap, subst, ◌∙◌, arith}
 use Rattle.std.proofs.lemmas.Bool.{false≢true, cases_lt, and_parts, and_from}
 use Rattle.std.proofs.lemmas.Bool.Decides.{nat_tests}
 use Rattle.std.proofs.lemmas.Option.{slice_get_past}
-use Rattle.std.specs.Prelude.{nat_eq, max, filter, slice_get, is_some, if◌then◌else◌}
+use Rattle.std.specs.Prelude.{filter, slice_get, is_some, if◌then◌else◌}
 use Rattle.std.specs.List.{list_all}
 use Rattle.std.specs.Str.{bytes_eq}
 use Rattle.dae_kinds.specs.declared.types.Layout.{Layout}
@@ -11,10 +11,10 @@ use Rattle.dae_kinds.specs.declared.types.Shape.{Shape}
 use Rattle.dae_kinds.specs.declared.types.Shape.TheVariants as shape
 use Rattle.dae_kinds.specs.declared.tables.Component.{Component}
 use Rattle.dae_kinds.specs.Tables.{Tables}
-use Rattle.dae_kinds.specs.Types.{shape_of, shape_or, is_complete, is_complete_shape, is_function, layout, layout_of, layout_else, layout_at, layout_within, shape_layout, repeated, placed, finished, counts_agree}
+use Rattle.dae_kinds.specs.Types.{shape_of, shape_or, is_complete, is_complete_shape, is_function, layout, layout_of, layout_else, layout_at, layout_within, shape_layout, repeated, placed, counts_agree}
 use Rattle.dae_typed.specs.declared.files.FileParts.{FileParts}
 use Rattle.dae_typed.specs.Sound.{tables_of, members_of, is_member_of, laid_out, has_complete_type, AreElementsComplete, AreLaidOut, IsSound, bytes_of}
-use Rattle.dae_unit.specs.Across.{same_within_files, shape_across, same_members, same_structure, same_bodies, same_tag, tag_of}
+use Rattle.dae_unit.specs.Across.{same_within_files, shape_across, same_members, same_bodies, same_tag, tag_of}
 
 -- ---- types by their shapes
 

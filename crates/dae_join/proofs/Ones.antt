@@ -1,11 +1,9 @@
 -- What is one object or function in two files: names that are the same, and the types and kinds that go with them.
-use Rattle.std.proofs.Common.{◌≡◌, ◌≢◌, ◌⊎◌, ℕ, zero, suc, ◌+◌, Bool, true, false, ◌&&◌, ◌||◌, inl, inr, List, [], ◌∷◌, length, Option, Some, None, refl, sym, ap, subst, ◌∙◌, arith}
-use Rattle.std.proofs.lemmas.Bool.{false≢true, and_parts, and_from, or_cases, or_left, or_right, cases_eq}
+use Rattle.std.proofs.Common.{◌≡◌, ◌≢◌, ◌⊎◌, ℕ, zero, suc, Bool, true, false, ◌&&◌, inl, inr, List, length, Option, Some, None, refl, sym, ap, subst, ◌∙◌, arith}
+use Rattle.std.proofs.lemmas.Bool.{false≢true, and_parts, or_cases, or_left, or_right, cases_eq}
 use Rattle.std.proofs.lemmas.Bool.Decides.{nat_tests}
 use Rattle.std.proofs.lemmas.Slice.Eq.{bytes_eq-Decides}
 use Rattle.std.specs.Prelude.{slice_get, nat_eq, not}
-use Rattle.std.specs.List.{AllByRecursion}
-use Rattle.std.specs.Str.{bytes_eq}
 use Rattle.dae_kinds.specs.declared.types.Shape.{Shape}
 use Rattle.dae_kinds.specs.declared.types.Shape.TheVariants as shape
 use Rattle.dae_kinds.specs.declared.tables.Entity.{Entity}
@@ -20,9 +18,9 @@ use Rattle.dae_unit.specs.declared.errors.Clash.TheVariants.{Types}
 use Rattle.dae_unit.specs.declared.rows.FileRow.{FileRow}
 use Rattle.dae_unit.specs.Across.{same_across, same_within_files, shape_across}
 use Rattle.dae_unit.specs.Linkage.{external_name, is_one, entity_of, rows_of}
-use Rattle.dae_unit.specs.Clashes.{clashes, first_clash, types_differ, same_types, shares_name, name_of}
-use Rattle.dae_join.proofs.Among.{Among, all_among}
-use Rattle.dae_join.proofs.Rows.{row, IsRow, apart}
+use Rattle.dae_unit.specs.Clashes.{clashes, first_clash, same_types, name_of}
+use Rattle.dae_join.proofs.Among.{Among}
+use Rattle.dae_join.proofs.Rows.{apart}
 
 pub names_equal : (a b : Option (List ℕ)) → same_name a b ≡ true → a ≡ b
 names_equal None b h = absurd (false≢true h)

@@ -1,5 +1,5 @@
 -- A function that is the same in two files has as many parameters in both.
-use Rattle.std.proofs.Common.{◌≡◌, ℕ, zero, suc, ◌+◌, ◌<◌, ◌≤◌, Bool, true, false, ◌&&◌, List, [], ◌∷◌, ◌++◌, length, inl, inr, refl, sym, ap, subst, ◌∙◌, arith}
+use Rattle.std.proofs.Common.{◌≡◌, ℕ, zero, suc, ◌+◌, ◌<◌, Bool, true, false, List, [], ◌∷◌, ◌++◌, length, inl, inr, refl, sym, ap, ◌∙◌, arith}
 use Rattle.std.proofs.lemmas.Bool.{false≢true, and_parts, cases_lt}
 use Rattle.std.proofs.lemmas.List.{length-append}
 use Rattle.dae_kinds.specs.declared.types.Shape.{Shape}
@@ -9,7 +9,7 @@ use Rattle.dae_kinds.specs.Types.{shape_of, is_function}
 use Rattle.dae_kinds.specs.Values.{parameters_of}
 use Rattle.dae_plans.specs.Steps.{parameters_from}
 use Rattle.dae_typed.specs.declared.files.FileParts.{FileParts}
-use Rattle.dae_typed.specs.Sound.{tables_of, AreChains, IsSound}
+use Rattle.dae_typed.specs.Sound.{tables_of, IsSound}
 use Rattle.dae_unit.specs.Across.{same_within_files, shape_across}
 use Rattle.dae_join.proofs.Layouts.{past_shapes}
 

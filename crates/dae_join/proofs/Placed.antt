@@ -1,12 +1,12 @@
 -- The declarations that give room: each is one of an object, in some file, and each object that has room has one.
-use Rattle.std.proofs.Common.{◌≡◌, ℕ, zero, suc, ◌+◌, Bool, true, false, ◌&&◌, inl, inr, List, [], ◌∷◌, ◌++◌, refl, sym, ap, subst, ◌∙◌, arith}
-use Rattle.std.proofs.lemmas.Bool.{false≢true, and_parts, not-true, not-false}
+use Rattle.std.proofs.Common.{◌≡◌, Bool, true, false, ◌&&◌, inl, inr, List, [], ◌∷◌, ◌++◌, refl, subst}
+use Rattle.std.proofs.lemmas.Bool.{false≢true, and_parts, not-true}
 use Rattle.std.specs.Prelude.{not, if◌then◌else◌}
 use Rattle.std.specs.List.{list_any, AllByRecursion}
 use Rattle.dae_typed.specs.declared.files.FileParts.{FileParts}
 use Rattle.dae_typed.specs.Linkage.{is_object}
 use Rattle.dae_unit.specs.declared.rows.FileRow.{FileRow}
-use Rattle.dae_unit.specs.Linkage.{entity_of, refers, is_one}
+use Rattle.dae_unit.specs.Linkage.{entity_of, refers}
 use Rattle.dae_unit.specs.Placing.{is_first, is_same, placed_rows}
 use Rattle.dae_join.proofs.Among.{Among, any_among, among_any, among_front, among_last, all_last}
 use Rattle.dae_join.proofs.Ones.{one_itself}

@@ -1,9 +1,9 @@
 -- Each place suits its object, and lies before the end.
-use Rattle.std.proofs.Common.{◌≡◌, ◌≢◌, ℕ, zero, suc, ◌+◌, ◌-◌, ◌*◌, ◌/◌, ◌%◌, ◌<◌, ◌≤◌, Bool, true, false, List, [], ◌∷◌, ◌++◌, length, Option, Some, None, refl, sym, ap, subst, ◌∙◌, arith}
+use Rattle.std.proofs.Common.{◌≡◌, ℕ, zero, suc, ◌+◌, ◌-◌, ◌*◌, ◌/◌, ◌%◌, ◌<◌, ◌≤◌, Bool, true, false, List, [], ◌∷◌, ◌++◌, length, Some, refl, sym, ap, subst, ◌∙◌, arith}
 use Rattle.std.proofs.lemmas.Bool.Decides.{nat_tests}
-use Rattle.std.proofs.lemmas.List.{append_assoc, length-append}
+use Rattle.std.proofs.lemmas.List.{append_assoc}
 use Rattle.std.proofs.Math.Nat.{mul-mod_left, lt-div-mul-add}
-use Rattle.std.specs.Prelude.{nat_eq, nat_le, if◌then◌else◌, slice_index, slice_get, min}
+use Rattle.std.specs.Prelude.{nat_eq, nat_le, if◌then◌else◌, slice_index, slice_get}
 use Rattle.std.specs.List.{AllByRecursion}
 use Rattle.dae_kinds.specs.declared.types.Layout.{Layout}
 use Rattle.dae_unit.specs.Placing.{rounded_up, place_behind, places_from, end_from, last_place}

@@ -1,8 +1,8 @@
 -- Each object that a file uses has room in memory.
-use Rattle.std.proofs.Common.{◌≡◌, ◌⊎◌, ℕ, zero, suc, ◌+◌, ◌%◌, ◌^◌, ◌<◌, ◌≤◌, Bool, true, false, inl, inr, List, [], ◌∷◌, length, Option, Some, None, refl, sym, ap, subst, ◌∙◌, arith}
+use Rattle.std.proofs.Common.{◌≡◌, ℕ, ◌+◌, ◌%◌, ◌^◌, ◌<◌, ◌≤◌, Bool, true, false, inl, inr, List, [], length, Some, refl, sym, ap, subst, ◌∙◌, arith}
 use Rattle.std.proofs.lemmas.Bool.{cases_Bool, ltb-true}
 use Rattle.std.proofs.lemmas.Bool.Decides.{nat_tests}
-use Rattle.std.specs.Prelude.{slice_get, slice_index, nat_lt, nat_eq, if◌then◌else◌}
+use Rattle.std.specs.Prelude.{slice_get, slice_index, nat_lt, if◌then◌else◌}
 use Rattle.std.specs.List.{list_any, AllByRecursion}
 use Rattle.dae_kinds.specs.declared.types.Layout.{Layout}
 use Rattle.dae_kinds.specs.declared.tables.Entity.{Entity}
@@ -12,25 +12,25 @@ use Rattle.dae_kinds.specs.Types.{shape_of, layout_at, is_complete}
 use Rattle.dae_kinds.specs.Values.{object_type}
 use Rattle.dae_program.specs.Resolved.{address_in}
 use Rattle.dae_typed.specs.declared.files.FileParts.{FileParts}
-use Rattle.dae_typed.specs.Linkage.{is_object, is_function, type_in}
+use Rattle.dae_typed.specs.Linkage.{is_function, type_in}
 use Rattle.dae_typed.specs.Sound.{tables_of, is_used, is_there, IsSound, IsSoundDeclaration, HasRoom, HaveRoom}
 use Rattle.dae_unit.specs.declared.rows.FileRow.{FileRow}
 use Rattle.dae_unit.specs.Across.{same_across}
-use Rattle.dae_unit.specs.Linkage.{entity_of, refers, is_one, rows_of}
-use Rattle.dae_unit.specs.Placing.{is_same, layout_of_row, placed_rows, rooms_of, places_from, rounded_up, end_from, data_end, frames_begin, first_place, last_place}
+use Rattle.dae_unit.specs.Linkage.{entity_of, is_one, rows_of}
+use Rattle.dae_unit.specs.Placing.{is_same, layout_of_row, rooms_of, end_from, data_end, frames_begin}
 use Rattle.dae_unit.specs.Meanings.{number_from, object_place, bodies_of, links_in, links_of}
 use Rattle.dae_unit.specs.Joined.{placed_in, places_in}
-use Rattle.dae_join.proofs.Among.{Among, any_among, among_any, all_among, among_get}
+use Rattle.dae_join.proofs.Among.{any_among, among_any, all_among, among_get}
 use Rattle.dae_join.proofs.Causes.{HasNoCause}
 use Rattle.dae_join.proofs.Layouts.{AreAlike, alike, types_alike, incomplete_empty}
-use Rattle.dae_join.proofs.Links.{count_literals, HasLinks, link_at, address_at}
-use Rattle.dae_join.proofs.Numbers.{IsFound, first_from, found_first, number_first}
+use Rattle.dae_join.proofs.Links.{HasLinks, link_at, address_at}
+use Rattle.dae_join.proofs.Numbers.{found_first, number_first}
 use Rattle.dae_join.proofs.Ones.{AreRelated, object_if, one_transitive}
 use Rattle.dae_join.proofs.Placed.{GivesRoom, placed_give_room, has_placed}
 use Rattle.dae_join.proofs.Places.{HasPlace, places_behind, places_apart, length-places, placed_at, rounded_at}
 use Rattle.dae_join.proofs.Rooms.{rooms_align, room_at, length-rooms, layout_is_in}
 use Rattle.dae_join.proofs.Rows.{IsRow, rows_sound, file_sound}
-use Rattle.dae_join.proofs.Uses.{IsDeclaredAs, declared, IsGiven, given, IsOneOf, one_of}
+use Rattle.dae_join.proofs.Uses.{declared, given, one_of}
 
 -- ---- layouts of one object in two files
 

@@ -1,5 +1,5 @@
 -- The room of all objects and literals: what stands at each number, and where the literals end.
-use Rattle.std.proofs.Common.{◌≡◌, ℕ, zero, suc, ◌+◌, ◌-◌, ◌*◌, ◌/◌, ◌^◌, ◌<◌, ◌≤◌, Bool, true, false, List, [], ◌∷◌, ◌++◌, length, Option, Some, None, refl, sym, ap, subst, ◌∙◌, arith}
+use Rattle.std.proofs.Common.{◌≡◌, ℕ, zero, suc, ◌+◌, ◌-◌, ◌*◌, ◌/◌, ◌^◌, ◌<◌, ◌≤◌, Bool, true, false, List, [], ◌∷◌, ◌++◌, length, Some, refl, sym, ap, subst, ◌∙◌, arith}
 use Rattle.std.proofs.lemmas.List.{append_assoc, append-nil, length-append}
 use Rattle.std.specs.Prelude.{slice_get, min, nat_le, if◌then◌else◌}
 use Rattle.std.specs.List.{AllByRecursion}
@@ -9,7 +9,7 @@ use Rattle.dae_typed.specs.declared.files.FileParts.{FileParts}
 use Rattle.dae_typed.specs.Linkage.{type_in}
 use Rattle.dae_typed.specs.Sound.{tables_of}
 use Rattle.dae_unit.specs.declared.rows.FileRow.{FileRow}
-use Rattle.dae_unit.specs.Linkage.{entity_of, rows_of}
+use Rattle.dae_unit.specs.Linkage.{entity_of}
 use Rattle.dae_unit.specs.Placing.{layout_in, layout_of_row, object_layouts, literal_layout, literal_layouts, all_literals, rooms_of, rounded_up, place_behind, end_from, last_place}
 use Rattle.dae_join.proofs.Among.{all_among}
 use Rattle.dae_join.proofs.Layouts.{align_at}

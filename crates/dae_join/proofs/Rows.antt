@@ -1,10 +1,10 @@
 -- The declarations of all files: each is sound in its file, and those of one name in two files have the same type.
-use Rattle.std.proofs.Common.{◌≡◌, ◌⊎◌, ℕ, zero, suc, ◌+◌, Bool, true, false, cond, ◌&&◌, ◌||◌, inl, inr, List, [], ◌∷◌, ◌++◌, Option, Some, None, refl, sym, ap, subst, ◌∙◌, arith}
+use Rattle.std.proofs.Common.{◌≡◌, ◌⊎◌, ℕ, zero, suc, ◌+◌, Bool, true, false, cond, inl, inr, List, [], ◌∷◌, ◌++◌, Option, Some, None, refl, sym, subst, ◌∙◌, arith}
 use Rattle.std.specs.Prelude.{slice_get, find}
 use Rattle.std.specs.List.{AllByRecursion}
 use Rattle.dae_file_plans.specs.declared.declarations.FileDeclaration.{FileDeclaration}
 use Rattle.dae_typed.specs.declared.files.FileParts.{FileParts}
-use Rattle.dae_typed.specs.Sound.{IsSound, IsSoundDeclaration}
+use Rattle.dae_typed.specs.Sound.{IsSound}
 use Rattle.dae_unit.specs.declared.errors.Clash.{Clash}
 use Rattle.dae_unit.specs.declared.rows.FileRow.{FileRow}
 use Rattle.dae_unit.specs.Linkage.{rows_of_file, rows_from, rows_of}

@@ -1,5 +1,5 @@
 -- What typed files join to is lawful.
-use Rattle.std.proofs.Common.{◌≡◌, ℕ, ◌+◌, ◌-◌, ◌%◌, ◌^◌, ◌<◌, ◌≤◌, Bool, true, false, ◌&&◌, ◌||◌, List, [], ◌∷◌, length, Some, refl, sym, ap, subst, ◌∙◌, arith}
+use Rattle.std.proofs.Common.{◌≡◌, ℕ, ◌+◌, ◌-◌, ◌%◌, ◌^◌, ◌≤◌, Bool, true, false, ◌&&◌, ◌||◌, List, [], ◌∷◌, length, Some, refl, sym, ap, subst, ◌∙◌, arith}
 use Rattle.std.proofs.lemmas.Bool.{false≢true, and_parts, and_from}
 use Rattle.std.proofs.lemmas.Bool.Decides.{nat_tests}
 use Rattle.std.specs.Prelude.{slice_get, nat_eq, nat_le, not, codes}
@@ -15,15 +15,15 @@ use Rattle.dae_program.specs.Lawful.{is_lawful, is_lawful_body, is_lawful_in, is
 use Rattle.dae_program.specs.Resolved.{address_in}
 use Rattle.dae_typed.specs.declared.files.FileParts.{FileParts}
 use Rattle.dae_typed.specs.declared.files.TypedFunction.{TypedFunction}
-use Rattle.dae_typed.specs.Linkage.{is_function, is_reference, name_in, same_name}
+use Rattle.dae_typed.specs.Linkage.{is_reference, same_name}
 use Rattle.dae_typed.specs.Sound.{tables_of, is_called_main, is_sound_function, function_at, IsSound}
 use Rattle.dae_unit.specs.declared.joining.ProgramParts.{ProgramParts}
 use Rattle.dae_unit.specs.declared.rows.FileRow.{FileRow}
-use Rattle.dae_unit.specs.Linkage.{entity_of, is_definition, defines, external_name, rows_of}
-use Rattle.dae_unit.specs.Clashes.{is_main, name_of}
+use Rattle.dae_unit.specs.Linkage.{entity_of, is_definition, external_name, rows_of}
+use Rattle.dae_unit.specs.Clashes.{is_main}
 use Rattle.dae_unit.specs.Contents.{content_of}
 use Rattle.dae_unit.specs.Meanings.{body_row, bodies_of, function_of, functions_from, main_from, links_of}
-use Rattle.dae_unit.specs.Placing.{object_layouts, rooms_of, end_from, data_end, frames_begin}
+use Rattle.dae_unit.specs.Placing.{rooms_of, end_from, frames_begin}
 use Rattle.dae_unit.specs.Joined.{placed_in, places_in, objects_end, Joins}
 use Rattle.dae_join.specs.Promise.{IsLawful}
 use Rattle.dae_join.proofs.Among.{Among, any_among, among_any, all_among, passes_among}
