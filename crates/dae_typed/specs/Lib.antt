@@ -1,3 +1,4 @@
+pub mod Linkage
 pub mod Frames
 pub mod Sound
 pub mod Reading

@@ -1,17 +1,15 @@
 -- What keeps files from joining: definitions, types, uses and main.
-use Rattle.std.specs.Prelude.{ℕ, suc, Bool, true, false, ◌&&◌, not, List, [], ◌∷◌, Option, Some, None, is_some, nat_eq, slice_get, find, codes}
+use Rattle.std.specs.Prelude.{ℕ, suc, Bool, true, false, ◌&&◌, not, List, [], ◌∷◌, Option, Some, None, nat_eq, slice_get, find, codes}
 use Rattle.std.specs.List.{list_any}
 use Rattle.dae_kinds.specs.declared.tables.Entity.{Entity}
 use Rattle.dae_kinds.specs.declared.tables.Entity.TheVariants as entity
-use Rattle.dae_kinds.specs.declared.tables.Routine.{Routine}
 use Rattle.dae_kinds.specs.declared.tables.Use.{Use}
-use Rattle.dae_kinds.specs.Types.{void_id}
-use Rattle.dae_kinds.specs.Values.{object_type}
 use Rattle.dae_typed.specs.declared.files.FileParts.{FileParts}
+use Rattle.dae_typed.specs.Linkage.{is_function, is_library, same_name, type_in}
 use Rattle.dae_unit.specs.declared.errors.Clash.{Clash}
 use Rattle.dae_unit.specs.declared.errors.Clash.TheVariants.{Definitions, Types}
 use Rattle.dae_unit.specs.declared.rows.FileRow.{FileRow}
-use Rattle.dae_unit.specs.Linkage.{external_name, same_name, is_one, entity_of, defines, refers}
+use Rattle.dae_unit.specs.Linkage.{external_name, is_one, entity_of, defines, refers}
 use Rattle.dae_unit.specs.Across.{same_across}
 
 -- ---- two declarations of one name
@@ -21,18 +19,6 @@ name_of files d = external_name files d.file (entity_of d)
 
 abbrev pub shares_name : List FileParts → FileRow → FileRow → Bool
 shares_name files d e = same_name (name_of files d) (name_of files e)
-
-abbrev pub routine_type : Option Routine → ℕ
-routine_type None = void_id
-routine_type (Some r) = r.type_id
-
--- the type that a file gives an object or a function, at its end
-abbrev pub type_in : FileParts → Entity → ℕ
-type_in f (entity.Object o) = object_type (slice_get f.objects o)
-type_in f (entity.Function r) = routine_type (slice_get f.routines r)
-type_in f (entity.Local n) = void_id
-type_in f (entity.Type n) = void_id
-type_in f (entity.Enumerator w) = void_id
 
 abbrev pub same_types : Option FileParts → Option FileParts → (x y : Entity) → Bool
 same_types (Some f) (Some g) x y = same_across f g (type_in f x) (type_in g y)
@@ -54,10 +40,6 @@ first_clash files clash (d ∷ ds) = elim (find (clashes files clash d) ds) [ No
 
 -- ---- uses of what no file defines; a tentative definition counts as one
 
-abbrev pub is_library : Option Routine → Bool
-is_library None = false
-is_library (Some r) = is_some r.library
-
 abbrev pub is_library_in : Option FileParts → Entity → Bool
 is_library_in (Some f) (entity.Function r) = is_library (slice_get f.routines r)
 is_library_in _ e = false
@@ -73,10 +55,6 @@ first_missing files rows k [] = None
 first_missing files rows k (f ∷ fs) = elim (find (is_missing files rows k) f.uses) [ None ↦ first_missing files rows (suc k) fs | Some u ↦ Some u ]
 
 -- ---- main
-
-abbrev pub is_function : Entity → Bool
-is_function (entity.Function r) = true
-is_function _ = false
 
 -- a definition of the function main that other files know
 unfoldable pub is_main : List FileParts → FileRow → Bool

@@ -10,8 +10,9 @@ use Rattle.dae_kinds.specs.declared.tables.Routine.{Routine}
 use Rattle.dae_file_plans.specs.declared.declarations.Role.TheVariants.{Definition}
 use Rattle.dae_typed.specs.declared.files.FileParts.{FileParts}
 use Rattle.dae_typed.specs.declared.files.TypedFunction.{TypedFunction}
+use Rattle.dae_typed.specs.Linkage.{same_name}
 use Rattle.dae_unit.specs.declared.rows.FileRow.{FileRow}
-use Rattle.dae_unit.specs.Linkage.{external_name, same_name, is_one, entity_of}
+use Rattle.dae_unit.specs.Linkage.{external_name, is_one, entity_of}
 use Rattle.dae_unit.specs.Clashes.{is_main}
 
 -- ---- numbers of rows: that of the first one that is an object or a function, and that behind all where none is

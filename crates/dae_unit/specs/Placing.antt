@@ -5,19 +5,14 @@ use Rattle.std.specs.Prelude.{ℕ, ◌+◌, ◌-◌, ◌*◌, ◌/◌, ◌^◌, 
 use Rattle.std.specs.List.{list_any}
 use Rattle.dae_kinds.specs.declared.types.Layout.{Layout}
 use Rattle.dae_kinds.specs.declared.tables.Entity.{Entity}
-use Rattle.dae_kinds.specs.declared.tables.Entity.TheVariants as entity
 use Rattle.dae_kinds.specs.Types.{layout, layout_at, greatest_word}
 use Rattle.dae_typed.specs.declared.files.FileParts.{FileParts}
+use Rattle.dae_typed.specs.Linkage.{is_object, type_in}
 use Rattle.dae_typed.specs.Sound.{tables_of}
 use Rattle.dae_unit.specs.declared.rows.FileRow.{FileRow}
 use Rattle.dae_unit.specs.Linkage.{is_one, entity_of, refers}
-use Rattle.dae_unit.specs.Clashes.{type_in}
 
 -- ---- which declarations give room
-
-abbrev pub is_object : Entity → Bool
-is_object (entity.Object o) = true
-is_object _ = false
 
 abbrev pub is_same : List FileParts → FileRow → FileRow → Bool
 is_same files d e = is_one files d.file (entity_of d) e.file (entity_of e)

@@ -2,7 +2,8 @@
 
 ghost use Rattle.std.specs.Prelude.{◌≡◌, find, slice_get};
 ghost use Rattle.std.specs.List.{list_any};
-ghost use Rattle.dae_unit.specs.Clashes.{type_in, types_differ, shares_name, clashes, first_clash, is_library_in, gives, is_missing, first_missing, is_function, is_main};
+ghost use Rattle.dae_typed.specs.Linkage.{is_function, type_in};
+ghost use Rattle.dae_unit.specs.Clashes.{types_differ, shares_name, clashes, first_clash, is_library_in, gives, is_missing, first_missing, is_main};
 
 use crate::across::same_across;
 use crate::errors::Clash;

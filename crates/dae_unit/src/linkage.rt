@@ -1,8 +1,9 @@
 // Names that several files share.
 
 ghost use Rattle.std.specs.Prelude.{◌≡◌, slice_get, option_copied};
+ghost use Rattle.dae_typed.specs.Linkage.{name_in, object_name, routine_name, same_name};
 ghost use Rattle.dae_typed.specs.Sound.{same_entity};
-ghost use Rattle.dae_unit.specs.Linkage.{external_name, name_in, object_name, routine_name, same_name, is_one, defines, refers};
+ghost use Rattle.dae_unit.specs.Linkage.{external_name, is_one, defines, refers};
 
 use crate::rows::FileRow;
 use dae_file_plans::Role;

@@ -3,8 +3,9 @@
 ghost use Rattle.std.specs.Prelude.{◌≡◌, [], IfOk, IfSome, OnOk, slice_get};
 ghost use Rattle.std.specs.List.{list_any};
 ghost use Rattle.dae_kinds.specs.Types.{layout_of, layout_else, repeated, layout_within, layout_at};
+ghost use Rattle.dae_typed.specs.Linkage.{is_object};
 ghost use Rattle.dae_typed.specs.Sound.{tables_of};
-ghost use Rattle.dae_unit.specs.Placing.{is_object, is_same, is_first, placed_rows, layout_of_row, object_layouts, literal_layout, literal_layouts, all_literals, rooms_of, rounded_up, place_behind, places_from, end_from, first_place};
+ghost use Rattle.dae_unit.specs.Placing.{is_same, is_first, placed_rows, layout_of_row, object_layouts, literal_layout, literal_layouts, all_literals, rooms_of, rounded_up, place_behind, places_from, end_from, first_place};
 
 use crate::across::shape_of;
 use crate::clashes::type_in;

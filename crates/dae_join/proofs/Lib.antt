@@ -1,0 +1,17 @@
+mod Among
+mod Places
+mod Layouts
+mod Parameters
+mod Rows
+mod Ones
+mod Placed
+mod Numbers
+mod Bodies
+mod Links
+mod Rooms
+mod Content
+mod Causes
+mod Uses
+mod Room
+mod Calls
+pub mod Whole
