@@ -67,7 +67,7 @@ module _ (stream : Stream) (old : Layouts) (unplaced : AreUnplaced stream old) w
   at : (g : ℕ) → IsLayoutAt (slice_get fs g) (slice_get old.functions g)
   at g = layout_at fs old.functions unplaced.functions g
 
-  good : (f v : ℕ) → IsHome (variables f) (P.home f v)
+  pub good : (f v : ℕ) → IsHome (variables f) (P.home f v)
   good f v = each_home (slice_get fs f) (slice_get old.functions f) (at f) v
 
   near_frames : (f : ℕ) → P.words f < 2 ^ 26

@@ -8,7 +8,7 @@ ghost use Rattle.dae_sides.specs.declared.error.CodeError.TheVariants as errors;
 ghost use Rattle.dae_sides.specs.Settled.{AreUnplaced, IsPrivateWithin, IsTooDeep};
 ghost use Rattle.dae_sides.specs.Placed.{opening_code};
 ghost use Rattle.dae_sides.specs.Sizes.{most_words};
-ghost use Rattle.dae_sides.specs.Sides.{HasLimits, IsCodeOf, at_places, code_at, end_of};
+ghost use Rattle.dae_sides.specs.Sides.{HasLimits, HasUsesOf, IsCodeOf, at_places, code_at, end_of};
 
 use crate::MOST_WORDS;
 use crate::error::CodeError;
@@ -92,6 +92,7 @@ pub fn side_code(alloc: Global, stream: &Stream) -> Result<SideCode, CodeError>
     ensures few { IfOk result (λ made. length made.words ≤ 2 ^ 25) }
     ensures short { IfOk result (λ made. length made.words ≤ most_words stream.now) }
     ensures private { IfOk result (λ made. made.private ≤ 2 ^ 28) }
+    ensures uses { IfOk result (λ made. HasUsesOf stream.now made.words) }
     ensures frames { IfOk result (λ made. IsPrivateWithin stream.now made.private) }
     ensures err { IfErr result (λ e. e ≡ errors.Code → 2 ^ 25 < most_words stream.now) }
     ensures deep { IfErr result (λ e. e ≡ errors.Private → IsTooDeep stream.now) }
