@@ -1,12 +1,10 @@
 -- A linked image's fields are in their ranges.
-use Rattle.std.proofs.Common.{◌≡◌, ℕ, ◌+◌, ◌-◌, ◌*◌, ◌/◌, ◌%◌, ◌^◌, ◌≤◌, ◌<◌, true, List, [], length, refl, arith}
-use Rattle.std.specs.Prelude.{None, IsTrue}
-use Rattle.std.specs.List.{All, list_all}
+use Rattle.std.proofs.Common.{◌≡◌, ℕ, ◌*◌, ◌%◌, ◌^◌, ◌≤◌, ◌<◌, List, [], length, refl, arith}
+use Rattle.std.specs.List.{All}
 use Rattle.std.proofs.lemmas.List.Elements.{All-nil}
 use Rattle.dae_base.specs.declared.Depths.{Depths}
 use Rattle.dae_base.specs.declared.Queue.TheVariants.{Ld, Al, Sa, Sd, Ab, Eb, Cq}
-use Rattle.dae_image.specs.declared.LineMark.{LineMark}
-use Rattle.dae_image.specs.Contents.{Contents, Fits, is_name}
+use Rattle.dae_image.specs.Contents.{Fits}
 use Rattle.dae_image.specs.Ranges.{IsIn, depth_range}
 use Rattle.dae_ir.specs.declared.stream.Pair.{Pair}
 use Rattle.dae_link.specs.Linked.{CanLink}

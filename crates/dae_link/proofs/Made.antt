@@ -1,17 +1,13 @@
 -- From the code of both streams, and from the form that they were split from, to the image that is made so.
-use Rattle.std.proofs.Common.{◌≡◌, ℕ, zero, suc, ◌+◌, ◌*◌, Bool, true, false, List, [], ◌∷◌, length, refl, ap, sym, ◌∙◌, subst, arith}
+use Rattle.std.proofs.Common.{◌≡◌, ℕ, zero, suc, ◌+◌, Bool, true, false, List, [], ◌∷◌, length, refl, ap, sym, ◌∙◌, subst, arith}
 use Rattle.std.specs.Prelude.{Option, Some, None, slice_get}
-use Rattle.dae_base.specs.declared.Depths.{Depths}
-use Rattle.dae_base.specs.declared.Side.{Side}
-use Rattle.dae_base.specs.declared.Side.TheVariants.{A, E}
 use Rattle.dae_image.specs.declared.Image.{Image}
 use Rattle.dae_machine.specs.Machine.{Setup, code}
 use Rattle.dae_machine.specs.Opened.{setup_of, opened}
 use Rattle.dae_encode.specs.Processor.{Processor}
 use Rattle.dae_ir.specs.Classes.{Classes, classes_of}
-use Rattle.dae_ir.specs.Form.{Program}
-use Rattle.dae_ir.specs.Streams.{Actions, stream_of}
-use Rattle.dae_ir.specs.Programs.{program_of, body_in, frame_in, side, IsFunctionOf, AreFunctionsOf, IsStreamOf, AreClassesOf, IsPairOf}
+use Rattle.dae_ir.specs.Streams.{stream_of}
+use Rattle.dae_ir.specs.Programs.{program_of, body_in, frame_in, side, IsFunctionOf, AreFunctionsOf, IsStreamOf, IsPairOf}
 use Rattle.dae_ir.specs.declared.form.Ir.{Ir}
 use Rattle.dae_ir.specs.declared.form.Function.{Function}
 use Rattle.dae_ir.specs.declared.stream.Class.{Class}

@@ -1,5 +1,5 @@
 -- What an image is that is compiled of a form, and what linking asks of a pair.
-use Rattle.std.specs.Prelude.{◌≡◌, ◌⊎◌, ℕ, ◌-◌, ◌%◌, ◌^◌, ◌≤◌, ◌<◌, List, length, IsTrue}
+use Rattle.std.specs.Prelude.{◌≡◌, ◌↔◌, ◌⊎◌, ℕ, ◌-◌, ◌*◌, ◌%◌, ◌^◌, ◌≤◌, ◌<◌, List, length, IsTrue}
 use Rattle.std.specs.List.{All, list_all}
 use Rattle.dae_base.specs.declared.Side.TheVariants.{A, E}
 use Rattle.dae_base.specs.declared.Depths.{Depths}
@@ -12,9 +12,11 @@ use Rattle.dae_ir.specs.declared.stream.Class.{Class}
 use Rattle.dae_ir.specs.declared.stream.Pair.{Pair}
 use Rattle.dae_ir.specs.Programs.{AreClassesOf, IsPairOf}
 use Rattle.dae_ir.specs.Budgets.{IsBudgetOf}
+use Rattle.dae_uses.specs.Uses.{IsUnused}
 use Rattle.dae_faithful.specs.Made.{IsMade, IsReady}
 use Rattle.dae_runs.specs.Promises.{DoesForm}
 use Rattle.dae_sides.specs.Sides.{HasLimits}
+use Rattle.dae_sides.specs.Settled.{IsTooDeep, IsPrivateWithin}
 use Rattle.dae_sides.specs.Sizes.{most_words}
 
 -- the two streams of one program, within what an image can hold, with data and names that it can hold
@@ -63,6 +65,24 @@ abbrev pub IsFaithful : Pair → Depths → Image → Type 0
 IsFaithful pair budget image =
     (ir : Ir) (tables : List (List Class)) (cap : ℕ) → IsReady ir → AreClassesOf ir tables → IsPairOf ir tables cap pair
     → IsBudgetOf pair budget → DoesForm ir image 14
+
+-- a number of the budget is 0 exactly where no word of either code uses its queue
+abbrev pub IsExact : Image → Type 0
+IsExact image = (queue : Queue) → depth queue image.budget ≡ 0 ↔ (IsUnused A queue image.code_a × IsUnused E queue image.code_e)
+
+-- where the pair is a form's, and the budget is the pair's
+abbrev pub HasExactBudget : Pair → Depths → Image → Type 0
+HasExactBudget pair budget image =
+    (ir : Ir) (tables : List (List Class)) (cap : ℕ) → IsPairOf ir tables cap pair → IsBudgetOf pair budget → IsExact image
+
+-- private memories are no larger than by frames of 19 words and one for each variable, in the deepest calls
+pub record HasPrivateWithin (pair : Pair) (image : Image) : Type 0 where
+  pub a : (words : ℕ) × (image.private_a ≡ 4 * words) × IsPrivateWithin pair.a words
+  pub e : (words : ℕ) × (image.private_e ≡ 4 * words) × IsPrivateWithin pair.e words
+
+-- the frames of one of the sides are too large
+abbrev pub HasTooDeep : Pair → Type 0
+HasTooDeep pair = IsTooDeep pair.a ⊎ IsTooDeep pair.e
 
 -- what bounds one of the codes is more than a code may have
 abbrev pub IsTooLong : Pair → Type 0

@@ -2,17 +2,19 @@
 
 ghost use Rattle.std.specs.Prelude.{◌≡◌, IfOk, IfErr};
 ghost use Rattle.dae_sides.specs.declared.error.CodeError.TheVariants as errors;
-ghost use Rattle.dae_link.specs.Linked.{CanLink, HasGiven, IsCompiled, IsFaithful, IsTooLong};
+ghost use Rattle.dae_link.specs.Linked.{CanLink, HasExactBudget, HasGiven, HasPrivateWithin, HasTooDeep, IsCompiled, IsFaithful, IsTooLong};
 
 use dae_base::{Depths, Items, Text};
 use dae_faithful::made_does_form;
 use dae_image::Image;
 use dae_ir::Pair;
 use dae_sides::{CodeError, side_code};
+use dae_uses::pair_uses;
 use std::alloc::Global;
 
 /// The image of a pair: its two codes and its budget with the data and the names of the files. Of the form that the pair was
-/// split from it does what the form does, whatever the order of steps. A code is too long only where what bounds it is.
+/// split from it does what the form does, whatever the order of steps. A code is too long only where what bounds it is, and
+/// a private memory too large only where frames for all variables are.
 pub fn link(
     alloc: Global,
     pair: &Pair,
@@ -24,9 +26,13 @@ pub fn link(
     ensures given { IfOk result (λ image. HasGiven pair.now budget content names image) }
     ensures compiled { IfOk result (λ image. IsCompiled pair.now budget image) }
     ensures does { IfOk result (λ image. IsFaithful pair.now budget image) }
+    ensures exact { IfOk result (λ image. HasExactBudget pair.now budget image) }
+    ensures private { IfOk result (λ image. HasPrivateWithin pair.now image) }
     ensures err { IfErr result (λ e. e ≡ errors.Code → IsTooLong pair.now) }
+    ensures deep { IfErr result (λ e. e ≡ errors.Private → HasTooDeep pair.now) }
 {
     made_does_form();
+    pair_uses();
     let a = side_code(alloc, &pair.a)?;
     let e = side_code(alloc, &pair.e)?;
     Ok(Image {

@@ -11,8 +11,8 @@ use Rattle.dae_walks.specs.declared.Home.TheVariants.{Register, Slot}
 use Rattle.dae_regalloc.specs.declared.Span.{Span}
 use Rattle.dae_regalloc.specs.declared.spans.Spans.{Spans}
 use Rattle.dae_regalloc.specs.Scan.{register_at, free_at, placed, scan, AreClear, IsPaired, depth_at, NoSlot}
-use Rattle.dae_regalloc.specs.Seen.{number_in, AreNumbered, AreHeld, AreSeen}
-use Rattle.dae_regalloc.specs.Given.{IsOwnHome, home_or, home_in, numbered_home, IsRegister, IsAround, AreBelow, AreFew}
+use Rattle.dae_regalloc.specs.Seen.{number_in, AreBelow, AreNumbered, AreHeld, AreSeen}
+use Rattle.dae_regalloc.specs.Given.{IsOwnHome, home_or, home_in, numbered_home, IsRegister, IsAround, AreFew}
 use Rattle.dae_regalloc.proofs.Numbering.{number_beyond}
 use Rattle.dae_regalloc.proofs.Clear.{found_first}
 use Rattle.dae_regalloc.proofs.Apart.{clear_apart}

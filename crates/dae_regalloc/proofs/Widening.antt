@@ -106,6 +106,7 @@ pub widened_further : (old new : Spans) (v i : ℕ) → number_in old.numbers v 
     → new.numbers ≡ old.numbers → new.places ≡ old.places → IsFurther (λ u. u ≡ v) old new
 widened_further old new v i name spans numbers places = record {
   places = places;
+  few = λ n le below. subst (λ (l : List (Option ℕ)). length l ≤ n) (sym numbers) le;
   numbered = λ nd.
       let m = nd.named v i name in let x = m.0 in let w = widened x n in
       let set = spans x m.1 in
@@ -163,6 +164,7 @@ widened_further old new v i name spans numbers places = record {
 pub beyond_further : (old new : Spans) (v i : ℕ) → number_in old.numbers v ≡ Some i → length old.spans.items ≤ i → new.spans.items ≡ old.spans.items → new.numbers ≡ old.numbers → new.places ≡ old.places → IsFurther (λ u. u ≡ v) old new
 beyond_further old new v i name le spans numbers places = record {
   places = places;
+  few = λ n short below. subst (λ (l : List (Option ℕ)). length l ≤ n) (sym numbers) short;
   numbered = λ nd. absurd (none nd);
   kept = λ nd u place l held. absurd (none nd);
   held = λ nd u h. absurd (none nd);
@@ -175,9 +177,11 @@ beyond_further old new v i name le spans numbers places = record {
 -- ---- a variable that has none
 
 pub begun_further : (old new : Spans) (v : ℕ) (s : Span) → s.variable ≡ v → s.first ≡ old.places → s.last ≡ old.places → number_in old.numbers v ≡ None
-    → number_in new.numbers ≡ with_number v (length old.spans.items) (number_in old.numbers) → new.spans.items ≡ old.spans.items ++ s ∷ [] → new.places ≡ old.places → IsFurther (λ u. u ≡ v) old new
-begun_further old new v s is first last none numbers spans places = record {
+    → number_in new.numbers ≡ with_number v (length old.spans.items) (number_in old.numbers) → new.spans.items ≡ old.spans.items ++ s ∷ [] → new.places ≡ old.places
+    → ((n : ℕ) → length old.numbers ≤ n → v < n → length new.numbers ≤ n) → IsFurther (λ u. u ≡ v) old new
+begun_further old new v s is first last none numbers spans places long = record {
   places = places;
+  few = λ n le below. long n le (below v refl);
   numbered = λ nd. record {
     numbered = λ j y e.
         elim (pushed_cases xs s j y (subst (λ (l : List Span). slice_get l j ≡ Some y) spans e)) [
@@ -228,11 +232,12 @@ below_or_last u n lt = by (nat_lt u n) refl
     by false t = inr (grind (arith, nat_tests))
 
 pub further_none : (P : ℕ → Type 0) (old : Spans) → ((v : ℕ) → P v → ⊥) → IsFurther P old old
-further_none P old none = record { places = refl; numbered = λ nd. nd; kept = λ nd v place le held. held; held = λ nd v h. absurd (none v h); ends = λ nd place v end. inl end }
+further_none P old none = record { places = refl; few = λ n le below. le; numbered = λ nd. nd; kept = λ nd v place le held. held; held = λ nd v h. absurd (none v h); ends = λ nd place v end. inl end }
 
 pub further_then : (P Q R : ℕ → Type 0) (a b c : Spans) → IsFurther P a b → IsFurther Q b c → ((v : ℕ) → R v → P v ⊎ Q v) → ((v : ℕ) → P v → R v) → ((v : ℕ) → Q v → R v) → IsFurther R a c
 further_then P Q R a b c f g either one other = record {
   places = g.places ∙ f.places;
+  few = λ n le below. g.few n (f.few n le (λ v h. below v (one v h))) (λ v h. below v (other v h));
   numbered = λ nd. g.numbered (f.numbered nd);
   kept = λ nd v place le held. g.kept (f.numbered nd) v place (let e = f.places in omega arith) (f.kept nd v place le held);
   held = λ nd v h. elim (either v h) [
@@ -247,7 +252,7 @@ further_then P Q R a b c f g either one other = record {
 }
 
 pub further_same : (P R : ℕ → Type 0) (a b : Spans) → IsFurther P a b → ((v : ℕ) → R v → P v) → ((v : ℕ) → P v → R v) → IsFurther R a b
-further_same P R a b f all back = record { places = f.places; numbered = f.numbered; kept = f.kept; held = λ nd v h. f.held nd v (all v h); ends = λ nd place v end. elim (f.ends nd place v end) [ inl old ↦ inl old | inr h ↦ inr (h.0, back v h.1) ] }
+further_same P R a b f all back = record { places = f.places; few = λ n le below. f.few n le (λ v h. below v (back v h)); numbered = f.numbered; kept = f.kept; held = λ nd v h. f.held nd v (all v h); ends = λ nd place v end. elim (f.ends nd place v end) [ inl old ↦ inl old | inr h ↦ inr (h.0, back v h.1) ] }
 
 -- ---- a whole place
 
@@ -269,6 +274,7 @@ seen_more old mid new m places f spans numbers count seen =
     let more : new.places ≡ suc (length places) = omega arith in
     record {
       count = more;
+      few = λ n below. subst (λ (l : List (Option ℕ)). length l ≤ n) (sym numbers) (f.few n (seen.few n below.1) below.0);
       numbered = record {
         numbered = λ i x e. rw numbers (md.numbered i x (subst (λ (l : List Span). slice_get l i ≡ Some x) spans e));
         named = λ v i e. (let k = md.named v i (subst (λ (l : List (Option ℕ)). number_in l v ≡ Some i) numbers e) in (k.0, rw spans k.1, k.2));

@@ -1,5 +1,5 @@
 -- The homes that variables are given.
-use Rattle.std.specs.Prelude.{◌≡◌, ℕ, ◌≤◌, ◌<◌, true, nat_eq, List, length, slice_get, Option, Some, None}
+use Rattle.std.specs.Prelude.{◌≡◌, ℕ, ◌≤◌, true, nat_eq, List, length, slice_get, Option, Some, None}
 use Rattle.std.specs.List.{AllByRecursion, IsDistinct}
 use Rattle.dae_ir.specs.Classes.{VariableSet}
 use Rattle.dae_walks.specs.Homes.{is_home_register}
@@ -28,10 +28,6 @@ numbered_home homes (Some i) = home_or (slice_get homes i)
 abbrev pub IsRegister : Home → Type 0
 IsRegister (Register r) = Unit {0}
 IsRegister (Slot i) = ⊥
-
--- each of these variables is below n
-abbrev pub AreBelow : ℕ → VariableSet → Type 0
-AreBelow n set = (v : ℕ) → set v ≡ true → v < n
 
 -- the variable is live at the place or at one before it, and at the place or at one behind it
 abbrev pub IsAround : List VariableSet → ℕ → ℕ → Type 0

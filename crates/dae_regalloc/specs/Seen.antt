@@ -1,5 +1,5 @@
 -- Spans over the places of a function, which are seen from the last to the first, and are numbered in that order.
-use Rattle.std.specs.Prelude.{◌≡◌, ◌⊎◌, ℕ, zero, suc, ◌≤◌, Bool, true, nat_eq, List, [], ◌∷◌, ◌++◌, length, slice_get, Option, Some, None, if◌then◌else◌}
+use Rattle.std.specs.Prelude.{◌≡◌, ◌⊎◌, ℕ, zero, suc, ◌≤◌, ◌<◌, Bool, true, nat_eq, List, [], ◌∷◌, ◌++◌, length, slice_get, Option, Some, None, if◌then◌else◌}
 use Rattle.std.specs.List.{AllByRecursion}
 use Rattle.dae_ir.specs.Classes.{VariableSet}
 use Rattle.dae_ir.specs.Streams.{Actions, step_onto}
@@ -30,6 +30,10 @@ pub record AreNumbered (seen : Spans) : Type 0 where
   pub order : AreInOrder 0 seen.spans.items
   pub within : AllByRecursion (λ x. x.last ≤ seen.places) seen.spans.items
 
+-- each of these variables is below n
+abbrev pub AreBelow : ℕ → VariableSet → Type 0
+AreBelow n set = (v : ℕ) → set v ≡ true → v < n
+
 -- the variable's span holds the place
 abbrev pub IsHeld : Spans → ℕ → ℕ → Type 0
 IsHeld seen v place =
@@ -56,6 +60,7 @@ pub record AreSeen (places : List VariableSet) (seen : Spans) : Type 0 where
   pub numbered : AreNumbered seen
   pub held : AreHeld places seen
   pub ends : (place v : ℕ) → IsEnd seen place v → IsLiveAt places place v
+  pub few : (n : ℕ) → AllByRecursion (AreBelow n) places → length seen.numbers ≤ n
 
 -- spans that held a place hold it again, and those of these variables hold the next place
 pub record IsFurther (seen : ℕ → Type 0) (old new : Spans) : Type 0 where
@@ -64,6 +69,7 @@ pub record IsFurther (seen : ℕ → Type 0) (old new : Spans) : Type 0 where
   pub kept : AreNumbered old → (v place : ℕ) → place ≤ old.places → IsHeld old v place → IsHeld new v place
   pub held : AreNumbered old → (v : ℕ) → seen v → IsHeld new v old.places
   pub ends : AreNumbered old → (place v : ℕ) → IsEnd new place v → IsEnd old place v ⊎ ((place ≡ old.places) × seen v)
+  pub few : (n : ℕ) → length old.numbers ≤ n → ((v : ℕ) → seen v → v < n) → length new.numbers ≤ n
 
 -- behind the places that are seen those of the actions are seen, and these variables are live before the actions
 pub record ArePlacesOf (actions : Actions) (x : Ways) (old new : Spans) (set : List Bool) : Type 0 where

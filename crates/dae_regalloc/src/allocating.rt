@@ -1,12 +1,12 @@
 // Homes for the variables of a function.
 
-ghost use Rattle.std.specs.Prelude.{◌≡◌, ℕ, length, IfOk};
+ghost use Rattle.std.specs.Prelude.{◌≡◌, ℕ, ◌≤◌, length, IfOk};
 ghost use Rattle.std.specs.List.{AllByRecursion};
 ghost use Rattle.dae_ir.specs.Streams.{actions_of};
 ghost use Rattle.dae_walks.specs.Homes.{AreHomes};
 ghost use Rattle.dae_walks.specs.Live.{function_lives};
-ghost use Rattle.dae_regalloc.specs.Seen.{number_in};
-ghost use Rattle.dae_regalloc.specs.Given.{home_in, numbered_home, IsRegister, AreBelow, AreFew};
+ghost use Rattle.dae_regalloc.specs.Seen.{number_in, AreBelow};
+ghost use Rattle.dae_regalloc.specs.Given.{home_in, numbered_home, IsRegister, AreFew};
 
 use crate::numbers::Numbers;
 use crate::places::spans_of;
@@ -50,6 +50,7 @@ fn homes_by_variable(
 pub fn allocate(alloc: Global, parameters: u32, body: &[Step]) -> Result<Vec<Home>, AllocError>
     ensures homes { IfOk result (λ homes. (variables : ℕ) → AreHomes variables (function_lives parameters (actions_of body.now)) (home_in homes.items)) }
     ensures inside { IfOk result (λ homes. AllByRecursion (AreBelow (length homes.items)) (function_lives parameters (actions_of body.now))) }
+    ensures few { IfOk result (λ homes. (n : ℕ) → AllByRecursion (AreBelow n) (function_lives parameters (actions_of body.now)) → length homes.items ≤ n) }
     ensures registers { IfOk result (λ homes. AreFew 18 (function_lives parameters (actions_of body.now)) → (v : ℕ) → IsRegister (home_in homes.items v)) }
 {
     let seen = spans_of(alloc, parameters, body)?;

@@ -4,3 +4,4 @@ mod Looked
 mod Settling
 mod Sizes
 mod Sided
+mod Used

@@ -1,5 +1,5 @@
 -- What is settled of the function of a number.
-use Rattle.std.proofs.Common.{◌≡◌, ℕ, zero, suc, ◌+◌, ◌-◌, ◌≤◌, ◌<◌, ◌^◌, Bool, true, false, ◌||◌, List, [], ◌∷◌, length, refl, ap, sym, ◌∙◌, subst, arith}
+use Rattle.std.proofs.Common.{◌≡◌, ℕ, zero, suc, ◌≤◌, ◌<◌, ◌^◌, Bool, true, false, ◌||◌, List, [], ◌∷◌, length, refl, ap, sym, subst, arith}
 use Rattle.std.specs.Prelude.{Option, Some, None, slice_get, nat_lt}
 use Rattle.std.specs.List.{AllByRecursion, AllZip}
 use Rattle.std.proofs.Math.Path.{fun_ext}
@@ -14,7 +14,7 @@ use Rattle.dae_walks.specs.declared.Home.{Home}
 use Rattle.dae_walks.specs.declared.Home.TheVariants.{Register, Slot}
 use Rattle.dae_blocks.specs.Wanted.{IsRight}
 use Rattle.dae_regalloc.specs.Given as given
-use Rattle.dae_regalloc.specs.Given.{AreBelow}
+use Rattle.dae_regalloc.specs.Seen.{AreBelow}
 use Rattle.dae_select.specs.Tables.{home_or, home_in, IsNear}
 use Rattle.dae_select.specs.Layouts.{homes_at, variables_at, entry_at, frame_at}
 use Rattle.dae_select.specs.declared.layouts.FunctionLayout.{FunctionLayout}

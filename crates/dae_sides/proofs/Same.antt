@@ -1,6 +1,6 @@
 -- How long code is doesn't depend on the words at which functions are entered.
-use Rattle.std.proofs.Common.{◌≡◌, ℕ, suc, ◌+◌, Bool, true, false, List, [], ◌∷◌, ◌++◌, length, refl, ap, sym, ◌∙◌, length-append}
-use Rattle.std.specs.Prelude.{Option, Some, None}
+use Rattle.std.proofs.Common.{◌≡◌, ℕ, suc, ◌+◌, List, [], ◌∷◌, ◌++◌, length, refl, ap, sym, ◌∙◌, length-append}
+use Rattle.std.specs.Prelude.{Option}
 use Rattle.dae_encode.specs.declared.Inst.{Inst}
 use Rattle.dae_ir.specs.Code.{Done, Do, If, Loop}
 use Rattle.dae_ir.specs.Classes.{VariableSet}
@@ -10,9 +10,9 @@ use Rattle.dae_ir.specs.declared.form.Check.TheVariants.{Place, Zero, Room, Fram
 use Rattle.dae_ir.specs.declared.stream.Argument.{Argument}
 use Rattle.dae_ir.specs.declared.stream.Action.{Action}
 use Rattle.dae_ir.specs.declared.stream.Action.TheVariants.{Set as Compute, Issue, Own, Receive, Address, Datum, Offer, Accept, Emit, Probe, Tell, Hear, Stop, Break, Continue, Call, Return}
-use Rattle.dae_walks.specs.Live.{Ways, behind, live, is, nowhere, step_ways, body_ways}
+use Rattle.dae_walks.specs.Live.{Ways, behind, live, nowhere, step_ways, body_ways}
 use Rattle.dae_walks.specs.Agrees.{Plan}
-use Rattle.dae_blocks.specs.Blocks.{arguments_code, argument_code, save_code, restore_code, deeper_code, back_code, result_code, check_code, enter_code}
+use Rattle.dae_blocks.specs.Blocks.{arguments_code, argument_code, save_code, deeper_code, check_code, enter_code}
 use Rattle.dae_blocks.specs.Code.{registers_in, action_code, branch_code, call_code, code_of, function_code, entry_code}
 
 -- lists with parts that are as long are as long

@@ -1,8 +1,8 @@
 -- The code of a stream is a side of an image.
-use Rattle.std.proofs.Common.{◌≡◌, ℕ, zero, suc, ◌+◌, ◌*◌, ◌≤◌, ◌<◌, ◌^◌, Bool, true, false, List, [], ◌∷◌, ◌++◌, length, map, refl, ap, sym, ◌∙◌, subst, arith, append_assoc, length-append}
+use Rattle.std.proofs.Common.{◌≡◌, ℕ, ◌+◌, ◌≤◌, ◌<◌, ◌^◌, Bool, true, false, List, [], ◌∷◌, ◌++◌, length, map, refl, ap, sym, ◌∙◌, subst, arith, append_assoc, length-append}
 use Rattle.std.proofs.lemmas.List.{length-map, map-append}
-use Rattle.std.specs.Prelude.{Option, Some, None, slice_get, if◌then◌else◌, pos}
-use Rattle.std.specs.List.{AllByRecursion, AllZip}
+use Rattle.std.specs.Prelude.{Some, slice_get, if◌then◌else◌, pos}
+use Rattle.std.specs.List.{AllByRecursion}
 use Rattle.std.proofs.Math.Path.{fun_ext}
 use Rattle.dae_base.specs.declared.Side.{Side}
 use Rattle.dae_base.specs.declared.Side.TheVariants.{A, E}
@@ -18,13 +18,13 @@ use Rattle.dae_ir.specs.declared.stream.Stream.{Stream}
 use Rattle.dae_ir.specs.declared.stream.StreamFunction.{StreamFunction}
 use Rattle.dae_walks.specs.Homes.{IsHome, frame_words}
 use Rattle.dae_walks.specs.Layout.{CodeAt}
-use Rattle.dae_walks.specs.Live.{live, lives, nowhere}
+use Rattle.dae_walks.specs.Live.{live, nowhere}
 use Rattle.dae_walks.specs.Agrees.{Plan}
 use Rattle.dae_walks.specs.declared.Home.{Home}
 use Rattle.dae_blocks.specs.Blocks.{leave_code, number_code, enter_code}
 use Rattle.dae_blocks.specs.Code.{entry_code, code_of, function_code, start_code, finish_code}
 use Rattle.dae_blocks.specs.Fits.{Fits}
-use Rattle.dae_blocks.specs.Wanted.{IsPlanOf, IsLinked, IsRight}
+use Rattle.dae_blocks.specs.Wanted.{IsPlanOf, IsLinked}
 use Rattle.dae_blocks.specs.Laws.{opened_with}
 use Rattle.dae_blocks.proofs.LawsOfBlocks.{words_are_code, fit_append, function_fits, start_fits, finish_fits, code_take, code_drop, start_short}
 use Rattle.dae_select.specs.Tables.{home_in, IsNear}
@@ -32,9 +32,9 @@ use Rattle.dae_select.specs.Layouts.{is_a, homes_at, variables_at, entry_at, sta
 use Rattle.dae_select.specs.declared.layouts.FunctionLayout.{FunctionLayout}
 use Rattle.dae_select.specs.declared.layouts.Layouts.{Layouts}
 use Rattle.dae_faithful.specs.Made.{IsSide, HasCode, HasStart, setting_of}
-use Rattle.dae_sides.specs.Settled.{IsLayoutOf, AreUnplaced}
+use Rattle.dae_sides.specs.Settled.{AreUnplaced}
 use Rattle.dae_sides.specs.Placed.{functions_code, opening_code, whole_code, placed}
-use Rattle.dae_sides.specs.Sides.{HasLimits, IsStreamIn, IsCodeOf, body_in, parameters_in, frame_in, at_places, code_at, end_of}
+use Rattle.dae_sides.specs.Sides.{HasLimits, IsCodeOf, body_in, parameters_in, frame_in, at_places, code_at, end_of}
 use Rattle.dae_sides.specs.Sizes.{most_words}
 use Rattle.dae_sides.proofs.Same.{both_long, at_words, function_long}
 use Rattle.dae_sides.proofs.Standing.{placed_long, placed_same, start_behind, functions_long, ends_within, entries_within, stands_there}
@@ -67,7 +67,7 @@ module _ (stream : Stream) (old : Layouts) (unplaced : AreUnplaced stream old) w
   at : (g : ℕ) → IsLayoutAt (slice_get fs g) (slice_get old.functions g)
   at g = layout_at fs old.functions unplaced.functions g
 
-  good : (f v : ℕ) → IsHome (variables f) (P.home f v)
+  pub good : (f v : ℕ) → IsHome (variables f) (P.home f v)
   good f v = each_home (slice_get fs f) (slice_get old.functions f) (at f) v
 
   near_frames : (f : ℕ) → P.words f < 2 ^ 26

@@ -1,10 +1,10 @@
 -- How long code is at most.
-use Rattle.std.proofs.Common.{◌≡◌, ℕ, suc, ◌+◌, ◌*◌, ◌≤◌, Bool, true, false, List, [], ◌∷◌, ◌++◌, length, refl, arith, length-append}
+use Rattle.std.proofs.Common.{◌≡◌, ℕ, suc, ◌+◌, ◌*◌, ◌≤◌, List, [], ◌∷◌, ◌++◌, length, refl, arith, length-append}
 use Rattle.std.specs.Prelude.{Option, Some, not, ◌&&◌}
 use Rattle.dae_encode.specs.declared.Inst.{Inst}
 use Rattle.dae_ir.specs.Code.{Done, Do, If, Loop}
 use Rattle.dae_ir.specs.Classes.{VariableSet}
-use Rattle.dae_ir.specs.Sizes.{tally, size, action_weight, actions_size}
+use Rattle.dae_ir.specs.Sizes.{action_weight}
 use Rattle.dae_ir.specs.Streams.{Actions, actions_of}
 use Rattle.dae_ir.specs.declared.form.Operand.TheVariants.{Number}
 use Rattle.dae_ir.specs.declared.stream.Argument.{Argument}
@@ -17,7 +17,7 @@ use Rattle.dae_blocks.specs.Blocks.{arguments_code, save_code, restore_code, dee
 use Rattle.dae_blocks.specs.Code.{registers_in, action_code, branch_code, call_code, code_of, function_code, entry_code}
 use Rattle.dae_blocks.proofs.LawsOfBlocks.{IsSimple, simple_short, branch_short, entry_short, prepared_short, resumed_short, leave_short}
 use Rattle.dae_sides.specs.Placed.{functions_code}
-use Rattle.dae_sides.specs.Sizes.{one_call, calls_in, most_words_in, most_of_functions}
+use Rattle.dae_sides.specs.Sizes.{one_call, most_words_in, most_of_functions}
 
 append_short : (xs ys : List Inst) (m n : ℕ) → length xs ≤ m → length ys ≤ n → length (xs ++ ys) ≤ m + n
 append_short xs ys m n h k = let l = length-append xs ys in omega arith

@@ -1,8 +1,8 @@
 -- Where the functions of a side stand.
-use Rattle.std.proofs.Common.{◌≡◌, ℕ, zero, suc, ◌+◌, ◌≤◌, ◌<◌, ◌^◌, List, [], ◌∷◌, ◌++◌, length, map, refl, ap, sym, ◌∙◌, subst, arith, append_assoc, length-append}
+use Rattle.std.proofs.Common.{◌≡◌, ℕ, zero, suc, ◌+◌, ◌≤◌, ◌<◌, List, [], ◌∷◌, ◌++◌, length, map, refl, ap, sym, ◌∙◌, subst, arith, append_assoc, length-append}
 use Rattle.std.proofs.lemmas.List.{length-map, map-append}
-use Rattle.std.specs.Prelude.{Option, Some, None, slice_get}
-use Rattle.std.specs.List.{AllByRecursion, AllZip}
+use Rattle.std.specs.Prelude.{Option, Some, slice_get}
+use Rattle.std.specs.List.{AllByRecursion}
 use Rattle.dae_encode.specs.declared.Inst.{Inst}
 use Rattle.dae_encode.specs.Spelling.{InRange, encoded}
 use Rattle.dae_ir.specs.Streams.{Actions, actions_of}
@@ -10,10 +10,9 @@ use Rattle.dae_ir.specs.declared.stream.StreamFunction.{StreamFunction}
 use Rattle.dae_walks.specs.Layout.{CodeAt}
 use Rattle.dae_walks.specs.Live.{live, nowhere}
 use Rattle.dae_walks.specs.Agrees.{Plan}
-use Rattle.dae_walks.specs.declared.Home.{Home}
 use Rattle.dae_blocks.specs.Code.{entry_code, function_code}
 use Rattle.dae_blocks.proofs.LawsOfBlocks.{words_are_code}
-use Rattle.dae_select.specs.Layouts.{homes_at, variables_at, entry_at, start_at, frame_at}
+use Rattle.dae_select.specs.Layouts.{entry_at, start_at}
 use Rattle.dae_select.specs.declared.layouts.FunctionLayout.{FunctionLayout}
 use Rattle.dae_sides.specs.Placed.{functions_code, placed}
 use Rattle.dae_sides.specs.Sides.{body_in}

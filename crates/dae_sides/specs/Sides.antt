@@ -1,5 +1,6 @@
 -- What the code of a stream is.
-use Rattle.std.specs.Prelude.{◌≡◌, ℕ, ◌+◌, ◌^◌, ◌≤◌, length, slice_get, Option, Some, None, List}
+use Rattle.std.specs.Prelude.{◌≡◌, ◌↔◌, ℕ, ◌+◌, ◌^◌, ◌≤◌, length, slice_get, Option, Some, None, List}
+use Rattle.dae_base.specs.declared.Queue.{Queue}
 use Rattle.dae_encode.specs.declared.Inst.{Inst}
 use Rattle.dae_machine.specs.Machine.{Setup, code}
 use Rattle.dae_ir.specs.Code.{Done}
@@ -9,6 +10,7 @@ use Rattle.dae_ir.specs.declared.stream.Stream.{Stream}
 use Rattle.dae_ir.specs.declared.stream.StreamFunction.{StreamFunction}
 use Rattle.dae_blocks.specs.Code.{start_code}
 use Rattle.dae_blocks.specs.Laws.{opened_with}
+use Rattle.dae_uses.specs.Uses.{IsUnused, AllOfSide, AllUntouched}
 use Rattle.dae_select.specs.Layouts.{is_a, plan_of, variables_of}
 use Rattle.dae_select.specs.declared.layouts.FunctionLayout.{FunctionLayout}
 use Rattle.dae_select.specs.declared.layouts.Layouts.{Layouts}
@@ -51,6 +53,12 @@ IsCodeOf stream words private =
     (p : Program) (body : ℕ → Actions) (parameters : ℕ → ℕ) (setup : Setup)
     → IsStreamIn stream p body parameters → code setup stream.side ≡ words → setup.memory ≡ stream.memory
     → IsSide (is_a stream.side) p body parameters (length stream.functions) stream.main stream.frames setup (opened_with private)
+
+-- where the actions are of the side, no word uses a queue exactly where no action does
+abbrev pub HasUsesOf : Stream → List ℕ → Type 0
+HasUsesOf stream words =
+    AllOfSide (is_a stream.side) stream.functions
+    → (queue : Queue) → IsUnused stream.side queue words ↔ AllUntouched (is_a stream.side) queue stream.functions
 
 -- ---- places
 

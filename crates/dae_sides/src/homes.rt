@@ -1,9 +1,9 @@
 // What is settled of a side before its functions have places: homes, frames and private memory.
 
-ghost use Rattle.std.specs.Prelude.{◌≡◌, ◌≢◌, ℕ, ◌-◌, ◌*◌, ◌≤◌, ◌<◌, ◌^◌, length, IfOk, IfErr};
+ghost use Rattle.std.specs.Prelude.{◌≡◌, ◌≢◌, ℕ, ◌-◌, ◌*◌, ◌≤◌, ◌<◌, ◌^◌, ◌∷◌, [], length, IfOk, IfErr};
 ghost use Rattle.std.specs.List.{AllByRecursion, AllZip};
 ghost use Rattle.dae_select.specs.Layouts.{AreSmall};
-ghost use Rattle.dae_sides.specs.Settled.{IsLayoutOf, IsFrameWithin, AreUnplaced};
+ghost use Rattle.dae_sides.specs.Settled.{IsLayoutOf, IsFrameWithin, AreTooMany, IsTooDeep, AreUnplaced};
 ghost use Rattle.dae_sides.specs.declared.error.CodeError.TheVariants as errors;
 
 use crate::error::CodeError;
@@ -32,6 +32,7 @@ fn count_of(homes: usize) -> Result<u32, CodeError>
 fn layout_of(alloc: Global, function: &StreamFunction) -> Result<FunctionLayout, CodeError>
     ensures layout { IfOk result (λ layout. IsLayoutOf function.now layout) }
     ensures code { IfErr result (λ e. e ≢ errors.Code) }
+    ensures private { IfErr result (λ e. e ≡ errors.Private → AreTooMany (function.now ∷ [])) }
 {
     let homes = allocate(alloc, function.parameters, function.body.as_slice())?;
     Ok(FunctionLayout {
@@ -46,6 +47,7 @@ fn layout_of(alloc: Global, function: &StreamFunction) -> Result<FunctionLayout,
 fn layouts_of(alloc: Global, functions: &[StreamFunction]) -> Result<Vec<FunctionLayout>, CodeError>
     ensures layouts { IfOk result (λ layouts. AllZip IsLayoutOf functions.now layouts.items) }
     ensures code { IfErr result (λ e. e ≢ errors.Code) }
+    ensures private { IfErr result (λ e. e ≡ errors.Private → AreTooMany functions.now) }
 {
     let mut layouts = Vec::new(alloc);
     for index in 0..functions.len() {
@@ -58,6 +60,7 @@ fn layouts_of(alloc: Global, functions: &[StreamFunction]) -> Result<Vec<Functio
 fn largest_frame(layouts: &[FunctionLayout]) -> u32
     requires { AllByRecursion (λ l. l.variables < 2 ^ 26 - 19) layouts.now }
     ensures all { AllByRecursion (IsFrameWithin result) layouts.now }
+    ensures few { (n : ℕ) → 19 ≤ n → AllByRecursion (IsFrameWithin n) layouts.now → result ≤ n }
     ensures least { 19 ≤ result }
     ensures most { result < 2 ^ 26 }
 {
@@ -84,6 +87,7 @@ fn private_words(calls: u16, largest: u32) -> Result<u32, CodeError>
 pub fn unplaced_layouts(alloc: Global, stream: &Stream) -> Result<Layouts, CodeError>
     ensures layouts { IfOk result (λ layouts. AreUnplaced stream.now layouts) }
     ensures code { IfErr result (λ e. e ≢ errors.Code) }
+    ensures private { IfErr result (λ e. e ≡ errors.Private → IsTooDeep stream.now) }
 {
     let functions = layouts_of(alloc, stream.functions.as_slice())?;
     let largest = largest_frame(functions.as_slice());

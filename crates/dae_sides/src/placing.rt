@@ -1,6 +1,6 @@
 // Functions get their places in the code of a side, one behind the other.
 
-ghost use Rattle.std.specs.Prelude.{◌≡◌, ◌+◌, ◌≤◌, ◌<◌, ◌^◌, length, IfOk, IfErr};
+ghost use Rattle.std.specs.Prelude.{◌≡◌, ◌≢◌, ◌+◌, ◌≤◌, ◌<◌, ◌^◌, length, IfOk, IfErr};
 ghost use Rattle.dae_select.specs.Layouts.{AreSmall};
 ghost use Rattle.dae_sides.specs.Placed.{moved};
 ghost use Rattle.dae_sides.specs.Sides.{placed_by, word_behind};
@@ -60,6 +60,7 @@ pub fn place(
     ensures placed { IfOk result (λ all. all.items ≡ placed_by layouts.now first functions.now) }
     ensures ends { IfOk result (λ all. word_behind layouts.now first functions.now ≤ 2 ^ 25) }
     ensures err { IfErr result (λ e. e ≡ errors.Code → 2 ^ 25 < word_behind layouts.now first functions.now) }
+    ensures private { IfErr result (λ e. e ≢ errors.Private) }
 {
     let mut all = Vec::new(alloc);
     let mut word = first;

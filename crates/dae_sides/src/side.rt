@@ -1,14 +1,14 @@
 // The code of a stream.
 
-ghost use Rattle.std.specs.Prelude.{◌≡◌, ℕ, ◌+◌, ◌*◌, ◌≤◌, ◌<◌, ◌^◌, length, IfOk, IfErr};
+ghost use Rattle.std.specs.Prelude.{◌≡◌, ◌≢◌, ℕ, ◌+◌, ◌*◌, ◌≤◌, ◌<◌, ◌^◌, length, IfOk, IfErr};
 ghost use Rattle.std.specs.List.{All};
 ghost use Rattle.dae_blocks.specs.Code.{start_code};
 ghost use Rattle.dae_select.specs.Layouts.{plan_of, AreSmall};
 ghost use Rattle.dae_sides.specs.declared.error.CodeError.TheVariants as errors;
-ghost use Rattle.dae_sides.specs.Settled.{AreUnplaced};
+ghost use Rattle.dae_sides.specs.Settled.{AreUnplaced, IsPrivateWithin, IsTooDeep};
 ghost use Rattle.dae_sides.specs.Placed.{opening_code};
 ghost use Rattle.dae_sides.specs.Sizes.{most_words};
-ghost use Rattle.dae_sides.specs.Sides.{HasLimits, IsCodeOf, at_places, code_at, end_of};
+ghost use Rattle.dae_sides.specs.Sides.{HasLimits, HasUsesOf, IsCodeOf, at_places, code_at, end_of};
 
 use crate::MOST_WORDS;
 use crate::error::CodeError;
@@ -52,6 +52,7 @@ fn placed_layouts(alloc: Global, layouts: &Layouts, stream: &Stream) -> Result<L
     ensures places { IfOk result (λ new. new ≡ at_places stream.now layouts.now) }
     ensures ends { IfOk result (λ new. end_of stream.now layouts.now ≤ 2 ^ 25) }
     ensures err { IfErr result (λ e. e ≡ errors.Code → 2 ^ 25 < end_of stream.now layouts.now) }
+    ensures private { IfErr result (λ e. e ≢ errors.Private) }
 {
     let finish = finish_of(alloc, layouts, stream.main, stream.frames)?;
     let first = first_of(alloc, layouts, stream.main, stream.frames)?;
@@ -74,12 +75,14 @@ fn placed_code(alloc: Global, layouts: &Layouts, stream: &Stream) -> Result<Vec<
     ensures code { IfOk result (λ code. code.items ≡ code_at stream.now layouts.now) }
     ensures ends { IfOk result (λ code. end_of stream.now layouts.now ≤ 2 ^ 25) }
     ensures err { IfErr result (λ e. e ≡ errors.Code → 2 ^ 25 < end_of stream.now layouts.now) }
+    ensures private { IfErr result (λ e. e ≢ errors.Private) }
 {
     let placed = placed_layouts(alloc, layouts, stream)?;
     Ok(whole_code(alloc, &placed, stream)?)
 }
 
-/// The code of a stream. It is too long only where what bounds it is.
+/// The code of a stream. It is too long only where what bounds it is, and its private memory is too large only where frames
+/// for all variables of the functions are. A frame has 19 words and one for each variable at most.
 #[tactic(auto, using(crate::proofs::Sided::code_short))]
 pub fn side_code(alloc: Global, stream: &Stream) -> Result<SideCode, CodeError>
     requires { HasLimits stream.now }
@@ -89,7 +92,10 @@ pub fn side_code(alloc: Global, stream: &Stream) -> Result<SideCode, CodeError>
     ensures few { IfOk result (λ made. length made.words ≤ 2 ^ 25) }
     ensures short { IfOk result (λ made. length made.words ≤ most_words stream.now) }
     ensures private { IfOk result (λ made. made.private ≤ 2 ^ 28) }
+    ensures uses { IfOk result (λ made. HasUsesOf stream.now made.words) }
+    ensures frames { IfOk result (λ made. IsPrivateWithin stream.now made.private) }
     ensures err { IfErr result (λ e. e ≡ errors.Code → 2 ^ 25 < most_words stream.now) }
+    ensures deep { IfErr result (λ e. e ≡ errors.Private → IsTooDeep stream.now) }
 {
     if stream.functions.len() > MOST_WORDS as usize {
         return Err(CodeError::Code);

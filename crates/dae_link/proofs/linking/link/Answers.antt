@@ -1,6 +1,6 @@
-use Rattle.std.proofs.Common.{rules, ◌≡◌, ℕ, [], List, refl}
-use Rattle.dae_image.specs.declared.LineMark.{LineMark}
+use Rattle.std.proofs.Common.{rules, ◌≡◌, [], refl}
 use Rattle.dae_link.proofs.Fitting.{linked_fits}
+use Rattle.dae_link.proofs.Exact.{exact}
 use Rattle.dae_link.proofs.Made.{is_made}
 use Rattle.dae_link.proofs.linking.link.Goals as goal
 
@@ -25,3 +25,10 @@ pub returns-clause-does : goal.returns-clause-does
 returns-clause-does c = λ ir tables cap ready classes is_pair is_budget.
     c.made_does_form.ensures ir tables cap c.args.pair.now _ ready classes is_pair is_budget
     (is_made ir tables cap c.args.pair.now is_pair _ c.in_ok-a.a.private c.in_ok-e.e.private c.in_ok-a.ensures.code c.in_ok-e.ensures.code refl refl refl)
+
+pub returns-clause-private : goal.returns-clause-private
+returns-clause-private c = record { a = (c.in_ok-a.a.private, refl, c.in_ok-a.ensures.frames); e = (c.in_ok-e.e.private, refl, c.in_ok-e.ensures.frames) }
+
+pub returns-clause-exact : goal.returns-clause-exact
+returns-clause-exact c = λ ir tables cap is_pair is_budget.
+    exact c.args.pair.now c.args.budget _ _ c.requires.side_a c.requires.side_e c.in_ok-a.ensures.uses c.in_ok-e.ensures.uses (c.pair_uses.ensures ir tables cap c.args.pair.now c.args.budget is_pair is_budget)

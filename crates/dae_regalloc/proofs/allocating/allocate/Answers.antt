@@ -1,4 +1,4 @@
-use Rattle.std.proofs.Common.{◌≡◌, ℕ, ◌≤◌, List, length, subst, sym}
+use Rattle.std.proofs.Common.{◌≡◌, ℕ, ◌≤◌, List, subst, sym, arith}
 use Rattle.std.specs.List.{AllByRecursion, AllZip}
 use Rattle.std.proofs.lemmas.Result.{IfOk-weaker}
 use Rattle.dae_ir.specs.Streams.{actions_of}
@@ -6,8 +6,8 @@ use Rattle.dae_walks.specs.Live.{function_lives}
 use Rattle.dae_walks.specs.declared.Home.{Home}
 use Rattle.dae_regalloc.specs.declared.Span.{Span}
 use Rattle.dae_regalloc.specs.Scan.{AreClear, depth_at, NoSlot}
-use Rattle.dae_regalloc.specs.Seen.{number_in}
-use Rattle.dae_regalloc.specs.Given.{IsOwnHome, home_in, numbered_home, AreBelow}
+use Rattle.dae_regalloc.specs.Seen.{number_in, AreBelow}
+use Rattle.dae_regalloc.specs.Given.{IsOwnHome, home_in, numbered_home}
 use Rattle.dae_regalloc.proofs.Giving.{allocated, all_registers, held_below}
 use Rattle.dae_regalloc.proofs.allocating.allocate.Goals as goal
 
@@ -36,3 +36,8 @@ returns-clause-inside c =
     let places = function_lives c.args.parameters (actions_of c.args.body.now) in
     IfOk-weaker c.homes_by_variable.result _ _
     (λ table long. subst (λ (n : ℕ). AllByRecursion (AreBelow n) places) (sym long) (held_below seen places c.in_ok-seen.ensures.held)) c.homes_by_variable.ensures.length
+
+pub returns-clause-few : goal.returns-clause-few
+returns-clause-few c =
+    IfOk-weaker c.homes_by_variable.result _ _
+    (λ table long n below. (let few = c.in_ok-seen.ensures.few n below in omega arith)) c.homes_by_variable.ensures.length

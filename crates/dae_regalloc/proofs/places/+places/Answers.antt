@@ -1,7 +1,8 @@
-use Rattle.std.proofs.Common.{List, refl, ap, ◌∙◌, arith}
+use Rattle.std.proofs.Common.{◌≡◌, ℕ, List, refl, ap, ◌∙◌, subst, drop, arith}
 use Rattle.dae_ir.specs.Streams.{actions_of}
 use Rattle.dae_ir.specs.declared.stream.Step.{Step}
-use Rattle.dae_walks.specs.Live.{turn}
+use Rattle.dae_walks.specs.Live.{ways, turn}
+use Rattle.dae_regalloc.specs.Seen.{ArePlacesOf}
 use Rattle.dae_live.specs.Members.{member}
 use Rattle.dae_regalloc.proofs.Placing.{acted, branched, looped, none_placed, one_more, moved}
 use Rattle.dae_regalloc.proofs.places.+places.Goals as goal
@@ -44,3 +45,9 @@ see_steps-loop-index-preserved t c =
     let le = c.loop-index.auto.index in
     one_more a.steps.now c.loop-index.index c.index-steps-index.result a.leaves.now a.skips.now c.loop-index.set a.spans.now c.loop-index.spans c.see_step.new.spans c.in_ok-set.set (member a.next)
     (omega arith) (omega arith) c.index-steps-index.is c.loop-index.invariant c.in_ok-set.ensures
+
+pub see_steps-returns : goal.see_steps-returns
+see_steps-returns t c =
+    let a = c.args in let l = c.loop-index in
+    let first : l.index ≡ 0 = (let end = c.loop-index-test.false in omega arith) in
+    subst (λ (j : ℕ). ArePlacesOf (actions_of (drop j a.steps.now)) (ways (member a.next) (member a.leaves.now) (member a.skips.now)) a.spans.now l.spans l.set) first l.invariant

@@ -1,11 +1,13 @@
-use Rattle.std.proofs.Common.{◌≡◌, ◌≤◌, ◌^◌, ℕ, List, length, map, ap, sym, subst, ◌∙◌, arith}
+use Rattle.std.proofs.Common.{◌≡◌, ℕ, List, length, map, ap, sym, subst, ◌∙◌, arith}
 use Rattle.std.specs.List.{AllByRecursion}
 use Rattle.std.proofs.lemmas.List.{length-map}
 use Rattle.dae_encode.specs.Spelling.{InRange, encoded}
 use Rattle.dae_encode.specs.declared.Inst.{Inst}
-use Rattle.dae_sides.specs.Sides.{IsCodeOf, code_at}
+use Rattle.dae_sides.specs.Sides.{HasUsesOf, IsCodeOf, code_at}
+use Rattle.dae_sides.proofs.Settling.{private_within}
 use Rattle.dae_sides.proofs.Sizes.{functions_some}
 use Rattle.dae_sides.proofs.Sided.{code_fits, code_long, code_short, code_made}
+use Rattle.dae_sides.proofs.Used.{code_used}
 use Rattle.dae_sides.proofs.side.side_code.Goals as goal
 
 pub encode_all-requires : goal.encode_all-requires
@@ -36,3 +38,12 @@ returns-clause-short c =
     let long = ap length words ∙ length-map (code_at stream all) encoded ∙ code_long stream all c.in_ok-layouts.ensures.layouts in
     let short = code_short stream all c.in_ok-layouts.ensures.layouts in
     omega arith
+
+pub returns-clause-frames : goal.returns-clause-frames
+returns-clause-frames c = private_within c.args.stream.now c.in_ok-layouts.layouts c.in_ok-layouts.ensures.layouts
+
+pub returns-clause-uses : goal.returns-clause-uses
+returns-clause-uses c =
+    let stream = c.args.stream.now in let all = c.in_ok-layouts.layouts in
+    let words : c.from_vec.result ≡ map encoded (code_at stream all) = c.from_vec.ensures ∙ c.in_ok-encode_all.ensures.words ∙ ap (map encoded) (c.as_slice.ensures.value ∙ c.in_ok-code.ensures.code) in
+    subst (λ (ws : List ℕ). HasUsesOf stream ws) (sym words) (code_used stream all c.in_ok-layouts.ensures.layouts)

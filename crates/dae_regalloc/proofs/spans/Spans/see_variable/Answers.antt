@@ -19,4 +19,4 @@ returns-in_ok-push-in-None c =
     let new : Spans = record { spans = c.push.new.self; numbers = c.put.new.self; places = old.places } in
     let s : Span = record { variable = v; first = old.places; last = old.places } in
     begun_further old new v s refl refl refl (sym c.number.ensures ∙ c.in-None.is)
-    (c.in_ok-put-in-None.ensures ∙ ap (λ (k : ℕ). with_number v k (number_in old.numbers)) (let l = c.len-in-None.ensures in let long : c.len-in-None.result ≡ length old.spans.items = omega arith in long)) c.in_ok-push-in-None.ensures.items refl
+    (c.in_ok-put-in-None.ensures.number ∙ ap (λ (k : ℕ). with_number v k (number_in old.numbers)) (let l = c.len-in-None.ensures in let long : c.len-in-None.result ≡ length old.spans.items = omega arith in long)) c.in_ok-push-in-None.ensures.items refl c.in_ok-put-in-None.ensures.few

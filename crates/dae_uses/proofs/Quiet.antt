@@ -1,0 +1,212 @@
+-- Blocks whose registers are plain: they use no queue.
+use Rattle.std.proofs.Common.{◌≡◌, ℕ, ◌+◌, ◌*◌, ◌%◌, ◌^◌, ◌<◌, Bool, true, false, ◌&&◌, List, [], ◌∷◌, ◌++◌, Option, Some, None, arith, pos}
+use Rattle.std.specs.Prelude.{nat_lt, if◌then◌else◌}
+use Rattle.std.specs.List.{AllByRecursion}
+use Rattle.std.proofs.lemmas.Bool.Decides.{nat_tests}
+use Rattle.dae_base.specs.declared.LoadKind.{LoadKind}
+use Rattle.dae_base.specs.declared.LoadKind.TheVariants.{I8, U8, I16, U16, I32}
+use Rattle.dae_encode.specs.Instructions.{effect, form_of}
+use Rattle.dae_encode.specs.declared.Inst.{Inst}
+use Rattle.dae_encode.specs.declared.Inst.TheVariants.{Addi}
+use Rattle.dae_ir.specs.Classes.{VariableSet}
+use Rattle.dae_ir.specs.declared.form.Operand.{Operand}
+use Rattle.dae_ir.specs.declared.form.Operand.TheVariants.{Variable, Number}
+use Rattle.dae_ir.specs.declared.form.Test.{Test}
+use Rattle.dae_ir.specs.declared.form.Value.{Value}
+use Rattle.dae_ir.specs.declared.form.Value.TheVariants.{Same, Extended, Binary, Holds, FrameAddress}
+use Rattle.dae_ir.specs.declared.stream.Argument.{Argument}
+use Rattle.dae_meaning.specs.declared.Operator.{Operator}
+use Rattle.dae_meaning.specs.declared.Operator.TheVariants.{Add as Plus, Subtract, Multiply, DivideSigned, DivideUnsigned, RemainderSigned, RemainderUnsigned, And as Both, Or as Either, Xor as Differ, ShiftLeft, ShiftRightSigned, ShiftRightUnsigned}
+use Rattle.dae_meaning.specs.declared.Comparison.{Comparison}
+use Rattle.dae_meaning.specs.declared.Comparison.TheVariants.{Equal, NotEqual, LessSigned, AtLeastSigned, LessUnsigned, AtLeastUnsigned}
+use Rattle.dae_walks.specs.Homes.{IsHome, is_home_register, slot_at, kept_at}
+use Rattle.dae_walks.specs.Agrees.{Plan}
+use Rattle.dae_walks.specs.declared.Home.{Home}
+use Rattle.dae_walks.specs.declared.Home.TheVariants.{Register, Slot}
+use Rattle.dae_blocks.specs.Blocks.{number_code, load_code, store_code, register_or, source, fetch_home, fetch, keep, operation_code, extend_code, compare_code, test_code, value_code, system_code, stop_code, jump_by, enter_code, arguments_code, waits_at, is_register, save_code, restore_code, deeper_code, back_code, result_code, leave_code}
+use Rattle.dae_blocks.specs.Code.{some_below, filtered, home_registers, registers_in, call_code, entry_code, start_code, finish_code}
+use Rattle.dae_uses.proofs.Access.{IsPlain}
+
+abbrev pub AllPlain : List Inst → Type 0
+AllPlain is = AllByRecursion (λ (i : Inst). IsPlain (form_of (effect i))) is
+
+pub plain_append : (is js : List Inst) → AllPlain is → AllPlain js → AllPlain (is ++ js)
+plain_append [] js h k = k
+plain_append (i ∷ is) js h k = (h.0, plain_append is js h.1 k)
+
+pub plain_either : (b : Bool) (x y : List Inst) → AllPlain x → AllPlain y → AllPlain (if b then x else y)
+plain_either true x y h k = h
+plain_either false x y h k = k
+
+pub number_plain : (r n : ℕ) → r < 28 → AllPlain (number_code r n)
+number_plain r n h = plain_either (nat_lt n 2048) _ _ ((h, omega arith, omega arith), tt) ((h, omega arith, omega arith), ((h, h, omega arith), tt))
+
+load_plain : (r i : ℕ) → r < 28 → AllPlain (load_code r i)
+load_plain r i h = plain_either (nat_lt i 512) _ _ ((h, omega arith), tt) ((h, omega arith, omega arith), ((h, h, omega arith), ((h, h), tt)))
+
+store_plain : (r i : ℕ) → r < 28 → AllPlain (store_code r i)
+store_plain r i h = plain_either (nat_lt i 512) _ _ ((omega arith, h), tt) ((omega arith, omega arith, omega arith), ((omega arith, omega arith, omega arith), ((omega arith, h), tt)))
+
+home_low : (r : ℕ) → is_home_register r ≡ true → r < 28
+home_low r h = grind (arith, nat_tests)
+
+pub register_low : (n r : ℕ) (h : Home) → IsHome n h → r < 28 → register_or r h < 28
+register_low n r (Register g) is l = home_low g is
+register_low n r (Slot i) is l = l
+
+pub keep_plain : (h : Home) → AllPlain (keep h)
+keep_plain (Register g) = tt
+keep_plain (Slot i) = store_plain 5 (slot_at i) (omega arith)
+
+pub jump_plain : (bytes : ℕ) → AllPlain (jump_by bytes)
+jump_plain bytes = ((omega arith, omega arith, omega arith), ((omega arith, omega arith, omega arith), tt))
+
+enter_plain : (word : ℕ) → AllPlain (enter_code word)
+enter_plain word = ((omega arith, omega arith, omega arith), ((omega arith, omega arith, omega arith), tt))
+
+operation_plain : (o : Operator) (t x y : ℕ) → t < 28 → x < 28 → y < 28 → IsPlain (form_of (effect (operation_code o t x y)))
+operation_plain Plus t x y a b c = (a, b, c)
+operation_plain Subtract t x y a b c = (a, b, c)
+operation_plain Multiply t x y a b c = (a, b, c)
+operation_plain DivideSigned t x y a b c = (a, b, c)
+operation_plain DivideUnsigned t x y a b c = (a, b, c)
+operation_plain RemainderSigned t x y a b c = (a, b, c)
+operation_plain RemainderUnsigned t x y a b c = (a, b, c)
+operation_plain Both t x y a b c = (a, b, c)
+operation_plain Either t x y a b c = (a, b, c)
+operation_plain Differ t x y a b c = (a, b, c)
+operation_plain ShiftLeft t x y a b c = (a, b, c)
+operation_plain ShiftRightSigned t x y a b c = (a, b, c)
+operation_plain ShiftRightUnsigned t x y a b c = (a, b, c)
+
+extend_plain : (kind : LoadKind) (t x : ℕ) → t < 28 → x < 28 → AllPlain (extend_code kind t x)
+extend_plain I8 t x a b = ((a, b, omega arith), ((a, a, omega arith), tt))
+extend_plain U8 t x a b = ((a, b, omega arith), tt)
+extend_plain I16 t x a b = ((a, b, omega arith), ((a, a, omega arith), tt))
+extend_plain U16 t x a b = ((a, b, omega arith), ((a, a, omega arith), tt))
+extend_plain I32 t x a b = ((a, b, omega arith), tt)
+
+compare_plain : (r : Comparison) (t x y : ℕ) → t < 28 → x < 28 → y < 28 → AllPlain (compare_code r t x y)
+compare_plain Equal t x y a b c = ((a, b, c), ((a, a, omega arith), tt))
+compare_plain NotEqual t x y a b c = ((a, b, c), ((a, omega arith, a), tt))
+compare_plain LessSigned t x y a b c = ((a, b, c), tt)
+compare_plain AtLeastSigned t x y a b c = ((a, b, c), ((a, a, omega arith), tt))
+compare_plain LessUnsigned t x y a b c = ((a, b, c), tt)
+compare_plain AtLeastUnsigned t x y a b c = ((a, b, c), ((a, a, omega arith), tt))
+
+module _ (n : ℕ) (home : ℕ → Home) (good : (v : ℕ) → IsHome n (home v)) where
+  pub source_low : (r : ℕ) (x : Operand) → r < 28 → source home r x < 28
+  source_low r (Variable v) h = register_low n r (home v) (good v) h
+  source_low r (Number k) h = h
+
+  pub fetch_plain : (r : ℕ) (x : Operand) → r < 28 → AllPlain (fetch home r x)
+  fetch_plain r (Variable v) h = by (home v)
+    where
+      by : (g : Home) → AllPlain (fetch_home r g)
+      by (Register q) = tt
+      by (Slot i) = load_plain r (slot_at i) h
+  fetch_plain r (Number k) h = number_plain r k h
+
+  fetched : (r : ℕ) (x : Operand) (is : List Inst) → r < 28 → AllPlain is → AllPlain (fetch home r x ++ is)
+  fetched r x is h k = plain_append (fetch home r x) is (fetch_plain r x h) k
+
+  pub test_plain : (t : ℕ) (test : Test) → t < 28 → AllPlain (test_code home t test)
+  test_plain t test h = fetched 5 test.left _ (omega arith) (fetched 6 test.right _ (omega arith) (compare_plain test.comparison t (source home 5 test.left) (source home 6 test.right) h (source_low 5 test.left (omega arith)) (source_low 6 test.right (omega arith))))
+
+  pub value_plain : (t : ℕ) (x : Value) → t < 28 → AllPlain (value_code home t x)
+  value_plain t (Same x) h = fetched 5 x _ (omega arith) ((h, source_low 5 x (omega arith), omega arith), tt)
+  value_plain t (Extended kind x) h = fetched 5 x _ (omega arith) (extend_plain kind t (source home 5 x) h (source_low 5 x (omega arith)))
+  value_plain t (Binary o x y) h = fetched 5 x _ (omega arith) (fetched 6 y _ (omega arith) (operation_plain o t (source home 5 x) (source home 6 y) h (source_low 5 x (omega arith)) (source_low 6 y (omega arith)), tt))
+  value_plain t (Holds test) h = test_plain t test h
+  value_plain t (FrameAddress offset) h = plain_append _ _ (number_plain 5 offset (omega arith)) ((h, omega arith, omega arith), tt)
+
+  pub system_plain : (k : ℕ) (x : Operand) → AllPlain (system_code home k x)
+  system_plain k x = fetched 5 x _ (omega arith) ((omega arith, source_low 5 x (omega arith), omega arith), ((omega arith, omega arith, omega arith), (tt, tt)))
+
+  pub stop_plain : (b : Bool) (x : Option Operand) → AllPlain (stop_code b home x)
+  stop_plain true x = (tt, tt)
+  stop_plain false None = system_plain 0 (Number 0)
+  stop_plain false (Some x) = system_plain 0 x
+
+  pub leave_plain : (y : Option Operand) → AllPlain (leave_code home y)
+  leave_plain None = ((omega arith, omega arith), ((omega arith, omega arith, omega arith), tt))
+  leave_plain (Some x) = fetched 5 x _ (omega arith) ((omega arith, source_low 5 x (omega arith), omega arith), ((omega arith, omega arith), ((omega arith, omega arith, omega arith), tt)))
+
+  result_plain : (v : Option ℕ) → AllPlain (result_code home v)
+  result_plain None = tt
+  result_plain (Some v) = ((register_low n 5 (home v) (good v) (omega arith), omega arith, omega arith), keep_plain (home v))
+
+-- ---- calls
+
+abbrev AreRegisters : List ℕ → Type 0
+AreRegisters rs = AllByRecursion (λ (r : ℕ). r < 28) rs
+
+filtered_registers : (f : ℕ → Bool) (rs : List ℕ) → AreRegisters rs → AreRegisters (filtered f rs)
+filtered_registers f [] h = tt
+filtered_registers f (r ∷ rs) h = by (f r) (filtered_registers f rs h.1)
+  where
+    by : (b : Bool) → AreRegisters (filtered f rs) → AreRegisters (if b then r ∷ filtered f rs else filtered f rs)
+    by true more = (h.0, more)
+    by false more = more
+
+all_registers : AreRegisters home_registers
+all_registers = (omega arith, (omega arith, (omega arith, (omega arith, (omega arith, (omega arith, (omega arith, (omega arith, (omega arith, (omega arith, (omega arith, (omega arith, (omega arith, (omega arith, (omega arith, (omega arith, (omega arith, (omega arith, tt))))))))))))))))))
+
+live_registers : (plan : Plan) (n f : ℕ) (live : VariableSet) → AreRegisters (registers_in (plan.home f) n live)
+unfolding registers_in
+live_registers plan n f live =
+    filtered_registers (λ (r : ℕ). some_below n (λ v. live v && is_register r (plan.home f v))) home_registers all_registers
+
+save_plain : (rs : List ℕ) → AreRegisters rs → AllPlain (save_code rs)
+save_plain [] h = tt
+save_plain (r ∷ rs) h = plain_append _ _ (store_plain r (kept_at r) h.0) (save_plain rs h.1)
+
+restore_plain : (rs : List ℕ) → AreRegisters rs → AllPlain (restore_code rs)
+restore_plain [] h = tt
+restore_plain (r ∷ rs) h = plain_append _ _ (load_plain r (kept_at r) h.0) (restore_plain rs h.1)
+
+module _ (plan : Plan) (variables : ℕ → ℕ) (good : (f v : ℕ) → IsHome (variables f) (plan.home f v)) where
+  arguments_plain : (f g : ℕ) (xs : List Argument) → AllPlain (arguments_code plan f g xs)
+  arguments_plain f g [] = tt
+  arguments_plain f g (x ∷ xs) =
+      plain_append _ _ (arguments_plain f g xs) (plain_append _ _ (fetch_plain (variables f) (plan.home f) (good f) 5 x.operand (omega arith))
+      (store_plain (source (plan.home f) 5 x.operand) (plan.words f + waits_at (plan.home g x.parameter)) (source_low (variables f) (plan.home f) (good f) 5 x.operand (omega arith))))
+
+  deeper_plain : (f : ℕ) → AllPlain (deeper_code plan f)
+  deeper_plain f =
+      plain_append _ _ (number_plain 5 (plan.frame f % 2 ^ 32) (omega arith)) (
+        (omega arith, omega arith, omega arith),
+        plain_append _ _ (number_plain 5 (4 * plan.words f) (omega arith)) (
+          (omega arith, omega arith, omega arith),
+          plain_either plan.by_a _ _ ((omega arith, omega arith, omega arith), tt) tt,
+        ),
+      )
+
+  back_plain : (f : ℕ) → AllPlain (back_code plan f)
+  back_plain f =
+      plain_append _ _ (number_plain 5 (plan.frame f % 2 ^ 32) (omega arith)) (
+        (omega arith, omega arith, omega arith),
+        plain_append _ _ (number_plain 5 (4 * plan.words f) (omega arith)) (
+          (omega arith, omega arith, omega arith),
+          plain_either plan.by_a _ _ ((omega arith, omega arith, omega arith), tt) tt,
+        ),
+      )
+
+  pub call_plain : (f : ℕ) (v : Option ℕ) (g : ℕ) (xs : List Argument) (live : VariableSet) → AllPlain (call_code plan variables f v g xs live)
+  call_plain f v g xs live =
+      let rs = live_registers plan (variables f) f live in
+      plain_append _ _ (arguments_plain f g xs) (plain_append _ _ (save_plain _ rs) (plain_append (deeper_code plan f) _ (deeper_plain f) (plain_append (enter_code (plan.entry g)) _ (enter_plain (plan.entry g))
+      (plain_append (back_code plan f) _ (back_plain f) (plain_append _ _ (restore_plain _ rs) (result_plain (variables f) (plan.home f) (good f) v))))))
+
+  pub entry_plain : (f : ℕ) (live : VariableSet) → AllPlain (entry_code plan variables f live)
+  entry_plain f live = ((omega arith, omega arith), restore_plain _ (live_registers plan (variables f) f live))
+
+pub finish_plain : (by_a : Bool) → AllPlain (finish_code by_a)
+finish_plain true = (tt, tt)
+finish_plain false = ((omega arith, omega arith, omega arith), ((omega arith, omega arith, omega arith), (tt, tt)))
+
+pub start_plain : (plan : Plan) (main frames : ℕ) → AllPlain (start_code plan main frames)
+start_plain plan main frames =
+    plain_append (number_code 3 frames ++ (if plan.by_a then Addi 10 0 (pos 1) ∷ [] else [])) (enter_code (plan.entry main))
+    (plain_append (number_code 3 frames) _ (number_plain 3 frames (omega arith)) (plain_either plan.by_a _ _ ((omega arith, omega arith, omega arith), tt) tt))
+    (enter_plain (plan.entry main))

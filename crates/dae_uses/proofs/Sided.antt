@@ -1,0 +1,301 @@
+-- The code of an action uses the queue of the action and no other, and so does that of a function.
+use Rattle.std.proofs.Common.{◌≡◌, ◌≢◌, ◌↔◌, ◌⊎◌, inl, inr, ℕ, ◌+◌, ◌-◌, ◌<◌, ◌*◌, ◌%◌, ◌^◌, Bool, true, false, List, [], ◌∷◌, ◌++◌, length, Option, Some, None, refl, sym, subst, ◌∙◌, arith, pos, negsuc}
+use Rattle.std.specs.Prelude.{nat_lt, if◌then◌else◌, ℤ}
+use Rattle.std.specs.List.{AllByRecursion}
+use Rattle.dae_base.specs.Words.{word, size}
+use Rattle.dae_base.specs.declared.Queue.{Queue}
+use Rattle.dae_base.specs.declared.Queue.TheVariants.{Ld, Al, Sa, Sd, Cq}
+use Rattle.dae_base.specs.declared.Width.{Width}
+use Rattle.dae_base.specs.declared.Width.TheVariants.{B1, B2, B4}
+use Rattle.dae_base.specs.declared.LoadKind.{LoadKind}
+use Rattle.dae_base.specs.declared.LoadKind.TheVariants.{I8, U8, I16, U16, I32}
+use Rattle.dae_encode.specs.Instructions.{effect, form_of}
+use Rattle.dae_encode.specs.declared.Form.TheVariants.{Loads, Stores}
+use Rattle.dae_encode.specs.declared.Inst.{Inst}
+use Rattle.dae_encode.specs.declared.Inst.TheVariants.{Addi, Andi, Beq, Bne, Bltu, Bgeu, Ecall}
+use Rattle.dae_ir.specs.Code.{Done, Do, If, Loop}
+use Rattle.dae_ir.specs.Classes.{VariableSet}
+use Rattle.dae_ir.specs.Deeds.{told_on, heard_on}
+use Rattle.dae_ir.specs.Programs.{side}
+use Rattle.dae_ir.specs.Streams.{Actions}
+use Rattle.dae_ir.specs.declared.form.Operand.{Operand}
+use Rattle.dae_ir.specs.declared.form.Operand.TheVariants.{Variable, Number}
+use Rattle.dae_ir.specs.declared.form.Check.{Check}
+use Rattle.dae_ir.specs.declared.form.Check.TheVariants.{Place, Zero, Room, Frame, Abort}
+use Rattle.dae_ir.specs.declared.stream.Action.{Action}
+use Rattle.dae_ir.specs.declared.stream.Action.TheVariants.{Set as Compute, Issue, Own, Receive, Address, Datum, Offer, Accept, Emit, Probe, Tell, Hear, Stop, Break, Continue, Call, Return}
+use Rattle.dae_ir.specs.declared.stream.Branch.{Branch}
+use Rattle.dae_ir.specs.declared.stream.Branch.TheVariants.{Silent, Tells, Hears}
+use Rattle.dae_walks.specs.Homes.{IsHome}
+use Rattle.dae_walks.specs.Live.{Ways, live, behind, body_ways, step_ways, nowhere}
+use Rattle.dae_walks.specs.Agrees.{Plan}
+use Rattle.dae_blocks.specs.Blocks.{number_code, register_or, source, fetch, keep, test_code, call_number, issue_code, address_code, take_code, fail_code, over, align_code, room_code, check_code, hear_code, jump_over, jump_back, leave_code}
+use Rattle.dae_blocks.specs.Code.{action_code, branch_code, code_of, entry_code, function_code, finish_code, start_code}
+use Rattle.dae_uses.specs.Uses.{queue_in, action_queue, branch_queue, IsOfSide, AreOfSide, IsUntouched, LeavesAlone}
+use Rattle.dae_uses.proofs.Access.{IsPlain, plain, loads_for_e, loads_own, gives_address, pushes_datum, pushes_copy, pushes_message, takes_load, takes_own, takes_copy, takes_message}
+use Rattle.dae_uses.proofs.Quiet.{AllPlain, plain_append, number_plain, register_low, keep_plain, jump_plain, source_low, fetch_plain, test_plain, value_plain, system_plain, stop_plain, leave_plain, call_plain, entry_plain, finish_plain, start_plain}
+
+no_some : (q : Queue) → None ≢ Some q
+no_some q e = absurd (let x : None ≡ Some q = e in cc)
+
+-- ---- lists that use one queue and no other
+
+-- each instruction uses this queue or none, and where there is one, not all of them leave it alone
+record Uses (by_a : Bool) (o : Option Queue) (is : List Inst) : Type 0 where
+  only : AllByRecursion (λ (i : Inst). (queue_in (side by_a) i ≡ None) ⊎ (queue_in (side by_a) i ≡ o)) is
+  some : (q : Queue) → o ≡ Some q → LeavesAlone by_a q is → ⊥
+
+module _ (by_a : Bool) where
+  abbrev Only : Option Queue → List Inst → Type 0
+  Only o is = AllByRecursion (λ (i : Inst). (queue_in (side by_a) i ≡ None) ⊎ (queue_in (side by_a) i ≡ o)) is
+
+  quiet : (o : Option Queue) (is : List Inst) → AllPlain is → Only o is
+  quiet o [] h = tt
+  quiet o (i ∷ is) h = (inl (plain (side by_a) i h.0), quiet o is h.1)
+
+  only_append : (o : Option Queue) (is js : List Inst) → Only o is → Only o js → Only o (is ++ js)
+  only_append o [] js h k = k
+  only_append o (i ∷ is) js h k = (h.0, only_append o is js h.1 k)
+
+  pub alone_append : (q : Queue) (is js : List Inst) → LeavesAlone by_a q is → LeavesAlone by_a q js → LeavesAlone by_a q (is ++ js)
+  alone_append q [] js h k = k
+  alone_append q (i ∷ is) js h k = (h.0, alone_append q is js h.1 k)
+
+  pub alone_split : (q : Queue) (is js : List Inst) → LeavesAlone by_a q (is ++ js) → LeavesAlone by_a q is × LeavesAlone by_a q js
+  alone_split q [] js h = (tt, h)
+  alone_split q (i ∷ is) js h = (let rest = alone_split q is js h.1 in ((h.0, rest.0), rest.1))
+
+  behind_plain : (o : Option Queue) (is js : List Inst) → AllPlain is → Uses by_a o js → Uses by_a o (is ++ js)
+  behind_plain o is js h k = record { only = only_append o is js (quiet o is h) k.only; some = λ q e alone. k.some q e (alone_split q is js alone).1 }
+
+  before_plain : (o : Option Queue) (is js : List Inst) → Uses by_a o is → AllPlain js → Uses by_a o (is ++ js)
+  before_plain o is js h k = record { only = only_append o is js h.only (quiet o js k); some = λ q e alone. h.some q e (alone_split q is js alone).0 }
+
+  first_uses : (o : Option Queue) (i : Inst) (is : List Inst) → queue_in (side by_a) i ≡ o → Only o is → Uses by_a o (i ∷ is)
+  first_uses o i is h k = record { only = (inr h, k); some = λ q e alone. alone.0 (h ∙ e) }
+
+  next_uses : (o : Option Queue) (i : Inst) (is : List Inst) → IsPlain (form_of (effect i)) → Uses by_a o is → Uses by_a o (i ∷ is)
+  next_uses o i is h k = record { only = (inl (plain (side by_a) i h), k.only); some = λ q e alone. k.some q e alone.1 }
+
+  no_queue : (is : List Inst) → AllPlain is → Uses by_a None is
+  no_queue is h = record { only = quiet None is h; some = λ q e alone. absurd (let x : None ≡ Some q = e in cc) }
+
+  -- either of two lists, and both
+  either_uses : (o : Option Queue) (b : Bool) (is js : List Inst) → Uses by_a o is → Uses by_a o js → Uses by_a o (if b then is else js)
+  either_uses o true is js h k = h
+  either_uses o false is js h k = k
+
+  behind_only : (o : Option Queue) (is js : List Inst) → Only o is → Uses by_a o js → Uses by_a o (is ++ js)
+  behind_only o is js h k = record { only = only_append o is js h k.only; some = λ q e alone. k.some q e (alone_split q is js alone).1 }
+
+  others_alone : (o : Option Queue) (q : Queue) (is : List Inst) → Only o is → o ≢ Some q → LeavesAlone by_a q is
+  others_alone o q [] h ne = tt
+  others_alone o q (i ∷ is) h ne = (
+    (λ e. elim h.0 [ inl none ↦ absurd (let x : None ≡ Some q = sym none ∙ e in cc) | inr same ↦ absurd (ne (sym same ∙ e)) ]),
+    others_alone o q is h.1 ne,
+  )
+
+  -- ---- messages
+
+  abbrev Told : Option Queue
+  Told = Some (told_on by_a)
+
+  tells : (x : ℕ) (is : List Inst) → x < 28 → Only Told is → (imm : ℤ) → Uses by_a Told (Addi 29 x imm ∷ is)
+  tells x is h k imm = first_uses Told (Addi 29 x imm) is (pushes_message by_a (Addi 29 x imm) x refl h) k
+
+  fail_uses : (b : Bool) (code : ℕ) → Uses by_a Told (fail_code b code)
+  fail_uses true code = tells 0 (Ecall ∷ []) (omega arith) (quiet Told (Ecall ∷ []) (tt, tt)) (pos code)
+  fail_uses false code =
+      tells 0 _ (omega arith) (quiet Told (Addi 10 0 (pos code) ∷ (Addi 17 0 (pos 5) ∷ (Ecall ∷ []))) ((omega arith, omega arith, omega arith), ((omega arith, omega arith, omega arith), (tt, tt)))) (pos code)
+
+  align_only : (w : Width) (x : ℕ) → x < 28 → Only Told (align_code w x)
+  align_only B1 x h = tt
+  align_only B2 x h = (inl (plain (side by_a) (Andi 6 x (pos 1)) (omega arith, h, omega arith)), (inl (plain (side by_a) (Beq 6 0 (pos 12)) (omega arith, omega arith, omega arith)), (fail_uses true 3).only))
+  align_only B4 x h = (inl (plain (side by_a) (Andi 6 x (pos 3)) (omega arith, h, omega arith)), (inl (plain (side by_a) (Beq 6 0 (pos 12)) (omega arith, omega arith, omega arith)), (fail_uses true 3).only))
+
+  room_uses : (n : ℕ) → Uses by_a Told (room_code n)
+  room_uses n = behind_plain Told (number_code 6 n) (Bgeu 6 3 (pos 12) ∷ fail_code true 4) (number_plain 6 n (omega arith)) (next_uses Told (Bgeu 6 3 (pos 12)) (fail_code true 4) (omega arith, omega arith, omega arith) (fail_uses true 4))
+
+  hear_uses : (b : Bool) → Uses by_a (Some (heard_on by_a)) (hear_code b)
+  hear_uses true = first_uses _ (Addi 5 29 (pos 0)) (Beq 5 0 (pos 8) ∷ (Ecall ∷ [])) (takes_message by_a (Addi 5 29 (pos 0)) 5 refl (omega arith)) (quiet _ (Beq 5 0 (pos 8) ∷ (Ecall ∷ [])) ((omega arith, omega arith, omega arith), (tt, tt)))
+  hear_uses false = first_uses _ (Addi 10 29 (pos 0)) (Beq 10 0 (pos 12) ∷ (Addi 17 0 (pos 5) ∷ (Ecall ∷ []))) (takes_message by_a (Addi 10 29 (pos 0)) 10 refl (omega arith)) (quiet _ (Beq 10 0 (pos 12) ∷ (Addi 17 0 (pos 5) ∷ (Ecall ∷ []))) ((omega arith, omega arith, omega arith), ((omega arith, omega arith, omega arith), (tt, tt))))
+
+issue_form : (kind : LoadKind) (q b : ℕ) → form_of (effect (issue_code kind q b)) ≡ Loads kind q b (word (pos 0))
+issue_form I8 q b = refl
+issue_form U8 q b = refl
+issue_form I16 q b = refl
+issue_form U16 q b = refl
+issue_form I32 q b = refl
+
+address_form : (width : Width) (b : ℕ) → form_of (effect (address_code width b)) ≡ Stores width b 30 (word (pos 0))
+address_form B1 b = refl
+address_form B2 b = refl
+address_form B4 b = refl
+
+-- ---- actions
+
+module _ (plan : Plan) (variables : ℕ → ℕ) (good : (f v : ℕ) → IsHome (variables f) (plan.home f v)) where
+  abbrev by_a' : Bool
+  by_a' = plan.by_a
+
+  -- on A, and on E
+  on_a : (i : Inst) (o : Option Queue) → by_a' ≡ true → queue_in (side true) i ≡ o → queue_in (side by_a') i ≡ o
+  on_a i o e h = subst (λ (b : Bool). queue_in (side b) i ≡ o) (sym e) h
+
+  on_e : (i : Inst) (o : Option Queue) → by_a' ≡ false → queue_in (side false) i ≡ o → queue_in (side by_a') i ≡ o
+  on_e i o e h = subst (λ (b : Bool). queue_in (side b) i ≡ o) (sym e) h
+
+  module _ (f : ℕ) where
+    low : (x : Operand) → source (plan.home f) 5 x < 28
+    low x = source_low (variables f) (plan.home f) (good f) 5 x (omega arith)
+
+    fetches : (x : Operand) → AllPlain (fetch (plan.home f) 5 x)
+    fetches x = fetch_plain (variables f) (plan.home f) (good f) 5 x (omega arith)
+
+    home_low : (v : ℕ) → register_or 5 (plan.home f v) < 28
+    home_low v = register_low (variables f) 5 (plan.home f v) (good f v) (omega arith)
+
+    -- behind an operand, one instruction
+    one_uses : (o : Option Queue) (x : Operand) (i : Inst) → queue_in (side by_a') i ≡ o → Uses by_a' o (fetch (plan.home f) 5 x ++ i ∷ [])
+    one_uses o x i h = behind_plain by_a' o (fetch (plan.home f) 5 x) (i ∷ []) (fetches x) (first_uses by_a' o i [] h tt)
+
+    take_uses : (o : Option Queue) (q v : ℕ) → queue_in (side by_a') (Addi (register_or 5 (plan.home f v)) q (pos 0)) ≡ o → Uses by_a' o (take_code q (plan.home f v))
+    take_uses o q v h = first_uses by_a' o (Addi (register_or 5 (plan.home f v)) q (pos 0)) (keep (plan.home f v)) h (quiet by_a' o (keep (plan.home f v)) (keep_plain (plan.home f v)))
+
+    check_uses : (check : Check) → Uses by_a' (Some (told_on by_a')) (check_code plan f check)
+    check_uses (Place width x) =
+        let r : ℕ = source (plan.home f) 5 x in
+        let last : List Inst = number_code 7 (plan.memory - size width - 15) ++ Bltu 6 7 (pos 12) ∷ fail_code true 2 in
+        let ends : Uses by_a' (Some (told_on by_a')) last = behind_plain by_a' (Some (told_on by_a')) (number_code 7 (plan.memory - size width - 15)) (Bltu 6 7 (pos 12) ∷ fail_code true 2) (number_plain 7 (plan.memory - size width - 15) (omega arith))
+        (next_uses by_a' (Some (told_on by_a')) (Bltu 6 7 (pos 12)) (fail_code true 2) (omega arith, omega arith, omega arith) (fail_uses by_a' true 2)) in
+        behind_plain by_a' (Some (told_on by_a')) (fetch (plan.home f) 5 x) (align_code width r ++ Addi 6 r (negsuc 15) ∷ last) (fetches x)
+        (behind_only by_a' (Some (told_on by_a')) (align_code width r) (Addi 6 r (negsuc 15) ∷ last) (align_only by_a' width r (low x)) (next_uses by_a' (Some (told_on by_a')) (Addi 6 r (negsuc 15)) last (omega arith, low x, omega arith) ends))
+    check_uses (Zero x) =
+        behind_plain by_a' (Some (told_on by_a')) (fetch (plan.home f) 5 x) (Bne (source (plan.home f) 5 x) 0 (over by_a') ∷ fail_code by_a' 1) (fetches x)
+        (next_uses by_a' (Some (told_on by_a')) (Bne (source (plan.home f) 5 x) 0 (over by_a')) (fail_code by_a' 1) (omega arith, low x, omega arith) (fail_uses by_a' by_a' 1))
+    check_uses (Room g) =
+        either_uses by_a' (Some (told_on by_a')) (nat_lt plan.memory (plan.frame f + plan.frame g)) (fail_code true 4) (room_code (plan.memory - (plan.frame f + plan.frame g)) ++ (number_code 6 plan.limit ++ Bltu 10 6 (pos 12) ∷ fail_code true 4)) (fail_uses by_a' true 4)
+        (behind_only by_a' (Some (told_on by_a')) (room_code (plan.memory - (plan.frame f + plan.frame g))) (number_code 6 plan.limit ++ Bltu 10 6 (pos 12) ∷ fail_code true 4) (room_uses by_a' (plan.memory - (plan.frame f + plan.frame g))).only
+        (behind_plain by_a' (Some (told_on by_a')) (number_code 6 plan.limit) (Bltu 10 6 (pos 12) ∷ fail_code true 4) (number_plain 6 plan.limit (omega arith)) (next_uses by_a' (Some (told_on by_a')) (Bltu 10 6 (pos 12)) (fail_code true 4) (omega arith, omega arith, omega arith) (fail_uses by_a' true 4))))
+    check_uses Frame = either_uses by_a' (Some (told_on by_a')) (nat_lt plan.memory (plan.frame f)) (fail_code true 4) (room_code (plan.memory - plan.frame f)) (fail_uses by_a' true 4) (room_uses by_a' (plan.memory - plan.frame f))
+    check_uses Abort = fail_uses by_a' true 5
+
+    action_uses : (a : Action) (live : VariableSet) (leaves skips : ℕ) → IsOfSide by_a' a → Uses by_a' (action_queue by_a' a) (action_code plan variables f a live leaves skips)
+    action_uses (Compute v x) live leaves skips is = no_queue by_a' _ (plain_append _ _ (value_plain (variables f) (plan.home f) (good f) (register_or 5 (plan.home f v)) x (home_low v)) (keep_plain (plan.home f v)))
+    action_uses (Issue kind x) live leaves skips is =
+        let b = source (plan.home f) 5 x in
+        one_uses (Some Ld) x (issue_code kind 30 b) (on_a (issue_code kind 30 b) (Some Ld) is (loads_for_e (issue_code kind 30 b) kind b (word (pos 0)) (issue_form kind 30 b) (low x)))
+    action_uses (Own v kind x) live leaves skips is =
+        let b = source (plan.home f) 5 x in
+        let t = register_or 5 (plan.home f v) in
+        let i = issue_code kind 31 b in
+        behind_plain by_a' (Some Al) (fetch (plan.home f) 5 x) (i ∷ take_code 31 (plan.home f v)) (fetches x)
+        (first_uses by_a' (Some Al) i (take_code 31 (plan.home f v)) (on_a i (Some Al) is (loads_own i kind b (word (pos 0)) (issue_form kind 31 b) (low x)))
+        (take_uses (Some Al) 31 v (on_a (Addi t 31 (pos 0)) (Some Al) is (takes_own (Addi t 31 (pos 0)) t refl (home_low v)))).only)
+    action_uses (Receive v) live leaves skips is = let t = register_or 5 (plan.home f v) in take_uses (Some Ld) 30 v (on_e (Addi t 30 (pos 0)) (Some Ld) is (takes_load (Addi t 30 (pos 0)) t refl (home_low v)))
+    action_uses (Address width x) live leaves skips is =
+        let b = source (plan.home f) 5 x in
+        one_uses (Some Sa) x (address_code width b) (on_a (address_code width b) (Some Sa) is (gives_address (address_code width b) width b (word (pos 0)) (address_form width b) (low x)))
+    action_uses (Datum x) live leaves skips is = let i = Addi 30 (source (plan.home f) 5 x) (pos 0) in one_uses (Some Sd) x i (on_e i (Some Sd) is (pushes_datum i (source (plan.home f) 5 x) refl (low x)))
+    action_uses (Offer v) live leaves skips is = let i = Addi 28 (source (plan.home f) 5 (Variable v)) (pos 0) in one_uses (Some Cq) (Variable v) i (on_a i (Some Cq) is (pushes_copy i (source (plan.home f) 5 (Variable v)) refl (low (Variable v))))
+    action_uses (Accept v) live leaves skips is = let t = register_or 5 (plan.home f v) in take_uses (Some Cq) 28 v (on_e (Addi t 28 (pos 0)) (Some Cq) is (takes_copy (Addi t 28 (pos 0)) t refl (home_low v)))
+    action_uses (Emit spelling x) live leaves skips is = no_queue by_a' _ (system_plain (variables f) (plan.home f) (good f) (call_number spelling) x)
+    action_uses (Probe check) live leaves skips is = check_uses check
+    action_uses (Tell x) live leaves skips is = let i = Addi 29 (source (plan.home f) 5 x) (pos 0) in one_uses (Some (told_on by_a')) x i (pushes_message by_a' i (source (plan.home f) 5 x) refl (low x))
+    action_uses Hear live leaves skips is = hear_uses by_a' by_a'
+    action_uses (Stop x) live leaves skips is = no_queue by_a' _ (stop_plain (variables f) (plan.home f) (good f) by_a' x)
+    action_uses Break live leaves skips is = no_queue by_a' _ (jump_plain (4 * (leaves + 2)))
+    action_uses Continue live leaves skips is = no_queue by_a' _ (jump_plain (4 * (skips + 2)))
+    action_uses (Call v g xs) live leaves skips is = no_queue by_a' _ (call_plain plan variables good f v g xs _)
+    action_uses (Return x) live leaves skips is = no_queue by_a' _ (leave_plain (variables f) (plan.home f) (good f) x)
+
+    branch_uses : (b : Branch) → Uses by_a' (branch_queue by_a' b) (branch_code (plan.home f) b)
+    branch_uses (Silent t) = no_queue by_a' _ (plain_append _ _ (test_plain (variables f) (plan.home f) (good f) 5 t (omega arith)) ((omega arith, omega arith, omega arith), tt))
+    branch_uses (Tells t) =
+        behind_plain by_a' (Some (told_on by_a')) (test_code (plan.home f) 5 t) (Addi 29 5 (pos 0) ∷ (Bne 5 0 (pos 12) ∷ [])) (test_plain (variables f) (plan.home f) (good f) 5 t (omega arith))
+        (tells by_a' 5 (Bne 5 0 (pos 12) ∷ []) (omega arith) (quiet by_a' _ (Bne 5 0 (pos 12) ∷ []) ((omega arith, omega arith, omega arith), tt)) (pos 0))
+    branch_uses Hears = first_uses by_a' (Some (heard_on by_a')) (Bne 29 0 (pos 12)) [] (rests by_a') tt
+      where
+        rests : (b : Bool) → queue_in (side b) (Bne 29 0 (pos 12)) ≡ Some (heard_on b)
+        rests b = takes_message b (Bne 29 0 (pos 12)) 0 refl (omega arith)
+
+    -- ---- structured code
+
+    module _ (q : Queue) where
+      silent : (is : List Inst) → AllPlain is → LeavesAlone by_a' q is
+      silent is h = others_alone by_a' None q is (quiet by_a' None is h) (no_some q)
+
+      abbrev Both : Actions → List Inst → Type 0
+      Both code is = (LeavesAlone by_a' q is → IsUntouched by_a' q code) × (IsUntouched by_a' q code → LeavesAlone by_a' q is)
+
+      code_both : (code : Actions) (x : Ways) (leaves skips : ℕ) → AreOfSide by_a' code → Both code (code_of plan variables f code x leaves skips)
+      code_both Done x leaves skips is = ((λ h. tt), (λ h. tt))
+      code_both (Do m a k) x leaves skips is =
+          let rest = code_of plan variables f k x leaves skips in
+          let here = action_code plan variables f a (live k x) (length rest + leaves) (length rest + skips) in
+          let uses = action_uses a (live k x) (length rest + leaves) (length rest + skips) is.0 in
+          let more = code_both k x leaves skips is.1 in (
+            (λ alone. let two = alone_split by_a' q here rest alone in ((λ e. uses.some q e two.0), more.0 two.1)),
+            (λ free. alone_append by_a' q here rest (others_alone by_a' (action_queue by_a' a) q here uses.only free.0) (more.1 free.1)),
+          )
+      code_both (If m b p r k) x leaves skips is =
+          let rest = code_of plan variables f k x leaves skips in
+          let second = code_of plan variables f r (behind (live k x) x) (length rest + leaves) (length rest + skips) in
+          let first = code_of plan variables f p (behind (live k x) x) (2 + length second + length rest + leaves) (2 + length second + length rest + skips) in
+          let decides = branch_code (plan.home f) b in
+          let uses = branch_uses b in
+          let one = code_both p (behind (live k x) x) (2 + length second + length rest + leaves) (2 + length second + length rest + skips) is.1 in
+          let two = code_both r (behind (live k x) x) (length rest + leaves) (length rest + skips) is.2 in
+          let more = code_both k x leaves skips is.3 in
+          let over_first = jump_over (length first + 2) in let over_second = jump_over (length second) in (
+            (λ alone.
+                let a = alone_split by_a' q decides (over_first ++ (first ++ (over_second ++ (second ++ rest)))) alone in
+                let b = alone_split by_a' q over_first (first ++ (over_second ++ (second ++ rest))) a.1 in
+                let c = alone_split by_a' q first (over_second ++ (second ++ rest)) b.1 in
+                let d = alone_split by_a' q over_second (second ++ rest) c.1 in
+                let e = alone_split by_a' q second rest d.1 in
+                ((λ same. uses.some q same a.0), one.0 c.0, two.0 e.0, more.0 e.1)),
+            (λ free.
+                alone_append by_a' q decides (over_first ++ (first ++ (over_second ++ (second ++ rest)))) (others_alone by_a' (branch_queue by_a' b) q decides uses.only free.0)
+                (alone_append by_a' q over_first (first ++ (over_second ++ (second ++ rest))) (silent over_first (jump_plain (4 * (length first + 2 + 2))))
+                (alone_append by_a' q first (over_second ++ (second ++ rest)) (one.1 free.1)
+                (alone_append by_a' q over_second (second ++ rest) (silent over_second (jump_plain (4 * (length second + 2))))
+                (alone_append by_a' q second rest (two.1 free.2) (more.1 free.3)))))),
+          )
+      code_both (Loop m body step k) x leaves skips is =
+          let rest = code_of plan variables f k x leaves skips in
+          let again = code_of plan variables f step (step_ways body step (live k x)) 2 0 in
+          let turned = code_of plan variables f body (body_ways body step (live k x)) (length again + 2) 0 in
+          let back = jump_back (length turned + length again) in
+          let one = code_both body (body_ways body step (live k x)) (length again + 2) 0 is.0 in
+          let two = code_both step (step_ways body step (live k x)) 2 0 is.1 in
+          let more = code_both k x leaves skips is.2 in (
+            (λ alone.
+                let a = alone_split by_a' q turned (again ++ (back ++ rest)) alone in
+                let b = alone_split by_a' q again (back ++ rest) a.1 in
+                let c = alone_split by_a' q back rest b.1 in
+                (one.0 a.0, two.0 b.0, more.0 c.1)),
+            (λ free.
+                alone_append by_a' q turned (again ++ (back ++ rest)) (one.1 free.0)
+                (alone_append by_a' q again (back ++ rest) (two.1 free.1)
+                (alone_append by_a' q back rest (silent back (jump_plain ((2 ^ 32 - 4 * (length turned + length again) % 2 ^ 32) % 2 ^ 32))) (more.1 free.2)))),
+          )
+
+      function_both : (code : Actions) → AreOfSide by_a' code → Both code (function_code plan variables f code)
+      function_both code is =
+          let enters = entry_code plan variables f (live code nowhere) in
+          let does = code_of plan variables f code nowhere 0 0 in
+          let leaves = leave_code (plan.home f) (Some (Number 0)) in
+          let both = code_both code nowhere 0 0 is in (
+            (λ alone. both.0 (alone_split by_a' q does leaves (alone_split by_a' q enters (does ++ leaves) alone).1).0),
+            (λ free. alone_append by_a' q enters (does ++ leaves) (silent enters (entry_plain plan variables good f (live code nowhere)))
+                (alone_append by_a' q does leaves (both.1 free) (silent leaves (leave_plain (variables f) (plan.home f) (good f) (Some (Number 0)))))),
+          )
+
+pub function_uses : (plan : Plan) (variables : ℕ → ℕ) → ((f v : ℕ) → IsHome (variables f) (plan.home f v)) → (f : ℕ) (code : Actions) → AreOfSide plan.by_a code → (q : Queue) → LeavesAlone plan.by_a q (function_code plan variables f code) ↔ IsUntouched plan.by_a q code
+function_uses plan variables good f code is q = function_both plan variables good f q code is
+
+pub start_uses : (plan : Plan) (main frames : ℕ) (q : Queue) → LeavesAlone plan.by_a q (start_code plan main frames ++ finish_code plan.by_a)
+start_uses plan main frames q =
+    let is = start_code plan main frames ++ finish_code plan.by_a in
+    others_alone plan.by_a None q is (quiet plan.by_a None is (plain_append (start_code plan main frames) (finish_code plan.by_a) (start_plain plan main frames) (finish_plain plan.by_a))) (no_some q)
