@@ -1,0 +1,7 @@
+mod Rows
+mod Loops
+mod Firsts
+mod Arguments
+mod Views
+mod Searching
+mod Parted
