@@ -5,3 +5,4 @@ mod Arguments
 mod Views
 mod Searching
 mod Parted
+mod Turns

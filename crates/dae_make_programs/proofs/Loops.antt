@@ -1,5 +1,5 @@
 -- The loops that lowering adds.
-use Rattle.std.proofs.Common.{◌≡◌, ℕ, ◌+◌, List, refl, ap, sym, ◌∙◌, arith}
+use Rattle.std.proofs.Common.{◌≡◌, ℕ, ◌+◌, List, refl, ap, ◌∙◌, arith}
 use Rattle.dae_base.specs.declared.Place.{Place}
 use Rattle.dae_ir.specs.Code.{Done, Do, Loop}
 use Rattle.dae_ir.specs.Form.{Form, form_of}

@@ -1,5 +1,5 @@
 -- Labels and arms of a switch, one after the other; and whether statements continue a loop.
-use Rattle.std.proofs.Common.{◌≡◌, ℕ, zero, suc, ◌+◌, ◌<◌, ◌≤◌, Bool, true, false, ◌||◌, if◌then◌else◌, List, [], ◌∷◌, ◌++◌, length, drop, get_or, Option, Some, None, refl, ap, sym, ◌∙◌, arith}
+use Rattle.std.proofs.Common.{◌≡◌, ℕ, suc, ◌+◌, ◌<◌, ◌≤◌, Bool, true, false, ◌||◌, if◌then◌else◌, List, [], ◌∷◌, ◌++◌, length, drop, get_or, Option, Some, None, refl, ap, sym, ◌∙◌, arith}
 use Rattle.std.proofs.lemmas.List.{drop_all}
 use Rattle.dae_base.proofs.Laws.{drop_at}
 use Rattle.dae_base.specs.declared.Place.{Place}
@@ -8,8 +8,8 @@ use Rattle.dae_ir.specs.Form.{Form, before, form_of}
 use Rattle.dae_ir.specs.declared.form.Item.TheVariants.{Break}
 use Rattle.dae_ir.specs.declared.form.Operand.{Operand}
 use Rattle.dae_ir.specs.declared.form.Statement.{Statement as FormStatement, Simple}
-use Rattle.dae_lower.specs.Lowering.{arms_continue, continues, one, search, search_labels, ◌⨾◌}
-use Rattle.dae_make_programs.proofs.Views.{arms_at, arms_end, statements_at, statements_end}
+use Rattle.dae_lower.specs.Lowering.{arms_continue, continues, search, search_labels, ◌⨾◌}
+use Rattle.dae_make_programs.proofs.Views.{arms_at, arms_end, statements_at}
 use Rattle.dae_make_programs.specs.Made.{arms_of}
 use Rattle.dae_make_programs.specs.Parts.{label_then}
 use Rattle.dae_maker.proofs.Laws.{behind_behind, form_of_pushed}
@@ -49,7 +49,7 @@ first_undecided xs = record { place = refl; same = λ other. refl; count = nothi
 one_further : (i n k : ℕ) → i + suc n ≡ k → (i + 1) + n ≡ k
 one_further i n k e = omega (arith, e)
 
-one_more : (i : ℕ) → suc i ≡ i + 1
+pub one_more : (i : ℕ) → suc i ≡ i + 1
 one_more i = omega arith
 
 arm_here : (i : ℕ) (a : Arm) (rest : tree.Arms) (other : ℕ) (b : Bool) → has_label None a.labels.items ≡ b → arm_with None i (tree.arm_then a.labels.items (view_statements a.statements.items) rest) other ≡ (if b then i else arm_with None (i + 1) rest other)

@@ -1,5 +1,5 @@
 -- A switch in parts, as the form has it: up to its arms, an arm, and behind them.
-use Rattle.std.specs.Prelude.{ℕ, ◌+◌, Bool}
+use Rattle.std.specs.Prelude.{ℕ, ◌+◌, Bool, None}
 use Rattle.dae_base.specs.declared.Place.{Place}
 use Rattle.dae_ir.specs.Code.{Do, Done, If, Loop}
 use Rattle.dae_ir.specs.Form.{Form}
@@ -7,8 +7,9 @@ use Rattle.dae_ir.specs.declared.form.Item.TheVariants.{Assign, Break, Continue}
 use Rattle.dae_ir.specs.declared.form.Operand.{Operand}
 use Rattle.dae_ir.specs.declared.form.Operand.TheVariants.{Variable, Number}
 use Rattle.dae_ir.specs.declared.form.Value.TheVariants.{Same}
-use Rattle.dae_lower.specs.Lowering.{Made, emit, one, only, search, test_of, where_so}
+use Rattle.dae_lower.specs.Lowering.{Links, Made, arms_continue, arms_from, emit, one, only, search, switch, test_of, where_so}
 use Rattle.dae_meaning.specs.declared.Comparison.TheVariants.{AtLeastUnsigned, NotEqual}
+use Rattle.dae_program.specs.Switches.{arm_with, count_arms}
 use Rattle.dae_program.specs.Trees.{Arms}
 
 -- the search for the first arm, and where the arms continue a loop, nothing has yet
@@ -26,3 +27,8 @@ abbrev pub switch_ended : Place → (v : ℕ) → (goes_on : Bool) → Form → 
 switch_ended p v goes_on arms n =
     emit (Loop p arms (where_so goes_on (Do p (Assign (v + 1) (Same (Number 1))) (one p Break)))
     (where_so goes_on (If p (test_of NotEqual (Variable (v + 1)) (Number 0)) (one p Continue) Done Done))) n
+
+-- a switch, once its value is known
+abbrev pub switch_on : Links → Place → Arms → Operand → ℕ → Made (Unit {0})
+switch_on l p arms x n =
+    switch p x n (arm_with None 0 arms (count_arms arms)) (search p x n 0 arms) (arms_continue arms) (arms_from l p n 0 arms (n + 2))

@@ -1,4 +1,3 @@
-use Rattle.std.proofs.Common.{refl}
 use Rattle.std.specs.Prelude.{None}
 use Rattle.dae_make_expressions.specs.Lowered.{state_of}
 use Rattle.dae_make_programs.proofs.Parted.{begun_whole}

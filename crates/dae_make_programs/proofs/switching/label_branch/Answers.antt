@@ -1,5 +1,5 @@
 use Rattle.std.proofs.Common.{◌∙◌, ap, List, [], ◌∷◌, ◌++◌}
-use Rattle.dae_ir.specs.Code.{Done, If}
+use Rattle.dae_ir.specs.Code.{If}
 use Rattle.dae_ir.specs.Form.{Form, form_of}
 use Rattle.dae_ir.specs.declared.form.Item.TheVariants.{Assign, Break}
 use Rattle.dae_ir.specs.declared.form.Operand.TheVariants.{Number}

@@ -1,4 +1,3 @@
-use Rattle.std.proofs.Common.{refl}
 use Rattle.dae_make_programs.proofs.Searching.{label_asked}
 use Rattle.dae_make_programs.proofs.switching.search_label.Goals as goal
 

@@ -1,4 +1,4 @@
-use Rattle.std.proofs.Common.{get_or, refl}
+use Rattle.std.proofs.Common.{get_or}
 use Rattle.std.specs.Prelude.{None}
 use Rattle.dae_make_programs.proofs.Arguments.{any_default}
 use Rattle.dae_ir.specs.Form.{form_of}
