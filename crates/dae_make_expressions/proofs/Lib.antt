@@ -2,3 +2,4 @@ mod Counting
 mod Views
 mod Chains
 mod Nodes
+pub mod Laws

@@ -1,0 +1,8 @@
+mod Rows
+mod Loops
+mod Firsts
+mod Arguments
+mod Views
+mod Searching
+mod Parted
+mod Turns

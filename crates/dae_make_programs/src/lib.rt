@@ -1,0 +1,16 @@
+// Statements of typed programs as the structured form: what `printf` prints and initialised aggregates, each written behind
+// what was before it.
+#![tactic(auto)]
+
+pub use continuing::arms_continue;
+pub use initialising::{put_all, zero};
+pub use printing::print;
+pub use statements::make_statements;
+pub use switching::{begin_switch, do_arm, end_switch};
+
+mod blocks;
+mod continuing;
+mod initialising;
+mod printing;
+mod statements;
+mod switching;
