@@ -69,5 +69,5 @@ zeros_written place offset size a b c d e f g v u w body step is begun next afte
       given = is;
       next = three_more a.next u w e.next f.next g.next (more ∙ ap (λ n. n + 1) is) most (p.next ∙ ap (λ (s : Written). s.next) after') q.next r.next;
     } where
-  plus_two : (n : ℕ) → (n + 1) + 1 ≡ n + 2
-  plus_two n = omega arith
+      plus_two : (n : ℕ) → (n + 1) + 1 ≡ n + 2
+      plus_two n = omega arith

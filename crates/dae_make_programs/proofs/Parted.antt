@@ -36,18 +36,21 @@ pub begun_whole : (p : Place) (x : Operand) (number other : ℕ) (arms : Arms) (
 begun_whole p x number other arms goes_on a z b c d e v u searching none same is after next after' search_is none_is h i clear = record {
   by = λ q.
       let k = clear.by q in
-      let more : u ≡ v + 1 = next ∙ ap (λ (s : Written). s.next) after in (k.0, record {
-      code = two_codes c.code e.code z.written.code (begun p v number (form_of searching) (form_of none) Done) (cleared p u goes_on)
-          (two_codes c.code d.code e.code (one p (Assign v (Same (Number number)))) (Loop p (form_of searching) (form_of none) Done) h.code i.code) k.1.code
-          ∙ ap (λ (f : Form). f ⨾ begun p v number (form_of searching) (form_of none) (cleared p u goes_on)) (ap (λ (s : Written). s.code) after' ∙ ap (λ (s : Written). s.code) after)
-          ∙ ap (λ m. a.written.code ⨾ begun p v m (form_of searching) (form_of none) (cleared p u goes_on)) same
-          ∙ ap (λ (f : Form). a.written.code ⨾ begun p v other f (form_of none) (cleared p u goes_on)) search_is
-          ∙ ap (λ (xs : List Statement). a.written.code ⨾ begun p v other (search p x v 0 arms) (form_of xs) (cleared p u goes_on)) none_is
-          ∙ ap (λ m. a.written.code ⨾ begun p v other (search p x v 0 arms) Done (cleared p m goes_on)) more
-          ∙ ap (λ n. a.written.code ⨾ begun p n other (search p x n 0 arms) Done (cleared p (n + 1) goes_on)) is;
-      given = is;
-      next = two_more a.written.next u c.next d.next e.next z.written.next (more ∙ ap (λ n. n + 1) is) (ap (λ (s : Written). s.next) after') h.next i.next k.1.next;
-    });
+      let more : u ≡ v + 1 = next ∙ ap (λ (s : Written). s.next) after in (
+        k.0,
+        record {
+          code = two_codes c.code e.code z.written.code (begun p v number (form_of searching) (form_of none) Done) (cleared p u goes_on)
+              (two_codes c.code d.code e.code (one p (Assign v (Same (Number number)))) (Loop p (form_of searching) (form_of none) Done) h.code i.code) k.1.code
+              ∙ ap (λ (f : Form). f ⨾ begun p v number (form_of searching) (form_of none) (cleared p u goes_on)) (ap (λ (s : Written). s.code) after' ∙ ap (λ (s : Written). s.code) after)
+              ∙ ap (λ m. a.written.code ⨾ begun p v m (form_of searching) (form_of none) (cleared p u goes_on)) same
+              ∙ ap (λ (f : Form). a.written.code ⨾ begun p v other f (form_of none) (cleared p u goes_on)) search_is
+              ∙ ap (λ (xs : List Statement). a.written.code ⨾ begun p v other (search p x v 0 arms) (form_of xs) (cleared p u goes_on)) none_is
+              ∙ ap (λ m. a.written.code ⨾ begun p v other (search p x v 0 arms) Done (cleared p m goes_on)) more
+              ∙ ap (λ n. a.written.code ⨾ begun p n other (search p x n 0 arms) Done (cleared p (n + 1) goes_on)) is;
+          given = is;
+          next = two_more a.written.next u c.next d.next e.next z.written.next (more ∙ ap (λ n. n + 1) is) (ap (λ (s : Written). s.next) after') h.next i.next k.1.next;
+        },
+      );
 }
 
 abbrev pub noted : Place → ℕ → Bool → Form
@@ -63,11 +66,14 @@ pub ended_whole : (p : Place) (v u : ℕ) (goes_on : Bool) (body step : List Sta
     → Whole (switch_ended p v goes_on (form_of body)) a z tt
 ended_whole p v u goes_on body step a z b is step_is h back = record {
   by = λ q.
-      let k = back.by q in (k.0, record {
-      code = two_codes a.written.code b.code z.written.code (Loop p (form_of body) (form_of step) Done) (going_on p u goes_on) h.code k.1.code
-          ∙ ap (λ (f : Form). a.written.code ⨾ Loop p (form_of body) f (going_on p u goes_on)) step_is
-          ∙ ap (λ m. a.written.code ⨾ Loop p (form_of body) (noted p m goes_on) (going_on p m goes_on)) is;
-      given = refl;
-      next = k.1.next ∙ h.next;
-    });
+      let k = back.by q in (
+        k.0,
+        record {
+          code = two_codes a.written.code b.code z.written.code (Loop p (form_of body) (form_of step) Done) (going_on p u goes_on) h.code k.1.code
+              ∙ ap (λ (f : Form). a.written.code ⨾ Loop p (form_of body) f (going_on p u goes_on)) step_is
+              ∙ ap (λ m. a.written.code ⨾ Loop p (form_of body) (noted p m goes_on) (going_on p m goes_on)) is;
+          given = refl;
+          next = k.1.next ∙ h.next;
+        },
+      );
 }

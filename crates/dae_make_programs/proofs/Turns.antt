@@ -28,13 +28,16 @@ pub arm_whole : (l : Links) (p : Place) (v k i : ℕ) (t : tree.Statements) (a b
 arm_whole l p v k i t a b c body same h g = record {
   by = λ q.
       let j = h.by q in
-      let m = g.by j.0 in (m.0, record {
-      code = m.1.code ∙ ap (λ (f : Form). f ⨾ If p (test_of AtLeastUnsigned (Number k) (Variable v)) (form_of body) Done Done) j.1.code
-          ∙ ap (λ (f : Form). a.written.code ⨾ If p (test_of AtLeastUnsigned (Number k) (Variable v)) f Done Done) j.1.block
-          ∙ ap (λ n. a.written.code ⨾ If p (test_of AtLeastUnsigned (Number n) (Variable v)) (statements l t a.written.next).code Done Done) same;
-      given = refl;
-      next = m.1.next ∙ j.1.next;
-    });
+      let m = g.by j.0 in (
+        m.0,
+        record {
+          code = m.1.code ∙ ap (λ (f : Form). f ⨾ If p (test_of AtLeastUnsigned (Number k) (Variable v)) (form_of body) Done Done) j.1.code
+              ∙ ap (λ (f : Form). a.written.code ⨾ If p (test_of AtLeastUnsigned (Number k) (Variable v)) f Done Done) j.1.block
+              ∙ ap (λ n. a.written.code ⨾ If p (test_of AtLeastUnsigned (Number n) (Variable v)) (statements l t a.written.next).code Done Done) same;
+          given = refl;
+          next = m.1.next ∙ j.1.next;
+        },
+      );
 }
 
 pub made_arms_at : (l : Links) (p : Place) (v i : ℕ) (xs : List Arm) (a : Arm) → i < length xs → a ≡ get_or xs i a → (n : ℕ) → arms_from l p v i (arms_of (drop i xs)) n ≡ (arm_made l p v i (view_statements a.statements.items) n ≫ λ x. arms_from l p v (i + 1) (arms_of (drop (i + 1) xs)))
@@ -57,12 +60,15 @@ switch_whole l p x other arms goes_on a b c d v body h i k = record {
   by = λ q.
       let first = h.by q in
       let second = i.by first.0 in
-      let third = k.by second.0 in (third.0, record {
-      code = two_codes a.written.code b.written.code d.written.code (switch_begun p x other arms goes_on a.written.next).code (turned p goes_on (form_of body) v) first.1.code (third.1.code ∙ ap (λ (f : Form). f ⨾ turned p goes_on (form_of body) v) second.1.code)
-          ∙ ap (λ (f : Form). a.written.code ⨾ ((switch_begun p x other arms goes_on a.written.next).code ⨾ turned p goes_on f v)) second.1.block
-          ∙ ap (λ u. a.written.code ⨾ ((switch_begun p x other arms goes_on a.written.next).code ⨾ turned p goes_on ((arms_from l p u 0 arms b.written.next).code ⨾ one p Break) u)) first.1.given
-          ∙ ap (λ m. a.written.code ⨾ ((switch_begun p x other arms goes_on a.written.next).code ⨾ turned p goes_on ((arms_from l p a.written.next 0 arms m).code ⨾ one p Break) a.written.next)) first.1.next;
-      given = refl;
-      next = third.1.next ∙ second.1.next ∙ ap (λ u. (arms_from l p u 0 arms b.written.next).next) first.1.given ∙ ap (λ m. (arms_from l p a.written.next 0 arms m).next) first.1.next;
-    });
+      let third = k.by second.0 in (
+        third.0,
+        record {
+          code = two_codes a.written.code b.written.code d.written.code (switch_begun p x other arms goes_on a.written.next).code (turned p goes_on (form_of body) v) first.1.code (third.1.code ∙ ap (λ (f : Form). f ⨾ turned p goes_on (form_of body) v) second.1.code)
+              ∙ ap (λ (f : Form). a.written.code ⨾ ((switch_begun p x other arms goes_on a.written.next).code ⨾ turned p goes_on f v)) second.1.block
+              ∙ ap (λ u. a.written.code ⨾ ((switch_begun p x other arms goes_on a.written.next).code ⨾ turned p goes_on ((arms_from l p u 0 arms b.written.next).code ⨾ one p Break) u)) first.1.given
+              ∙ ap (λ m. a.written.code ⨾ ((switch_begun p x other arms goes_on a.written.next).code ⨾ turned p goes_on ((arms_from l p a.written.next 0 arms m).code ⨾ one p Break) a.written.next)) first.1.next;
+          given = refl;
+          next = third.1.next ∙ second.1.next ∙ ap (λ u. (arms_from l p u 0 arms b.written.next).next) first.1.given ∙ ap (λ m. (arms_from l p a.written.next 0 arms m).next) first.1.next;
+        },
+      );
 }

@@ -47,12 +47,7 @@ fn zero_turn(
 
 /// So many bytes from an offset in the frame on become 0. What is given is the first of three variables, which is for
 /// addresses.
-pub fn zero(
-    lowerer: &mut Lowerer,
-    place: Place,
-    offset: u32,
-    size: u32,
-) -> Result<u32, AllocError>
+pub fn zero(lowerer: &mut Lowerer, place: Place, offset: u32, size: u32) -> Result<u32, AllocError>
     ensures { IfOk result (MakesWhole (λ n. only (zeros place offset size n) n (n + 3)) lowerer.old lowerer.new) }
 {
     let address = lowerer.maker.reserve()?;

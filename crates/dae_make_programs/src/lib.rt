@@ -1,5 +1,5 @@
-// Statements of typed programs as the structured form: what `printf` prints and initialised aggregates, each written behind
-// what was before it.
+// Statements of typed programs as the structured form, each written behind what was before it, with expressions as what
+// holds their values.
 #![tactic(auto)]
 
 pub use continuing::arms_continue;

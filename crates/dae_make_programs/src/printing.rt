@@ -49,7 +49,9 @@ fn print_text(lowerer: &mut Lowerer, place: Place, x: Operand) -> Result<(), All
     let byte = lowerer.maker.reserve()?;
     let body = text_turn(lowerer.alloc, place, address, byte)?;
     let step = go_up(lowerer.alloc, place, address)?;
-    lowerer.maker.item(place, Item::Assign(address, Value::Same(x)))?;
+    lowerer
+        .maker
+        .item(place, Item::Assign(address, Value::Same(x)))?;
     lowerer.maker.repeat(place, body, step)?;
     Ok(())
 }

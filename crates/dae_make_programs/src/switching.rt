@@ -140,12 +140,7 @@ pub fn search(
 }
 
 /// Nothing has continued the loop outside yet, where the flag says that something may.
-fn clear(
-    lowerer: &mut Lowerer,
-    place: Place,
-    flag: u32,
-    goes_on: bool,
-) -> Result<(), AllocError>
+fn clear(lowerer: &mut Lowerer, place: Place, flag: u32, goes_on: bool) -> Result<(), AllocError>
     ensures { IfOk result (MakesWhole (emit (where_so goes_on (one place (Assign flag (Same (Number 0)))))) lowerer.old lowerer.new) }
 {
     if goes_on {
@@ -171,9 +166,7 @@ pub fn begin_switch(
     let other = default_arm(arms)?;
     let searching = search(lowerer.alloc, place, x, v, arms)?;
     let nothing = Vec::new(lowerer.alloc);
-    lowerer
-        .maker
-        .item(place, Item::Assign(v, Value::Same(Operand::Number(other))))?;
+    lowerer.maker.item(place, Item::Assign(v, Value::Same(Operand::Number(other))))?;
     lowerer.maker.repeat(place, searching, nothing)?;
     clear(lowerer, place, flag, goes_on)?;
     Ok(v)
@@ -204,12 +197,7 @@ pub fn do_arm(
 }
 
 /// What a continue in the arms goes to: it is noted, and the arms are left.
-fn note(
-    alloc: Global,
-    place: Place,
-    flag: u32,
-    goes_on: bool,
-) -> Result<Vec<Statement>, AllocError>
+fn note(alloc: Global, place: Place, flag: u32, goes_on: bool) -> Result<Vec<Statement>, AllocError>
     ensures { IfOk result (λ block. form_of block.items ≡ where_so goes_on (Do place (Assign flag (Same (Number 1))) (one place Break))) }
 {
     let mut block = Vec::new(alloc);
@@ -222,12 +210,7 @@ fn note(
 }
 
 /// Where the arms continued the loop outside, so does what is behind them.
-fn go_on(
-    lowerer: &mut Lowerer,
-    place: Place,
-    flag: u32,
-    goes_on: bool,
-) -> Result<(), AllocError>
+fn go_on(lowerer: &mut Lowerer, place: Place, flag: u32, goes_on: bool) -> Result<(), AllocError>
     ensures { IfOk result (MakesWhole (emit (where_so goes_on (If place (test_of NotEqual (Variable flag) (Number 0)) (one place Continue) Done Done))) lowerer.old lowerer.new) }
 {
     if goes_on {

@@ -172,8 +172,8 @@ make_arms-loop-arm-preserved t c =
     let t = view_statements a.statements.items in (
       c.in_ok-number.ensures ∙ ap (λ n. n + 1) c.loop-arm.invariant.0,
       next_leads (arms_from l p v 0 (arms_of xs)) (arms_from l p v i (arms_of (drop i xs))) (arm_made l p v i t) (arms_from l p v (i + 1) (arms_of (drop (i + 1) xs))) (state_of c.args.lowerer.now) (state_of c.loop-arm.lowerer) (state_of c.do_arm.new.lowerer)
-      (made_arms_at l p v i xs a c.loop-arm-test.true c.arm-item.is) c.loop-arm.invariant.1
-      (arm_whole l p v c.loop-arm.number i t (state_of c.loop-arm.lowerer) (state_of c.block.new.lowerer) (state_of c.do_arm.new.lowerer) c.in_ok-body.body.items c.loop-arm.invariant.0 (rw (c.deref.ensures.value) at (c.in_ok-body.ensures)) c.in_ok-do_arm.ensures),
+          (made_arms_at l p v i xs a c.loop-arm-test.true c.arm-item.is) c.loop-arm.invariant.1
+          (arm_whole l p v c.loop-arm.number i t (state_of c.loop-arm.lowerer) (state_of c.block.new.lowerer) (state_of c.do_arm.new.lowerer) c.in_ok-body.body.items c.loop-arm.invariant.0 (rw (c.deref.ensures.value) at (c.in_ok-body.ensures)) c.in_ok-do_arm.ensures),
     )
 
 pub make_arms-returns : goal.make_arms-returns
