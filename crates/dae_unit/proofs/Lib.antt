@@ -2,3 +2,4 @@ pub mod Behind
 pub mod Counted
 pub mod Deeper
 mod Examples
+mod Small

@@ -85,11 +85,7 @@ pub fn join_parts(
         return Err(cause);
     }
     let places = places_of(alloc, rooms.as_slice())?;
-    match words_of(alloc, places.as_slice())? {
-        Some(places) => {
-            let frames = frames as u32;
-            make(alloc, files, placed.as_slice(), places.as_slice(), frames)
-        }
-        None => Err(JoinError::Memory),
-    }
+    let places = words_of(alloc, places.as_slice())?;
+    let frames = frames as u32;
+    make(alloc, files, placed.as_slice(), places.as_slice(), frames)
 }

@@ -1,7 +1,7 @@
 // Where objects and literals stand.
 
-ghost use Rattle.std.specs.Prelude.{◌≡◌, [], IfOk, IfSome, OnOk, slice_get};
-ghost use Rattle.std.specs.List.{list_any};
+ghost use Rattle.std.specs.Prelude.{◌≡◌, ℕ, ◌<◌, ◌^◌, [], IfOk, OnOk, slice_get};
+ghost use Rattle.std.specs.List.{All, list_any};
 ghost use Rattle.dae_kinds.specs.Types.{layout_of, layout_else, repeated, layout_within, layout_at};
 ghost use Rattle.dae_typed.specs.Linkage.{is_object};
 ghost use Rattle.dae_typed.specs.Sound.{tables_of};
@@ -229,16 +229,14 @@ pub fn end_of(rooms: &[Layout]) -> u64
     place
 }
 
-/// The same numbers as words, or None where one isn't.
-pub fn words_of(alloc: Global, places: &[u64]) -> Result<Option<Vec<u32>>, AllocError>
-    ensures { IfOk result (λ words. IfSome words (λ w. w.items ≡ places.now)) }
+/// The same numbers as words.
+pub fn words_of(alloc: Global, places: &[u64]) -> Result<Vec<u32>, AllocError>
+    requires { All (λ (p : ℕ). p < 2 ^ 32) places.now }
+    ensures { IfOk result (λ words. words.items ≡ places.now) }
 {
     let mut words = Vec::new(alloc);
     for place in places {
-        match u32::try_from(*place) {
-            Ok(word) => words.push(word)?,
-            Err(_) => return Ok(None),
-        }
+        words.push(*place as u32)?;
     }
-    Ok(Some(words))
+    Ok(words)
 }
