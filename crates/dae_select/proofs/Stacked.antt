@@ -113,21 +113,21 @@ module _ (plan : Plan) (variables : ℕ → ℕ) (f : ℕ) where
       let T : member turned ≡ turn B S N = first ∙ ap (turn B S) h.live in
       let steps : VariableSet → VariableSet → Ways = λ t u. ways t u t in
       let again_ways : ways (member turned) (member next) (member turned) ≡ step_ways B S N = ap (λ (t : VariableSet). steps t (member next)) T ∙ ap (λ (u : VariableSet). steps (turn B S N) u) h.live in
-      let C1 = code_of plan variables f S (step_ways B S N) 2 0 in
-      let is1 : c1 ≡ C1 = step.code ∙ append-nil _ ∙ ap (λ (y : Ways). code_of plan variables f S y 2 0) again_ways in
-      let L1 : member again ≡ live S (step_ways B S N) = step.live ∙ ap (live S) again_ways in
-      let turn_ways : ways (member again) (member next) (member again) ≡ body_ways B S N = ap (λ (t : VariableSet). steps t (member next)) L1 ∙ ap (λ (u : VariableSet). steps (live S (step_ways B S N)) u) h.live in
-      let C2 = code_of plan variables f B (body_ways B S N) (length C1 + 2) 0 in
-      let none : 0 + (length c1 + 2) ≡ length C1 + 2 = ap (λ (c : List Inst). 0 + (length c + 2)) is1 ∙ omega arith in
-      let is2 : c2 ≡ C2 = body.code ∙ append-nil _ ∙ ap (λ (y : Ways). code_of plan variables f B y (0 + (length c1 + 2)) 0) turn_ways ∙ ap (λ (l : ℕ). code_of plan variables f B (body_ways B S N) l 0) none in
-      let L2 : member set ≡ turn B S N = body.live ∙ ap (live B) turn_ways ∙ turn_again B S N in
-      let all : new ≡ C2 ++ (C1 ++ (jump_back (length C2 + length C1) ++ (rest ++ base))) =
-      made ∙ ap (λ (c : List Inst). c ++ (c1 ++ (jump_back (length c + length c1) ++ old))) is2 ∙ ap (λ (c : List Inst). C2 ++ (c ++ (jump_back (length C2 + length c) ++ old))) is1
-      ∙ ap (λ (c : List Inst). C2 ++ (C1 ++ (jump_back (length C2 + length C1) ++ c))) h.code in
+      let step_made = code_of plan variables f S (step_ways B S N) 2 0 in
+      let is1 : c1 ≡ step_made = step.code ∙ append-nil _ ∙ ap (λ (y : Ways). code_of plan variables f S y 2 0) again_ways in
+      let step_live : member again ≡ live S (step_ways B S N) = step.live ∙ ap (live S) again_ways in
+      let turn_ways : ways (member again) (member next) (member again) ≡ body_ways B S N = ap (λ (t : VariableSet). steps t (member next)) step_live ∙ ap (λ (u : VariableSet). steps (live S (step_ways B S N)) u) h.live in
+      let body_made = code_of plan variables f B (body_ways B S N) (length step_made + 2) 0 in
+      let none : 0 + (length c1 + 2) ≡ length step_made + 2 = ap (λ (c : List Inst). 0 + (length c + 2)) is1 ∙ omega arith in
+      let is2 : c2 ≡ body_made = body.code ∙ append-nil _ ∙ ap (λ (y : Ways). code_of plan variables f B y (0 + (length c1 + 2)) 0) turn_ways ∙ ap (λ (l : ℕ). code_of plan variables f B (body_ways B S N) l 0) none in
+      let body_live : member set ≡ turn B S N = body.live ∙ ap (live B) turn_ways ∙ turn_again B S N in
+      let all : new ≡ body_made ++ (step_made ++ (jump_back (length body_made + length step_made) ++ (rest ++ base))) =
+      made ∙ ap (λ (c : List Inst). c ++ (c1 ++ (jump_back (length c + length c1) ++ old))) is2 ∙ ap (λ (c : List Inst). body_made ++ (c ++ (jump_back (length body_made + length c) ++ old))) is1
+      ∙ ap (λ (c : List Inst). body_made ++ (step_made ++ (jump_back (length body_made + length step_made) ++ c))) h.code in
       let whole : step_onto s k ≡ Loop m B S k = ap (λ (z : Step). step_onto z k) is ∙ onto_loop m p q k in
       record {
-        code = all ∙ four C2 C1 (jump_back (length C2 + length C1)) rest base ∙ sym (ap (λ (c : Actions). code_of plan variables f c x (length base + exits.leaves) (length base + exits.skips) ++ base) whole);
-        live = L2 ∙ sym (ap (λ (c : Actions). live c x) whole);
+        code = all ∙ four body_made step_made (jump_back (length body_made + length step_made)) rest base ∙ sym (ap (λ (c : Actions). code_of plan variables f c x (length base + exits.leaves) (length base + exits.skips) ++ base) whole);
+        live = body_live ∙ sym (ap (λ (c : Actions). live c x) whole);
       }
 
   -- ---- a list of steps
