@@ -1,4 +1,5 @@
 mod Hex
+mod Spellings
 mod Options
 mod Lists
 mod Budgets

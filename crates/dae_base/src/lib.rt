@@ -8,7 +8,7 @@ ghost use Rattle.dae_base.specs.Budgets.{Reaches, first_below, is_below};
 ghost use Rattle.dae_base.specs.Words.{extended, sign_extend, size, width_of};
 
 pub use items::{Items, Text};
-pub use pieces::{Piece, byte_piece, decimal_piece, hex_piece};
+pub use pieces::{Piece, ShortText, byte_piece, decimal_piece, hex_piece};
 
 mod items;
 mod pieces;

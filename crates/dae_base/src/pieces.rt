@@ -1,23 +1,32 @@
-ghost use Rattle.std.specs.Prelude.{◌≡◌, ℕ, ◌<◌, ◌≤◌, List, [], length, take, nat_eq, false};
+ghost use Rattle.std.specs.Prelude.{◌≡◌, ℕ, ◌<◌, ◌≤◌, List, [], length, take, nat_eq, true, false};
 ghost use Rattle.std.specs.Fmt.{digit_glyph};
-ghost use Rattle.dae_base.specs.Texts.{byte_text, decimal_text, hex_text};
+ghost use Rattle.dae_base.specs.Texts.{byte_text, decimal_text, hex_text, is_nothing, spelled};
 
 use itoa::Buffer;
 use std::marker::Model;
 
-/// What one step prints: at most twelve bytes. Clauses see them as a list.
+/// How a word is printed: not at all, as its low byte, in decimal as a signed or an unsigned number, or in lower-case
+/// hexadecimal.
+#[derive(Clone, Copy, PartialEq, Eq, Debug)]
+pub enum Spelling {
+    Nothing,
+    Byte,
+    Signed,
+    Unsigned,
+    Hexadecimal,
+}
+
+/// What one step prints, as a word and how it is spelled, so that a step moves no text. Clauses see the text.
 #[derive(Drop)]
 pub struct Piece {
-    bytes: [u8; 12],
-    len: u8,
+    spelling: Spelling,
+    word: u32,
 }
 
 impl Model for Piece {
     ghost Value = { List ℕ };
 
-    ghost view = { λ p. take p.len p.bytes };
-
-    ghost invariant = { λ p. p.len ≤ 12 };
+    ghost view = { λ p. spelled p.spelling p.word };
 }
 
 impl Piece {
@@ -26,18 +35,92 @@ impl Piece {
         ensures { result ≡ [] }
     {
         Piece {
-            bytes: [0; 12],
-            len: 0,
+            spelling: Spelling::Nothing,
+            word: 0,
         }
     }
 
-    fn of_bytes(text: &[u8]) -> Piece
+    /// The text.
+    pub fn text(&self) -> ShortText
+        ensures { result ≡ self.now }
+    {
+        spelled(self.spelling, self.word)
+    }
+
+    /// Whether the text has no bytes.
+    pub fn is_empty(&self) -> bool
+        ensures { result ≡ nat_eq (length self.now) 0 }
+    {
+        is_nothing(self.spelling)
+    }
+}
+
+/// The low byte of a word.
+pub fn byte_piece(word: u32) -> Piece
+    ensures { result ≡ byte_text word }
+{
+    Piece {
+        spelling: Spelling::Byte,
+        word,
+    }
+}
+
+/// A word in decimal: as a signed number, or as an unsigned one. There are no leading zeros.
+pub fn decimal_piece(word: u32, signed: bool) -> Piece
+    ensures { result ≡ decimal_text word signed }
+{
+    if signed {
+        Piece {
+            spelling: Spelling::Signed,
+            word,
+        }
+    } else {
+        Piece {
+            spelling: Spelling::Unsigned,
+            word,
+        }
+    }
+}
+
+/// A word in lower-case hexadecimal, without leading zeros.
+pub fn hex_piece(word: u32) -> Piece
+    ensures { result ≡ hex_text word }
+{
+    Piece {
+        spelling: Spelling::Hexadecimal,
+        word,
+    }
+}
+
+fn is_nothing(spelling: Spelling) -> bool
+    ensures { result ≡ is_nothing spelling }
+{
+    matches!(spelling, Spelling::Nothing)
+}
+
+/// At most twelve bytes, beside how many there are. Clauses see them as a list.
+#[derive(Drop)]
+pub struct ShortText {
+    bytes: [u8; 12],
+    len: u8,
+}
+
+impl Model for ShortText {
+    ghost Value = { List ℕ };
+
+    ghost view = { λ t. take t.len t.bytes };
+
+    ghost invariant = { λ t. t.len ≤ 12 };
+}
+
+impl ShortText {
+    fn of_bytes(text: &[u8]) -> ShortText
         requires { length text.now ≤ 12 }
         ensures { result ≡ text.now }
     {
         let mut bytes = [0; 12];
         bytes[..text.len()].copy_from_slice(text);
-        Piece {
+        ShortText {
             bytes,
             len: text.len() as u8,
         }
@@ -50,44 +133,35 @@ impl Piece {
     {
         &self.bytes[..self.len as usize]
     }
-
-    /// The number of bytes.
-    pub fn len(&self) -> usize
-        ensures same { result ≡ length self.now }
-        ensures short { result ≤ 12 }
-    {
-        self.len as usize
-    }
-
-    /// Whether there are none.
-    pub fn is_empty(&self) -> bool
-        ensures { result ≡ nat_eq (length self.now) 0 }
-    {
-        self.len == 0
-    }
 }
 
-/// The low byte of a word.
-pub fn byte_piece(word: u32) -> Piece
-    ensures { result ≡ byte_text word }
+fn spelled(spelling: Spelling, word: u32) -> ShortText
+    ensures { result ≡ spelled spelling word }
 {
-    Piece::of_bytes(&[(word % 256) as u8])
+    match spelling {
+        Spelling::Nothing => ShortText::of_bytes(&[]),
+        Spelling::Byte => ShortText::of_bytes(&[(word % 256) as u8]),
+        Spelling::Signed => signed_text(word),
+        Spelling::Unsigned => unsigned_text(word),
+        Spelling::Hexadecimal => hex_text(word),
+    }
 }
 
-/// A word in decimal: as a signed number, or as an unsigned one. There are no leading zeros.
-pub fn decimal_piece(word: u32, signed: bool) -> Piece
-    ensures { result ≡ decimal_text word signed }
+fn signed_text(word: u32) -> ShortText
+    ensures { result ≡ decimal_text word true }
 {
     let mut buffer = Buffer::new();
-    if signed {
-        Piece::of_bytes(buffer.format(word.cast_signed()).as_bytes())
-    } else {
-        Piece::of_bytes(buffer.format(word).as_bytes())
-    }
+    ShortText::of_bytes(buffer.format(word.cast_signed()).as_bytes())
 }
 
-/// A word in lower-case hexadecimal, without leading zeros.
-pub fn hex_piece(word: u32) -> Piece
+fn unsigned_text(word: u32) -> ShortText
+    ensures { result ≡ decimal_text word false }
+{
+    let mut buffer = Buffer::new();
+    ShortText::of_bytes(buffer.format(word).as_bytes())
+}
+
+fn hex_text(word: u32) -> ShortText
     ensures { result ≡ hex_text word }
 {
     let mut digits = [0; 8];
@@ -99,7 +173,7 @@ pub fn hex_piece(word: u32) -> Piece
         start -= 1;
     }
     digits[start] = hex_digit(rest);
-    Piece::of_bytes(&digits[start..])
+    ShortText::of_bytes(&digits[start..])
 }
 
 fn hex_digit(digit: u32) -> u8

@@ -22,8 +22,7 @@ fn pieces_of_words(rt: HostRuntime) {
         (Piece::empty(), b"".as_slice()),
     ];
     for (piece, text) in &table {
-        assert_eq!(rt; piece.as_bytes(), *text);
-        assert_eq!(rt; piece.len(), text.len());
+        assert_eq!(rt; piece.text().as_bytes(), *text);
         assert_eq!(rt; piece.is_empty(), text.is_empty());
     }
 }

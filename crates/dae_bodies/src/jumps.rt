@@ -1,14 +1,14 @@
 // Conditions, and statements that go elsewhere (C90 6.6.4 to 6.6.6).
 
 ghost use Rattle.std.specs.Prelude.{◌≡◌};
-ghost use Rattle.dae_program.specs.Trees.{Done};
-ghost use Rattle.dae_program.specs.Views.{statement_then, view};
+ghost use Rattle.dae_program.specs.Views.{view};
 ghost use Rattle.dae_file_plans.specs.Statements.{as_result, break_at, continue_at, nothing_returned, return_at, returned, test_at};
 ghost use Rattle.dae_tables.specs.Seen.{tables, FollowsBy};
 ghost use Rattle.dae_folding.specs.Views.{MakesTree, view_value};
 ghost use Rattle.dae_values.specs.Results.{one};
 ghost use Rattle.dae_bodies.specs.Written.{GivesStatements, MakesStatements};
 
+use crate::sequences::alone;
 use dae_base::Place;
 use dae_file_plans::Surrounding;
 use dae_folding::Value;
@@ -30,15 +30,6 @@ pub fn test(
     let x = value(alloc, checker, place, x)?;
     let x = scalar(checker, place, x)?;
     Ok(x.tree)
-}
-
-/// One statement.
-fn alone(alloc: Global, statement: Statement) -> Result<Vec<Statement>, CheckError>
-    ensures { MakesStatements result (statement_then statement Done) }
-{
-    let mut statements = Vec::new(alloc);
-    statements.push(statement)?;
-    Ok(statements)
 }
 
 /// A return of a value; in main it ends the program.

@@ -1,10 +1,10 @@
 // Local objects at their declarations: the statements that set them (C90 6.5.7). A scalar without an initialiser is 0, and one
-// whose own initialiser names it is 0 before.
+// whose own initialiser names it is 0 when its function is called.
 
 ghost use Rattle.std.specs.Prelude.{◌≡◌, Ok};
 ghost use Rattle.dae_program.specs.Views.{view, view_target};
 ghost use Rattle.dae_rules.specs.Plan.{Gives, pure};
-ghost use Rattle.dae_file_plans.specs.Statements.{assigned_to, begin_local, frame_offset, initialised_at, names_stored, scalar_value_at, set_by_own, set_to, storage_target, taken_or_not, type_of_local};
+ghost use Rattle.dae_file_plans.specs.Statements.{assigned_to, begin_local, frame_offset, initialised_at, offset_of_local, names_stored, scalar_value_at, set_to, storage_target, taken_or_not, type_of_local, with_zero, zero_or_not};
 ghost use Rattle.dae_tables.specs.Seen.{tables};
 ghost use Rattle.dae_folding.specs.Views.{MakesTree, view_value};
 ghost use Rattle.dae_values.specs.Results.{one};
@@ -22,7 +22,7 @@ use dae_values::{convert, fits};
 use std::alloc::Global;
 
 /// The type of a local object, by its number.
-fn type_of_local(checker: &Checker, number: usize) -> usize
+pub fn type_of_local(checker: &Checker, number: usize) -> usize
     ensures { result ≡ type_of_local (tables checker.now) number }
 {
     match checker.local(number) {
@@ -94,38 +94,35 @@ fn names_stored(storage: Option<Storage>, e: &Expression) -> bool
     }
 }
 
-/// Sets a local scalar to the value of its own initialiser.
-fn set_by_own(
-    alloc: Global,
-    checker: &Checker,
-    place: Place,
-    number: usize,
-    value: Expression,
-) -> Result<Vec<Statement>, CheckError>
-    ensures { MakesStatements result (set_by_own place (tables checker.now) number (view value)) }
+/// Notes that a local scalar is 0 when its function is called, where its own initialiser reads it.
+fn begin_zero(checker: &mut Checker, number: usize, is_read: bool)
+    ensures { tables checker.new ≡ with_zero number is_read (tables checker.old) }
 {
-    if !names_stored(checker.storage(number), &value) {
-        return set_to(alloc, checker, place, number, value);
+    if is_read {
+        let type_id = type_of_local(checker, number);
+        let taken = is_taken(checker.local(number));
+        checker.set_local(
+            number,
+            Local {
+                type_id,
+                taken,
+                begins_zero: true,
+            },
+        );
     }
-    let zero = assigned_to(alloc, checker, place, number, Expression::Number(0))?;
-    let tree = assigned_to(alloc, checker, place, number, value)?;
-    let mut statements = Vec::new(alloc);
-    statements.push(Statement::Evaluate(place, zero))?;
-    statements.push(Statement::Evaluate(place, tree))?;
-    Ok(statements)
 }
 
 /// Gives a local scalar a value; the first place is that of its name, the second that of the value.
 #[tactic(auto, unfolding(dae_rules::specs::Plan::ask_all))]
 pub fn initialise_scalar(
     alloc: Global,
-    checker: &Checker,
+    checker: &mut Checker,
     place: Place,
     of_value: Place,
     number: usize,
     x: Value,
 ) -> Result<Vec<Statement>, CheckError>
-    ensures { GivesStatements checker.now result (scalar_value_at place of_value number (one x)) checker.now }
+    ensures { GivesStatements checker.new result (scalar_value_at place of_value number (one x)) checker.old }
 {
     let type_id = type_of_local(checker, number);
     if !fits(checker, &x, type_id) {
@@ -135,7 +132,10 @@ pub fn initialise_scalar(
         return Err(broken(Rule::StructureValue, of_value));
     }
     let x = convert(alloc, checker, of_value, x, type_id)?;
-    set_by_own(alloc, checker, place, number, x.tree)
+    let is_read = names_stored(checker.storage(number), &x.tree);
+    let statements = set_to(alloc, checker, place, number, x.tree)?;
+    begin_zero(checker, number, is_read);
+    Ok(statements)
 }
 
 /// Begins a local object without an initialiser: a scalar is 0, an aggregate holds anything.
@@ -164,12 +164,29 @@ fn frame_offset(storage: Option<Storage>) -> u32
     }
 }
 
+/// The offset in the frame of a local object, by its number, or 0 where it isn't there.
+pub fn offset_of_local(checker: &Checker, number: usize) -> u32
+    ensures { result ≡ offset_of_local (tables checker.now) number }
+{
+    frame_offset(checker.storage(number))
+}
+
 /// Whether the address of a local object is taken.
 fn is_taken(local: Option<Local>) -> bool
     ensures { result ≡ taken_or_not local }
 {
     match local {
         Some(local) => local.taken,
+        None => false,
+    }
+}
+
+/// Whether a local object is 0 when its function is called.
+fn begins_zero(local: Option<Local>) -> bool
+    ensures { result ≡ zero_or_not local }
+{
+    match local {
+        Some(local) => local.begins_zero,
         None => false,
     }
 }
@@ -184,12 +201,20 @@ pub fn initialise_aggregate(
 ) -> Result<Vec<Statement>, CheckError>
     ensures { GivesStatements checker.new result (initialised_at place number (pure (view_content content))) checker.old }
 {
-    let offset = frame_offset(checker.storage(number));
+    let offset = offset_of_local(checker, number);
     let size = checker.layout_at(content.type_id).size;
     let taken = is_taken(checker.local(number));
     let mut statements = Vec::new(alloc);
     statements.push(Statement::Initialise(place, offset, size, content.items))?;
     let type_id = content.type_id;
-    checker.set_local(number, Local { type_id, taken });
+    let begins_zero = begins_zero(checker.local(number));
+    checker.set_local(
+        number,
+        Local {
+            type_id,
+            taken,
+            begins_zero,
+        },
+    );
     Ok(statements)
 }

@@ -14,6 +14,7 @@ use Rattle.dae_image.specs.Spelling.{Spells, body, head_1, head_2, line, name, n
 use Rattle.dae_image.proofs.Laws.{IsIn-from_test}
 use Rattle.dae_drive.specs.declared.options.RunOptions.{RunOptions}
 use Rattle.dae_drive.specs.Puts.{Answer}
+use Rattle.dae_cli.proofs.Parts.{truth}
 use Rattle.dae_cli.specs.ImageFiles.{DueOfBytes, due_image, due_no_image, due_memory_to_decode, DueOfImageFile, due_bytes}
 
 numbers_size : (ws : List ℕ) → length (numbers ws) ≡ 4 * length ws
@@ -30,10 +31,6 @@ names_size (n ∷ ns) good =
     let parts = and_parts (is_name n) (list_all is_name ns) good in
     let short = IsIn-from_test name_range (length n) (and_parts (is_in name_range (length n)) (is_utf8 n) parts.0).0 in
     omega (arith, short.1, length-append (number (length n)) n, length-append (name n) (flat_map name ns), names_size ns parts.1)
-
-truth : (b : Bool) → IsTrue b → b ≡ true
-truth true t = refl
-truth false t = cc
 
 body_size : (c : Contents) → Fits c → length (body c) ≤ 400000000
 body_size c fits =

@@ -2,21 +2,25 @@
 use Rattle.std.proofs.Common.{◌≡◌, ℕ, suc, ◌<◌, ◌^◌, nat_eq, if◌then◌else◌, List, [], ◌∷◌, ◌++◌, length, get_or, drop, map, refl, ap, sym, ◌∙◌, subst, arith}
 use Rattle.std.specs.Prelude.{Option, None, Some, codes, decimal}
 use Rattle.std.specs.List.{AllByRecursion}
-use Rattle.std.specs.Option.{option_to_list}
+use Rattle.std.specs.Option.{option_to_list, unwrap_or}
+use Rattle.std.proofs.Props.{props}
 use Rattle.std.specs.Str.Parse.{digits_value}
 use Rattle.std.proofs.lemmas.Fmt.{decimal_is_IsNumeral}
-use Rattle.std.proofs.lemmas.List.{same_from_push}
 use Rattle.dae_base.specs.declared.Queue.{Queue}
 use Rattle.dae_base.specs.declared.Queue.TheVariants.{Ld, Al, Sa, Sd, Ab, Eb, Cq}
 use Rattle.dae_machine.specs.declared.Schedule.{Schedule}
 use Rattle.dae_machine.specs.declared.Schedule.TheVariants.{Round, A, E, Fill, Drain, Seed}
 use Rattle.dae_drive.specs.declared.options.Shown.{Shown}
 use Rattle.dae_drive.specs.declared.options.RunOptions.{RunOptions}
+use Rattle.dae_compile.specs.Options.{AreInRange}
+use Rattle.dae_compile.specs.declared.options.Options.{Options}
+use Rattle.dae_cli.specs.declared.options.Command.{Command}
 use Rattle.dae_cli.specs.declared.options.Setting.{Setting}
-use Rattle.dae_cli.specs.declared.options.Setting.TheVariants.{Depth, Schedule as Order, Steps, Show}
+use Rattle.dae_cli.specs.declared.options.Setting.TheVariants.{Depth, Schedule as Order, Steps, Show, Memory, Calls, Cap}
 use Rattle.dae_cli.specs.declared.options.Chosen.{Chosen}
-use Rattle.dae_cli.specs.Options.{option_name, queue_option, schedule_text, shown_text, text_of, value_text, options_of, AreChosen, IsInRange, IsSchedule, IsShown}
-use Rattle.dae_cli.specs.Words.{SpellsExec, SpellsRun}
+use Rattle.dae_cli.specs.Options.{option_name, queue_option, schedule_text, shown_text, text_of, value_text, options_of, AreChosen, ChosenBy, IsInRange, IsOptionOf, IsSchedule, IsShown}
+use Rattle.dae_cli.specs.Words.{AreDashed, AreParts, AsksCompile, AsksExec, AsksRun, CompilesBy, SpellsCompile, SpellsExec, SpellsRun}
+use Rattle.dae_cli.proofs.Parts.{same_middle, files_plain, run_dashed, exec_dashed, compile_dashed}
 use Rattle.dae_cli.proofs.Spelling.{Lacks, lacks_at, name_lacks, no_comma_in}
 
 -- ---- numbers and parts of a text
@@ -124,31 +128,73 @@ same_setting (Steps m) (Steps n) a b h k =
     let nn = b.most_is in
     ap Steps (same_number m n (omega arith) (omega arith) k)
 same_setting (Show s) (Show t) a b h k = ap Show (same_shown s t a b k)
+same_setting (Memory m) (Memory n) a b h k =
+    let mm = a.within.most_is in
+    let nn = b.within.most_is in
+    ap Memory (same_number m n (omega arith) (omega arith) k)
+same_setting (Calls m) (Calls n) a b h k =
+    let mm = a.most_is in
+    let nn = b.most_is in
+    ap Calls (same_number m n (omega arith) (omega arith) k)
+same_setting (Cap m) (Cap n) a b h k =
+    let mm = a.most_is in
+    let nn = b.most_is in
+    ap Cap (same_number m n (omega arith) (omega arith) k)
 same_setting (Depth q m) (Order t) a b h k = absurd (omega (arith, ap length h, four q))
 same_setting (Depth q m) (Steps n) a b h k = absurd (omega (arith, ap length h, four q))
 same_setting (Depth q m) (Show t) a b h k = absurd (omega (arith, ap length h, four q))
+same_setting (Depth q m) (Memory n) a b h k = absurd (omega (arith, ap length h, four q))
+same_setting (Depth q m) (Calls n) a b h k = absurd (omega (arith, ap length h, four q))
+same_setting (Depth q m) (Cap n) a b h k = absurd (omega (arith, ap length h, four q))
 same_setting (Order s) (Depth r n) a b h k = absurd (omega (arith, ap length h, four r))
 same_setting (Order s) (Steps n) a b h k = absurd (omega (arith, ap length h))
 same_setting (Order s) (Show t) a b h k = absurd (omega (arith, ap length h))
+same_setting (Order s) (Memory n) a b h k = absurd (omega (arith, ap length h))
+same_setting (Order s) (Calls n) a b h k = absurd (omega (arith, ap length h))
+same_setting (Order s) (Cap n) a b h k = absurd (omega (arith, ap length h))
 same_setting (Steps m) (Depth r n) a b h k = absurd (omega (arith, ap length h, four r))
 same_setting (Steps m) (Order t) a b h k = absurd (omega (arith, ap length h))
 same_setting (Steps m) (Show t) a b h k = absurd (omega (arith, ap length h))
+same_setting (Steps m) (Memory n) a b h k = absurd (omega (arith, ap length h))
+same_setting (Steps m) (Calls n) a b h k = absurd (omega (arith, ap (λ (t : List ℕ). get_or t 2 0) h))
+same_setting (Steps m) (Cap n) a b h k = absurd (omega (arith, ap length h))
 same_setting (Show s) (Depth r n) a b h k = absurd (omega (arith, ap length h, four r))
 same_setting (Show s) (Order t) a b h k = absurd (omega (arith, ap length h))
 same_setting (Show s) (Steps n) a b h k = absurd (omega (arith, ap length h))
+same_setting (Show s) (Memory n) a b h k = absurd (omega (arith, ap length h))
+same_setting (Show s) (Calls n) a b h k = absurd (omega (arith, ap length h))
+same_setting (Show s) (Cap n) a b h k = absurd (omega (arith, ap length h))
+same_setting (Memory m) (Depth r n) a b h k = absurd (omega (arith, ap length h, four r))
+same_setting (Memory m) (Order t) a b h k = absurd (omega (arith, ap length h))
+same_setting (Memory m) (Steps n) a b h k = absurd (omega (arith, ap length h))
+same_setting (Memory m) (Show t) a b h k = absurd (omega (arith, ap length h))
+same_setting (Memory m) (Calls n) a b h k = absurd (omega (arith, ap length h))
+same_setting (Memory m) (Cap n) a b h k = absurd (omega (arith, ap length h))
+same_setting (Calls m) (Depth r n) a b h k = absurd (omega (arith, ap length h, four r))
+same_setting (Calls m) (Order t) a b h k = absurd (omega (arith, ap length h))
+same_setting (Calls m) (Steps n) a b h k = absurd (omega (arith, ap (λ (t : List ℕ). get_or t 2 0) h))
+same_setting (Calls m) (Show t) a b h k = absurd (omega (arith, ap length h))
+same_setting (Calls m) (Memory n) a b h k = absurd (omega (arith, ap length h))
+same_setting (Calls m) (Cap n) a b h k = absurd (omega (arith, ap length h))
+same_setting (Cap m) (Depth r n) a b h k = absurd (omega (arith, ap length h, four r))
+same_setting (Cap m) (Order t) a b h k = absurd (omega (arith, ap length h))
+same_setting (Cap m) (Steps n) a b h k = absurd (omega (arith, ap length h))
+same_setting (Cap m) (Show t) a b h k = absurd (omega (arith, ap length h))
+same_setting (Cap m) (Memory n) a b h k = absurd (omega (arith, ap length h))
+same_setting (Cap m) (Calls n) a b h k = absurd (omega (arith, ap length h))
 
 by_text : (s t : Setting) → IsInRange s → IsInRange t → text_of s ≡ text_of t → s ≡ t
 by_text s t a b h =
     let parts = same_parts 61 (option_name s) (value_text s) (option_name t) (value_text t) (lacks_at 61 _ (name_lacks s)) (lacks_at 61 _ (name_lacks t)) h in
     same_setting s t a b parts.0 parts.1
 
-same_settings : (ss ts : List Setting) → AllByRecursion IsInRange ss → AllByRecursion IsInRange ts → map text_of ss ≡ map text_of ts → ss ≡ ts
-same_settings [] [] a b h = refl
-same_settings [] (t ∷ ts) a b h = absurd (cc)
-same_settings (s ∷ ss) [] a b h = absurd (cc)
-same_settings (s ∷ ss) (t ∷ ts) a b h =
-    let first : s ≡ t = by_text s t a.0 b.0 (cc) in
-    let rest : ss ≡ ts = same_settings ss ts a.1 b.1 (cc) in
+same_settings : (command : Command) (ss ts : List Setting) → AllByRecursion (IsOptionOf command) ss → AllByRecursion (IsOptionOf command) ts → map text_of ss ≡ map text_of ts → ss ≡ ts
+same_settings command [] [] a b h = refl
+same_settings command [] (t ∷ ts) a b h = absurd (cc)
+same_settings command (s ∷ ss) [] a b h = absurd (cc)
+same_settings command (s ∷ ss) (t ∷ ts) a b h =
+    let first : s ≡ t = by_text s t a.0.in_range b.0.in_range (cc) in
+    let rest : ss ≡ ts = same_settings command ss ts a.1 b.1 (cc) in
     rw (first, rest) refl
 
 -- ---- what settings choose
@@ -171,25 +217,71 @@ same_chosen ss c d h k =
     let schedule = same_option c.schedule d.schedule _ h.schedule k.schedule in
     let steps = same_option c.steps d.steps _ h.steps k.steps in
     let show = same_option c.show d.show _ h.show k.show in
-    let same : record { ld = c.ld; al = c.al; sa = c.sa; sd = c.sd; ab = c.ab; eb = c.eb; cq = c.cq; schedule = c.schedule; steps = c.steps; show = c.show } ≡ record { ld = d.ld; al = d.al; sa = d.sa; sd = d.sd; ab = d.ab; eb = d.eb; cq = d.cq; schedule = d.schedule; steps = d.steps; show = d.show } =
-    rw (ld, al, sa, sd, ab, eb, cq, schedule, steps, show) refl in
+    let memory = same_option c.memory d.memory _ h.memory k.memory in
+    let calls = same_option c.calls d.calls _ h.calls k.calls in
+    let cap = same_option c.cap d.cap _ h.cap k.cap in
+    let same : record { ld = c.ld; al = c.al; sa = c.sa; sd = c.sd; ab = c.ab; eb = c.eb; cq = c.cq; schedule = c.schedule; steps = c.steps; show = c.show; memory = c.memory; calls = c.calls; cap = c.cap } ≡ record { ld = d.ld; al = d.al; sa = d.sa; sd = d.sd; ab = d.ab; eb = d.eb; cq = d.cq; schedule = d.schedule; steps = d.steps; show = d.show; memory = d.memory; calls = d.calls; cap = d.cap } =
+    rw (ld, al, sa, sd, ab, eb, cq, schedule, steps, show, memory, calls, cap) refl in
     same
 
 -- ---- jobs
 
-pub one_run_name : {words : List (List ℕ)} {m n : List ℕ} → SpellsRun words m → SpellsRun words n → m ≡ n
-one_run_name h k = let e = sym h.words_are ∙ k.words_are in cc
+pub one_chosen : {command : Command} {words : List (List ℕ)} {c d : Chosen} → ChosenBy command words c → ChosenBy command words d → c ≡ d
+one_chosen {command} {c = c} {d = d} h k =
+    let settings : h.settings ≡ k.settings = same_settings command h.settings k.settings h.are_options k.are_options (sym h.words_are ∙ k.words_are) in
+    same_chosen k.settings c d (subst (λ (ss : List Setting). AreChosen ss c) settings h.chosen_by) k.chosen_by
 
-pub run_or_exec : {words : List (List ℕ)} {m n : List ℕ} {o : RunOptions} → SpellsRun words m → SpellsExec words o n → ⊥
-run_or_exec h k =
+asked_once : {words middle middle' : List (List ℕ)} {command command' : List ℕ} {files files' : List (List ℕ)} → AreDashed middle → AreDashed middle' → AreParts words command middle files → AreParts words command' middle' files' → (command ≡ command') × (middle ≡ middle') × (files ≡ files')
+asked_once {middle = middle} {middle' = middle'} {files = files} {files' = files'} d d' h k =
     let e = sym h.words_are ∙ k.words_are in
-    let first : codes "run" ≡ codes "exec" = cc in
-    absurd (omega (arith, ap length first))
+    let same = same_middle middle middle' files files' d d' (files_plain files h.files_are) (files_plain files' k.files_are) (cc) in
+    (cc, same.0, same.1)
+
+-- options are their three numbers
+abbrev options_with : (memory calls cap : ℕ) → AreInRange memory calls cap → Options
+options_with memory calls cap ranges = record { memory = memory; calls = calls; cap = cap; ranges = ranges }
+
+one_range : (memory calls cap : ℕ) → IsProp (AreInRange memory calls cap)
+one_range memory calls cap = hlevel props
+
+by_numbers : (x y : Options) → x.memory ≡ y.memory → x.calls ≡ y.calls → x.cap ≡ y.cap → x ≡ y
+by_numbers x y e f g =
+    subst (λ (m : ℕ). (r : AreInRange m y.calls y.cap) → x ≡ options_with m y.calls y.cap r) e
+    (subst (λ (k : ℕ). (r : AreInRange x.memory k y.cap) → x ≡ options_with x.memory k y.cap r) f
+    (subst (λ (k : ℕ). (r : AreInRange x.memory x.calls k) → x ≡ options_with x.memory x.calls k r) g
+    (λ r. ap (options_with x.memory x.calls x.cap) (one_range x.memory x.calls x.cap x.ranges r)))) y.ranges
+
+one_compiling : {chosen chosen' : Chosen} {c c' : Options} → chosen ≡ chosen' → CompilesBy chosen c → CompilesBy chosen' c' → c ≡ c'
+one_compiling {c = c} {c' = c'} e h k = by_numbers c c' (h.memory ∙ ap (λ (x : Chosen). unwrap_or x.memory 1048576) e ∙ sym k.memory) (h.calls ∙ ap (λ (x : Chosen). unwrap_or x.calls 1000) e ∙ sym k.calls) (h.cap ∙ ap (λ (x : Chosen). unwrap_or x.cap 4) e ∙ sym k.cap)
+
+pub one_run : {words : List (List ℕ)} {c c' : Options} {o o' : RunOptions} {files files' : List (List ℕ)} → SpellsRun words c o files → SpellsRun words c' o' files' → (c ≡ c') × (o ≡ o') × (files ≡ files')
+one_run {words} {c} {c'} {o} {o'} h k =
+    let same = asked_once (run_dashed h.asks) (run_dashed k.asks) h.parts k.parts in
+    let asks = subst (λ (m : List (List ℕ)). AsksRun m c o) same.1 h.asks in
+    let chosen = one_chosen asks.chosen_by k.asks.chosen_by in
+    (one_compiling chosen asks.compiles_by k.asks.compiles_by, asks.options_are ∙ ap options_of chosen ∙ sym k.asks.options_are, same.2)
 
 pub one_exec : {words : List (List ℕ)} {m n : List ℕ} {o p : RunOptions} → SpellsExec words o m → SpellsExec words p n → (o ≡ p) × (m ≡ n)
-one_exec {m = m} {n = n} h k =
-    let e = sym h.words_are ∙ k.words_are in
-    let parts = same_from_push (map text_of h.settings) (map text_of k.settings) m n (cc) in
-    let settings : h.settings ≡ k.settings = same_settings h.settings k.settings h.in_range k.in_range parts.0 in
-    let chosen : h.chosen ≡ k.chosen = same_chosen k.settings h.chosen k.chosen (subst (λ (ss : List Setting). AreChosen ss h.chosen) settings h.chosen_by) k.chosen_by in
-    (h.options_are ∙ ap options_of chosen ∙ sym k.options_are, parts.1)
+one_exec {words} {m = m} {n = n} {o = o} h k =
+    let same = asked_once (exec_dashed h.asks) (exec_dashed k.asks) h.parts k.parts in
+    let asks = subst (λ (x : List (List ℕ)). AsksExec x o) same.1 h.asks in
+    let chosen = one_chosen asks.chosen_by k.asks.chosen_by in
+    let files : m ∷ [] ≡ n ∷ [] = same.2 in
+    (asks.options_are ∙ ap options_of chosen ∙ sym k.asks.options_are, cc)
+
+pub one_compile : {words : List (List ℕ)} {c c' : Options} {to to' : List ℕ} {files files' : List (List ℕ)} → SpellsCompile words c to files → SpellsCompile words c' to' files' → (c ≡ c') × (to ≡ to') × (files ≡ files')
+one_compile {words} {c} {c'} {to} {to'} h k =
+    let same = asked_once (compile_dashed h.asks) (compile_dashed k.asks) h.parts k.parts in
+    let asks = subst (λ (x : List (List ℕ)). AsksCompile x c to) same.1 h.asks in
+    let chosen = one_chosen asks.beside.chosen_by k.asks.beside.chosen_by in
+    let named : to ∷ [] ≡ to' ∷ [] = sym asks.beside.names.one ∙ k.asks.beside.names.one in
+    (one_compiling chosen asks.compiles_by k.asks.compiles_by, cc, same.2)
+
+pub run_or_exec : {words : List (List ℕ)} {c : Options} {o p : RunOptions} {files : List (List ℕ)} {n : List ℕ} → SpellsRun words c o files → SpellsExec words p n → ⊥
+run_or_exec h k = absurd (omega (arith, ap length (asked_once (run_dashed h.asks) (exec_dashed k.asks) h.parts k.parts).0))
+
+pub run_or_compile : {words : List (List ℕ)} {c d : Options} {o : RunOptions} {files files' : List (List ℕ)} {to : List ℕ} → SpellsRun words c o files → SpellsCompile words d to files' → ⊥
+run_or_compile h k = absurd (omega (arith, ap length (asked_once (run_dashed h.asks) (compile_dashed k.asks) h.parts k.parts).0))
+
+pub exec_or_compile : {words : List (List ℕ)} {d : Options} {o : RunOptions} {files : List (List ℕ)} {n to : List ℕ} → SpellsExec words o n → SpellsCompile words d to files → ⊥
+exec_or_compile h k = absurd (omega (arith, ap length (asked_once (exec_dashed h.asks) (compile_dashed k.asks) h.parts k.parts).0))

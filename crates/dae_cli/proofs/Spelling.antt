@@ -1,5 +1,5 @@
 -- The one spelling of numbers and of settings.
-use Rattle.std.proofs.Common.{◌≡◌, ◌≢◌, ℕ, ◌<◌, ◌^◌, zero, suc, Bool, true, false, not, ◌&&◌, nat_eq, List, [], ◌∷◌, ◌++◌, length, get_or, refl, ap, ◌∙◌, arith}
+use Rattle.std.proofs.Common.{◌≡◌, ◌≢◌, ℕ, ◌<◌, ◌^◌, zero, suc, Bool, true, false, not, ◌&&◌, nat_eq, List, [], ◌∷◌, ◌++◌, length, get_or, refl, ap, sym, ◌∙◌, arith}
 use Rattle.std.specs.Prelude.{Option, None, Some, Result, Ok, IfSome, codes, decimal}
 use Rattle.std.specs.Borrow.{Bor}
 use Rattle.std.specs.Int.{IsInRange as IsByteFrom}
@@ -13,9 +13,11 @@ use Rattle.dae_base.specs.declared.Queue.{Queue}
 use Rattle.dae_base.specs.declared.Queue.TheVariants.{Ld, Al, Sa, Sd, Ab, Eb, Cq}
 use Rattle.dae_machine.specs.declared.Schedule.TheVariants.{Seed}
 use Rattle.dae_drive.specs.declared.options.Shown.{Shown}
+use Rattle.dae_cli.specs.declared.options.Command.{Command}
 use Rattle.dae_cli.specs.declared.options.Setting.{Setting}
-use Rattle.dae_cli.specs.declared.options.Setting.TheVariants.{Depth, Schedule as Order, Steps, Show}
-use Rattle.dae_cli.specs.Options.{option_name, queue_option, value_text, HasParts, IsTheOne, IsWithin, SpellsNumber, SpellsSchedule, SpellsSetting, SpellsShown}
+use Rattle.dae_cli.specs.declared.options.Setting.TheVariants.{Depth, Schedule as Order, Steps, Show, Memory, Calls, Cap}
+use Rattle.dae_drive.specs.Ranges.{IsFromTo}
+use Rattle.dae_cli.specs.Options.{option_name, queue_option, value_text, HasParts, IsTheOne, SpellsNumber, SpellsOption, SpellsSchedule, SpellsSetting, SpellsShown, takes}
 
 -- numbers
 
@@ -82,7 +84,7 @@ not_parted c text xs ys ascii split none e = split_after c text xs ys None split
 digits_lack : (c n : ℕ) → n < 2 ^ 64 → ¬ (IsByteFrom 48 57 c) → Lacks c (decimal n)
 digits_lack c n small other = let own = numerals_by_value _ tells_digits in not_in_digits own (decimal n) c (digits_decimal own n small) other
 
-pub no_comma_in : (n : ℕ) → IsWithin 0 4294967295 n → Lacks 44 (decimal n)
+pub no_comma_in : (n : ℕ) → IsFromTo 0 4294967295 n → Lacks 44 (decimal n)
 no_comma_in n w = digits_lack 44 n (omega (arith, w.most_is)) (λ h. absurd (omega (arith, h.0)))
 
 -- what is shown
@@ -154,6 +156,9 @@ name_lacks (Depth q n) = queue_lacks q
 name_lacks (Order s) = refl
 name_lacks (Steps n) = refl
 name_lacks (Show s) = refl
+name_lacks (Memory n) = refl
+name_lacks (Calls n) = refl
+name_lacks (Cap n) = refl
 
 pub no_equals : (word : List ℕ) → IsSplitOnceResult 61 word None → IsTheOne (SpellsSetting word) None
 no_equals word split = record {
@@ -171,4 +176,24 @@ by_parts word a b r parts one = record {
   only = λ s h.
       let p = parts.only (option_name s) (value_text s) (lacks_at 61 _ (name_lacks s)) h.word_is in
       one.only s (record { name_is = p.0; value_is = p.1; in_range = h.in_range });
+}
+
+-- an option of a job
+
+pub no_option : (command : Command) (word : List ℕ) → IsTheOne (SpellsSetting word) None → IsTheOne (SpellsOption command word) None
+no_option command word one = record { has = tt; only = λ s h. one.only s (record { word_is = h.word_is; in_range = h.is_option.in_range }) }
+
+pub one_option : (command : Command) (word : List ℕ) (s : Setting) → IsTheOne (SpellsSetting word) (Some s) → takes command s ≡ true → IsTheOne (SpellsOption command word) (Some s)
+one_option command word s one taken = record {
+  has = record { word_is = one.has.word_is; is_option = record { in_range = one.has.in_range; taken = taken } };
+  only = λ t h. one.only t (record { word_is = h.word_is; in_range = h.is_option.in_range });
+}
+
+pub other_option : (command : Command) (word : List ℕ) (s : Setting) → IsTheOne (SpellsSetting word) (Some s) → takes command s ≡ false → IsTheOne (SpellsOption command word) None
+other_option command word s one other = record {
+  has = tt;
+  only = λ t h.
+      let same : s ≡ t = cc (one.only t (record { word_is = h.word_is; in_range = h.is_option.in_range })) in
+      let both : false ≡ true = sym other ∙ (ap (takes command) same ∙ h.is_option.taken) in
+      absurd (cc);
 }

@@ -1,7 +1,11 @@
 pub mod Options
 pub mod Words
 pub mod Refusals
+pub mod Shelves
+pub mod Fetching
 pub mod ImageFiles
 pub mod Sources
+pub mod Keeping
 pub mod Answers
 pub mod One
+pub mod Promises

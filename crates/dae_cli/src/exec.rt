@@ -1,7 +1,6 @@
 // The job `exec`: the file of an image is fetched, read and run.
-ghost use Rattle.std.specs.Prelude.{◌≡◌, ◌≤◌, length, take, Ok, IfOk, IfErr, IfSome};
-ghost use Rattle.dae_core.specs.Held.{CanHold};
-ghost use Rattle.dae_io.specs.Faults.{Rose, fetch_of};
+ghost use Rattle.std.specs.Prelude.{◌≡◌, ◌≤◌, length, take, Ok, IfOk, IfErr};
+ghost use Rattle.dae_io.specs.Faults.{FetchFailed};
 ghost use Rattle.dae_io.specs.Told.{TellsSame};
 ghost use Rattle.dae_image.specs.Images.{contents};
 ghost use Rattle.dae_image.specs.Reading.{image_at};
@@ -27,11 +26,9 @@ pub fn exec<F: Shelf, O: Sink, N: Sink>(
     out: &mut O,
     note: &mut N,
 ) -> u8
-    requires depths { CanHold options.now.depths }
-    requires few { options.now.steps ≤ 1000000000000 }
-    requires shown { IfSome options.now.show (λ shown. shown.count ≤ 64) }
     ensures gives { GivesDue (DueOfImageFile name.now (F.told shelf.old name.now)
-        (Rose (F.count shelf.old) (F.count shelf.new) × (F.last shelf.new ≡ fetch_of name.now)) options.now) result
+        (FetchFailed (F.count shelf.old) (F.count shelf.new) (F.last shelf.new) name.now)
+        options.now) result
         (sinks (O.seen out.old) (N.seen note.old)) (sinks (O.seen out.new) (N.seen note.new)) }
     ensures held { TellsSame (F.told shelf.old) (F.told shelf.new) }
 {
@@ -49,10 +46,7 @@ fn exec_bytes<O: Sink, N: Sink>(
     out: &mut O,
     note: &mut N,
 ) -> u8
-    requires short { length bytes.now ≤ 536870912 }
-    requires depths { CanHold options.now.depths }
-    requires few { options.now.steps ≤ 1000000000000 }
-    requires shown { IfSome options.now.show (λ shown. shown.count ≤ 64) }
+    requires { length bytes.now ≤ 536870912 }
     ensures { GivesDue (DueOfBytes bytes.now options.now) result
         (sinks (O.seen out.old) (N.seen note.old)) (sinks (O.seen out.new) (N.seen note.new)) }
 {
@@ -66,8 +60,10 @@ fn exec_bytes<O: Sink, N: Sink>(
 fn image_of(alloc: Global, bytes: &[u8]) -> Result<Image, Stop>
     requires { length bytes.now ≤ 536870912 }
     ensures found { IfOk result (λ image. Spells bytes.now (contents image)) }
-    ensures read { IfOk result (λ image. image_at (take most_bytes bytes.now) ≡ Ok (contents image)) }
-    ensures err { IfErr result (λ stop. (o : RunOptions) → DueOfBytes bytes.now o (stop_answer stop)) }
+    ensures read { IfOk result (λ image.
+        image_at (take most_bytes bytes.now) ≡ Ok (contents image)) }
+    ensures err { IfErr result (λ stop.
+        (o : RunOptions) → DueOfBytes bytes.now o (stop_answer stop)) }
 {
     match read(alloc, bytes) {
         Ok(image) => Ok(image),

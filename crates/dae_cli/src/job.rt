@@ -1,148 +1,121 @@
 // The job that the words ask for.
-ghost use Rattle.std.specs.Prelude.{◌≡◌, ℕ, List, map, MatchOption, string_bytes};
-ghost use Rattle.dae_cli.specs.Words.{is_file_name, SpellsExec, SpellsJob, SpellsNone, SpellsRun};
+ghost use Rattle.std.specs.Prelude.{◌≡◌, [], ◌∷◌, ◌++◌, List, ℕ, map, MatchBool, MatchOption, string_bytes};
+ghost use Rattle.std.specs.List.{list_all, prefix_len};
+ghost use Rattle.dae_cli.specs.Words.{AreDashed, AreFiles, IsPlain, SpellsJob, SpellsNone, begins_with_dash, is_file_name};
 
-use crate::options::chosen_of;
+use crate::names::{begins_with_dash, is_file_name};
+use crate::options::{chosen_beside, exec_options, run_options, to_named};
+use dae_compile::Options;
 use dae_drive::RunOptions;
 
-/// What the words ask for: the run of a source file, or the run of an image with options.
-#[derive(Clone, Copy)]
+/// How many files a job may have.
+const MOST_FILES: usize = 1024;
+
+/// What the words ask for: to compile and run source files, to run an image, or to compile source files and keep the
+/// image under a name.
+#[derive(Drop)]
 pub enum Job<'w> {
-    Run(&'w str),
+    Run(Options, RunOptions, &'w [String]),
     Exec(RunOptions, &'w str),
+    Compile(Options, &'w str, &'w [String]),
 }
 
 /// The job that the words after the program's name spell, or None where they spell none.
 pub fn spelled_job(words: &[String]) -> Option<Job<'_>>
-    ensures { MatchOption result (SpellsNone (map string_bytes words.now)) (SpellsJob (map string_bytes words.now)) }
+    ensures { MatchOption result
+        (SpellsNone (map string_bytes words.now)) (SpellsJob (map string_bytes words.now)) }
 {
-    match spelled(words) {
-        Some(name) => Some(Job::Run(name)),
-        None => {
-            let (options, name) = spelled_exec(words)?;
-            Some(Job::Exec(options, name))
-        }
+    let [command, rest @ ..] = words else {
+        return None;
+    };
+    let (middle, files) = parted(rest);
+    if are_files(files) {
+        job_of(command.as_str(), middle, files)
+    } else {
+        None
     }
 }
 
-/// The file that the words ask to run, or None where they spell no job.
-pub fn spelled(words: &[String]) -> Option<&str>
-    ensures { MatchOption result ((name : List ℕ) → ¬ (SpellsRun (map string_bytes words.now) name)) (λ name. SpellsRun (map string_bytes words.now) name.now) }
+// The job of a command with words that choose its options, and files.
+fn job_of<'w>(command: &str, middle: &'w [String], files: &'w [String]) -> Option<Job<'w>>
+    requires dashed { AreDashed (map string_bytes middle.now) }
+    requires files { AreFiles (map string_bytes files.now) }
+    ensures { (words : List (List ℕ))
+        → words ≡ command.now ∷ (map string_bytes middle.entry.now ++ map string_bytes files.entry.now)
+        → MatchOption result (SpellsNone words) (SpellsJob words) }
 {
-    match words {
-        [command, file] if command.as_str() == "run" && is_file_name(file.as_str()) => {
-            Some(file.as_str())
+    match command {
+        "run" => {
+            let (compiled, run) = run_options(middle)?;
+            Some(Job::Run(compiled, run, files))
+        }
+        "exec" => {
+            let name = only_file(files)?;
+            Some(Job::Exec(exec_options(middle)?, name))
+        }
+        "compile" => {
+            let to = to_named(middle)?;
+            let chosen = chosen_beside(middle)?;
+            let compiled = chosen.compile_options();
+            Some(Job::Compile(compiled, to, files))
         }
         _ => None,
     }
 }
 
-// The options and the file with which the words ask for the run of an image.
-fn spelled_exec(words: &[String]) -> Option<(RunOptions, &str)>
-    ensures { MatchOption result ((options : RunOptions) (name : List ℕ) → ¬ (SpellsExec (map string_bytes words.now) options name)) (λ found. SpellsExec (map string_bytes words.now) found.0 found.1.now) }
+// The file, where there is one alone.
+#[tactic(auto, using(crate::proofs::Parts::alone, crate::proofs::Parts::not_alone))]
+fn only_file(files: &[String]) -> Option<&str>
+    ensures { MatchOption result
+        ((name : List ℕ) → ¬ (map string_bytes files.now ≡ name ∷ []))
+        (λ name. map string_bytes files.now ≡ name.now ∷ []) }
 {
-    match words {
-        [command, settings @ .., file]
-            if command.as_str() == "exec" && is_file_name(file.as_str()) => {
-            Some((chosen_of(settings)?.options(), file.as_str()))
-        }
-        _ => None,
+    if files.len() == 1 {
+        Some(files[0].as_str())
+    } else {
+        None
     }
 }
 
-// Whether a word can name a file.
-fn is_file_name(word: &str) -> bool
-    ensures { result ≡ is_file_name word.now }
+// The words in front that begin with a dash, and the words behind them.
+fn parted(words: &[String]) -> (&[String], &[String])
+    ensures whole { map string_bytes words.now
+        ≡ map string_bytes result.0.now ++ map string_bytes result.1.now }
+    ensures dashed { AreDashed (map string_bytes result.0.now) }
+    ensures plain { IsPlain (map string_bytes result.1.now) }
 {
-    let bytes = word.as_bytes();
-    bytes.first() != Some(&b'-') && !bytes.is_empty() && bytes.len() <= 4096
+    words.split_at(dashed(words))
 }
 
-#[cfg(test)]
-mod tests {
-    use super::{Job, spelled_job};
-    use dae_base::Depths;
-    use dae_drive::{RunOptions, Shown};
-    use dae_machine::Schedule;
-    use std::alloc::Global;
-    use std::process::Abort;
-    use std::test::Fail;
-
-    // Words that spell no job, with spaces between them.
-    const NONE: [&str; 20] = [
-        "exec",
-        "exec -p",
-        "exec p q",
-        "exec --ld=2",
-        "exec p --ld=2",
-        "exec --ld p",
-        "exec --ld=0 p",
-        "exec --ld=08 p",
-        "exec --ld=+2 p",
-        "exec --ld=4097 p",
-        "exec --ld=2 --ld=2 p",
-        "exec --steps=1000000000001 p",
-        "exec --show=16 p",
-        "exec --show=16,65 p",
-        "exec --show=16,1,1 p",
-        "exec --schedule=seed: p",
-        "exec --schedule=seed:4294967296 p",
-        "exec --to=x p",
-        "run --ld=2 p",
-        "runs p",
-    ];
-
-    const ALL_SET: &str = "exec --steps=1000000000000 --schedule=seed:1 --show=0,64 --cq=1 p";
-
-    fn words_of(alloc: Global, line: &str) -> Result<Vec<String>, Fail> {
-        let mut words = Vec::new(alloc);
-        for word in line.split(' ') {
-            words.push(String::from_str(alloc, word)?)?;
+// How many words from the front on begin with a dash.
+fn dashed(words: &[String]) -> usize
+    ensures { result ≡ prefix_len begins_with_dash (map string_bytes words.now) }
+{
+    let mut count = 0;
+    for word in words {
+        if !begins_with_dash(word.as_str()) {
+            return count;
         }
-        Ok(words)
+        count += 1;
     }
+    count
+}
 
-    fn options_of<A: Abort>(rt: &A, alloc: Global, line: &str) -> Result<RunOptions, Fail> {
-        let words = words_of(alloc, line)?;
-        match spelled_job(words.as_slice()) {
-            Some(Job::Exec(options, name)) => {
-                assert_eq!(rt; name, "p");
-                Ok(options)
-            }
-            _ => panic!(rt; "{line}"),
+// Whether the words can name files.
+fn are_files(words: &[String]) -> bool
+    ensures { MatchBool result
+        (AreFiles (map string_bytes words.now)) (¬ (AreFiles (map string_bytes words.now))) }
+{
+    !words.is_empty() && words.len() <= MOST_FILES && are_named(words)
+}
+
+fn are_named(words: &[String]) -> bool
+    ensures { result ≡ list_all is_file_name (map string_bytes words.now) }
+{
+    for word in words {
+        if !is_file_name(word.as_str()) {
+            return false;
         }
     }
-
-    #[test]
-    fn no_job_is_spelled(rt: HostRuntime) -> Result<(), Fail> {
-        for line in NONE {
-            let words = words_of(rt.alloc(), line)?;
-            assert!(rt; spelled_job(words.as_slice()).is_none(), "{line}");
-        }
-        Ok(())
-    }
-
-    #[test]
-    fn options_are_spelled(rt: HostRuntime) -> Result<(), Fail> {
-        let depths = Depths {
-            ld: 8,
-            al: 8,
-            sa: 8,
-            sd: 8,
-            ab: 8,
-            eb: 8,
-            cq: 8,
-        };
-        let usual = options_of(&rt, rt.alloc(), "exec p")?;
-        assert!(rt; usual.depths == depths && usual.schedule == Schedule::Round);
-        assert!(rt; usual.steps == 10_000_000 && usual.show.is_none());
-        let all = options_of(&rt, rt.alloc(), ALL_SET)?;
-        assert!(rt; all.depths == Depths { cq: 1, ..depths } && all.schedule == Schedule::Seed(1));
-        let show = Shown {
-            address: 0,
-            count: 64,
-        };
-        assert!(rt; all.steps == 1_000_000_000_000 && all.show == Some(show));
-        Ok(())
-    }
+    true
 }

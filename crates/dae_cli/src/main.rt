@@ -9,22 +9,16 @@ use std::env;
 use std::io::ErrorKind;
 use std::process::ExitCode;
 
-#[cfg(test)]
-mod cut_tests;
+mod compile;
 mod exec;
-#[cfg(test)]
-mod exec_tests;
-#[cfg(test)]
-mod files;
-#[cfg(test)]
-mod images;
+mod fetching;
 mod job;
 mod laws;
+mod names;
 mod options;
 mod refusals;
 mod run;
-#[cfg(test)]
-mod tests;
+mod sources;
 mod top;
 
 // The words after the program's name.

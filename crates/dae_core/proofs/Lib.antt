@@ -1,3 +1,5 @@
 mod QueueLaws
 pub mod Laws
 mod Fetches
+mod Commits
+mod Fillings

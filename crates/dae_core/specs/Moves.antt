@@ -15,19 +15,19 @@ use Rattle.dae_core.specs.declared.CoreAnswer.{CoreAnswer}
 use Rattle.dae_core.specs.declared.CoreAnswer.TheVariants.{Did, Waits, Halted as IsHalted, Faulted}
 
 -- the word that an access gives, where front is the word that a take would give
-abbrev pub given_by : {Q : Type 0} → (Q → Queue → Option ℕ) → Q → QueueUse → ℕ
-given_by front q (Take k) = unwrap_or (front q k) 0
-given_by front q Nothing = 0
-given_by front q (Push k) = 0
-given_by front q (Load k kind) = 0
-given_by front q (StoreAddress width) = 0
+abbrev pub offered_by : {Q : Type 0} → (Q → Queue → Option ℕ) → Q → QueueUse → ℕ
+offered_by front q (Take k) = unwrap_or (front q k) 0
+offered_by front q Nothing = 0
+offered_by front q (Push k) = 0
+offered_by front q (Load k kind) = 0
+offered_by front q (StoreAddress width) = 0
 
 -- what a request comes to: the processor, what it printed, and the queues. None where there is no step
 abbrev pub granted_by : {Q : Type 0} → (Q → QueueUse → Bool) → (Q → Queue → Option ℕ) → (Q → QueueUse → ℕ → Q) → Side → Processor → Q → Request → Option (After × Q)
 granted_by ready front after side p q Halted = None
 granted_by ready front after side p q (Faulty fault) = None
 granted_by ready front after side p q (Asks u w i) =
-    if ready q u then option_map (λ r. (r, after q u w)) (finish side p u i (form i) (given_by front q u)) else None
+    if ready q u then option_map (λ r. (r, after q u w)) (finish side p u i (form i) (offered_by front q u)) else None
 
 -- the queue that an access waits for. An instruction without one waits for none
 abbrev pub waits : QueueUse → CoreAnswer
@@ -46,7 +46,7 @@ abbrev pub answered_by : {Q : Type 0} → (Q → QueueUse → Bool) → (Q → Q
 answered_by ready front side p q Halted = IsHalted
 answered_by ready front side p q (Faulty fault) = Faulted fault
 answered_by ready front side p q (Asks u w i) =
-    if ready q u then finished (finish side p u i (form i) (given_by front q u)) else waits u
+    if ready q u then finished (finish side p u i (form i) (offered_by front q u)) else waits u
 
 -- the same answer without what is printed
 abbrev pub unprinted : CoreAnswer → CoreAnswer

@@ -12,7 +12,7 @@ use Rattle.dae_encode.specs.declared.QueueUse.TheVariants.{Nothing, Take, Push, 
 use Rattle.dae_encode.specs.Uses.{belongs}
 use Rattle.dae_queues.specs.declared.Slot.{Slot}
 use Rattle.dae_queues.specs.Lists.{Slots, Stores, no_slots, no_stores, first, first_value, rest, without_front, with_datum, with_address, with_slot}
-use Rattle.dae_core.specs.Moves.{given_by}
+use Rattle.dae_core.specs.Moves.{offered_by}
 
 pub record Queues : Type 0 where
   pub ld : Slots
@@ -108,7 +108,7 @@ ready d use' q = (belongs A use' || belongs E use') && possible d use' q
 
 -- the word that the access gives
 abbrev pub peek : QueueUse → Queues → ℕ
-peek use' q = given_by (λ q k. front k q) q use'
+peek use' q = offered_by (λ q k. front k q) q use'
 
 -- the queues after the access, with the word that goes in: a datum or an address
 abbrev pub commit : QueueUse → ℕ → Queues → Queues

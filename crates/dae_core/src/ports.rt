@@ -1,8 +1,8 @@
-ghost use Rattle.std.specs.Prelude.{◌≡◌, ℕ, Bool, true, is_some, Option};
+ghost use Rattle.std.specs.Prelude.{◌≡◌, ℕ, Bool, true, is_some, IfSome, Option};
 ghost use Rattle.dae_base.specs.declared.Queue.{Queue};
 ghost use Rattle.dae_encode.specs.declared.QueueUse.{QueueUse};
 ghost use Rattle.dae_encode.specs.declared.QueueUse.TheVariants.{Nothing, Take};
-ghost use Rattle.dae_core.specs.Moves.{given_by, waits};
+ghost use Rattle.dae_core.specs.Moves.{offered_by, waits};
 
 use crate::CoreAnswer;
 use dae_base::{Piece, Queue};
@@ -22,32 +22,21 @@ pub trait Ports {
     /// The queues can count one more item.
     ghost can_count: { Self → Type 0 };
 
-    /// Whether this access can be made now. An instruction that makes none is never held up.
-    fn ready(&self, access: QueueUse) -> bool
-        ensures ready { result ≡ is_ready self.now access }
-        ensures free { access ≡ Nothing → result ≡ true };
+    /// A take doesn't use the word that goes in.
+    ghost take_uses_no_word: { (q : Self) (queue : Queue) (v w : ℕ) → after q (Take queue) v ≡ after q (Take queue) w };
 
-    /// The word that a take from this queue would give, or None exactly where it can't be made now.
-    fn peek(&self, queue: Queue) -> Option<u32>
-        ensures word { result ≡ front self.now queue }
-        ensures ready { is_some result ≡ is_ready self.now (Take queue) };
+    /// The word that this access would give now, 0 where it takes none, or None exactly where it can't be made now. An
+    /// instruction that makes none is never held up.
+    fn offer(&self, access: QueueUse) -> Option<u32>
+        ensures ready { is_some result ≡ is_ready self.now access }
+        ensures word { IfSome result (λ word. word ≡ offered_by front self.now access) }
+        ensures free { access ≡ Nothing → is_some result ≡ true };
 
-    /// Makes an access that is ready. The word goes in: the address of a load or a store address, the datum of a push. A
-    /// take doesn't use it.
+    /// Makes an access that is ready. The word goes in: the address of a load or a store address, the datum of a push.
     fn commit(&mut self, access: QueueUse, word: u32)
         requires ready { is_ready self.old access ≡ true }
         requires count { can_count self.old }
         ensures { self.new ≡ after self.old access word };
-}
-
-/// The word that an access gives.
-pub fn given<P: Ports>(ports: &P, access: QueueUse) -> u32
-    ensures { result ≡ given_by P.front ports.now access }
-{
-    match access {
-        QueueUse::Take(queue) => ports.peek(queue).unwrap_or(0),
-        _ => 0,
-    }
 }
 
 /// The answer of an access that its queue doesn't allow now.

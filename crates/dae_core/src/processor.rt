@@ -1,4 +1,4 @@
-ghost use Rattle.std.specs.Prelude.{◌≡◌, ◌≢◌, ℕ, ◌<◌, ◌^◌, Bool, true, false, length, slice_index, Option, None, is_some, IfOk, IfErr, Some, [], option_map, slice_get, if◌then◌else◌};
+ghost use Rattle.std.specs.Prelude.{◌≡◌, ◌≢◌, ℕ, ◌<◌, ◌^◌, Bool, true, false, length, slice_index, Option, None, is_some, IfOk, IfErr, IfSome, Some, [], option_map, slice_get, if◌then◌else◌};
 ghost use Rattle.dae_base.specs.Words.{plus, stored, loaded, width_of};
 ghost use Rattle.dae_encode.specs.Instructions.{form};
 ghost use Rattle.dae_encode.specs.Processor.{held, operand, address, is_good_private, is_shared, goes_on, bad_address, early_fault, put_word, decoded, with_result, called, finish, halts, prints, request};
@@ -10,7 +10,7 @@ ghost use Rattle.dae_core.specs.Moves.{answered_by, granted_by, unprinted, Tells
 
 use crate::code::{Legal, legal_words};
 use crate::memory::{load, store};
-use crate::ports::{given, waits};
+use crate::ports::waits;
 use crate::{CoreAnswer, Ports};
 use dae_base::{LoadKind, Piece, Side, Width, byte_piece, decimal_piece, hex_piece};
 use dae_encode::{Fault, Form, Halt, Inst, QueueUse, bad_call, is_shared, is_within, next, value};
@@ -163,27 +163,6 @@ impl Core {
         }
     }
 
-    #[tactic(auto, unfolding(dae_encode::specs::Processor::put_word))]
-    fn put_word(&self, access: QueueUse, inst: &Inst, form: &Form) -> u32
-        ensures { result ≡ put_word self.now.processor access inst.now form.now }
-    {
-        match *form {
-            Form::Computes(_, x, y) => value(inst, self.counter, self.read(0, x), self.read(0, y)),
-            Form::Loads(kind, _, base, offset) => {
-                let addr = self.address(0, base, offset);
-                if is_shared(access) {
-                    addr
-                } else if self.holds(kind.width(), addr) {
-                    load(&self.private, kind, addr)
-                } else {
-                    0
-                }
-            }
-            Form::Stores(_, base, _, offset) => self.address(0, base, offset),
-            Form::Calls => 0,
-        }
-    }
-
     fn is_halted(&self) -> bool
         ensures { result ≡ is_some self.now.processor.halt }
     {
@@ -270,14 +249,15 @@ impl Core {
         }
     }
 
-    /// Does an instruction that is no call, where its access gives this word, or false where a private address is bad,
-    /// and then nothing changes.
-    #[tactic(auto, unfolding(dae_encode::specs::Processor::finish))]
-    fn finish(&mut self, access: QueueUse, inst: &Inst, form: &Form, given: u32) -> bool
+    /// Does an instruction that is no call, where its access gives this word, and tells the word that goes into the queue
+    /// where the access gives 0, or None where a private address is bad, and then nothing changes.
+    #[tactic(auto, unfolding(dae_encode::specs::Processor::finish, dae_encode::specs::Processor::put_word))]
+    fn finish(&mut self, access: QueueUse, inst: &Inst, form: &Form, given: u32) -> Option<u32>
         requires { form.now ≢ Calls }
         ensures held { IsSame self.old self.new }
-        ensures came { finish self.old.side self.old.processor access inst.now form.now given ≡ came_to self.new.processor (said_nothing result) }
-        ensures none { result ≡ false → self.new ≡ self.old }
+        ensures came { finish self.old.side self.old.processor access inst.now form.now given ≡ came_to self.new.processor (said_nothing (is_some result)) }
+        ensures word { given ≡ 0 → IfSome result (λ word. word ≡ put_word self.old.processor access inst.now form.now) }
+        ensures none { result ≡ None → self.new ≡ self.old }
     {
         match *form {
             Form::Computes(rd, x, y) => {
@@ -286,7 +266,7 @@ impl Core {
                 let result = value(inst, counter, first, second);
                 let after = next(inst, counter, first, second);
                 self.go_on(rd, result, after);
-                true
+                Some(result)
             }
             Form::Loads(kind, rd, base, offset) => {
                 let addr = self.address(given, base, offset);
@@ -301,39 +281,41 @@ impl Core {
         }
     }
 
-    fn finish_load(&mut self, access: QueueUse, kind: LoadKind, rd: u8, addr: u32) -> bool
+    fn finish_load(&mut self, access: QueueUse, kind: LoadKind, rd: u8, addr: u32) -> Option<u32>
         ensures held { IsSame self.old self.new }
-        ensures came { came_to self.new.processor (said_nothing result) ≡ (if is_shared access then goes_on self.old.processor 0 0 (plus self.old.processor.counter 4) else (if is_good_private self.old.processor (width_of kind) addr then goes_on self.old.processor rd (loaded kind addr self.old.processor.private) (plus self.old.processor.counter 4) else None)) }
-        ensures none { result ≡ false → self.new ≡ self.old }
+        ensures came { came_to self.new.processor (said_nothing (is_some result)) ≡ (if is_shared access then goes_on self.old.processor 0 0 (plus self.old.processor.counter 4) else (if is_good_private self.old.processor (width_of kind) addr then goes_on self.old.processor rd (loaded kind addr self.old.processor.private) (plus self.old.processor.counter 4) else None)) }
+        ensures word { result ≡ (if is_shared access then Some addr else (if is_good_private self.old.processor (width_of kind) addr then Some (loaded kind addr self.old.processor.private) else None)) }
+        ensures none { result ≡ None → self.new ≡ self.old }
     {
         let past = self.counter.wrapping_add(4);
         if is_shared(access) {
             self.go_on(0, 0, past);
-            return true;
+            return Some(addr);
         }
         if !self.holds(kind.width(), addr) {
-            return false;
+            return None;
         }
         let found = self.find(kind, addr);
         self.go_on(rd, found, past);
-        true
+        Some(found)
     }
 
-    fn finish_store(&mut self, access: QueueUse, width: Width, addr: u32, datum: u32) -> bool
+    fn finish_store(&mut self, access: QueueUse, width: Width, addr: u32, datum: u32) -> Option<u32>
         ensures held { IsSame self.old self.new }
-        ensures came { came_to self.new.processor (said_nothing result) ≡ (if is_shared access then goes_on self.old.processor 0 0 (plus self.old.processor.counter 4) else (if is_good_private self.old.processor width addr then Some (record self.old.processor { counter = plus self.old.processor.counter 4; private = stored width addr datum self.old.processor.private }, []) else None)) }
-        ensures none { result ≡ false → self.new ≡ self.old }
+        ensures came { came_to self.new.processor (said_nothing (is_some result)) ≡ (if is_shared access then goes_on self.old.processor 0 0 (plus self.old.processor.counter 4) else (if is_good_private self.old.processor width addr then Some (record self.old.processor { counter = plus self.old.processor.counter 4; private = stored width addr datum self.old.processor.private }, []) else None)) }
+        ensures word { IfSome result (λ word. word ≡ addr) }
+        ensures none { result ≡ None → self.new ≡ self.old }
     {
         if is_shared(access) {
             let past = self.counter.wrapping_add(4);
             self.go_on(0, 0, past);
-            return true;
+            return Some(addr);
         }
         if !self.holds(width, addr) {
-            return false;
+            return None;
         }
         self.put(width, addr, datum);
-        true
+        Some(addr)
     }
 
     /// Whether an instruction whose access gives this word has a good private address, or none.
@@ -369,7 +351,7 @@ impl Core {
         }
     }
 
-    #[tactic(auto, unfolding(dae_encode::specs::Processor::finish))]
+    #[tactic(auto, unfolding(dae_encode::specs::Processor::finish, dae_encode::specs::Processor::put_word), using(crate::proofs::Commits::commits_alike))]
     fn step_legal<P: Ports>(&mut self, memory: u32, legal: &Legal, ports: &mut P) -> CoreAnswer
         requires count { P.can_count ports.old }
         requires form { legal.now.form ≡ form legal.now.inst }
@@ -381,21 +363,21 @@ impl Core {
         if let Some(fault) = self.early_fault(memory, access, &legal.form) {
             return CoreAnswer::Faulted(fault);
         }
-        if !ports.ready(access) {
+        let Some(given) = ports.offer(access) else {
             return waits(access);
-        }
-        let word = self.put_word(access, &legal.inst, &legal.form);
+        };
         if let Form::Calls = legal.form {
             let piece = self.call();
-            ports.commit(access, word);
+            ports.commit(access, 0);
             return CoreAnswer::Did(piece);
         }
-        let given = given(ports, access);
-        if !self.finish(access, &legal.inst, &legal.form, given) {
-            return CoreAnswer::Faulted(Fault::Private);
+        match self.finish(access, &legal.inst, &legal.form, given) {
+            Some(word) => {
+                ports.commit(access, word);
+                CoreAnswer::Did(Piece::empty())
+            }
+            None => CoreAnswer::Faulted(Fault::Private),
         }
-        ports.commit(access, word);
-        CoreAnswer::Did(Piece::empty())
     }
 
     /// What a step would answer now, with an empty piece in place of what it would print.
@@ -419,10 +401,9 @@ impl Core {
         if let Some(fault) = self.early_fault(memory, access, &legal.form) {
             return CoreAnswer::Faulted(fault);
         }
-        if !ports.ready(access) {
+        let Some(given) = ports.offer(access) else {
             return waits(access);
-        }
-        let given = given(ports, access);
+        };
         if self.can_finish(access, &legal.inst, &legal.form, given) {
             CoreAnswer::Did(Piece::empty())
         } else {

@@ -1,4 +1,4 @@
-ghost use Rattle.std.specs.Prelude.{◌≡◌, IsSome, true, nat_lt, IfOk, filter, length, slice_get};
+ghost use Rattle.std.specs.Prelude.{◌≡◌, IsSome, true, nat_lt, IfOk, filter, length, slice_get, refl};
 ghost use Rattle.dae_base.specs.Budgets.{depth};
 ghost use Rattle.dae_core.specs.Held.{CanCount, CanHold, HeldQueues};
 ghost use Rattle.dae_core.specs.Queues.{Queues, commit, count, empty_queues, front, loads_of, pushed_to, ready, reserved_in, taken_from, with_loads_of, words_of};
@@ -147,12 +147,13 @@ impl Ports for Queues {
 
     ghost can_count = { λ q. CanCount q.queues };
 
-    fn ready(&self, access: QueueUse) -> bool {
-        self.is_open(access)
-    }
+    ghost take_uses_no_word = { λ q queue v w. refl };
 
-    fn peek(&self, queue: Queue) -> Option<u32> {
-        self.front_of(queue)
+    fn offer(&self, access: QueueUse) -> Option<u32> {
+        match access {
+            QueueUse::Take(queue) => self.front_of(queue),
+            _ => self.is_open(access).then_some(0),
+        }
     }
 
     fn commit(&mut self, access: QueueUse, word: u32) {
@@ -188,6 +189,16 @@ impl Queues {
         } else {
             Some(load(memory, slot.kind, slot.addr))
         }
+    }
+
+    /// The word that a fill of the slot of this number for a side puts, where that fill is possible. No store is looked at.
+    #[tactic(auto, using(crate::proofs::Fillings::filling_where))]
+    pub fn fill_word(&self, side: Side, number: u64, memory: &[u8]) -> Option<u32>
+        requires some { IsSome (filling_of self.now.queues.stores.sa number (loads_of side self.now.queues).slots memory.now) }
+        ensures { result ≡ filling_of self.now.queues.stores.sa number (loads_of side self.now.queues).slots memory.now }
+    {
+        let slot = self.loads(side).waiting(number)?;
+        Some(load(memory, slot.kind, slot.addr))
     }
 
     /// Gives the waiting slot of this number for a side its value.

@@ -1,7 +1,7 @@
 //! What the environment call prints, and how a processor halts, waits and faults.
 
 ghost use Rattle.dae_core.specs.Queues.{empty_queues, ready};
-ghost use Rattle.std.specs.Prelude.{None};
+ghost use Rattle.std.specs.Prelude.{None, refl};
 
 use super::*;
 use dae_base::{Depths, LoadKind, Queue, Side, Width};
@@ -21,21 +21,22 @@ impl Ports for NoQueues {
 
     ghost can_count = { λ q. Unit };
 
-    fn ready(&self, access: QueueUse) -> bool {
-        matches!(access, QueueUse::Nothing)
-    }
+    ghost take_uses_no_word = { λ q queue v w. refl };
 
-    fn peek(&self, _queue: Queue) -> Option<u32> {
-        None
+    fn offer(&self, access: QueueUse) -> Option<u32> {
+        match access {
+            QueueUse::Nothing => Some(0),
+            _ => None,
+        }
     }
 
     fn commit(&mut self, _access: QueueUse, _word: u32) {}
 }
 
-fn printed(answer: &CoreAnswer) -> &[u8] {
+fn has_printed(answer: &CoreAnswer, text: &[u8]) -> bool {
     match answer {
-        CoreAnswer::Did(piece) => piece.as_bytes(),
-        _ => b"no step",
+        CoreAnswer::Did(piece) => piece.text().as_bytes() == text,
+        _ => false,
     }
 }
 
@@ -61,7 +62,7 @@ fn calls_print_and_halt(rt: HostRuntime) -> Result<(), Fail> {
         for at in 0..5 {
             let answer = core.step(64, &mut queues);
             let want = if at == 2 { text } else { b"" };
-            assert_eq!(rt; printed(&answer), want);
+            assert!(rt; has_printed(&answer, want));
         }
         assert_eq!(rt; core.register(10), 0xFFFF_FFF9);
         assert_eq!(rt; core.counter(), 20);
@@ -108,14 +109,15 @@ fn a_message_waits_to_be_taken(rt: HostRuntime) -> Result<(), Fail> {
     };
     let mut queues = Queues::with_depths(rt.alloc(), depths)?;
     let push = QueueUse::Push(Queue::Ab);
-    assert!(rt; queues.ready(push));
-    assert_eq!(rt; queues.peek(Queue::Ab), None);
-    if queues.ready(push) {
+    let take = QueueUse::Take(Queue::Ab);
+    assert_eq!(rt; queues.offer(push), Some(0));
+    assert_eq!(rt; queues.offer(take), None);
+    if queues.offer(push).is_some() {
         queues.commit(push, 5);
     }
-    assert!(rt; !queues.ready(push));
-    assert_eq!(rt; queues.peek(Queue::Ab), Some(5));
-    assert!(rt; !queues.ready(QueueUse::Push(Queue::Ld)));
+    assert_eq!(rt; queues.offer(push), None);
+    assert_eq!(rt; queues.offer(take), Some(5));
+    assert_eq!(rt; queues.offer(QueueUse::Push(Queue::Ld)), None);
     Ok(())
 }
 

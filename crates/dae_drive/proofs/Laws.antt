@@ -1,4 +1,4 @@
--- What other crates may use of runs from an image's opened state, and of what is due for an image.
+-- What other crates may use of runs from an image's opened state, of what is due for an image, and of puts.
 use Rattle.std.proofs.Common.{◌≡◌, List, length, refl, arith}
 use Rattle.std.specs.List.{concat}
 use Rattle.dae_image.specs.declared.Image.{Image}
@@ -7,6 +7,7 @@ use Rattle.dae_machine.specs.Machine.{Setup, State, Runs}
 use Rattle.dae_machine.specs.Opened.{opened}
 use Rattle.dae_drive.specs.Pieces.{pieces}
 pub use Rattle.dae_drive.proofs.OneAnswer.{one_of_image}
+pub use Rattle.dae_drive.proofs.Puts.{gives_next, gives_failed}
 use Rattle.dae_drive.proofs.Executed.{opened_counted}
 use Rattle.dae_drive.proofs.Outcome.{run_keeps}
 use Rattle.dae_drive.proofs.Printed.{pieces_printed}

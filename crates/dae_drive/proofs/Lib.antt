@@ -1,5 +1,6 @@
 mod Puts
 mod Printed
+mod Depths
 mod OnTheWay
 mod Outcome
 mod Executed

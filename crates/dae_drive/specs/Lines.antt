@@ -7,8 +7,5 @@ words_line = codes "words\n"
 abbrev pub memory_line : List ℕ
 memory_line = codes "memory\n"
 
-abbrev pub not_built_line : List ℕ
-not_built_line = codes "refused not-built\n"
-
 abbrev pub read_line : List ℕ → List ℕ
 read_line name = codes "read " ++ (name ++ codes "\n")

@@ -1,5 +1,5 @@
 -- Answers: a status and what is put on the two sinks; and what it means that an answer is given.
-use Rattle.std.specs.Prelude.{◌≡◌, ℕ, List, [], ◌∷◌, ◌++◌, string_bytes}
+use Rattle.std.specs.Prelude.{◌≡◌, ◌⊎◌, ℕ, List, [], ◌∷◌, ◌++◌, string_bytes}
 use Rattle.dae_io.specs.Sinks.{SinkState, IsPut, IsPutFailed}
 use Rattle.dae_drive.specs.declared.stop.Stop.{Stop}
 use Rattle.dae_drive.specs.declared.stop.Stop.TheVariants.{Told, Memory}
@@ -68,3 +68,19 @@ pub data Gives (due : Answer) (status : ℕ) (before after : Sinks) : Type 0 whe
 -- some answer is due, and it is given
 abbrev pub GivesDue : (Answer → Type 0) → ℕ → Sinks → Sinks → Type 0
 GivesDue IsDue status before after = (due : Answer) × IsDue due × Gives due status before after
+
+-- the same of an answer that puts lines on note alone, whatever stands on out
+abbrev pub GivesNotes : Answer → ℕ → SinkState → SinkState → Type 0
+GivesNotes due status note note_now = (out : SinkState) → Gives due status (sinks out note) (sinks out note_now)
+
+-- these puts were made on note, whatever stands on out
+abbrev pub AreNoted : List Put → SinkState → SinkState → Type 0
+AreNoted puts note note_now = (out : SinkState) → AreMade puts (sinks out note) (sinks out note_now)
+
+-- the first of these puts were made on note and the next one failed, whatever stands on out
+abbrev pub AreNotedInPart : List Put → SinkState → SinkState → Type 0
+AreNotedInPart puts note note_now = (out : SinkState) → AreCut puts (sinks out note) (sinks out note_now)
+
+-- the stop tells this line with this status, or memory was wanting
+abbrev pub TellsOrWants : Stop → ℕ → List ℕ → Type 0
+TellsOrWants stop status line = (stop_answer stop ≡ told status line) ⊎ (stop_answer stop ≡ told 7 memory_line)

@@ -7,6 +7,6 @@ ghost use Rattle.dae_drive.specs.Images.{DueOfImage};
 
 /// For an image and its options at most one answer is due, but for want of memory.
 pub fn one_answer()
-    ensures { (image : Image) (o : RunOptions) (a b : Answer) → DueOfImage image o a → DueOfImage image o b
-        → a.status ≢ 7 → b.status ≢ 7 → a ≡ b }
+    ensures { (image : Image) (o : RunOptions) (a b : Answer)
+        → DueOfImage image o a → DueOfImage image o b → a.status ≢ 7 → b.status ≢ 7 → a ≡ b }
 {}

@@ -5,6 +5,7 @@ ghost use Rattle.dae_drive.specs.Turns.{AreOut, Drives, Rested};
 ghost use Rattle.dae_drive.specs.Pieces.{then_later};
 ghost use Rattle.dae_drive.specs.Puts.{Out};
 
+use crate::options::RunOptions;
 use dae_base::Piece;
 use dae_io::{Sink, SinkFailed};
 use dae_machine::{End, Machine, Rest, Turn, Words};
@@ -19,16 +20,22 @@ pub enum Driven {
     SinkFailed,
 }
 
-/// Lets the machine make the turns of the next words, until it is final or stuck or until it has taken `steps` steps in
-/// all, and puts out what each step prints, one put a step. It takes no memory. Where a put fails, no further step is
-/// taken. The steps are at most 1,000,000,000,000.
-pub fn drive<O: Sink>(machine: &mut Machine, words: &mut Words, steps: u64, out: &mut O) -> Driven
-    requires many { steps ≤ 1000000000000 }
-    requires begun { machine.old.state.steps ≤ steps }
+/// Lets the machine make the turns of the next words, until it is final or stuck or until it has taken the steps of the
+/// options in all, and puts out what each step prints, one put a step. It takes no memory. Where a put fails, no further
+/// step is taken.
+pub fn drive<O: Sink>(
+    machine: &mut Machine,
+    words: &mut Words,
+    options: &RunOptions,
+    out: &mut O,
+) -> Driven
+    requires { machine.old.state.steps ≤ options.now.steps }
     ensures setup { machine.new.setup ≡ machine.old.setup }
-    ensures drives { Drives result steps machine.old.setup machine.old.state machine.new.state
+    ensures drives { Drives result options.now.steps
+        machine.old.setup machine.old.state machine.new.state
         words.old words.new (O.seen out.old) (O.seen out.new) }
 {
+    let steps = options.values().steps;
     for _ in machine.taken()..steps {
         match machine.turn(words.next()) {
             Turn::Stepped(_, piece) => {
@@ -56,13 +63,14 @@ fn rested(machine: &Machine) -> Driven
 
 // Puts out what a step printed, where that is something.
 fn put_piece<O: Sink>(out: &mut O, piece: &Piece) -> Result<(), SinkFailed>
-    ensures whole { OnOk result (AreOut (map Out (then_later piece.now [])) (O.seen out.old) (O.seen out.new)) }
+    ensures whole { OnOk result
+        (AreOut (map Out (then_later piece.now [])) (O.seen out.old) (O.seen out.new)) }
     ensures part { OnErr result (then_later piece.now [] ≡ piece.now ∷ []) }
     ensures failed { OnErr result (IsPutFailed piece.now (O.seen out.old) (O.seen out.new)) }
 {
     if piece.is_empty() {
         Ok(())
     } else {
-        out.put(piece.as_bytes())
+        out.put(piece.text().as_bytes())
     }
 }

@@ -1,7 +1,7 @@
 // Fetching the file that a job names.
-ghost use Rattle.std.specs.Prelude.{◌≡◌, ◌⊎◌, ◌≤◌, take, length, IfOk, IfErr, IfSome};
-ghost use Rattle.dae_io.specs.Faults.{Rose, fetch_of};
-ghost use Rattle.dae_io.specs.Told.{TellsSame};
+ghost use Rattle.std.specs.Prelude.{◌≡◌, ◌⊎◌, ◌≤◌, length, IfOk, IfErr};
+ghost use Rattle.dae_io.specs.Faults.{FetchFailed};
+ghost use Rattle.dae_io.specs.Told.{IsFirst, TellsSame};
 ghost use Rattle.dae_drive.specs.Lines.{memory_line, read_line};
 ghost use Rattle.dae_drive.specs.Puts.{stop_answer, told};
 
@@ -17,12 +17,13 @@ pub fn fetched<F: Shelf>(
     most: u32,
     shelf: &mut F,
 ) -> Result<Vec<u8>, Stop>
-    ensures bytes { IfOk result (λ text. IfSome (F.told shelf.old name.now) (λ held. text.items ≡ take most held)) }
+    ensures bytes { IfOk result (λ text. IsFirst most (F.told shelf.old name.now) text.items) }
     ensures short { IfOk result (λ text. length text.items ≤ most) }
     ensures err { IfErr result (λ stop. (stop_answer stop ≡ told 7 memory_line)
         ⊎ ((stop_answer stop ≡ told 5 (read_line name.now))
-        × (Rose (F.count shelf.old) (F.count shelf.new) × (F.last shelf.new ≡ fetch_of name.now)))) }
+        × FetchFailed (F.count shelf.old) (F.count shelf.new) (F.last shelf.new) name.now)) }
     ensures held { TellsSame (F.told shelf.old) (F.told shelf.new) }
+    ensures counted { F.count shelf.old ≤ F.count shelf.new }
 {
     let Ok(line) = notes::read_line(alloc, name) else {
         return Err(Stop::Memory);

@@ -1,12 +1,10 @@
 // The part that every job with a machine has: an image is opened and run, and notes tell how it came out.
-ghost use Rattle.std.specs.Prelude.{◌≡◌, ◌≢◌, ℕ, ◌≤◌, List, Option, None, [], IfOk, IfSome, OnOk, OnErr, string_bytes};
-ghost use Rattle.dae_io.specs.Sinks.{SinkState};
-ghost use Rattle.dae_core.specs.Held.{CanHold};
+ghost use Rattle.std.specs.Prelude.{◌≡◌, ◌≢◌, ℕ, List, Option, None, [], IfOk, OnOk, OnErr, string_bytes};
 ghost use Rattle.dae_machine.specs.Machine.{IsCounted};
 ghost use Rattle.dae_drive.specs.declared.driving.Driven.TheVariants as Driven;
 ghost use Rattle.dae_drive.specs.Notes.{budget_line, end_puts};
 ghost use Rattle.dae_drive.specs.Images.{DueOfImage, DueOfRun, DueAfterBudget, status_of};
-ghost use Rattle.dae_drive.specs.Puts.{answer, AreCut, AreMade, Gives, GivesDue, sinks};
+ghost use Rattle.dae_drive.specs.Puts.{answer, AreNoted, AreNotedInPart, GivesDue, GivesNotes, sinks};
 
 use crate::driving::{Driven, drive};
 use crate::line::Line;
@@ -27,9 +25,6 @@ pub fn run_image<O: Sink, N: Sink>(
     out: &mut O,
     note: &mut N,
 ) -> u8
-    requires depths { CanHold options.now.depths }
-    requires few { options.now.steps ≤ 1000000000000 }
-    requires shown { IfSome options.now.show (λ shown. shown.count ≤ 64) }
     ensures { GivesDue (DueOfImage image.now options.now) result
         (sinks (O.seen out.old) (N.seen note.old)) (sinks (O.seen out.new) (N.seen note.new)) }
 {
@@ -60,14 +55,11 @@ fn run_budgeted<O: Sink, N: Sink>(
     out: &mut O,
     note: &mut N,
 ) -> u8
-    requires depths { CanHold options.now.depths }
-    requires few { options.now.steps ≤ 1000000000000 }
-    requires shown { IfSome options.now.show (λ shown. shown.count ≤ 64) }
     ensures { GivesDue (DueAfterBudget image.now options.now) result
         (sinks (O.seen out.old) (N.seen note.old)) (sinks (O.seen out.new) (N.seen note.new)) }
 {
     let mut line = line;
-    match Machine::open(alloc, image, options.depths) {
+    match Machine::open(alloc, image, options.values().depths) {
         Ok(machine) => run_opened(machine, line, options, out, note),
         Err(OpenError::DepthBelow(queue, needs, has)) => {
             notes::depth_line(&mut line, queue, needs, has);
@@ -85,8 +77,6 @@ fn run_opened<O: Sink, N: Sink>(
     out: &mut O,
     note: &mut N,
 ) -> u8
-    requires few { options.now.steps ≤ 1000000000000 }
-    requires shown { IfSome options.now.show (λ shown. shown.count ≤ 64) }
     requires begun { machine.state.steps ≡ 0 }
     requires counted { IsCounted machine.state }
     requires unhalted { machine.state.e.halt ≡ None }
@@ -94,10 +84,11 @@ fn run_opened<O: Sink, N: Sink>(
         (sinks (O.seen out.old) (N.seen note.old)) (sinks (O.seen out.new) (N.seen note.new)) }
 {
     let (mut machine, mut line) = (machine, line);
-    let mut words = Words::of(options.schedule);
-    match drive(&mut machine, &mut words, options.steps, out) {
+    let values = options.values();
+    let mut words = Words::of(values.schedule);
+    match drive(&mut machine, &mut words, options, out) {
         Driven::SinkFailed => 6,
-        driven => tell_end(&machine, driven, options.show, &mut line, note),
+        driven => tell_end(&machine, driven, values.show, &mut line, note),
     }
 }
 
@@ -110,10 +101,9 @@ fn tell_end<N: Sink>(
     note: &mut N,
 ) -> u8
     requires whole { driven ≢ Driven.SinkFailed }
-    requires shown { IfSome show (λ shown. shown.count ≤ 64) }
-    ensures { (out : SinkState) → Gives
+    ensures { GivesNotes
         (answer (status_of driven) (end_puts driven machine.now.setup machine.now.state show)) result
-        (sinks out (N.seen note.old)) (sinks out (N.seen note.new)) }
+        (N.seen note.old) (N.seen note.new) }
 {
     match note_end(machine, driven, show, line, note) {
         Ok(()) => status_of(driven),
@@ -143,11 +133,12 @@ fn note_end<N: Sink>(
     note: &mut N,
 ) -> Result<(), SinkFailed>
     requires whole { driven ≢ Driven.SinkFailed }
-    requires shown { IfSome show (λ shown. shown.count ≤ 64) }
-    ensures made { OnOk result ((out : SinkState) → AreMade (end_puts driven machine.now.setup machine.now.state show)
-        (sinks out (N.seen note.old)) (sinks out (N.seen note.new))) }
-    ensures cut { OnErr result ((out : SinkState) → AreCut (end_puts driven machine.now.setup machine.now.state show)
-        (sinks out (N.seen note.old)) (sinks out (N.seen note.new))) }
+    ensures made { OnOk result (AreNoted
+        (end_puts driven machine.now.setup machine.now.state show)
+        (N.seen note.old) (N.seen note.new)) }
+    ensures cut { OnErr result (AreNotedInPart
+        (end_puts driven machine.now.setup machine.now.state show)
+        (N.seen note.old) (N.seen note.new)) }
 {
     notes::outcome_line(line, driven, machine);
     note.put(line.as_slice())?;

@@ -6,8 +6,8 @@ pub use answers::one_answer;
 pub use driving::{Driven, drive};
 pub use fetch::fetched;
 pub use image::run_image;
-pub use notes::image_line;
-pub use options::{RunOptions, Shown, USUAL};
+pub use notes::{budget_line, image_line};
+pub use options::{OptionValues, RunOptions, Shown};
 pub use stop::{Stop, noted};
 
 mod answers;

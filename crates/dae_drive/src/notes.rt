@@ -98,7 +98,7 @@ fn ended_line(line: &mut Line, status: u32)
     ensures { line.new ≡ ended_line status }
 {
     line.begin(b"ended ");
-    line.push(decimal_piece(status, true).as_bytes());
+    line.push(decimal_piece(status, true).text().as_bytes());
     line.push(b"\n");
 }
 
@@ -106,7 +106,7 @@ fn trapped_line(line: &mut Line, code: u32)
     ensures { line.new ≡ trapped_line code }
 {
     line.begin(b"trapped ");
-    line.push(decimal_piece(code, false).as_bytes());
+    line.push(decimal_piece(code, false).text().as_bytes());
     line.push(b"\n");
 }
 
@@ -164,24 +164,13 @@ pub fn steps_line(line: &mut Line, steps: u64)
 
 /// The line that shows bytes of memory. Those past its end are left out.
 pub fn shown_line(line: &mut Line, shown: Shown, memory: &[u8])
-    requires { shown.count ≤ 64 }
     ensures { line.new ≡ shown_line shown memory.now }
 {
     line.begin(b"memory ");
-    line.push(Buffer::new().format(shown.address).as_bytes());
+    line.push(Buffer::new().format(shown.address()).as_bytes());
     line.push(b":");
-    push_bytes(line, shown_bytes(shown, memory));
+    push_bytes(line, shown.bytes(memory));
     line.push(b"\n");
-}
-
-// The bytes that are to be shown.
-fn shown_bytes(shown: Shown, memory: &[u8]) -> &[u8]
-    ensures bytes { result.now ≡ take shown.count (drop shown.address memory.now) }
-    ensures few { length result.now ≤ shown.count }
-{
-    let start = memory.len().min(shown.address as usize);
-    let rest = &memory[start..];
-    &rest[..rest.len().min(shown.count as usize)]
 }
 
 // Appends a blank and two hexadecimal digits for each byte.

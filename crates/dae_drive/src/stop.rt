@@ -1,8 +1,6 @@
 // How a job ends before a machine is opened: with one line on note.
-ghost use Rattle.std.specs.Prelude.{◌≡◌, ◌⊎◌, IfOk, List, ℕ, string_bytes};
-ghost use Rattle.dae_io.specs.Sinks.{SinkState};
-ghost use Rattle.dae_drive.specs.Lines.{memory_line};
-ghost use Rattle.dae_drive.specs.Puts.{Gives, sinks, stop_answer, told};
+ghost use Rattle.std.specs.Prelude.{◌≡◌, IfOk, List, ℕ, string_bytes};
+ghost use Rattle.dae_drive.specs.Puts.{GivesNotes, TellsOrWants, stop_answer, told};
 
 use dae_io::Sink;
 use std::alloc::AllocError;
@@ -18,7 +16,7 @@ impl Stop {
     /// The stop that a line tells, or want of memory where there was none for the line.
     pub fn told(status: u8, line: Result<String, AllocError>) -> Stop
         ensures { (wanted : List ℕ) → IfOk line (λ text. string_bytes text ≡ wanted)
-            → (stop_answer result ≡ told status wanted) ⊎ (stop_answer result ≡ told 7 memory_line) }
+            → TellsOrWants result status wanted }
     {
         match line {
             Ok(text) => Stop::Told(status, text),
@@ -28,8 +26,7 @@ impl Stop {
 
     /// Puts the line on note, and answers with the status, or with 6 where the put failed.
     pub fn tell<N: Sink>(&self, note: &mut N) -> u8
-        ensures { (out : SinkState) → Gives (stop_answer self.now) result
-            (sinks out (N.seen note.old)) (sinks out (N.seen note.new)) }
+        ensures { GivesNotes (stop_answer self.now) result (N.seen note.old) (N.seen note.new) }
     {
         match self {
             Stop::Told(status, line) => noted(note, line.as_bytes(), *status),
@@ -40,8 +37,7 @@ impl Stop {
 
 /// Puts a line on note, and answers with the status, or with 6 where the put failed.
 pub fn noted<N: Sink>(note: &mut N, line: &[u8], status: u8) -> u8
-    ensures { (out : SinkState) → Gives (told status line.now) result
-        (sinks out (N.seen note.old)) (sinks out (N.seen note.new)) }
+    ensures { GivesNotes (told status line.now) result (N.seen note.old) (N.seen note.new) }
 {
     match note.put(line) {
         Ok(()) => status,

@@ -11,6 +11,7 @@ use Rattle.dae_tree.specs.declared.operators.MemberOperator.TheVariants as signs
 use Rattle.dae_tree.specs.Trees as tree
 use Rattle.dae_program.specs.Trees as program
 use Rattle.dae_base.specs.declared.LoadKind.TheVariants as kinds
+use Rattle.dae_base.specs.declared.Width.TheVariants as widths
 use Rattle.dae_meaning.specs.declared.Operator.TheVariants as operator
 use Rattle.dae_meaning.specs.declared.Comparison.TheVariants as comparison
 use Rattle.dae_meaning.specs.Operations.{combined, compared}
@@ -79,12 +80,22 @@ narrow_is_converted : check ((tree.Declared (record { specifiers = (tree.specifi
 unfolding shape_of layout_of same composite layout_at found_name found_tag own_entity own_tag found_component converted combination fits joined combined compared parameter_types ask_all
 narrow_is_converted = refl
 
--- A variable that its own initialiser names is 0 before: int f(void){int k=k+1;return k;}
-own_name_is_zero : check ((tree.Defined (tree.specifier_then (tree.Word (at 1) keyword.Int) tree.no_specifiers) (tree.Empty (tree.Named (name 5 0)) (at 5)) (at 12) ((record { specifiers = (tree.specifier_then (tree.Word (at 13) keyword.Int) tree.no_specifiers); items = (record { declarator = (tree.Named (name 17 1)); initialiser = Some ((at 19), (tree.Value (tree.Binary (tree.Identifier (name 19 1)) (at 19) binary.Add (tree.Number (at 21) (constant 1 false))))) } ∷ []); end = (at 13) }) ∷ []) (tree.statement_then (tree.Return (at 23) (Some (tree.Identifier (name 30 1))) (at 23)) tree.no_statements)) ∷ []) (start_of false false (record { printf = None; putchar = None; exit = None; abort = None; main = None }) ([])) ≡ (program.Evaluate (at 17) (program.Assign (at 17) kinds.I32 (program.InVariable 1) (program.Number 0)) (program.Evaluate (at 17) (program.Assign (at 17) kinds.I32 (program.InVariable 1) (program.Binary (at 19) operator.Add (program.Variable (at 19) 1) (program.Number 1))) (program.Return (at 23) (Some (program.Variable (at 30) 1)) program.Done))) ∷ []
+-- A variable that its own initialiser names is 0 when its function is called: int f(void){int k=k+1;return k;}
+own_name_is_zero : check ((tree.Defined (tree.specifier_then (tree.Word (at 1) keyword.Int) tree.no_specifiers) (tree.Empty (tree.Named (name 5 0)) (at 5)) (at 12) ((record { specifiers = (tree.specifier_then (tree.Word (at 13) keyword.Int) tree.no_specifiers); items = (record { declarator = (tree.Named (name 17 1)); initialiser = Some ((at 19), (tree.Value (tree.Binary (tree.Identifier (name 19 1)) (at 19) binary.Add (tree.Number (at 21) (constant 1 false))))) } ∷ []); end = (at 13) }) ∷ []) (tree.statement_then (tree.Return (at 23) (Some (tree.Identifier (name 30 1))) (at 23)) tree.no_statements)) ∷ []) (start_of false false (record { printf = None; putchar = None; exit = None; abort = None; main = None }) ([])) ≡ (program.Evaluate (at 5) (program.Assign (at 5) kinds.I32 (program.InVariable 1) (program.Number 0)) (program.Evaluate (at 17) (program.Assign (at 17) kinds.I32 (program.InVariable 1) (program.Binary (at 19) operator.Add (program.Variable (at 19) 1) (program.Number 1))) (program.Return (at 23) (Some (program.Variable (at 30) 1)) program.Done))) ∷ []
 unfolding shape_of layout_of same composite layout_at found_name found_tag own_entity own_tag found_component converted combination fits joined combined compared parameter_types ask_all
 own_name_is_zero = refl
+
+-- In a loop it keeps what it held: int f(int a){while(a){int k=k+1;a=a-k;}return 0;}
+own_name_in_loop : check ((tree.Defined (tree.specifier_then (tree.Word (at 1) keyword.Int) tree.no_specifiers) (tree.Function (tree.Named (name 5 1)) (at 6) (tree.parameter_then (tree.specifier_then (tree.Word (at 7) keyword.Int) tree.no_specifiers) (tree.Named (name 11 0)) tree.no_parameters)) (at 13) ([]) (tree.statement_then (tree.While (at 14) (at 19) (tree.Identifier (name 20 0)) (tree.Block (at 22) ((record { specifiers = (tree.specifier_then (tree.Word (at 23) keyword.Int) tree.no_specifiers); items = (record { declarator = (tree.Named (name 27 2)); initialiser = Some ((at 28), (tree.Value (tree.Binary (tree.Identifier (name 29 2)) (at 30) binary.Add (tree.Number (at 31) (constant 1 false))))) } ∷ []); end = (at 32) }) ∷ []) (tree.statement_then (tree.Evaluate (tree.Assignment (tree.Identifier (name 33 0)) (at 34) assignment.Assign (tree.Binary (tree.Identifier (name 35 0)) (at 36) binary.Subtract (tree.Identifier (name 37 2)))) (at 38)) tree.no_statements))) (tree.statement_then (tree.Return (at 40) (Some (tree.Number (at 47) (constant 0 false))) (at 48)) tree.no_statements))) ∷ []) (start_of false false (record { printf = None; putchar = None; exit = None; abort = None; main = None }) ([])) ≡ (program.Evaluate (at 5) (program.Assign (at 5) kinds.I32 (program.InVariable 2) (program.Number 0)) (program.Loop (at 14) (Some (program.Variable (at 20) 1)) (program.Evaluate (at 27) (program.Assign (at 27) kinds.I32 (program.InVariable 2) (program.Binary (at 29) operator.Add (program.Variable (at 29) 2) (program.Number 1))) (program.Evaluate (at 33) (program.Assign (at 33) kinds.I32 (program.InVariable 1) (program.Binary (at 35) operator.Subtract (program.Variable (at 35) 1) (program.Variable (at 37) 2))) program.Done)) None (program.Return (at 40) (Some (program.Number 0)) program.Done))) ∷ []
+unfolding shape_of layout_of same composite layout_at found_name found_tag own_entity own_tag found_component converted combination fits joined combined compared parameter_types ask_all
+own_name_in_loop = refl
 
 -- A variable that stands in a size alone is set once: int f(int a){int k=sizeof k+a;return k;}
 size_names_nothing : check ((tree.Defined (tree.specifier_then (tree.Word (at 1) keyword.Int) tree.no_specifiers) (tree.Function (tree.Named (name 5 1)) (at 5) (tree.parameter_then (tree.specifier_then (tree.Word (at 7) keyword.Int) tree.no_specifiers) (tree.Named (name 11 0)) tree.no_parameters)) (at 13) ((record { specifiers = (tree.specifier_then (tree.Word (at 14) keyword.Int) tree.no_specifiers); items = (record { declarator = (tree.Named (name 18 2)); initialiser = Some ((at 20), (tree.Value (tree.Binary (tree.SizeofExpression (at 20) (tree.Identifier (name 27 2))) (at 20) binary.Add (tree.Identifier (name 29 0))))) } ∷ []); end = (at 14) }) ∷ []) (tree.statement_then (tree.Return (at 31) (Some (tree.Identifier (name 38 2))) (at 31)) tree.no_statements)) ∷ []) (start_of false false (record { printf = None; putchar = None; exit = None; abort = None; main = None }) ([])) ≡ (program.Evaluate (at 18) (program.Assign (at 18) kinds.I32 (program.InVariable 2) (program.Binary (at 20) operator.Add (program.Number 4) (program.Variable (at 29) 1))) (program.Return (at 31) (Some (program.Variable (at 38) 2)) program.Done)) ∷ []
 unfolding shape_of layout_of same composite layout_at found_name found_tag own_entity own_tag found_component converted combination fits joined combined compared parameter_types ask_all
 size_names_nothing = refl
+
+-- The items of an object in the frame have offsets from where the frame begins: int f(){int a[1]={1};int b[1]={5};return 0;}
+second_aggregate_is_placed : check ((tree.Defined (tree.specifier_then (tree.Word (at 1) keyword.Int) tree.no_specifiers) (tree.Empty (tree.Named (name 5 0)) (at 6)) (at 9) ((record { specifiers = (tree.specifier_then (tree.Word (at 9) keyword.Int) tree.no_specifiers); items = (record { declarator = (tree.Sized (tree.Named (name 13 1)) (at 14) (tree.Number (at 15) (constant 1 false))); initialiser = (Some ((at 17), (tree.Listed (at 18) (tree.initialiser_then (tree.Value (tree.Number (at 19) (constant 1 false))) tree.no_initialisers) false))) } ∷ []); end = (at 9) }) ∷ (record { specifiers = (tree.specifier_then (tree.Word (at 22) keyword.Int) tree.no_specifiers); items = (record { declarator = (tree.Sized (tree.Named (name 26 2)) (at 27) (tree.Number (at 28) (constant 1 false))); initialiser = (Some ((at 30), (tree.Listed (at 31) (tree.initialiser_then (tree.Value (tree.Number (at 32) (constant 5 false))) tree.no_initialisers) false))) } ∷ []); end = (at 22) }) ∷ []) (tree.statement_then (tree.Return (at 35) (Some (tree.Number (at 42) (constant 0 false))) (at 35)) tree.no_statements)) ∷ []) (start_of false false (record { printf = None; putchar = None; exit = None; abort = None; main = None }) ([])) ≡ (program.Initialise (at 13) 0 4 (record { offset = 0; width = widths.B4; value = program.Number 1 } ∷ []) (program.Initialise (at 26) 4 4 (record { offset = 4; width = widths.B4; value = program.Number 5 } ∷ []) (program.Return (at 35) (Some (program.Number 0)) program.Done))) ∷ []
+unfolding shape_of layout_of same composite layout_at found_name found_tag own_entity own_tag found_component converted combination fits joined combined compared parameter_types ask_all
+second_aggregate_is_placed = refl

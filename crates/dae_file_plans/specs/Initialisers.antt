@@ -261,9 +261,9 @@ abbrev pub is_value_for : Tables → ℕ → Initialiser → Bool
 is_value_for s t (tree.Value e) = not (is_scalar (shape_of s t)) && not (is_text_array s (shape_of s t) && has_literal (literal_in e))
 is_value_for s t (tree.Listed p js comma) = false
 
-abbrev pub whole_by : ℕ → Initialiser → Bool → Plan Filling
-whole_by t (tree.Value e) true = aggregate_at (place_of e) t (plan_value e)
-whole_by t x _ = plan_initialiser (empty_filling (Once 0 t ∷ [])) x
+abbrev pub whole_by : (offset type_id : ℕ) → Initialiser → Bool → Plan Filling
+whole_by o t (tree.Value e) true = aggregate_at (place_of e) t (plan_value e)
+whole_by o t x _ = plan_initialiser (empty_filling (Once o t ∷ [])) x
 
 -- the type of an array of unknown size, with the size that it got
 abbrev pub filled_type : Tables → ℕ → ℕ → Shape → Tables × ℕ
@@ -285,6 +285,7 @@ filled_at p m = at (λ s x. AtFilled p s x.type_id) (λ s x. (s, x)) m
 abbrev pub content_at : Place → ℕ → Plan Filling → Plan Content
 content_at p t m = filled_at p (does (λ s f. content_of f (filled_type s t f.count (shape_of s t))) m)
 
--- the whole initialiser of an object of this type that is declared at this place
-abbrev pub plan_content : Place → ℕ → Initialiser → Plan Content
-plan_content p t x = content_at p t (chain false (looks (λ s. is_value_for s t x)) (whole_by t x))
+-- the whole initialiser of an object of this type that is declared at this place: its items have offsets from where the object
+-- stands, which is at this offset
+abbrev pub plan_content : Place → (offset type_id : ℕ) → Initialiser → Plan Content
+plan_content p o t x = content_at p t (chain false (looks (λ s. is_value_for s t x)) (whole_by o t x))

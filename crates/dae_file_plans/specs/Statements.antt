@@ -82,6 +82,9 @@ abbrev pub frame_offset : Option Storage → ℕ
 frame_offset (Some (storage.Frame o)) = o
 frame_offset _ = 0
 
+abbrev pub offset_of_local : Tables → ℕ → ℕ
+offset_of_local s k = frame_offset (slice_get s.storages k)
+
 abbrev pub assigned_to : Place → Tables → ℕ → program.Expression → program.Expression
 assigned_to p s k e = program.Assign p (load_kind (shape_of s (type_of_local s k))) (storage_target (slice_get s.storages k) p) e
 
@@ -94,16 +97,22 @@ abbrev pub names_stored : Option Storage → program.Expression → Bool
 names_stored (Some (storage.Variable n)) e = names_variable n e
 names_stored _ e = false
 
--- a local scalar gets the value of its initialiser. Where that names it, what it names is 0: so each variable is set before it
--- is read.
-abbrev pub set_by_own : Place → Tables → ℕ → program.Expression → program.Statements
-set_by_own p s k e =
-    if names_stored (slice_get s.storages k) e then program.Evaluate p (assigned_to p s k (program.Number 0)) (set_to p s k e)
-    else set_to p s k e
+abbrev pub taken_or_not : Option Local → Bool
+taken_or_not None = false
+taken_or_not (Some x) = x.taken
+
+-- a local scalar that its own initialiser reads is 0 when its function is called: so each variable is set before it is read
+abbrev pub with_zero : ℕ → Bool → Tables → Tables
+with_zero k false s = s
+with_zero k true s = set_local k (record { type_id = type_of_local s k; taken = taken_or_not (slice_get s.locals k); begins_zero = true }) s
+
+-- a local scalar gets the value of its own initialiser
+abbrev pub set_by_own : Place → ℕ → Tables → program.Expression → Tables × program.Statements
+set_by_own p k s e = (with_zero k (names_stored (slice_get s.storages k) e) s, set_to p s k e)
 
 -- a scalar's initialiser is any expression, perhaps in braces
 abbrev pub scalar_value_at : Place → Place → ℕ → Plan Typed → Plan program.Statements
-scalar_value_at p q k m = at (λ s x. AtAssign q s x (type_of_local s k)) (λ s x. (s, set_by_own p s k (converted q s x (type_of_local s k)).tree)) m
+scalar_value_at p q k m = at (λ s x. AtAssign q s x (type_of_local s k)) (λ s x. set_by_own p k s (converted q s x (type_of_local s k)).tree) m
 
 abbrev pub scalar_list_at : Place → tree.Initialisers → Plan (Unit {0})
 scalar_list_at q js = node (λ s x. if is_one js then [] else AtScalarList q ∷ []) (λ s x. (s, tt {0})) nothing
@@ -118,16 +127,16 @@ abbrev mutual
   plan_first_scalar p k tree.no_initialisers = pure program.Done
   plan_first_scalar p k (tree.initialiser_then x xs) = plan_scalar p k x
 
-abbrev pub taken_or_not : Option Local → Bool
-taken_or_not None = false
-taken_or_not (Some x) = x.taken
+abbrev pub zero_or_not : Option Local → Bool
+zero_or_not None = false
+zero_or_not (Some x) = x.begins_zero
 
 abbrev pub with_type : ℕ → ℕ → Tables → Tables
-with_type k t s = set_local k (record { type_id = t; taken = taken_or_not (slice_get s.locals k) }) s
+with_type k t s = set_local k (record { type_id = t; taken = taken_or_not (slice_get s.locals k); begins_zero = zero_or_not (slice_get s.locals k) }) s
 
 -- an aggregate begins as zeros, and then its items are set
 abbrev pub initialised_at : Place → ℕ → Plan Content → Plan program.Statements
-initialised_at p k m = does (λ s x. (with_type k x.type_id s, program.Initialise p (frame_offset (slice_get s.storages k)) (layout_at s x.type_id).size x.items program.Done)) m
+initialised_at p k m = does (λ s x. (with_type k x.type_id s, program.Initialise p (offset_of_local s k) (layout_at s x.type_id).size x.items program.Done)) m
 
 -- a scalar without an initialiser begins as 0, an aggregate as anything
 abbrev pub begin_local : Place → ℕ → Plan program.Statements
@@ -135,7 +144,8 @@ begin_local p k = looks (λ s. if is_scalar (shape_of s (type_of_local s k)) the
 
 abbrev pub plan_given : Place → ℕ → Initialiser → Bool → Plan program.Statements
 plan_given p k x true = plan_scalar p k x
-plan_given p k x false = chain int_id (looks (λ s. type_of_local s k)) (λ t. initialised_at p k (plan_content p t x))
+plan_given p k x false =
+    chain int_id (looks (λ s. type_of_local s k)) (λ t. chain 0 (looks (λ s. offset_of_local s k)) (λ o. initialised_at p k (plan_content p o t x)))
 
 abbrev pub plan_local : Place → Option (Place × Initialiser) → Option ℕ → Plan program.Statements
 plan_local p None None = pure program.Done

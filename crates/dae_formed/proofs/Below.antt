@@ -8,7 +8,7 @@ use Rattle.dae_program.specs.Lawful.{Bounds, is_sound, is_sound_target, are_soun
 use Rattle.dae_program.specs.Trees as tree
 use Rattle.dae_program.specs.Trees.{Expression, Target, Expressions, Setting, Statements, Arms}
 use Rattle.dae_formed.specs.Formed.{below}
-use Rattle.dae_formed.specs.SetFirst.{both, with_target, set_behind, set_behind_target, set_behind_all, set_behind_some, is_old_set, reads_set, reads_set_target, all_read_set, some_reads_set, set_behind_items, items_read_set, set_behind_statements, statements_read_set, arms_read_set}
+use Rattle.dae_program.specs.SetFirst.{both, with_target, set_behind, set_behind_target, set_behind_all, set_behind_some, is_old_set, reads_set, reads_set_target, all_read_set, some_reads_set, set_behind_items, items_read_set, set_behind_statements, statements_read_set, arms_read_set}
 use Rattle.dae_formed.proofs.Good.{and_true, set_on, within_both}
 use Rattle.dae_formed.proofs.Expressions.{first, second}
 

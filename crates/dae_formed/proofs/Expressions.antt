@@ -27,7 +27,7 @@ use Rattle.dae_program.specs.Lawful.{Bounds, is_sound, is_sound_target, are_soun
 use Rattle.dae_program.specs.Trees as tree
 use Rattle.dae_program.specs.Trees.{Expression, Target, Expressions}
 use Rattle.dae_lower.specs.Lowering.{Made, ◌≫◌, nothing, only, emit, skip, one, set, or, assigned, assigned_all, assigned_target, fetched, held, put_in, operated, narrowed, Spot, Local, Placed, test_of, related, turn, branches, gives, Ways, by_value, chosen, advanced, stepped, Links, ways, spot, operands}
-use Rattle.dae_formed.specs.SetFirst.{both, with_target, set_behind, set_behind_target, set_behind_all, is_old_set, reads_set, reads_set_target, all_read_set}
+use Rattle.dae_program.specs.SetFirst.{both, with_target, set_behind, set_behind_target, set_behind_all, is_old_set, reads_set, reads_set_target, all_read_set}
 use Rattle.dae_formed.proofs.Good.{and_true, set_here, set_on, within_set}
 use Rattle.dae_formed.proofs.Makes.{Fits, OperandFits, SpotFits, AllFit, Anything, operand_still, spot_still, all_still, all_in, all_read, test_fits, related_fits, number_fits, new_fits, IsOld, with_spot, Makes, chain, weaker, sooner, nothing_makes, set_makes, item_makes, variable_makes, fetched_makes, held_makes, put_makes, operated_makes, narrowed_makes, gives_makes, branches_make, WaysMake, AsValue, value_effect, value_condition, by_value_makes}
 

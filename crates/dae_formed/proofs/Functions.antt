@@ -18,7 +18,7 @@ use Rattle.dae_program.specs.Lawful.{Bounds, is_sound_slot, are_sound_statements
 use Rattle.dae_program.specs.Trees as tree
 use Rattle.dae_lower.specs.Lowering.{Made, ◌⨾◌, ◌≫◌, emit, one, checks, is_closed, closed, parameters_stored, statements, function_code}
 use Rattle.dae_formed.specs.Bytes.{PrintBytes}
-use Rattle.dae_formed.specs.SetFirst.{statements_read_set, set_behind_statements}
+use Rattle.dae_program.specs.SetFirst.{statements_read_set, set_behind_statements}
 use Rattle.dae_formed.specs.Formed.{below, form_variables}
 use Rattle.dae_formed.proofs.Good.{set_here, set_on, IsGood, good_then}
 use Rattle.dae_formed.proofs.Makes.{Anything, Makes, chain, nothing_makes}

@@ -21,7 +21,7 @@ use Rattle.dae_ir.specs.declared.form.Test.{Test}
 use Rattle.dae_ir.specs.declared.form.Value.{Value}
 use Rattle.dae_ir.specs.declared.form.Value.TheVariants.{Same, Extended, Binary, Holds, FrameAddress}
 use Rattle.dae_lower.specs.Lowering.{◌⨾◌}
-use Rattle.dae_formed.specs.SetFirst.{both}
+use Rattle.dae_program.specs.SetFirst.{both}
 
 -- ---- sets
 

@@ -1,3 +1,4 @@
+mod Printing
 mod Good
 mod Makes
 mod Expressions

@@ -24,7 +24,7 @@ use Rattle.dae_meaning.specs.declared.Comparison.{Comparison}
 use Rattle.dae_meaning.specs.declared.Comparison.TheVariants.{NotEqual}
 use Rattle.dae_lower.specs.Lowering.{Made, ◌≫◌, nothing, emit, skip, one, set, variable, fetched, held, put_in, operated, narrowed, checks, may_be_zero, Spot, Local, Placed, Condition, test_of, related, isnt_zero, branches, gives, Ways, by_value}
 use Rattle.dae_program.specs.Expressions.{divides}
-use Rattle.dae_formed.specs.SetFirst.{both}
+use Rattle.dae_program.specs.SetFirst.{both}
 use Rattle.dae_formed.proofs.Good.{and_true, set_here, set_on, assured_grows, assured_then, within_set, IsGood, IsGoodItem, good_then, good_wider, operand_wider, value_wider}
 
 -- ---- what is given, where variables are below n and those of d are set

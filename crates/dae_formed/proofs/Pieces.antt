@@ -14,7 +14,7 @@ use Rattle.dae_program.specs.declared.statements.Piece.{Piece}
 use Rattle.dae_program.specs.declared.statements.Piece.TheVariants as piece
 use Rattle.dae_lower.specs.Lowering.{Made, emit, loop, text_loop, prints, zeros}
 use Rattle.dae_formed.specs.Bytes.{IsByte}
-use Rattle.dae_formed.specs.SetFirst.{both}
+use Rattle.dae_program.specs.SetFirst.{both}
 use Rattle.dae_formed.proofs.Good.{and_true, set_here, set_on, good_wider, operand_wider}
 use Rattle.dae_formed.proofs.Makes.{OperandFits, AllFit, Anything, all_still, number_fits, Makes, chain, nothing_makes, item_makes}
 

@@ -12,12 +12,13 @@ use Rattle.dae_ir.specs.declared.form.Function.{Function as FormFunction}
 use Rattle.dae_ir.specs.declared.form.Ir.{Ir}
 use Rattle.dae_program.specs.declared.program.Function.{Function}
 use Rattle.dae_program.specs.declared.program.Program.{Program}
-use Rattle.dae_program.specs.Lawful.{is_lawful, is_lawful_memory, is_lawful_body, is_lawful_in, is_main, parameter_count, spares, takes}
+use Rattle.dae_program.specs.Lawful.{is_well_placed, is_ready, prints_bytes, is_lawful_memory, is_lawful_body, is_lawful_in, is_main, parameter_count, spares, takes}
 use Rattle.dae_lower.specs.Lowering.{function_code}
 use Rattle.dae_lower.specs.Keeping.{FormsClose}
 use Rattle.dae_formed.specs.Bytes.{PrintBytes}
-use Rattle.dae_formed.specs.SetFirst.{is_set_first, statements_read_set}
+use Rattle.dae_program.specs.SetFirst.{is_set_first, statements_read_set}
 use Rattle.dae_formed.specs.Formed.{form_variables, plain, IsFunctionFormOf, AreFormsOf, IsLowered, FormsScoped, below, MadeSetFirst, FormsSetFirst}
+use Rattle.dae_formed.proofs.Printing.{print_bytes}
 use Rattle.dae_formed.proofs.Good.{IsGood, good_names, good_first, good_stays, good_never_returns, same_number}
 use Rattle.dae_formed.proofs.Expressions.{first, second, equal, FindsFunctions}
 use Rattle.dae_formed.proofs.Functions.{HoldsParameters, bounds_of, few_parameters, function_good, no_fewer, holds_below, reads_below, holds_parameters}
@@ -69,14 +70,19 @@ module _ (p : Program) where
   function_there k (x ∷ fs) (y ∷ gs) a (suc j) g e = let h = function_there (k + 1) fs gs a.1 j g e in (h.0, h.1, next_number k j h.0 g h.2)
 
 module _ (p : Program) (ir : Ir) (low : IsLowered p ir) where
-  lawful : is_lawful p.memory p.frames p.content p.links p.functions p.main ≡ true
-  lawful = low.lawful
+  placed : is_well_placed p.memory p.frames p.content p.links p.functions p.main ≡ true
+  placed = first _ (list_all (is_ready p.links p.functions) p.functions) low.lawful
 
   main_is : is_main p.memory p.links p.functions (slice_get p.functions p.main) ≡ true
-  main_is = second (is_lawful_memory p.memory p.frames (length p.content)) _ (first _ (list_all (spares p.main) p.links && list_all (is_lawful_in p.memory p.links p.functions true) p.functions) low.lawful)
+  main_is = second (is_lawful_memory p.memory p.frames (length p.content)) _ (first _ (list_all (spares p.main) p.links && list_all (is_lawful_in p.memory p.links p.functions true) p.functions) placed)
 
   all_lawful : list_all (is_lawful_in p.memory p.links p.functions true) p.functions ≡ true
-  all_lawful = second (list_all (spares p.main) p.links) _ (second (is_lawful_memory p.memory p.frames (length p.content) && is_main p.memory p.links p.functions (slice_get p.functions p.main)) _ low.lawful)
+  all_lawful = second (list_all (spares p.main) p.links) _ (second (is_lawful_memory p.memory p.frames (length p.content) && is_main p.memory p.links p.functions (slice_get p.functions p.main)) _ placed)
+
+  ready_at : (k : ℕ) (f : Function) → slice_get p.functions k ≡ Some f → is_ready p.links p.functions f ≡ true
+  ready_at k f e =
+      at (is_ready p.links p.functions) p.functions k f
+      (second (is_well_placed p.memory p.frames p.content p.links p.functions p.main) (list_all (is_ready p.links p.functions) p.functions) low.lawful) e
 
   abbrev pub counts : Function → ℕ → Option ℕ
   counts f k = parameter_count (slice_get p.functions (let g = plain p f in g.callee k))
@@ -96,7 +102,10 @@ module _ (p : Program) (ir : Ir) (low : IsLowered p ir) where
   forms = let g = low.form in g.functions
 
   bytes_at : (k : ℕ) (f : Function) → slice_get p.functions k ≡ Some f → PrintBytes (let g = plain p f in g.body)
-  bytes_at k f e = each_at (λ (f : Function). PrintBytes (let g = plain p f in g.body)) p.functions k f low.bytes e
+  bytes_at k f e = let g = plain p f in print_bytes g.body (second (is_set_first g) (prints_bytes g.body) (ready_at k f e))
+
+  first_at : (k : ℕ) (f : Function) → slice_get p.functions k ≡ Some f → is_set_first (plain p f) ≡ true
+  first_at k f e = let g = plain p f in first (is_set_first g) (prints_bytes g.body) (ready_at k f e)
 
   -- a call finds its function
   finds : (f : Function) → FindsFunctions ir.functions (bounds_of p.memory f.variables (counts f) (plain p f)) (record { address = (plain p f).address; callee = (plain p f).callee })
@@ -176,18 +185,17 @@ module _ (p : Program) (ir : Ir) (low : IsLowered p ir) where
       (subst (λ (c : Form). IsSetFirst form_flow (below f.variables) c) (sym form.body)
       (good_first ir.functions false (not (nat_eq k p.main)) (form_variables f.place (plain p f) f.variables) (function_code f.place (nat_eq k p.main) (plain p f) f.variables) (below f.variables) (below_good k f e)))
 
-  module _ (sets : AllByRecursion (λ (f : Function). is_set_first (plain p f) ≡ true) p.functions) where
-    function_first : (k : ℕ) (g : FormFunction) → slice_get ir.functions k ≡ Some g → IsFunctionSetFirst g
-    function_first k g e =
-        let found = function_there p 0 p.functions ir.functions forms k g e in
-        let f = found.0 in
-        let form = number_is k f g found.2 in
-        let d = parameters_set (length f.parameters) in
-        let good = good_at k f found.1 d (holds_parameters ir.functions p.memory f.variables (counts f) (nat_eq k p.main) (plain p f) (lawful_at k f found.1) (finds f) (bytes_at k f found.1) f.place)
-        (each_at (λ (f : Function). is_set_first (plain p f) ≡ true) p.functions k f sets found.1) in
-        subst (λ (n : ℕ). IsSetFirst form_flow (parameters_set n) (form_of g.body)) (sym form.parameters)
-        (subst (λ (c : Form). IsSetFirst form_flow d c) (sym form.body)
-        (good_first ir.functions false (not (nat_eq k p.main)) (form_variables f.place (plain p f) f.variables) (function_code f.place (nat_eq k p.main) (plain p f) f.variables) d good))
+  function_first : (k : ℕ) (g : FormFunction) → slice_get ir.functions k ≡ Some g → IsFunctionSetFirst g
+  function_first k g e =
+      let found = function_there p 0 p.functions ir.functions forms k g e in
+      let f = found.0 in
+      let form = number_is k f g found.2 in
+      let d = parameters_set (length f.parameters) in
+      let good = good_at k f found.1 d (holds_parameters ir.functions p.memory f.variables (counts f) (nat_eq k p.main) (plain p f) (lawful_at k f found.1) (finds f) (bytes_at k f found.1) f.place)
+      (first_at k f found.1) in
+      subst (λ (n : ℕ). IsSetFirst form_flow (parameters_set n) (form_of g.body)) (sym form.parameters)
+      (subst (λ (c : Form). IsSetFirst form_flow d c) (sym form.body)
+      (good_first ir.functions false (not (nat_eq k p.main)) (form_variables f.place (plain p f) f.variables) (function_code f.place (nat_eq k p.main) (plain p f) f.variables) d good))
 
 pub forms_scoped : FormsClose → FormsScoped
 forms_scoped close p ir low = is_scoped p ir low close
@@ -196,4 +204,4 @@ pub made_set_first : MadeSetFirst
 made_set_first p ir low = made_first p ir low
 
 pub forms_set_first : FormsSetFirst
-forms_set_first p ir low sets = by_index IsFunctionSetFirst ir.functions (function_first p ir low sets)
+forms_set_first p ir low = by_index IsFunctionSetFirst ir.functions (function_first p ir low)

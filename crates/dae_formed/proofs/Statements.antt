@@ -16,7 +16,7 @@ use Rattle.dae_program.specs.Trees as tree
 use Rattle.dae_program.specs.Trees.{Expression, Setting, Statements, Arms}
 use Rattle.dae_lower.specs.Lowering.{Made, ◌≫◌, emit, one, nowhere, test_of, Links, leave_unless, leave_unless_some, effect_of_some, prints, settings, continues, arms_continue, search, switch, statements, arms_from}
 use Rattle.dae_formed.specs.Bytes.{PrintBytes, ArmsPrintBytes}
-use Rattle.dae_formed.specs.SetFirst.{both, set_behind, set_behind_all, set_behind_some, reads_set, some_reads_set, set_behind_items, items_read_set, set_behind_statements, statements_read_set, arms_read_set}
+use Rattle.dae_program.specs.SetFirst.{both, set_behind, set_behind_all, set_behind_some, reads_set, some_reads_set, set_behind_items, items_read_set, set_behind_statements, statements_read_set, arms_read_set}
 use Rattle.dae_formed.proofs.Good.{and_true, set_here, set_on, assured_grows}
 use Rattle.dae_formed.proofs.Makes.{OperandFits, Anything, operand_still, Makes, chain, weaker, sooner, nothing_makes, item_makes, branches_make}
 use Rattle.dae_formed.proofs.Expressions.{first, second, below, FindsFunctions, expression_makes, operands_make}

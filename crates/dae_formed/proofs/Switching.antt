@@ -14,7 +14,7 @@ use Rattle.dae_program.specs.Switches.{arm_with, count_arms, has_label}
 use Rattle.dae_program.specs.Trees as tree
 use Rattle.dae_program.specs.Trees.{Arms}
 use Rattle.dae_lower.specs.Lowering.{Made, ◌⨾◌, emit, one, search_labels, search, switch}
-use Rattle.dae_formed.specs.SetFirst.{both}
+use Rattle.dae_program.specs.SetFirst.{both}
 use Rattle.dae_formed.proofs.Good.{and_true, set_here, set_on, assured_grows, IsGood, good_then}
 use Rattle.dae_formed.proofs.Makes.{OperandFits, Anything, operand_still, Makes}
 use Rattle.dae_formed.proofs.Expressions.{first, second, below}

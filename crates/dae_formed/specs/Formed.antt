@@ -14,8 +14,6 @@ use Rattle.dae_program.specs.Lawful.{is_lawful}
 use Rattle.dae_program.specs.Resolved.{function_in}
 use Rattle.dae_program.specs.Trees as tree
 use Rattle.dae_lower.specs.Lowering.{◌≫◌, parameters_stored, statements, function_code}
-use Rattle.dae_formed.specs.Bytes.{PrintBytes}
-use Rattle.dae_formed.specs.SetFirst.{is_set_first}
 
 -- ---- the form of a program in memory
 
@@ -53,7 +51,6 @@ pub record IsFormOf (p : Program) (ir : Ir) : Type 0 where
 -- a form of a program that the type of programs allows
 pub record IsLowered (p : Program) (ir : Ir) : Type 0 where
   pub lawful : is_lawful p.memory p.frames p.content p.links p.functions p.main ≡ true
-  pub bytes : AllByRecursion (λ (f : Function). PrintBytes (let g = plain p f in g.body)) p.functions
   pub form : IsFormOf p ir
 
 -- ---- what is true of it
@@ -74,8 +71,6 @@ MadeSetFirst =
     (p : Program) (ir : Ir) → IsLowered p ir → (k : ℕ) (f : Function) (g : FormFunction) → slice_get p.functions k ≡ Some f →
     slice_get ir.functions k ≡ Some g → IsSetFirst form_flow (below f.variables) (form_of g.body)
 
--- Where the functions of a program set each variable before they read it, so do those of its form.
+-- The functions of a form set each variable before they read it.
 abbrev pub FormsSetFirst : Type 0
-FormsSetFirst =
-    (p : Program) (ir : Ir) → IsLowered p ir → AllByRecursion (λ (f : Function). is_set_first (plain p f) ≡ true) p.functions →
-    AllByRecursion IsFunctionSetFirst ir.functions
+FormsSetFirst = (p : Program) (ir : Ir) → IsLowered p ir → AllByRecursion IsFunctionSetFirst ir.functions

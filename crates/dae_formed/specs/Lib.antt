@@ -1,4 +1,3 @@
-pub mod SetFirst
 pub mod Bytes
 pub mod Formed
 pub mod Order

@@ -17,7 +17,7 @@ pub fn made_set_first()
     ensures { MadeSetFirst }
 {}
 
-/// Where a program sets each variable before it reads it, so does its form.
+/// The form of a lawful program sets each variable before it reads it.
 pub fn forms_set_first()
     ensures { FormsSetFirst }
 {}

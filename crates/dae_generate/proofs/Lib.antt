@@ -1,1 +1,5 @@
 mod Fitting
+mod Names
+mod Own
+mod Private
+mod Calls

@@ -1,6 +1,5 @@
 -- The laws of the machine and of the trees that it reads, for the proofs of the crates above.
 use Rattle.std.proofs.Common.{◌≡◌, ℕ, suc, ◌+◌, ◌*◌, ◌<◌, ◌≤◌, List, [], ◌∷◌, ◌++◌, length, Some, None, refl}
-use Rattle.dae_base.specs.declared.Place.{Place}
 use Rattle.dae_tree.specs.Depth.{first_deeper, nodes_file}
 use Rattle.dae_tree.specs.Marks.{Mark}
 use Rattle.dae_tree.specs.Names.{Names}
@@ -13,6 +12,8 @@ use Rattle.dae_grammar.specs.Measure.{measure}
 use Rattle.dae_grammar.specs.Runs.{run}
 use Rattle.dae_grammar.specs.Standing.{Holds}
 use Rattle.dae_grammar.specs.Taken.{tokens_of}
+use Rattle.dae_grammar.specs.Stuck.{rest_of, stuck}
+use Rattle.dae_grammar.proofs.Local as local
 use Rattle.dae_grammar.proofs.Runs as runs
 use Rattle.dae_grammar.proofs.FirstPlaces as firsts
 use Rattle.dae_grammar.proofs.Lengths.{adds_external}
@@ -38,6 +39,15 @@ unique = runs.unique
 pub stopped : (tokens : List Mark) (turns : ℕ) (s : State) → run turns (begun tokens) ≡ s → step s ≡ None → (file : List External) → IsTreeOf tokens file
     → (names : Names) × (s ≡ ended (onto file []) names)
 stopped = runs.stopped
+
+-- where the machine is stuck at a token, no file begins with the tokens up to it
+pub nothing_goes_on : (before : List Mark) (t : Mark) (rest : List Mark) (turns : ℕ) → step (run turns (begun (before ++ t ∷ rest))) ≡ None → stuck (run turns (begun (before ++ t ∷ rest))) ≡ t ∷ rest
+    → (more : List Mark) (file : List External) → IsTreeOf (before ++ t ∷ more) file → ⊥
+nothing_goes_on = local.nothing_goes_on
+
+-- what is left is the end of the tokens
+pub run_left : (turns : ℕ) (s : State) → (taken : List Mark) × (rest_of s ≡ taken ++ rest_of (run turns s))
+run_left = local.run_left
 
 -- runs are short
 pub bounded : (tokens : List Mark) (turns : ℕ) → 12 * length tokens + 9 ≤ turns → step (run turns (begun tokens)) ≡ None

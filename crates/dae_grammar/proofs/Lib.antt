@@ -15,4 +15,5 @@ mod FirstPlaces
 mod Lengths
 mod Adding
 mod Examples
+mod Local
 pub mod Laws

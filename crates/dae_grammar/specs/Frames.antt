@@ -11,7 +11,7 @@ use Rattle.dae_tree.specs.Names.{Names}
 use Rattle.dae_tree.specs.declared.seen.Seen.{Seen}
 use Rattle.dae_tree.specs.Grammar.{Manner}
 use Rattle.dae_tree.specs.Lists.{MemberLine, Entry, Parameter}
-use Rattle.dae_tree.specs.Trees.{Expression, Specifiers, Specifier, Declarators, Declarator, Initialiser, Item, Declaration, Statement, External}
+use Rattle.dae_tree.specs.Trees.{Expression, Specifiers, Specifier, Declarator, Initialiser, Item, Declaration, Statement, External}
 
 -- the body of a structure or enumeration: its first word, tag and brace, and the specifiers before it, the last first
 pub record Body : Type 0 where

@@ -8,3 +8,4 @@ pub mod Taken
 pub mod Standing
 pub mod Measure
 pub mod FirstPlaces
+pub mod Stuck

@@ -3,7 +3,7 @@
 // of tokens. Nothing here runs; the code of the machine stands above.
 #![tactic(auto)]
 
-ghost use Rattle.std.specs.Prelude.{◌≡◌, ℕ, suc, ◌+◌, ◌*◌, ◌<◌, ◌≤◌, ◌++◌, List, [], Some, None, length};
+ghost use Rattle.std.specs.Prelude.{◌≡◌, ℕ, suc, ◌+◌, ◌*◌, ◌<◌, ◌≤◌, ◌++◌, List, [], ◌∷◌, Some, None, length};
 ghost use Rattle.dae_tree.specs.Depth.{first_deeper, nodes_file};
 ghost use Rattle.dae_tree.specs.Marks.{Mark};
 ghost use Rattle.dae_tree.specs.Names.{Names, after_parameters};
@@ -15,6 +15,7 @@ ghost use Rattle.dae_grammar.specs.Machine.{begun, ended, onto, step};
 ghost use Rattle.dae_grammar.specs.Measure.{measure};
 ghost use Rattle.dae_grammar.specs.Runs.{run};
 ghost use Rattle.dae_grammar.specs.Standing.{Holds};
+ghost use Rattle.dae_grammar.specs.Stuck.{stuck};
 ghost use Rattle.dae_grammar.specs.Taken.{tokens_of};
 
 /// Each tree of the grammar is read from the tokens that it spells.
@@ -71,4 +72,9 @@ pub fn parameters_add_names()
 /// Where the machine can step behind a run, the run one longer comes to where that step does.
 pub fn runs_go_on()
     ensures { (tokens : List Mark) (turns : ℕ) (t : State) → step (run turns (begun tokens)) ≡ Some t → run (suc turns) (begun tokens) ≡ t }
+{}
+
+/// Where the machine is stuck at a token, no file begins with the tokens up to it.
+pub fn nothing_goes_on()
+    ensures { (before : List Mark) (t : Mark) (rest : List Mark) (turns : ℕ) → step (run turns (begun (before ++ t ∷ rest))) ≡ None → stuck (run turns (begun (before ++ t ∷ rest))) ≡ t ∷ rest → (more : List Mark) (file : List External) → ¬ IsTreeOf (before ++ t ∷ more) file }
 {}

@@ -19,6 +19,10 @@ fetch_of name = Some (Fetch name)
 abbrev pub keep_of : List ℕ → Option ShelfFault
 keep_of name = Some (Keep name)
 
+-- a count of faults went up, and the last fault is the fetch of this name
+abbrev pub FetchFailed : ℕ → ℕ → Option ShelfFault → List ℕ → Type 0
+FetchFailed old new last name = Rose old new × (last ≡ fetch_of name)
+
 -- ---- how the logic stores a fault: as a number and a name
 
 abbrev to_parts : ShelfFault → ℕ × List ℕ

@@ -6,10 +6,15 @@ use Rattle.std.specs.String.{string_capacity}
 use Rattle.std.specs.Vec.{vec_capacity}
 use Rattle.dae_io.specs.declared.memory_shelf.HeldText.{HeldText}
 use Rattle.dae_io.specs.declared.memory_shelf.MemShelf.{MemShelf}
+use Rattle.dae_io.specs.Told.{TellsSameOfOthers}
 
 -- the last text under a name
 abbrev pub last_text : List HeldText → List ℕ → Option (List ℕ)
 last_text texts name = option_map (λ held. held.text.items) (find (λ held. bytes_eq (string_bytes held.name) name) (reverse texts))
+
+-- under every name but one the last text stays
+abbrev pub KeepsOthers : List ℕ → List HeldText → List HeldText → Type 0
+KeepsOthers name old new = TellsSameOfOthers name (last_text old) (last_text new)
 
 -- a name and a text of so many bytes fit into this room
 abbrev pub Fits : HeldText → ℕ → ℕ → Type 0

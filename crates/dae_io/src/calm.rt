@@ -49,7 +49,8 @@ fn first_text<'t>(texts: &'t [NamedText<'t>], name: &str) -> &'t [u8]
 }
 
 impl<'t> Shelf for CalmShelf<'t> {
-    ghost told = { λ shelf name. if shelf.dropped then None else Some (first_text shelf.texts.now name) };
+    ghost told = { λ shelf name.
+        if shelf.dropped then None else Some (first_text shelf.texts.now name) };
 
     ghost count = { λ _. 0 };
 

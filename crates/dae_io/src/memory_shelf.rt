@@ -1,10 +1,10 @@
 // A shelf in memory. Its room for a keep is made before, stays until a keep uses it up, and is then no longer there.
-ghost use Rattle.std.specs.Prelude.{◌≡◌, ◌≢◌, ℕ, ◌+◌, ◌-◌, ◌^◌, ◌<◌, ◌≤◌, ◌⊎◌, ◌↔◌, min, [], length, take, vec_len, Some, None, IsSome, IsNone, IfOk, IsOk, OnOk, OnErr, IsErr, IsErrOf, IfSome, option_map, string_bytes, IsTrue};
+ghost use Rattle.std.specs.Prelude.{◌≡◌, ◌≢◌, ℕ, ◌+◌, ◌-◌, ◌^◌, ◌<◌, ◌≤◌, ◌⊎◌, ◌↔◌, min, [], length, vec_len, Some, None, IsSome, IsNone, IfOk, IsOk, OnOk, OnErr, IsErr, IsErrOf, IfSome, option_map, string_bytes, IsTrue};
 ghost use Rattle.std.specs.Vec.{vec_capacity};
 ghost use Rattle.dae_io.specs.Failing.{failing_at};
 ghost use Rattle.dae_io.specs.Faults.{Rose, fetch_of, keep_of};
-ghost use Rattle.dae_io.specs.Held.{last_text, Fits, HasRoom, KeepsRoom};
-ghost use Rattle.dae_io.specs.Told.{TellsSame, TellsSameOfOthers};
+ghost use Rattle.dae_io.specs.Held.{last_text, Fits, HasRoom, KeepsOthers, KeepsRoom};
+ghost use Rattle.dae_io.specs.Told.{IsFirst, TellsSame};
 
 use crate::failing::{FailingCall, failing_at};
 use crate::faults::Faults;
@@ -55,11 +55,13 @@ impl HeldText {
 
 // Appends a text. Where memory is wanting, all stays.
 fn add(texts: &mut Vec<HeldText>, held: HeldText) -> Result<(), AllocError>
-    ensures held { OnOk result (last_text texts.new.items (string_bytes held.name) ≡ Some held.text.items) }
-    ensures others { TellsSameOfOthers (string_bytes held.name) (last_text texts.old.items) (last_text texts.new.items) }
+    ensures held { OnOk result
+        (last_text texts.new.items (string_bytes held.name) ≡ Some held.text.items) }
+    ensures others { KeepsOthers (string_bytes held.name) texts.old.items texts.new.items }
     ensures err { OnErr result (texts.new.items ≡ texts.old.items) }
     ensures succeeds { vec_len texts.old < vec_capacity texts.old → IsOk result }
-    ensures place { vec_len texts.old + 1 < vec_capacity texts.old → vec_len texts.new < vec_capacity texts.new }
+    ensures place { vec_len texts.old + 1 < vec_capacity texts.old
+        → vec_len texts.new < vec_capacity texts.new }
 {
     texts.push(held)?;
     Ok(())
@@ -87,7 +89,7 @@ impl MemShelf {
     /// Puts a text under a name. Where memory is wanting, the shelf holds what it held. The room for a keep stays.
     pub fn hold(&mut self, alloc: Global, name: &str, text: &[u8]) -> Result<(), AllocError>
         ensures held { OnOk result (last_text self.new.texts.items name.now ≡ Some text.now) }
-        ensures others { TellsSameOfOthers name.now (last_text self.old.texts.items) (last_text self.new.texts.items) }
+        ensures others { KeepsOthers name.now self.old.texts.items self.new.texts.items }
         ensures err { OnErr result (self.new.texts.items ≡ self.old.texts.items) }
         ensures faults { self.new.faults ≡ self.old.faults }
         ensures calls { self.new.calls ≡ self.old.calls }
@@ -131,7 +133,7 @@ impl MemShelf {
     // Whether there was room to keep the text. The room is used up.
     fn store(&mut self, name: &str, text: &[u8]) -> bool
         ensures held { IsTrue result → last_text self.new.texts.items name.now ≡ Some text.now }
-        ensures others { TellsSameOfOthers name.now (last_text self.old.texts.items) (last_text self.new.texts.items) }
+        ensures others { KeepsOthers name.now self.old.texts.items self.new.texts.items }
         ensures faults { self.new.faults ≡ self.old.faults }
         ensures calls { self.new.calls ≡ self.old.calls }
         ensures failing { self.new.failing.items ≡ self.old.failing.items }
@@ -159,7 +161,7 @@ impl MemShelf {
     // Whether the text is kept. A listed call stores some first bytes of it.
     fn next_keep(&mut self, name: &str, bytes: &[u8]) -> bool
         ensures kept { IsTrue result → last_text self.new.texts.items name.now ≡ Some bytes.now }
-        ensures others { TellsSameOfOthers name.now (last_text self.old.texts.items) (last_text self.new.texts.items) }
+        ensures others { KeepsOthers name.now self.old.texts.items self.new.texts.items }
         ensures faults { self.new.faults ≡ self.old.faults }
         ensures calls { self.new.calls ≡ min (self.old.calls + 1) (2 ^ 64 - 1) }
         ensures failing { self.new.failing.items ≡ self.old.failing.items }
@@ -187,17 +189,21 @@ impl Shelf for MemShelf {
 
     /// Fails exactly where this call is listed or nothing is held under the name. The room for a keep stays.
     fn fetch(&mut self, alloc: Global, name: &str, most: u32) -> Result<Vec<u8>, FetchError>
-        ensures bytes { IfOk result (λ text. IfSome (last_text self.old.texts.items name.now) (λ held. text.items ≡ take most held)) }
+        ensures bytes { IfOk result (λ text.
+            IsFirst most (last_text self.old.texts.items name.now) text.items) }
         ensures short { IfOk result (λ text. length text.items ≤ most) }
         ensures held { TellsSame (last_text self.old.texts.items) (last_text self.new.texts.items) }
         ensures counted { self.old.faults.count ≤ self.new.faults.count }
         ensures no_fault { result ≢ Err FetchError.Failed → self.new.faults ≡ self.old.faults }
-        ensures rose { IsErrOf result FetchError.Failed → Rose self.old.faults.count self.new.faults.count }
-        ensures fault { IsErrOf result FetchError.Failed → self.new.faults.last.fault ≡ fetch_of name.now }
+        ensures rose { IsErrOf result FetchError.Failed
+            → Rose self.old.faults.count self.new.faults.count }
+        ensures fault { IsErrOf result FetchError.Failed
+            → self.new.faults.last.fault ≡ fetch_of name.now }
 
         ensures calls { self.new.calls ≡ min (self.old.calls + 1) (2 ^ 64 - 1) }
         ensures failing { self.new.failing.items ≡ self.old.failing.items }
-        ensures fails { IsErrOf result FetchError.Failed ↔ (IsSome (failing_at self.old.failing.items self.new.calls)
+        ensures fails { IsErrOf result FetchError.Failed
+            ↔ (IsSome (failing_at self.old.failing.items self.new.calls)
             ⊎ IsNone (last_text self.old.texts.items name.now)) }
         ensures room { KeepsRoom self.old self.new }
     {
@@ -216,7 +222,7 @@ impl Shelf for MemShelf {
     /// Fails where this call is listed, and else only where there is no room.
     fn keep(&mut self, name: &str, bytes: &[u8]) -> Result<(), KeepFailed>
         ensures kept { OnOk result (last_text self.new.texts.items name.now ≡ Some bytes.now) }
-        ensures held { TellsSameOfOthers name.now (last_text self.old.texts.items) (last_text self.new.texts.items) }
+        ensures held { KeepsOthers name.now self.old.texts.items self.new.texts.items }
         ensures counted { self.old.faults.count ≤ self.new.faults.count }
         ensures no_fault { OnOk result (self.new.faults ≡ self.old.faults) }
         ensures rose { OnErr result (Rose self.old.faults.count self.new.faults.count) }

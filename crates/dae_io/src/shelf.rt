@@ -1,7 +1,7 @@
 // Named texts: the trait of shelves, what each tells of its names and counts, and why its calls fail.
-ghost use Rattle.std.specs.Prelude.{◌≡◌, ◌≢◌, ℕ, ◌≤◌, ◌⊎◌, List, length, take, Option, Some, IfOk, OnOk, OnErr, IfSome, IsErrOf};
+ghost use Rattle.std.specs.Prelude.{◌≡◌, ◌≢◌, ℕ, ◌≤◌, ◌⊎◌, List, length, Option, Some, IfOk, OnOk, OnErr, IsErrOf};
 ghost use Rattle.dae_io.specs.Faults.{Rose, ShelfFault, fetch_of, keep_of};
-ghost use Rattle.dae_io.specs.Told.{IsSilent, TellsSame, TellsSameOfOthers};
+ghost use Rattle.dae_io.specs.Told.{IsFirst, IsSilent, TellsSame, TellsSameOfOthers};
 
 use std::alloc::{AllocError, Global};
 use thiserror::Error;
@@ -31,7 +31,7 @@ pub trait Shelf {
 
     /// The first `most` bytes of the text that a name holds, or all where it is shorter. What is held doesn't change.
     fn fetch(&mut self, alloc: Global, name: &str, most: u32) -> Result<Vec<u8>, FetchError>
-        ensures bytes { IfOk result (λ text. IfSome (told self.old name.now) (λ held. text.items ≡ take most held)) }
+        ensures bytes { IfOk result (λ text. IsFirst most (told self.old name.now) text.items) }
         ensures short { IfOk result (λ text. length text.items ≤ most) }
         ensures held { TellsSame (told self.old) (told self.new) }
         ensures counted { count self.old ≤ count self.new }
@@ -42,8 +42,10 @@ pub trait Shelf {
     /// Lets a name hold these bytes. Where that fails, the name may hold any bytes or none. What other names hold
     /// doesn't change. A shelf that doesn't tell what it keeps tells nothing from then on.
     fn keep(&mut self, name: &str, bytes: &[u8]) -> Result<(), KeepFailed>
-        ensures kept { OnOk result (IsSilent (told self.new) ⊎ (told self.new name.now ≡ Some bytes.now)) }
-        ensures held { IsSilent (told self.new) ⊎ TellsSameOfOthers name.now (told self.old) (told self.new) }
+        ensures kept { OnOk result
+            (IsSilent (told self.new) ⊎ (told self.new name.now ≡ Some bytes.now)) }
+        ensures held { IsSilent (told self.new)
+            ⊎ TellsSameOfOthers name.now (told self.old) (told self.new) }
         ensures counted { count self.old ≤ count self.new }
         ensures no_fault { OnOk result (last self.new ≡ last self.old) }
         ensures rose { OnErr result (Rose (count self.old) (count self.new)) }

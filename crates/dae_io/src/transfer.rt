@@ -1,7 +1,8 @@
 // The loops over a reader and a writer: the first bytes of a text, and a piece written whole.
-ghost use Rattle.std.specs.Prelude.{◌≡◌, ℕ, ◌≤◌, length, take, IfOk, OnOk, OnErr, IfSome};
+ghost use Rattle.std.specs.Prelude.{◌≡◌, ℕ, ◌≤◌, length, IfOk, OnOk, OnErr};
 ghost use Rattle.std.specs.Io.KnownBytes.{Appends};
 ghost use Rattle.dae_io.specs.Sinks.{AppendsPrefix};
+ghost use Rattle.dae_io.specs.Told.{IsFirst};
 
 use crate::shelf::FetchError;
 use crate::sink::SinkFailed;
@@ -18,7 +19,7 @@ pub(crate) fn read_most<R: Read>(
     most: usize,
 ) -> Result<Vec<u8>, FetchError>
     ensures short { IfOk result (λ text. length text.items ≤ most) }
-    ensures bytes { IfOk result (λ text. IfSome (R.remaining reader.old) (λ left. text.items ≡ take most left)) }
+    ensures bytes { IfOk result (λ text. IsFirst most (R.remaining reader.old) text.items) }
 {
     let mut text = Vec::new(alloc);
     let mut buffer = [0; 4096];
@@ -39,8 +40,10 @@ pub(crate) fn read_most<R: Read>(
 
 /// Writes all bytes, or fails after some first bytes of them, or none.
 pub(crate) fn write_whole<W: Write>(writer: &mut W, bytes: &[u8]) -> Result<(), SinkFailed>
-    ensures whole { OnOk result (Appends (W.contents writer.old) (W.contents writer.new) bytes.now) }
-    ensures prefix { OnErr result (AppendsPrefix (W.contents writer.old) (W.contents writer.new) bytes.now) }
+    ensures whole { OnOk result
+        (Appends (W.contents writer.old) (W.contents writer.new) bytes.now) }
+    ensures prefix { OnErr result
+        (AppendsPrefix (W.contents writer.old) (W.contents writer.new) bytes.now) }
 {
     let mut done = 0;
     for _ in 0..TURNS {

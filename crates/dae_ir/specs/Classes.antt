@@ -16,10 +16,7 @@ use Rattle.dae_ir.specs.declared.form.Check.TheVariants.{Place, Zero, Room, Fram
 use Rattle.dae_ir.specs.declared.form.Item.{Item}
 use Rattle.dae_ir.specs.declared.form.Item.TheVariants.{Assign, Load, Store, Print, Expect, Break, Continue, Call, Return, Halt}
 use Rattle.dae_ir.specs.declared.stream.Class.{Class}
-
--- a set of variables
-abbrev pub VariableSet : Type 0
-VariableSet = ℕ → Bool
+pub use Rattle.dae_meaning.specs.Variables.{VariableSet}
 
 -- of one function: s is what A needs, and needs what E does
 pub record Classes : Type 0 where

@@ -14,6 +14,7 @@ use Rattle.dae_ir.specs.declared.stream.Action.{Action}
 use Rattle.dae_ir.specs.declared.stream.Action.TheVariants.{Set, Issue, Own, Receive, Address, Datum, Offer, Accept, Emit, Probe, Tell, Hear, Stop, Break as Leave, Continue as Skip, Call as Enter, Return as Give}
 use Rattle.dae_ir.specs.declared.stream.Branch.{Branch}
 use Rattle.dae_ir.specs.declared.stream.Branch.TheVariants.{Silent, Tells, Hears}
+pub use Rattle.dae_meaning.specs.Variables.{with_set, all_set, parameters_set}
 
 -- which sets hold what an item or a test reads, and what is set behind an item, where the set was set before it
 pub record Flow (L T : Type 0) : Type 1 where
@@ -35,12 +36,6 @@ IsSetFirst u d (Do mark item k) = u.Reads d item × IsSetFirst u (u.after d item
 IsSetFirst u d (If mark test p q k) =
     u.Tests d test × IsSetFirst u d p × IsSetFirst u d q × IsSetFirst u (λ v. assured u d p v && assured u d q v) k
 IsSetFirst u d (Loop mark body step k) = IsSetFirst u d body × IsSetFirst u d step × IsSetFirst u d k
-
-abbrev pub with_set : ℕ → VariableSet → VariableSet
-with_set v d u = nat_eq u v || d u
-
-abbrev pub all_set : VariableSet
-all_set v = true
 
 -- ---- forms
 
@@ -76,9 +71,6 @@ abbrev pub form_flow : Flow Item Test
 form_flow = record { Reads = ItemReads; Tests = λ d t. has_test d t ≡ true; after = after_item }
 
 -- the parameters are set at a function's entry
-abbrev pub parameters_set : ℕ → VariableSet
-parameters_set count v = nat_lt 0 v && nat_le v count
-
 abbrev pub IsFunctionSetFirst : Function → Type 0
 IsFunctionSetFirst function = IsSetFirst form_flow (parameters_set function.parameters) (form_of function.body)
 

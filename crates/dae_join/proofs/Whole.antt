@@ -11,12 +11,12 @@ use Rattle.dae_file_plans.specs.declared.declarations.Role.TheVariants.{Referenc
 use Rattle.dae_program.specs.declared.program.Function.{Function}
 use Rattle.dae_program.specs.declared.program.Links.{Links}
 use Rattle.dae_program.specs.Lawful as lawful
-use Rattle.dae_program.specs.Lawful.{is_lawful, is_lawful_body, is_lawful_in, is_lawful_memory, spares}
+use Rattle.dae_program.specs.Lawful.{is_lawful, is_lawful_body, is_lawful_in, is_lawful_memory, is_ready, is_well_placed, spares}
 use Rattle.dae_program.specs.Resolved.{address_in}
 use Rattle.dae_typed.specs.declared.files.FileParts.{FileParts}
 use Rattle.dae_typed.specs.declared.files.TypedFunction.{TypedFunction}
 use Rattle.dae_typed.specs.Linkage.{is_reference, same_name}
-use Rattle.dae_typed.specs.Sound.{tables_of, is_called_main, is_sound_function, function_at, IsSound}
+use Rattle.dae_typed.specs.Sound.{tables_of, is_called_main, is_sound_function, is_ready_function, function_at, IsSound}
 use Rattle.dae_unit.specs.declared.joining.ProgramParts.{ProgramParts}
 use Rattle.dae_unit.specs.declared.rows.FileRow.{FileRow}
 use Rattle.dae_unit.specs.Linkage.{entity_of, is_definition, external_name, rows_of}
@@ -92,6 +92,20 @@ module _ (files : List FileParts) (memory : ℕ) (sounds : AllByRecursion IsSoun
   functions_pass (b ∷ bs) [] p = absurd p
   functions_pass (b ∷ bs) (f ∷ fs) p = and_from (is_lawful_in memory its_links its_functions true f) (list_all (is_lawful_in memory its_links its_functions true) fs) (function_passes b f p.0) (functions_pass bs fs p.1)
 
+  -- ---- each variable is set before it is read
+
+  function_ready : (b : FileRow) (f : Function) → IsBody files b f → is_ready its_links its_functions f ≡ true
+  function_ready b f body =
+      let sg = file_sound files body.file body.parts sounds body.there in
+      let one : is_ready_function body.typed ≡ true = passes_among is_ready_function body.typed (let g = body.parts in g.functions) sg.ready body.among in
+      subst (λ z. is_ready its_links its_functions z ≡ true) (sym body.function) one
+
+  functions_ready : (bs : List FileRow) (fs : List Function) → ArePaired files bs fs → list_all (is_ready its_links its_functions) fs ≡ true
+  functions_ready [] [] p = refl
+  functions_ready [] (f ∷ fs) p = absurd p
+  functions_ready (b ∷ bs) [] p = absurd p
+  functions_ready (b ∷ bs) (f ∷ fs) p = and_from (is_ready its_links its_functions f) (list_all (is_ready its_links its_functions) fs) (function_ready b f p.0) (functions_ready bs fs p.1)
+
   -- ---- main
 
   has_main : list_any (is_main files) (bodies_of files) ≡ true
@@ -139,8 +153,8 @@ module _ (files : List FileParts) (memory : ℕ) (sounds : AllByRecursion IsSoun
       let low : 16 ≤ end_from 16 (objects_rooms files (placed_in files)) = end_behind 16 (objects_rooms files (placed_in files)) (objects_align files (rows_of files) (placed_in files) (rows_sound files sounds) (placed_give_room files (rows_of files))) (omega arith) in
       memory_by memory (frames_begin files (rows_of files)) (length (content_of files its_links (objects_end files))) end.2 (omega arith) no.fits small
 
-  pub passes : is_lawful memory (frames_begin files (rows_of files)) (content_of files its_links (objects_end files)) its_links its_functions (main_from files 0 (bodies_of files)) ≡ true
-  passes =
+  well_placed : is_well_placed memory (frames_begin files (rows_of files)) (content_of files its_links (objects_end files)) its_links its_functions (main_from files 0 (bodies_of files)) ≡ true
+  well_placed =
       and_from
       (is_lawful_memory memory (frames_begin files (rows_of files)) (length (content_of files its_links (objects_end files))) && lawful.is_main memory its_links its_functions (slice_get its_functions (main_from files 0 (bodies_of files))))
       (list_all (spares (main_from files 0 (bodies_of files))) its_links && list_all (is_lawful_in memory its_links its_functions true) its_functions)
@@ -148,6 +162,11 @@ module _ (files : List FileParts) (memory : ℕ) (sounds : AllByRecursion IsSoun
       (and_from (list_all (spares (main_from files 0 (bodies_of files))) its_links) (list_all (is_lawful_in memory its_links its_functions true) its_functions)
       (links_spare files (placed_in files) (bodies_of files) (places_in files) (main_from files 0 (bodies_of files)) (λ k e. number_spares files (bodies_of files) k e has_main))
       (functions_pass (bodies_of files) its_functions (paired files)))
+
+  pub passes : is_lawful memory (frames_begin files (rows_of files)) (content_of files its_links (objects_end files)) its_links its_functions (main_from files 0 (bodies_of files)) ≡ true
+  passes =
+      and_from (is_well_placed memory (frames_begin files (rows_of files)) (content_of files its_links (objects_end files)) its_links its_functions (main_from files 0 (bodies_of files)))
+      (list_all (is_ready its_links its_functions) its_functions) well_placed (functions_ready (bodies_of files) its_functions (paired files))
 
 pub joined_lawful : (files : List FileParts) (memory : ℕ) (p : ProgramParts) → AllByRecursion IsSound files → memory ≤ 2 ^ 26 → Joins files memory p → IsLawful memory p
 joined_lawful files memory p sounds small joins =

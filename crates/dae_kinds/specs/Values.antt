@@ -417,7 +417,7 @@ starred x (Some n) = typed x.tree n (category.At true) (based x.known)
 -- `&`, which says that a local object's address is taken
 abbrev pub marked : ℕ → Option Local → Tables → Tables
 marked n None s = s
-marked n (Some x) s = set_local n (record { type_id = x.type_id; taken = true }) s
+marked n (Some x) s = set_local n (record { type_id = x.type_id; taken = true; begins_zero = x.begins_zero }) s
 
 abbrev pub addressed : Typed → Tables → Tables × Typed
 addressed x s = (with_shape (shape.Pointer x.type_id) s, typed x.tree (length s.shapes) category.Plain x.known)

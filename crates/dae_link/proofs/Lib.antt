@@ -1,3 +1,4 @@
 mod Made
 mod Fitting
 mod Exact
+mod Marking

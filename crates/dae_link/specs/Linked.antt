@@ -84,6 +84,11 @@ pub record HasPrivateWithin (pair : Pair) (image : Image) : Type 0 where
 abbrev pub HasTooDeep : Pair → Type 0
 HasTooDeep pair = IsTooDeep pair.a ⊎ IsTooDeep pair.e
 
+-- neither code is longer than what bounds it
+pub record HasShortCode (pair : Pair) (image : Image) : Type 0 where
+  pub a : length image.code_a ≤ most_words pair.a
+  pub e : length image.code_e ≤ most_words pair.e
+
 -- what bounds one of the codes is more than a code may have
 abbrev pub IsTooLong : Pair → Type 0
 IsTooLong pair = (2 ^ 25 < most_words pair.a) ⊎ (2 ^ 25 < most_words pair.e)

@@ -2,8 +2,9 @@
 
 ghost use Rattle.std.specs.Prelude.{◌≡◌, IfOk, IfErr};
 ghost use Rattle.dae_sides.specs.declared.error.CodeError.TheVariants as errors;
-ghost use Rattle.dae_link.specs.Linked.{CanLink, HasExactBudget, HasGiven, HasPrivateWithin, HasTooDeep, IsCompiled, IsFaithful, IsTooLong};
+ghost use Rattle.dae_link.specs.Linked.{CanLink, HasExactBudget, HasGiven, HasPrivateWithin, HasShortCode, HasTooDeep, IsCompiled, IsFaithful, IsTooLong};
 
+use crate::marks::{MarkRoom, marks_of};
 use dae_base::{Depths, Items, Text};
 use dae_faithful::made_does_form;
 use dae_image::Image;
@@ -12,9 +13,10 @@ use dae_sides::{CodeError, side_code};
 use dae_uses::pair_uses;
 use std::alloc::Global;
 
-/// The image of a pair: its two codes and its budget with the data and the names of the files. Of the form that the pair was
-/// split from it does what the form does, whatever the order of steps. A code is too long only where what bounds it is, and
-/// a private memory too large only where frames for all variables are.
+/// The image of a pair: its two codes and its budget with the data, the names of the files, and marks of the words at which
+/// an action of another line begins. Of the form that the pair was split from it does what the form does, whatever the order
+/// of steps. A code is too long only where what bounds it is, and a private memory too large only where frames for all
+/// variables are.
 pub fn link(
     alloc: Global,
     pair: &Pair,
@@ -27,6 +29,7 @@ pub fn link(
     ensures compiled { IfOk result (λ image. IsCompiled pair.now budget image) }
     ensures does { IfOk result (λ image. IsFaithful pair.now budget image) }
     ensures exact { IfOk result (λ image. HasExactBudget pair.now budget image) }
+    ensures short { IfOk result (λ image. HasShortCode pair.now image) }
     ensures private { IfOk result (λ image. HasPrivateWithin pair.now image) }
     ensures err { IfErr result (λ e. e ≡ errors.Code → IsTooLong pair.now) }
     ensures deep { IfErr result (λ e. e ≡ errors.Private → HasTooDeep pair.now) }
@@ -35,6 +38,12 @@ pub fn link(
     pair_uses();
     let a = side_code(alloc, &pair.a)?;
     let e = side_code(alloc, &pair.e)?;
+    let room = MarkRoom {
+        words_a: a.words.len(),
+        words_e: e.words.len(),
+        files: names.len(),
+    };
+    let lines = marks_of(alloc, room, a.places.as_slice(), e.places.as_slice())?;
     Ok(Image {
         budget,
         memory: pair.a.memory,
@@ -46,7 +55,7 @@ pub fn link(
         code_a: a.words,
         code_e: e.words,
         content,
-        lines: Items::new(alloc),
+        lines: Items::from_vec(lines),
         names,
     })
 }

@@ -15,7 +15,7 @@ use Rattle.dae_encode.specs.Processor.{Processor, After, request, finish}
 use Rattle.dae_core.specs.declared.CoreAnswer.{CoreAnswer}
 use Rattle.dae_core.specs.declared.CoreAnswer.TheVariants.{Did, Waits, Halted as IsHalted, Faulted}
 use Rattle.dae_core.specs.Held.{HeldQueues}
-use Rattle.dae_core.specs.Moves.{answered_by, finished, given_by, granted_by, unprinted, waits, Tells}
+use Rattle.dae_core.specs.Moves.{answered_by, finished, offered_by, granted_by, unprinted, waits, Tells}
 use Rattle.dae_core.specs.Queues.{Queues, commit, front, peek, ready}
 use Rattle.dae_machine.specs.declared.Pick.TheVariants.{A as MoveA, E as MoveE}
 use Rattle.dae_machine.specs.Answers.{answer, is_done, processor}
@@ -34,7 +34,7 @@ afters h access word = record h { queues = commit access word h.queues }
 abbrev pub held : Depths → Queues → HeldQueues
 held d q = record { depths = d; queues = q }
 
-given_is : (h : HeldQueues) (u : QueueUse) → given_by fronts h u ≡ peek u h.queues
+given_is : (h : HeldQueues) (u : QueueUse) → offered_by fronts h u ≡ peek u h.queues
 given_is h Nothing = refl
 given_is h (Take k) = refl
 given_is h (Push k) = refl

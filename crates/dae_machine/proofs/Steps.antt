@@ -1,6 +1,6 @@
 -- What a step makes of the parts of a machine.
 use Rattle.std.proofs.Common.{◌≡◌, ℕ, ◌+◌, Bool, List, [], length, true, false, refl, ap, sym, ◌∙◌, subst}
-use Rattle.std.specs.Prelude.{Option, Some, None, is_some}
+use Rattle.std.specs.Prelude.{Option, Some, None, IsSome, is_some, option_map}
 use Rattle.dae_base.specs.declared.Side.{Side}
 use Rattle.dae_base.specs.declared.Side.TheVariants.{A, E}
 use Rattle.dae_encode.specs.Processor.{Processor, request}
@@ -9,11 +9,12 @@ use Rattle.dae_core.specs.declared.CoreAnswer.TheVariants.{Did}
 use Rattle.dae_core.specs.Held.{HeldCore, HeldQueues, IsSame}
 use Rattle.dae_core.specs.Moves.{answered_by, granted_by, unprinted, Tells}
 use Rattle.dae_machine.specs.declared.Pick.{Pick}
-use Rattle.dae_machine.specs.declared.Pick.TheVariants.{A as MoveA, E as MoveE}
+use Rattle.dae_machine.specs.declared.Pick.TheVariants.{A as MoveA, E as MoveE, Fill}
 use Rattle.dae_core.specs.Queues.{loads_of, with_loads_of}
 use Rattle.dae_queues.specs.Lists.{with_value}
 use Rattle.dae_machine.specs.Answers.{answer, is_done}
-use Rattle.dae_machine.specs.Machine.{State, step}
+use Rattle.dae_machine.specs.Machine.{Setup, State, filled, step}
+use Rattle.dae_machine.specs.Memory.{fill, filling}
 use Rattle.dae_machine.specs.Held.{Counted, HeldMachine, IsSound, is_plain, seen}
 use Rattle.dae_machine.proofs.Moves.{opens, fronts, afters, answer_is, a_moved, a_told, e_moved, e_told, tells_same, ToldBy}
 use Rattle.dae_machine.proofs.Kept.{counted_after, counted_filled, unplain_after}
@@ -141,3 +142,11 @@ module _ (a e : HeldCore) (q : HeldQueues) (memory : List ℕ) (taken : ℕ) (so
 -- a fill keeps what is true of every machine
 pub fill_sound : (a e : HeldCore) (q : HeldQueues) (memory : List ℕ) (taken : ℕ) (side : Side) (n w : ℕ) → IsSound a e q memory taken → IsSound a e (record q { queues = with_loads_of side (with_value n w (loads_of side q.queues).slots) q.queues }) memory (taken + 1)
 fill_sound a e q memory taken side n w s = record { on_a = s.on_a; on_e = s.on_e; same = s.same; counted = counted_filled side n w q.queues taken s.counted; small = s.small; ends = s.ends }
+
+-- where a fill is a step, its slot may be filled
+under : {X Y : Type 0} (o : Option X) (f : X → Y) → IsSome (option_map f o) → IsSome o
+under None f h = h
+under (Some x) f h = refl
+
+pub fill_enabled : (setup : Setup) (s : State) (side : Side) (n : ℕ) → IsSome (step setup s (Fill side n)) → IsSome (filling side n s.queues s.memory)
+fill_enabled setup s side n h = under (filling side n s.queues s.memory) _ (under (fill side n s.queues s.memory) (filled s) h)

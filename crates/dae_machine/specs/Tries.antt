@@ -1,5 +1,5 @@
 -- What a try to step came to.
-use Rattle.std.specs.Prelude.{◌≡◌, ℕ, List, [], Option, Some, None}
+use Rattle.std.specs.Prelude.{◌≡◌, ℕ, List, Option, Some, None}
 use Rattle.dae_machine.specs.declared.Pick.{Pick}
 use Rattle.dae_machine.specs.Held.{HeldMachine}
 use Rattle.dae_machine.specs.Machine.{step}
@@ -8,7 +8,6 @@ use Rattle.dae_machine.specs.Machine.{step}
 pub record Stepped (pick : Pick) (piece : List ℕ) (m n : HeldMachine) : Type 0 where
   pub setup : n.setup ≡ m.setup
   pub state : step m.setup m.state pick ≡ Some (record n.state { printed = piece })
-  pub silent : n.state.printed ≡ []
 
 -- this pick was chosen and its step was taken, or none was chosen and nothing changed
 abbrev pub Tried : Option (Pick × List ℕ) → Option Pick → HeldMachine → HeldMachine → Type 0

@@ -104,7 +104,6 @@ impl Machine {
         requires few { self.old.state.steps < 1000000000000 }
         ensures setup { self.new.setup ≡ self.old.setup }
         ensures state { step self.old.setup self.old.state pick ≡ Some (record self.new.state { printed = result }) }
-        ensures silent { self.new.state.printed ≡ [] }
     {
         match pick {
             Pick::A => {
@@ -120,7 +119,7 @@ impl Machine {
                 Piece::empty()
             }
             Pick::Drain => {
-                self.drain();
+                let _ = self.try_drain();
                 Piece::empty()
             }
         }
@@ -164,31 +163,32 @@ impl Machine {
         }
     }
 
+    #[tactic(auto, using(crate::proofs::Steps::fill_enabled))]
     fn fill(&mut self, side: Side, number: u64)
         requires enabled { IsSome (step self.old.setup self.old.state (Pick.Fill side number)) }
         requires few { self.old.state.steps < 1000000000000 }
         ensures setup { self.new.setup ≡ self.old.setup }
         ensures state { step self.old.setup self.old.state (Pick.Fill side number) ≡ Some (record self.new.state { printed = [] }) }
-        ensures silent { self.new.state.printed ≡ [] }
     {
-        if let Some(word) = self.filling(side, number) {
+        if let Some(word) = self.queues.fill_word(side, number, self.memory.as_slice()) {
             self.queues.fill(side, number, word);
             self.taken += 1;
         }
     }
 
-    fn drain(&mut self)
-        requires enabled { IsSome (step self.old.setup self.old.state Pick.Drain) }
+    /// The drain of the next store, where that is enabled, or false, and then nothing changes.
+    fn try_drain(&mut self) -> bool
         requires few { self.old.state.steps < 1000000000000 }
-        ensures setup { self.new.setup ≡ self.old.setup }
-        ensures state { step self.old.setup self.old.state Pick.Drain ≡ Some (record self.new.state { printed = [] }) }
-        ensures silent { self.new.state.printed ≡ [] }
+        ensures done { result ≡ true → Stepped Pick.Drain [] self.old self.new }
+        ensures none { result ≡ false → (step self.old.setup self.old.state Pick.Drain ≡ None) × (self.new ≡ self.old) }
     {
-        if let Some((at, word)) = self.queues.draining() {
-            self.queues.drain();
-            store(&mut self.memory, at.width, at.addr, word);
-            self.taken += 1;
-        }
+        let Some((at, word)) = self.queues.draining() else {
+            return false;
+        };
+        self.queues.drain();
+        store(&mut self.memory, at.width, at.addr, word);
+        self.taken += 1;
+        true
     }
 }
 

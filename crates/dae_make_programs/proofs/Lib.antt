@@ -1,4 +1,5 @@
 mod Rows
+pub mod Laws
 mod Loops
 mod Firsts
 mod Arguments

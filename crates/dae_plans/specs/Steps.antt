@@ -244,7 +244,7 @@ adjusted s t = elim (shape_of s t) [ shape.Array n count ↦ shape.Pointer n | x
 
 abbrev pub with_named_local : Option Name → ℕ → Tables → Tables
 with_named_local None t s = s
-with_named_local (Some n) t s = with_name n.number (entity.Local (length s.locals)) (with_local (record { type_id = t; taken = false }) s)
+with_named_local (Some n) t s = with_name n.number (entity.Local (length s.locals)) (with_local (record { type_id = t; taken = false; begins_zero = false }) s)
 
 abbrev pub is_taken : Tables → Option Name → Bool
 is_taken s None = false

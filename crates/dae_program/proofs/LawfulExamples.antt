@@ -37,10 +37,14 @@ abbrev steps : ℕ → List Statement
 steps v = statement.Evaluate here (expression.Step here kind.I32 (target.Variable v) 1 true) ∷ []
 
 abbrev slot : ℕ → List (Option Slot)
-slot offset = Some (record { offset = offset; width = width.B4 }) ∷ []
+slot offset = Some (record { offset = offset; width = width.B4 }) ∷ (None ∷ [])
 
 lawful : program stops (slot 4) 8 (steps 2) ≡ true
 lawful = refl
+
+-- a variable that is read before it is set, as it is no parameter
+unset : program stops (None ∷ []) 8 (steps 2) ≡ false
+unset = refl
 
 -- the result is set by a return alone, and there is no variable 3
 result_set : program stops (slot 4) 8 (steps 0) ≡ false

@@ -7,7 +7,7 @@ use Rattle.std.specs.List.{list_all}
 use Rattle.dae_program.specs.declared.program.Function.{Function}
 use Rattle.dae_program.specs.declared.program.Links.{Links}
 use Rattle.dae_program.specs.declared.program.Program.{Program}
-use Rattle.dae_program.specs.Lawful.{Bounds, is_lawful, is_lawful_memory, is_lawful_body, is_lawful_in, is_main, parameter_count, are_inside, spares, is_sound_slot, are_sound_statements}
+use Rattle.dae_program.specs.Lawful.{Bounds, is_well_placed, is_lawful_memory, is_lawful_body, is_lawful_in, is_main, parameter_count, are_inside, spares, is_sound_slot, are_sound_statements}
 use Rattle.dae_program.specs.Placed.{KeepsFrame, KeepsFrames}
 use Rattle.dae_program.specs.Programs.{program_of, start}
 use Rattle.dae_program.specs.Promise.{KeepsRules, LawfulKeepRules, NeverStrays}
@@ -75,7 +75,7 @@ module _ (memory variables : ℕ) (counts : ℕ → Option ℕ) (returns : Bool)
 
 -- ---- programs
 
-module _ (p : Program) (limit : ℕ) (h : is_lawful p.memory p.frames p.content p.links p.functions p.main ≡ true) where
+module _ (p : Program) (limit : ℕ) (h : is_well_placed p.memory p.frames p.content p.links p.functions p.main ≡ true) where
   beginning : (is_lawful_memory p.memory p.frames (length p.content) && is_main p.memory p.links p.functions (slice_get p.functions p.main)) ≡ true
   beginning = first _ _ h
 
@@ -165,9 +165,9 @@ module _ (p : Program) (limit : ℕ) (h : is_lawful p.memory p.frames p.content 
   }
 
 pub lawful_keep_rules : LawfulKeepRules
-lawful_keep_rules p limit h = rules p limit h
+lawful_keep_rules p limit h = rules p limit (first _ _ h)
 
 pub never_strays : NeverStrays
 never_strays p limit n h =
-    let kept = rules p limit h in
+    let kept = rules p limit (first _ _ h) in
     named_never_stray (program_of p limit) true n p.main (start p.memory p.frames p.content) (subst (λ (m : ℕ). KeepsFrames m (program_of p limit)) (sym kept.memory) kept.frames) kept.begins

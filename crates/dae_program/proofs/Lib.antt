@@ -14,3 +14,4 @@ mod StatementsExamples
 mod CallsExamples
 mod PrintingExamples
 mod LawfulExamples
+mod SetFirstExamples

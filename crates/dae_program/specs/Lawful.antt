@@ -1,8 +1,8 @@
 -- The test that each program in memory passes, so that what lowers it has no condition: its variables are below their number,
 -- and variable 0 is set by a return alone; a call names a function that is there, with as many arguments as that has
 -- parameters; nobody calls main, which has no parameters and no return; a break stands in a loop or a switch, and a continue
--- in a loop; each access that isn't checked is one of an object by name, which lies in memory, at a multiple of its width; and
--- all numbers are words.
+-- in a loop; each access that isn't checked is one of an object by name, which lies in memory, at a multiple of its width; all
+-- numbers are words, and what a format prints itself are bytes; and each variable is set before it is read.
 use Rattle.std.specs.Prelude.{ℕ, suc, ◌+◌, ◌%◌, ◌^◌, Bool, true, false, not, ◌&&◌, nat_eq, nat_lt, nat_le, List, [], ◌∷◌, length, slice_get, Option, Some, None}
 use Rattle.std.specs.List.{list_all}
 use Rattle.dae_base.specs.Words.{plus, size, width_of}
@@ -12,10 +12,13 @@ use Rattle.dae_meaning.specs.declared.Operator.TheVariants.{Add}
 use Rattle.dae_program.specs.declared.program.Function.{Function}
 use Rattle.dae_program.specs.declared.program.Links.{Links}
 use Rattle.dae_program.specs.declared.program.Slot.{Slot}
+use Rattle.dae_program.specs.declared.statements.Piece.{Piece}
+use Rattle.dae_program.specs.declared.statements.Piece.TheVariants as piece
 use Rattle.dae_program.specs.Switches.{count_arms}
 use Rattle.dae_program.specs.Trees as tree
 use Rattle.dae_program.specs.Trees.{Expression, Target, Expressions, Setting, Statements, Arms, Number, Address, Frame, Variable, Read, Convert, Not, Binary, Compare, And, Or, Conditional, Comma, Assign, Update, Step, Call, Putchar, Exit, Abort, InVariable, AtAddress, no_expressions, expression_then, Done, Evaluate, Initialise, Print, If, Loop, Do, Switch, Break, Continue, Return, no_arms, arm_then}
 use Rattle.dae_program.specs.Resolved.{function_in}
+use Rattle.dae_program.specs.SetFirst.{is_set_first}
 
 abbrev pub is_word : ℕ → Bool
 is_word k = nat_lt k (2 ^ 32)
@@ -175,6 +178,31 @@ abbrev mutual
   are_arms_inside continues returns no_arms = true
   are_arms_inside continues returns (arm_then labels t rest) = are_inside true continues returns t && are_arms_inside continues returns rest
 
+-- ---- formats
+
+abbrev pub is_byte : Piece → Bool
+is_byte (piece.Byte b) = nat_lt b (2 ^ 8)
+is_byte (piece.Word spelling k) = true
+is_byte (piece.String k) = true
+
+abbrev mutual
+  pub prints_bytes : Statements → Bool
+  prints_bytes Done = true
+  prints_bytes (Evaluate p x k) = prints_bytes k
+  prints_bytes (Initialise p offset size items k) = prints_bytes k
+  prints_bytes (Print p xs pieces k) = list_all is_byte pieces && prints_bytes k
+  prints_bytes (If p x t u k) = prints_bytes t && (prints_bytes u && prints_bytes k)
+  prints_bytes (Loop p test body step k) = prints_bytes body && prints_bytes k
+  prints_bytes (Do p body test k) = prints_bytes body && prints_bytes k
+  prints_bytes (Switch p x arms k) = arms_print_bytes arms && prints_bytes k
+  prints_bytes (Break p k) = prints_bytes k
+  prints_bytes (Continue p k) = prints_bytes k
+  prints_bytes (Return p x k) = prints_bytes k
+
+  pub arms_print_bytes : Arms → Bool
+  arms_print_bytes no_arms = true
+  arms_print_bytes (arm_then labels t rest) = prints_bytes t && arms_print_bytes rest
+
 -- ---- functions and programs
 
 abbrev pub is_sound_slot : ℕ → Option Slot → Bool
@@ -211,7 +239,15 @@ abbrev pub is_lawful_memory : (size frames bytes : ℕ) → Bool
 is_lawful_memory size frames bytes =
     (nat_eq (frames % 4) 0 && nat_le (16 + bytes) frames) && (nat_le frames size && nat_le size (2 ^ 26))
 
-abbrev pub is_lawful : (size frames : ℕ) → List ℕ → List Links → List Function → (main : ℕ) → Bool
-is_lawful size frames bytes links functions main =
+abbrev pub is_well_placed : (size frames : ℕ) → List ℕ → List Links → List Function → (main : ℕ) → Bool
+is_well_placed size frames bytes links functions main =
     (is_lawful_memory size frames (length bytes) && is_main size links functions (slice_get functions main)) && (list_all (spares main) links
     && list_all (is_lawful_in size links functions true) functions)
+
+-- each variable is set before it is read, and what a format prints itself are bytes
+abbrev pub is_ready : List Links → List Function → Function → Bool
+is_ready links functions f = let g = function_in (length functions) links (Some f) in is_set_first g && prints_bytes g.body
+
+abbrev pub is_lawful : (size frames : ℕ) → List ℕ → List Links → List Function → (main : ℕ) → Bool
+is_lawful size frames bytes links functions main =
+    is_well_placed size frames bytes links functions main && list_all (is_ready links functions) functions

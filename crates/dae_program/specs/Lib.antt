@@ -12,6 +12,7 @@ pub mod Programs
 pub mod Turns
 pub mod Scope
 pub mod Placed
+pub mod SetFirst
 pub mod Lawful
 pub mod Promise
 pub mod Wanted

@@ -8,7 +8,7 @@ ghost use Rattle.dae_blocks.specs.Code.{code_of, entry_code, function_code};
 ghost use Rattle.dae_select.specs.Layouts.{plan_of, variables_of, AreSmall};
 
 use crate::calling::{entry_code, leave_code};
-use crate::growing::GrowingCode;
+use crate::growing::{GrowingCode, PlacedWord};
 use crate::layouts::Layouts;
 use crate::walking::{Exits, list_code};
 use dae_encode::Inst;
@@ -50,11 +50,12 @@ fn body_code(
     )
 }
 
-/// The code of a function, and how many of its words come before its actions.
+/// The code of a function, how many of its words come before its actions, and the words at which actions begin.
 #[derive(Drop)]
 pub struct FunctionCode {
     pub code: Vec<Inst>,
     pub entry: usize,
+    pub places: Vec<PlacedWord>,
 }
 
 /// The code of a function of a side: what it begins with, its actions, and a return of 0 behind them.
@@ -74,7 +75,12 @@ pub fn function_code(
     let mut code = Vec::new(alloc);
     entry_code(alloc, &mut code, layouts, function, homes, &live)?;
     let entry = code.len();
+    let places = actions.places(alloc, entry)?;
     code.extend_from_slice(actions.into_vec().as_slice())?;
     leave_code(&mut code, homes, Some(Operand::Number(0)))?;
-    Ok(FunctionCode { code, entry })
+    Ok(FunctionCode {
+        code,
+        entry,
+        places,
+    })
 }

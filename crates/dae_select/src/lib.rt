@@ -3,6 +3,7 @@
 #![tactic(auto)]
 
 pub use functions::{FunctionCode, function_code};
+pub use growing::PlacedWord;
 pub use layouts::{FunctionLayout, Layouts};
 pub use opening::{finish_code, start_code};
 

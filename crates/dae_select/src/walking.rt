@@ -22,7 +22,7 @@ use crate::fetching::home_of;
 use crate::growing::GrowingCode;
 use crate::jumping::{branch_code, jump_back, jump_over};
 use crate::layouts::Layouts;
-use dae_base::LoadKind;
+use dae_base::{LoadKind, Place};
 use dae_encode::Inst;
 use dae_ir::{Action, Argument, Branch, Operand, Step};
 use dae_live::{LiveSet, live_at_turn, live_before_action, live_with_branch};
@@ -175,6 +175,7 @@ fn put_branch(
     alloc: Global,
     code: &mut GrowingCode,
     homes: &[Home],
+    place: Place,
     branch: Branch,
 ) -> Result<(), AllocError>
     requires { AreNear homes.now }
@@ -182,7 +183,7 @@ fn put_branch(
 {
     let mut block = Vec::new(alloc);
     branch_code(&mut block, homes, branch)?;
-    code.put_before(block.as_slice())
+    code.put_action(place, block.as_slice())
 }
 
 fn put_action(
@@ -191,6 +192,7 @@ fn put_action(
     layouts: &Layouts,
     function: u32,
     homes: &[Home],
+    place: Place,
     action: &Action,
     live: &LiveSet,
     exits: &Exits,
@@ -205,7 +207,7 @@ fn put_action(
     action_code(
         alloc, &mut block, layouts, function, homes, action, live, ahead, exits,
     )?;
-    code.put_before(block.as_slice())
+    code.put_action(place, block.as_slice())
 }
 
 /// Where a loop's step leads: behind the loop and to the jump back.
@@ -254,8 +256,8 @@ fn put_loop(
     ensures { OnOk result (code.new ≡ body ++ (step ++ (jump_back (length body + length step) ++ code.old))) }
 {
     put_jump_back(alloc, code, body.len(), step.len())?;
-    code.put_before(step.into_vec().as_slice())?;
-    code.put_before(body.into_vec().as_slice())
+    code.put_code(step)?;
+    code.put_code(body)
 }
 
 #[cycle(code)]
@@ -275,11 +277,13 @@ fn step_code(
     ensures { IfOk result (λ set. IsStepCode (plan_of layouts.now) (variables_of layouts.now) function exits.now step.now code.old next code.new set) }
 {
     match step {
-        Step::Act(_, action) => {
-            put_action(alloc, code, layouts, function, homes, action, &next, exits)?;
+        Step::Act(mark, action) => {
+            put_action(
+                alloc, code, layouts, function, homes, mark.place, action, &next, exits,
+            )?;
             live_before_action(alloc, action, next, &exits.leaves_live, &exits.skips_live)
         }
-        Step::If(_, branch, p, q) => {
+        Step::If(mark, branch, p, q) => {
             let rest = code.len();
             let second = list_code(
                 alloc,
@@ -295,7 +299,7 @@ fn step_code(
             let behind = code.len();
             let first = list_code(alloc, code, layouts, function, homes, p, next, exits)?;
             put_jump(alloc, code, behind, 2)?;
-            put_branch(alloc, code, homes, *branch)?;
+            put_branch(alloc, code, homes, mark.place, *branch)?;
             live_with_branch(*branch, first, &second)
         }
         Step::Loop(_, body, step) => {

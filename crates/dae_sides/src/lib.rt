@@ -1,7 +1,7 @@
 // The code of one side: from its stream the words of its code, with homes for variables, a code for each function, one behind
 // the other, and the word at which each is entered. Its contract is what a form and its image need of a side. It fails where
 // memory is wanting, where the code would be too long, and where the frames of the deepest calls need too much private
-// memory.
+// memory. Beside the words it tells at which of them actions begin, and the places of those.
 #![tactic(auto)]
 
 pub use error::CodeError;

@@ -18,14 +18,16 @@ use crate::words::{encode_all, opening_code, whole_code};
 use dae_base::Items;
 use dae_encode::Inst;
 use dae_ir::Stream;
-use dae_select::{Layouts, start_code};
+use dae_select::{Layouts, PlacedWord, start_code};
 use std::alloc::{AllocError, Global};
 
-/// The code of one side: its words, and how many words of private memory it needs.
+/// The code of one side: its words, how many words of private memory it needs, and the words at which actions begin, in
+/// their order.
 #[derive(Drop)]
 pub struct SideCode {
     pub words: Items<u32>,
     pub private: u32,
+    pub places: Vec<PlacedWord>,
 }
 
 /// The word that main returns to.
@@ -68,8 +70,13 @@ fn placed_layouts(alloc: Global, layouts: &Layouts, stream: &Stream) -> Result<L
     })
 }
 
-/// The whole code of a stream, from its layouts.
-fn placed_code(alloc: Global, layouts: &Layouts, stream: &Stream) -> Result<Vec<Inst>, CodeError>
+/// The whole code of a stream, from its layouts; and the words at which actions begin.
+fn placed_code(
+    alloc: Global,
+    layouts: &Layouts,
+    stream: &Stream,
+    places: &mut Vec<PlacedWord>,
+) -> Result<Vec<Inst>, CodeError>
     requires unplaced { AreUnplaced stream.now layouts.now }
     requires few { length stream.now.functions ≤ 2 ^ 25 }
     ensures code { IfOk result (λ code. code.items ≡ code_at stream.now layouts.now) }
@@ -78,7 +85,7 @@ fn placed_code(alloc: Global, layouts: &Layouts, stream: &Stream) -> Result<Vec<
     ensures private { IfErr result (λ e. e ≢ errors.Private) }
 {
     let placed = placed_layouts(alloc, layouts, stream)?;
-    Ok(whole_code(alloc, &placed, stream)?)
+    Ok(whole_code(alloc, &placed, stream, places)?)
 }
 
 /// The code of a stream. It is too long only where what bounds it is, and its private memory is too large only where frames
@@ -101,9 +108,11 @@ pub fn side_code(alloc: Global, stream: &Stream) -> Result<SideCode, CodeError>
         return Err(CodeError::Code);
     }
     let layouts = unplaced_layouts(alloc, stream)?;
-    let code = placed_code(alloc, &layouts, stream)?;
+    let mut places = Vec::new(alloc);
+    let code = placed_code(alloc, &layouts, stream, &mut places)?;
     Ok(SideCode {
         words: Items::from_vec(encode_all(alloc, code.as_slice())?),
         private: layouts.private,
+        places,
     })
 }

@@ -9,13 +9,30 @@ ghost use Rattle.dae_sides.specs.Sides.{functions_by, whole_by};
 
 use dae_encode::{Inst, encode};
 use dae_ir::{Stream, StreamFunction};
-use dae_select::{Layouts, finish_code, function_code, start_code};
+use dae_select::{Layouts, PlacedWord, finish_code, function_code, start_code};
 use std::alloc::{AllocError, Global};
+
+/// Words of a function's code, behind so many other words, with their places.
+fn add_places(
+    places: &mut Vec<PlacedWord>,
+    before: usize,
+    of_function: &[PlacedWord],
+) -> Result<(), AllocError> {
+    for placed in of_function {
+        let word = before.saturating_add(placed.word);
+        places.push(PlacedWord {
+            word,
+            place: placed.place,
+        })?;
+    }
+    Ok(())
+}
 
 /// The code of a side's functions stands behind other code.
 fn add_functions(
     alloc: Global,
     code: &mut Vec<Inst>,
+    places: &mut Vec<PlacedWord>,
     layouts: &Layouts,
     functions: &[StreamFunction],
 ) -> Result<(), AllocError>
@@ -26,6 +43,7 @@ fn add_functions(
     for index in 0..functions.len() {
         let body = functions[index].body.as_slice();
         let made = function_code(alloc, layouts, index as u32, body)?;
+        add_places(places, code.len(), made.places.as_slice())?;
         code.extend_from_slice(made.code.as_slice())?;
     }
     Ok(())
@@ -46,18 +64,25 @@ pub fn opening_code(
     Ok(code)
 }
 
-/// The whole code of a side.
+/// The whole code of a side; and the words at which actions begin, in their order, behind those that are there.
 pub fn whole_code(
     alloc: Global,
     layouts: &Layouts,
     stream: &Stream,
+    places: &mut Vec<PlacedWord>,
 ) -> Result<Vec<Inst>, AllocError>
     requires small { AreSmall layouts.now }
     requires few { length stream.now.functions ≤ 2 ^ 25 }
     ensures { IfOk result (λ code. code.items ≡ whole_by layouts.now stream.now) }
 {
     let mut code = opening_code(alloc, layouts, stream.main, stream.frames)?;
-    add_functions(alloc, &mut code, layouts, stream.functions.as_slice())?;
+    add_functions(
+        alloc,
+        &mut code,
+        places,
+        layouts,
+        stream.functions.as_slice(),
+    )?;
     Ok(code)
 }
 

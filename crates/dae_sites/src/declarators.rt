@@ -197,6 +197,7 @@ pub fn add_named_local(
     checker.add_local(Local {
         type_id,
         taken: false,
+        begins_zero: false,
     })?;
     checker.add_name(name.number, Entity::Local(number))
 }

@@ -7,6 +7,7 @@ pub use basic::{
     UNSIGNED_SHORT_ID, VOID_ID,
 };
 pub use checker::Checker;
+pub use kept::{FileTables, Kept, copy_kept, file_tables, objects, set_kept, storages};
 pub use layouts::{MOST_BYTES, finish_layout, place_member, round_up};
 pub use shapes::{
     broken, is_array, is_character, is_function, is_integer, is_pointer, is_scalar, is_structure,
@@ -16,6 +17,7 @@ pub use shapes::{
 mod basic;
 mod checker;
 mod entries;
+mod kept;
 mod layouts;
 mod lookups;
 mod sameness;

@@ -1,11 +1,12 @@
 -- What a joiner may rely on: wherever it puts the objects that a file uses, with room for each, and whatever functions it
--- takes for those that the file calls, with as many parameters, the file's functions pass the test of a program. Each
--- structure is laid out as its members say (C90 6.5.2.1). What is used is declared, and what is declared is there; two names
--- for other files are two.
+-- takes for those that the file calls, with as many parameters, the file's functions pass the test of a program. Each variable
+-- is set before it is read. Each structure is laid out as its members say (C90 6.5.2.1). What is used is declared, and what is
+-- declared is there; two names for other files are two.
 use Rattle.std.specs.Prelude.{◌≡◌, ℕ, ◌+◌, ◌%◌, ◌^◌, ◌≤◌, ◌<◌, List, [], ◌∷◌, length, Option, Some, None, Bool, true, false, ◌&&◌, ◌||◌, not, nat_eq, nat_lt, slice_get, codes, filter}
 use Rattle.std.specs.List.{list_all, list_any, AllByRecursion}
 use Rattle.std.specs.Str.{bytes_eq}
-use Rattle.dae_program.specs.Lawful.{is_lawful_body}
+use Rattle.dae_program.specs.Lawful.{is_lawful_body, prints_bytes}
+use Rattle.dae_program.specs.SetFirst.{is_set_first}
 use Rattle.dae_program.specs.Trees as tree
 use Rattle.dae_program.specs.Views.{view_statements}
 use Rattle.dae_kinds.specs.declared.types.Layout.{Layout}
@@ -112,6 +113,10 @@ is_sound_function file memory address parameters f =
     && (not (is_called_main file f.routine)
     || (nat_eq (length f.parameters) 0 && is_lawful_body memory f.variables parameters false (function_at address f)))
 
+-- each variable of a function is set before it is read, and what a format prints itself are bytes
+abbrev pub is_ready_function : TypedFunction → Bool
+is_ready_function f = let g = function_at (λ n. 0) f in is_set_first g && prints_bytes g.body
+
 -- the members of a structure, in order
 abbrev pub is_member_of : ℕ → Component → Bool
 is_member_of structure c = nat_eq c.structure structure
@@ -175,6 +180,7 @@ pub record IsSound (f : FileParts) : Type 0 where
   pub bodies :
       (memory : ℕ) (address : ℕ → ℕ) (parameters : ℕ → Option ℕ) → memory ≤ 2 ^ 26 → HaveRoom f memory address → AreCallable f parameters →
       list_all (is_sound_function f memory address parameters) f.functions ≡ true
+  pub ready : list_all is_ready_function f.functions ≡ true
   pub layouts : AreLaidOut (tables_of f)
   pub elements : AreElementsComplete (tables_of f)
   pub chains : AreChains (tables_of f)

@@ -38,6 +38,7 @@ fn mark(checker: &mut Checker, name: Option<Name>)
             Local {
                 type_id: local.type_id,
                 taken: true,
+                begins_zero: local.begins_zero,
             },
         );
     }

@@ -145,7 +145,6 @@ impl Machine {
         requires few { self.old.state.steps < 1000000000000 }
         ensures setup { self.new.setup ≡ self.old.setup }
         ensures turn { TurnedTo result word self.old.setup self.old.state self.new.state }
-        ensures silent { self.old.state.printed ≡ [] → self.new.state.printed ≡ [] }
     {
         if let Some((pick, piece)) = self.try_pick(word) {
             return Turn::Stepped(pick, piece);
@@ -184,7 +183,7 @@ impl Machine {
             0 => self.try_alone_a(),
             1 => self.try_alone_e(),
             2 => self.try_fills(choice),
-            _ => self.try_drain(),
+            _ => self.try_alone_drain(),
         }
     }
 
@@ -204,10 +203,6 @@ impl Machine {
         ensures { Tried result (if is_some (step self.old.setup self.old.state Pick.E) then Some Pick.E else None) self.old self.new }
     {
         let piece = self.try_e()?;
-        // Nearly every piece is empty, and a new one costs less than the move of one.
-        if piece.is_empty() {
-            return Some((Pick::E, Piece::empty()));
-        }
         Some((Pick::E, piece))
     }
 
@@ -228,14 +223,14 @@ impl Machine {
         self.pick_of_fills(choice)
     }
 
-    fn try_drain(&mut self) -> Option<(Pick, Piece)>
+    fn try_alone_drain(&mut self) -> Option<(Pick, Piece)>
         requires few { self.old.state.steps < 1000000000000 }
         ensures { Tried result (if is_some (step self.old.setup self.old.state Pick.Drain) then Some Pick.Drain else None) self.old self.new }
     {
-        if !self.enabled(Pick::Drain) {
-            return None;
+        if self.try_drain() {
+            Some((Pick::Drain, Piece::empty()))
+        } else {
+            None
         }
-        self.drain();
-        Some((Pick::Drain, Piece::empty()))
     }
 }

@@ -18,4 +18,4 @@ returns-in_err-count c =
 pub returns : goal.returns
 returns c =
     let parts = is_parted 44 c.args.value.now (c.in_ok-address.address, c.in_ok-address.count) (omega arith) c.in_ok-address.ensures.cases in
-    one_shown c.args.value.now _ _ c.in_ok-address-2.field-0 c.in_ok-count.field-0 parts c.in_ok-address-2.ensures c.in_ok-count.ensures
+    rw c.new.ensures (one_shown c.args.value.now _ _ c.in_ok-address-2.field-0 c.in_ok-count.field-0 parts c.in_ok-address-2.ensures c.in_ok-count.ensures)

@@ -1,4 +1,4 @@
-use Rattle.std.proofs.Common.{rules, ◌≡◌, [], refl}
+use Rattle.std.proofs.Common.{refl}
 use Rattle.dae_link.proofs.Fitting.{linked_fits}
 use Rattle.dae_link.proofs.Exact.{exact}
 use Rattle.dae_link.proofs.Made.{is_made}
@@ -6,9 +6,8 @@ use Rattle.dae_link.proofs.linking.link.Goals as goal
 
 pub invariant_of-result : goal.invariant_of-result
 invariant_of-result c =
-    let lines : c.new.result ≡ [] = search rules in
     let a = c.in_ok-a.ensures in let e = c.in_ok-e.ensures in
-    rw lines (record { fits = linked_fits c.args.pair.now c.args.budget c.args.content c.args.names c.requires _ _ _ _ a.some a.few e.some e.few a.private e.private a.words e.words })
+    rw c.from_vec.ensures (record { fits = linked_fits c.args.pair.now c.args.budget c.args.content c.args.names c.requires _ _ _ _ a.some a.few e.some e.few a.private e.private a.words e.words _ _ c.len.ensures c.len-2.ensures c.len-3.ensures c.in_ok-lines.ensures })
 
 pub returns-clause-compiled : goal.returns-clause-compiled
 returns-clause-compiled c = λ ir tables cap classes is_pair is_budget. record {
@@ -32,3 +31,6 @@ returns-clause-private c = record { a = (c.in_ok-a.a.private, refl, c.in_ok-a.en
 pub returns-clause-exact : goal.returns-clause-exact
 returns-clause-exact c = λ ir tables cap is_pair is_budget.
     exact c.args.pair.now c.args.budget _ _ c.requires.side_a c.requires.side_e c.in_ok-a.ensures.uses c.in_ok-e.ensures.uses (c.pair_uses.ensures ir tables cap c.args.pair.now c.args.budget is_pair is_budget)
+
+pub returns-clause-short : goal.returns-clause-short
+returns-clause-short c = record { a = c.in_ok-a.ensures.short; e = c.in_ok-e.ensures.short }

@@ -16,13 +16,13 @@ use Rattle.dae_select.proofs.walking.+code.Goals as goal
 pub step_code-list_code-requires : goal.step_code-list_code-requires
 step_code-list_code-requires t c =
     let i = c.in-If in
-    let below = list_below c.deref.result.now i.q.items c.args.step.now c.deref.ensures.value (second_in_if i.field-0 i.branch i.p i.q c.args.step.now i.is) in
+    let below = list_below c.deref.result.now i.q.items c.args.step.now c.deref.ensures.value (second_in_if i.mark i.branch i.p i.q c.args.step.now i.is) in
     (subst (λ (n : ℕ). 2 * deepest c.deref.result.now + 1 < n) c.decreases below, (c.requires.near, (c.requires.homes, c.requires.small)))
 
 pub step_code-list_code-requires-in-If : goal.step_code-list_code-requires-in-If
 step_code-list_code-requires-in-If t c =
     let i = c.in-If in
-    let below = list_below c.deref-in-If.result.now i.p.items c.args.step.now c.deref-in-If.ensures.value (first_in_if i.field-0 i.branch i.p i.q c.args.step.now i.is) in
+    let below = list_below c.deref-in-If.result.now i.p.items c.args.step.now c.deref-in-If.ensures.value (first_in_if i.mark i.branch i.p i.q c.args.step.now i.is) in
     (subst (λ (n : ℕ). 2 * deepest c.deref-in-If.result.now + 1 < n) c.decreases below, (c.requires.near, (c.requires.homes, c.requires.small)))
 
 pub step_code-list_code-requires-in-Loop : goal.step_code-list_code-requires-in-Loop
@@ -40,7 +40,7 @@ step_code-list_code-requires-in-Loop-2 t c =
 pub step_code-returns-in_ok-put_action-in-Act : goal.step_code-returns-in_ok-put_action-in-Act
 step_code-returns-in_ok-put_action-in-Act t c =
     let a = c.args in let i = c.in-Act in
-    IfOk-weaker c.live_before_action.result _ _ (λ set h. acted (plan_of a.layouts.now) (variables_of a.layouts.now) a.function a.exits.now a.step.now i.field-0 i.action a.code.now a.next c.put_action.new.code set i.is c.in_ok-put_action-in-Act.ensures h) c.live_before_action.ensures
+    IfOk-weaker c.live_before_action.result _ _ (λ set h. acted (plan_of a.layouts.now) (variables_of a.layouts.now) a.function a.exits.now a.step.now i.mark i.action a.code.now a.next c.put_action.new.code set i.is c.in_ok-put_action-in-Act.ensures h) c.live_before_action.ensures
 
 pub step_code-returns-in_ok-put_branch-in-If : goal.step_code-returns-in_ok-put_branch-in-If
 step_code-returns-in_ok-put_branch-in-If t c =
@@ -54,7 +54,7 @@ step_code-returns-in_ok-put_branch-in-If t c =
     let e2 = c.in_ok-put_jump-in-If.ensures ∙ ap (λ (n : ℕ). jump_over (length c1 - n + 0) ++ c1) c.len-rest.ensures in
     let e4 = c.in_ok-put_jump-in-If-2.ensures ∙ ap (λ (n : ℕ). jump_over (length c3 - n + 2) ++ c3) c.len-behind.ensures in
     let e5 = c.in_ok-put_branch-in-If.ensures ∙ ap (λ (home : ℕ → Home). branch_code home i.branch ++ c4) c.requires.homes in
-    IfOk-weaker c.live_with_branch.result _ _ (λ set h. branched P V f x a.step.now i.field-0 i.branch i.p i.q a.code.now a.next set first second c1 c2 c3 c4 c.put_branch.new.code i.is q' e2 p e4 e5 h) c.live_with_branch.ensures
+    IfOk-weaker c.live_with_branch.result _ _ (λ set h. branched P V f x a.step.now i.mark i.branch i.p i.q a.code.now a.next set first second c1 c2 c3 c4 c.put_branch.new.code i.is q' e2 p e4 e5 h) c.live_with_branch.ensures
 
 pub step_code-returns-in_ok-put_loop-in-Loop : goal.step_code-returns-in_ok-put_loop-in-Loop
 step_code-returns-in_ok-put_loop-in-Loop t c =

@@ -1,5 +1,5 @@
 -- The core's answer tells whether A has a step, and what came of it.
-use Rattle.std.proofs.Common.{rules, ◌+◌, [], refl, sym, ◌∙◌}
+use Rattle.std.proofs.Common.{rules, ◌+◌, [], sym, ◌∙◌}
 use Rattle.dae_machine.specs.declared.Pick.TheVariants.{A}
 use Rattle.dae_machine.proofs.Steps.{Moved, a_stay, a_step}
 use Rattle.dae_machine.proofs.machine.Machine.try_a.Goals as goal
@@ -17,7 +17,7 @@ pub invariant_of-self : goal.invariant_of-self
 invariant_of-self c = (moved c).sound
 
 pub returns-then-done-clause-done : goal.returns-then-done-clause-done
-returns-then-done-clause-done c = λ _. record { setup = (moved c).setup; state = (moved c).state; silent = refl }
+returns-then-done-clause-done c = λ _. record { setup = (moved c).setup; state = (moved c).state }
 
 pub returns-else-done-clause-none : goal.returns-else-done-clause-none
 returns-else-done-clause-none c = λ none.

@@ -1,5 +1,5 @@
 -- The core's answer tells whether E has a step, and what came of it.
-use Rattle.std.proofs.Common.{◌≡◌, rules, ◌+◌, false, inl, inr, ap, refl}
+use Rattle.std.proofs.Common.{◌≡◌, rules, ◌+◌, false, inl, inr, ap}
 use Rattle.dae_machine.specs.declared.Pick.TheVariants.{E}
 use Rattle.dae_machine.specs.Answers.{is_done}
 use Rattle.dae_machine.proofs.Steps.{Moved, e_stay, e_step}
@@ -18,7 +18,7 @@ pub invariant_of-self : goal.invariant_of-self
 invariant_of-self c = (moved c).sound
 
 pub returns-in-Did : goal.returns-in-Did
-returns-in-Did c = record { done = record { setup = (moved c).setup; state = (moved c).state; silent = refl }; none = λ h. cc }
+returns-in-Did c = record { done = record { setup = (moved c).setup; state = (moved c).state }; none = λ h. cc }
 
 pub returns-in-Waits : goal.returns-in-Waits
 returns-in-Waits c = record {

@@ -1,0 +1,42 @@
+-- What is lowered fits a machine, and its image keeps the program's meaning.
+use Rattle.std.proofs.Common.{◌≡◌, ℕ, zero, suc, ◌%◌, ◌<◌, ◌≤◌, List, length, arith}
+use Rattle.std.specs.Prelude.{IsTrue, IfOk, Result, Ok, Err}
+use Rattle.std.specs.List.{All, list_all}
+use Rattle.dae_image.specs.declared.Image.{Image}
+use Rattle.dae_image.specs.Contents.{is_name}
+use Rattle.dae_ir.specs.declared.form.Ir.{Ir}
+use Rattle.dae_runs.specs.Promises.{DoesForm}
+use Rattle.dae_sides.specs.declared.error.CodeError.{CodeError}
+use Rattle.dae_program.specs.declared.program.Program.{Program}
+use Rattle.dae_formed.specs.Formed.{IsLowered}
+use Rattle.dae_make_forms.specs.Lowered.{HasRoom}
+use Rattle.dae_generate.specs.Generated.{FitsMachine}
+use Rattle.dae_promise.specs.Promises.{KeepsMeaning, ImageKeepsMeaning}
+
+pub fits : (p : Program) (calls : ℕ) (ir : Ir) (content : List ℕ) (names : List (List ℕ)) → content ≡ p.content
+    → IsLowered p ir → ir.calls ≡ calls → HasRoom p ir → 64 ≤ p.memory → p.memory % 16 ≡ 0 → 1 ≤ calls → calls ≤ 4096
+    → All (λ b. b < 256) content → length names ≤ 1024 → IsTrue (list_all is_name names) → FitsMachine ir content names
+fits p calls ir content names same lowered depth has least aligned some few bytes files named =
+    let form = lowered.form in
+    record {
+      least = rw form.memory least;
+      most = has.most;
+      aligned = rw form.memory aligned;
+      frames = has.frames;
+      some = rw depth some;
+      few = rw depth few;
+      room = rw same has.room;
+      bytes = bytes;
+      files = files;
+      named = named;
+    }
+
+keeps : (p : Program) (calls : ℕ) (ir : Ir) (image : Image) → ImageKeepsMeaning → 1 ≤ calls → IsLowered p ir → ir.calls ≡ calls
+    → image.content ≡ p.content → DoesForm ir image 14 → KeepsMeaning p calls image
+keeps p zero ir image law some lowered depth content does = absurd (omega (arith, some))
+keeps p (suc depth) ir image law some lowered is content does = law p depth ir image lowered is content does
+
+pub keeps_if : (p : Program) (calls : ℕ) (ir : Ir) (result : Result Image CodeError) → ImageKeepsMeaning → 1 ≤ calls → IsLowered p ir → ir.calls ≡ calls
+    → IfOk result (λ image. image.content ≡ p.content) → IfOk result (λ image. DoesForm ir image 14) → IfOk result (KeepsMeaning p calls)
+keeps_if p calls ir (Ok image) law some lowered depth is does = keeps p calls ir image law some lowered depth is does
+keeps_if p calls ir (Err e) law some lowered depth is does = tt

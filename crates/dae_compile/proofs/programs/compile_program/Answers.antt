@@ -1,0 +1,17 @@
+use Rattle.std.proofs.Common.{ℕ, ◌<◌, List, refl, subst}
+use Rattle.std.specs.List.{All}
+use Rattle.dae_compile.proofs.Fitting.{fits, keeps_if}
+use Rattle.dae_compile.proofs.programs.compile_program.Goals as goal
+
+pub generate-requires-clause-fits : goal.generate-requires-clause-fits
+generate-requires-clause-fits c =
+    let made = c.in_ok-ir.ensures in
+    fits c.args.program c.args.calls c.in_ok-ir.ir c.args.program.content c.args.names refl made.lowered made.calls made.room
+    c.requires.least c.requires.aligned c.requires.called c.requires.shallow
+    (subst (λ (bytes : List ℕ). All (λ b. b < 256) bytes) c.as_slice.ensures c.see_bytes.ensures) c.requires.files c.requires.named
+
+pub returns-clause-keeps : goal.returns-clause-keeps
+returns-clause-keeps c =
+    let made = c.in_ok-ir.ensures in
+    keeps_if c.args.program c.args.calls c.in_ok-ir.ir c.generate.result c.image_keeps_meaning.ensures c.requires.called made.lowered made.calls
+    c.generate.ensures.content c.generate.ensures.does

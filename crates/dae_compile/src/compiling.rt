@@ -1,0 +1,43 @@
+// The image of several texts.
+
+ghost use Rattle.std.specs.Prelude.{◌≡◌, ◌≤◌, length, IfErr, IfOk, IsTrue};
+ghost use Rattle.std.specs.List.{All, list_all};
+ghost use Rattle.dae_image.specs.Contents.{is_name};
+ghost use Rattle.dae_sources.specs.Read.{IsShort, texts_in};
+ghost use Rattle.dae_accept.specs.Accepted.{IsRefusedFor};
+ghost use Rattle.dae_compile.specs.Images.{IsImageOf};
+
+use crate::options::Options;
+use crate::programs::compile_program;
+use dae_accept::{CompileError, accept};
+use dae_base::{Items, Text};
+use dae_image::Image;
+use std::alloc::Global;
+
+/// The image of texts, which are those of the files with these names: at most 1,024, each of at most 1,048,576 bytes.
+///
+/// # Errors
+///
+/// `Memory` where memory is wanting. It also comes where a code or a private memory is larger than an image may
+/// have, which programs of at most 65,536 tokens don't reach. Every other error comes where the texts aren't
+/// accepted, and says why, as `accept` of `dae_accept` does.
+pub fn compile(
+    alloc: Global,
+    texts: &[Vec<u8>],
+    names: Items<Text>,
+    options: Options,
+) -> Result<Image, CompileError>
+    requires few { length texts.now ≤ 1024 }
+    requires short { All IsShort texts.now }
+    requires each { length names ≡ length texts.now }
+    requires named { IsTrue (list_all is_name names) }
+    ensures image { IfOk result (IsImageOf (texts_in texts.now) options) }
+    ensures names { IfOk result (λ image. image.names ≡ names) }
+    ensures refused { IfErr result (IsRefusedFor (texts_in texts.now) options.memory) }
+{
+    let program = accept(alloc, texts, options.memory)?;
+    let Ok(image) = compile_program(alloc, program, options.calls, options.cap, names) else {
+        return Err(CompileError::Memory);
+    };
+    Ok(image)
+}

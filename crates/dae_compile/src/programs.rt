@@ -1,0 +1,57 @@
+// The image of a typed program.
+
+ghost use Rattle.std.specs.Prelude.{◌≡◌, ◌<◌, ◌≤◌, ◌%◌, length, IfOk, IsTrue};
+ghost use Rattle.std.specs.List.{All, list_all};
+ghost use Rattle.dae_image.specs.Contents.{is_name};
+ghost use Rattle.dae_pair.specs.Budget.{IsWithinCap};
+ghost use Rattle.dae_promise.specs.Promises.{KeepsMeaning};
+ghost use Rattle.dae_compile.specs.Compiled.{IsCompiledFrom};
+
+use dae_base::{Items, Text};
+use dae_generate::generate;
+use dae_image::Image;
+use dae_make_forms::lower;
+use dae_program::Program;
+use dae_promise::image_keeps_meaning;
+use dae_sides::CodeError;
+use std::alloc::Global;
+
+// A byte is below 256.
+fn see_bytes(bytes: &[u8])
+    ensures { All (λ b. b < 256) bytes.now }
+{}
+
+/// The image of a program, with at most so many calls inside one another, where a group holds at most `cap` loads
+/// for E and as many copies, from 1 to 64; the names are those of its files. In every order of steps it does what
+/// the program means.
+///
+/// # Errors
+///
+/// `Memory` where memory is wanting; `Code` and `Private` where a code or a private memory is larger than an image
+/// may have.
+pub fn compile_program(
+    alloc: Global,
+    program: Program,
+    calls: u16,
+    cap: u8,
+    names: Items<Text>,
+) -> Result<Image, CodeError>
+    requires least { 64 ≤ program.memory }
+    requires aligned { program.memory % 16 ≡ 0 }
+    requires called { 1 ≤ calls }
+    requires shallow { calls ≤ 4096 }
+    requires some { 1 ≤ cap }
+    requires few { cap ≤ 64 }
+    requires files { length names ≤ 1024 }
+    requires named { IsTrue (list_all is_name names) }
+    ensures keeps { IfOk result (KeepsMeaning program calls) }
+    ensures compiled { IfOk result (IsCompiledFrom program calls cap) }
+    ensures budget { IfOk result (λ image. IsWithinCap cap image.budget) }
+    ensures names { IfOk result (λ image. image.names ≡ names) }
+{
+    image_keeps_meaning();
+    let ir = lower(alloc, &program, calls)?;
+    let Program { content, .. } = program;
+    see_bytes(content.as_slice());
+    generate(alloc, &ir, cap, content, names)
+}

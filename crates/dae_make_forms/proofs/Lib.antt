@@ -1,0 +1,4 @@
+mod Closing
+mod Wholes
+mod Lists
+mod Room

@@ -1,0 +1,9 @@
+mod Numbers
+mod Fitting
+mod Reading
+mod Small
+pub mod Steps
+mod Distinct
+pub mod Noted
+pub mod Views
+pub mod Whole

@@ -1,0 +1,7 @@
+pub mod Arms
+pub mod Declarations
+pub mod Distinct
+pub mod Fit
+pub mod Names
+pub mod Reads
+pub mod Shapes

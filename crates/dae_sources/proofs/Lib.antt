@@ -1,0 +1,3 @@
+mod Files
+mod Once
+mod Texts

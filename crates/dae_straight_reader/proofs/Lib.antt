@@ -1,4 +1,0 @@
-mod Straight
-mod Rows
-mod Loops
-mod Shapes

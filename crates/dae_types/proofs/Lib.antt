@@ -1,0 +1,4 @@
+mod Examples
+mod Members
+mod Reading
+mod Refusals

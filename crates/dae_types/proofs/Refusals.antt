@@ -1,0 +1,14 @@
+-- A rule that stops a check is broken.
+use Rattle.std.proofs.Common.{◌≡◌, Err, subst}
+use Rattle.dae_tree.specs.Files.{Contents}
+use Rattle.dae_tree.specs.FileViews.{view_externals}
+use Rattle.dae_kinds.specs.declared.rules.CheckError.{CheckError}
+use Rattle.dae_kinds.specs.declared.rules.CheckError.TheVariants as errors
+use Rattle.dae_kinds.specs.Tables.{Tables}
+use Rattle.dae_rules.specs.Plan.{Fails, IsChecked, check_of}
+use Rattle.dae_file_plans.specs.Promise.{FilesAreChecked}
+use Rattle.dae_types.specs.Answers.{Answers, plan_in, start_in}
+
+pub refused : (c : Contents) (e : CheckError) (s : Tables) → FilesAreChecked → s ≡ start_in c → Fails e (check_of (plan_in c) s) → Answers c (Err e)
+refused c errors.Memory s law is h = tt
+refused c (errors.Rule f) s law is h = subst (λ t. IsChecked (plan_in c) t (Err f)) is (subst (λ r. IsChecked (plan_in c) s r) h (law (view_externals c.externals) s))

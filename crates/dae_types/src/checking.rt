@@ -1,0 +1,60 @@
+// The check of a whole file.
+
+ghost use Rattle.std.specs.Prelude.{◌≡◌, Ok};
+ghost use Rattle.dae_rules.specs.Plan.{Gives};
+ghost use Rattle.dae_tables.specs.Seen.{tables};
+ghost use Rattle.dae_types.specs.Answers.{Answers, start_in};
+
+use crate::assembling::assemble;
+use crate::names::{copy_all, numbers_in};
+use dae_externals::file_products;
+use dae_file_plans::files_are_checked;
+use dae_kinds::CheckError;
+use dae_linkage::{begin_file, declare_stdio, declare_stdlib};
+use dae_sound::is_sound;
+use dae_tables::Checker;
+use dae_tree::{File, Header};
+use dae_typed::{FileParts, TypedFile};
+use std::alloc::Global;
+
+/// The tables before a file's first token.
+fn begin(alloc: Global, file: &File) -> Result<Checker, CheckError>
+    ensures { Gives tables result (Ok (start_in file.now)) }
+{
+    let numbers = numbers_in(file.names())?;
+    let literals = copy_all(alloc, file.literals())?;
+    let Ok(mut checker) = begin_file(alloc, literals, numbers.main) else {
+        return Err(CheckError::Memory);
+    };
+    declare_stdio(&mut checker, file.includes(Header::Stdio), &numbers)?;
+    declare_stdlib(&mut checker, file.includes(Header::Stdlib), &numbers)?;
+    Ok(checker)
+}
+
+/// What the check of a file gives before it is known to be sound.
+#[tactic(auto, using(crate::proofs::Refusals::refused))]
+fn check_parts(alloc: Global, file: &File) -> Result<FileParts, CheckError>
+    ensures { Answers file.now result }
+{
+    let mut checker = begin(alloc, file)?;
+    files_are_checked();
+    let products = file_products(alloc, &mut checker, file.externals())?;
+    let Ok(parts) = assemble(alloc, checker, products, file.names()) else {
+        return Err(CheckError::Memory);
+    };
+    Ok(parts)
+}
+
+/// Checks the types of a file (C90 6.1.2, 6.2, 6.3, 6.5, 6.6 and 6.7). A file in which no rule is broken becomes a typed file;
+/// in another a rule that is broken is answered, with a place where it is. Both fail for want of memory alone, and so does a
+/// typed file for which the test of what a joiner relies on says no.
+pub fn check(alloc: Global, file: &File) -> Result<TypedFile, CheckError>
+    ensures { Answers file.now result }
+{
+    let parts = check_parts(alloc, file)?;
+    if is_sound(alloc, &parts)? {
+        Ok(TypedFile::new(parts))
+    } else {
+        Err(CheckError::Memory)
+    }
+}
