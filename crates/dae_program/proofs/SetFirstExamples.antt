@@ -57,6 +57,12 @@ behind_and = function (None ∷ []) (tree.Evaluate here (tree.And here (tree.Var
 abbrev in_test : Function
 in_test = function (None ∷ []) (tree.Loop here (Some (tree.Assign here I32 (tree.InVariable 2) (tree.Variable here 1))) tree.Done None (gives 2))
 
+-- if (n) { while (k = n) ; } else k = 1; return k;
+abbrev in_test_of_branch : Function
+in_test_of_branch = function (None ∷ []) (tree.If here (tree.Variable here 1)
+    (tree.Loop here (Some (tree.Assign here I32 (tree.InVariable 2) (tree.Variable here 1))) tree.Done None tree.Done)
+    (gets 2 (tree.Number 1) tree.Done) (gives 2))
+
 itself_is : is_set_first itself ≡ false
 itself_is = refl
 
@@ -80,3 +86,6 @@ behind_and_is = refl
 
 in_test_is : is_set_first in_test ≡ false
 in_test_is = refl
+
+in_test_of_branch_is : is_set_first in_test_of_branch ≡ false
+in_test_of_branch_is = refl
