@@ -3,7 +3,7 @@ use Rattle.std.proofs.Common.{◌≡◌, ℕ, suc, ◌+◌, ◌^◌, ◌<◌, �
 use Rattle.std.specs.Prelude.{slice_get, Some}
 use Rattle.dae_encode.specs.declared.QueueUse.TheVariants.{Nothing, Take as Takes, Push as Pushes, Load, StoreAddress}
 use Rattle.dae_encode.specs.declared.Inst.{Inst}
-use Rattle.dae_encode.specs.Instructions.{decode}
+use Rattle.dae_encode.specs.Spelling.{decode}
 use Rattle.dae_encode.specs.Processor.{Processor, is_within}
 use Rattle.dae_base.specs.Words.{width_of}
 use Rattle.dae_base.specs.declared.Width.{Width}

@@ -9,7 +9,8 @@ use Rattle.dae_encode.specs.declared.Halt.{Halt}
 use Rattle.dae_encode.specs.declared.Inst.{Inst}
 use Rattle.dae_encode.specs.declared.Request.{Request}
 use Rattle.dae_encode.specs.declared.Request.TheVariants.{Halted, Faulty, Asks}
-use Rattle.dae_encode.specs.Instructions.{form, decode}
+use Rattle.dae_encode.specs.Instructions.{form}
+use Rattle.dae_encode.specs.Spelling.{decode}
 use Rattle.dae_encode.specs.Uses.{queue_use}
 use Rattle.dae_encode.specs.Processor.{Processor, early_fault, put_word, if_no_fault, if_legal, decoded, fetched, unless_halted, request}
 use Rattle.dae_core.specs.declared.code.Legal.{Legal}

@@ -1,7 +1,8 @@
 -- The words of a code as instructions.
 use Rattle.std.specs.Prelude.{ℕ, Bool, Option, option_map, option_and_then}
 use Rattle.dae_base.specs.declared.Side.{Side}
-use Rattle.dae_encode.specs.Instructions.{form, decode}
+use Rattle.dae_encode.specs.Instructions.{form}
+use Rattle.dae_encode.specs.Spelling.{decode}
 use Rattle.dae_encode.specs.Uses.{queue_use}
 use Rattle.dae_encode.specs.Processor.{Processor, early_fault, put_word, if_no_fault}
 use Rattle.dae_encode.specs.declared.Request.{Request}

@@ -1,12 +1,12 @@
--- A word that decodes is the word of its instruction.
+-- An instruction that is found by the fields of a word has that word.
 use Rattle.std.proofs.Common.{◌≡◌, ◌≢◌, ℕ, zero, suc, ◌%◌, ◌^◌, ◌<◌, ℤ, pos, ◌==◌, if◌then◌else◌, Option, Some, None, IfSome, refl, sym, arith}
-use Rattle.dae_encode.specs.Instructions.{field, branches, loads, stores, immediates, shifts, operations, multiplications, registers_only, decode}
+use Rattle.dae_encode.specs.Instructions.{field}
+use Rattle.dae_encode.specs.Decoding.{branches, loads, stores, immediates, shifts, operations, multiplications, registers_only, by_fields}
 use Rattle.dae_encode.specs.Spelling.{R, I, Shift, S, B, U, J, layout, encoded, InRange}
 use Rattle.dae_encode.specs.declared.Inst.{Inst}
 use Rattle.dae_encode.specs.declared.Inst.TheVariants.{Lui, Auipc, Jal, Jalr, Ecall}
 use Rattle.std.proofs.lemmas.Bool.Decides.{eqb_tells}
-use Rattle.std.proofs.Common.{IfNone, inl, inr, ap, rules}
-use Rattle.dae_encode.proofs.Spelled.{decode_encoded}
+use Rattle.std.proofs.Common.{inl, inr, rules}
 use Rattle.dae_encode.proofs.Fields.{Lays, lays_r, lays_i, lays_shift, lays_s, lays_b, lays_u, lays_j}
 
 -- the instruction, if any, has this word
@@ -121,9 +121,9 @@ nothing_spells : (w : ℕ) → Spells w None
 unfolding Spells
 nothing_spells w = tt
 
-decode_spells : (w : ℕ) → w < 2 ^ 32 → Spells w (decode w)
-unfolding decode
-decode_spells w h =
+fields_spell : (w : ℕ) → w < 2 ^ 32 → Spells w (by_fields w)
+unfolding by_fields
+fields_spell w h =
     let op = field 0 7 w in
     let f3 = field 12 3 w in
     let f7 = field 25 7 w in
@@ -138,15 +138,7 @@ decode_spells w h =
     (λ n7. if_spells w op 0b0110011 _ _ (λ e. registers_only_spell w f3 f7 _ _ _ (lays_r w 0b0110011 f7 h e refl))
     (λ n8. if_spells w w 0x73 _ _ (λ e. system_spells w e) (λ e. nothing_spells w))))))))))
 
--- a word that decodes is that of an instruction whose fields are in range
-pub encoded_decode : (w : ℕ) (i : Inst) → w < 2 ^ 32 → decode w ≡ Some i → InRange i × (encoded i ≡ w)
+-- what is found is in range, and has this word
+pub encoded_fields : (w : ℕ) (i : Inst) → w < 2 ^ 32 → by_fields w ≡ Some i → InRange i × (encoded i ≡ w)
 unfolding InRange encoded Spells
-encoded_decode w i h e = rw e at (decode_spells w h)
-
--- a word that does not decode is that of no instruction whose fields are in range
-pub not_encoded : (w : ℕ) → decode w ≡ None → (i : Inst) → InRange i → encoded i ≢ w
-not_encoded w n i h e = let back = decode_encoded i h in let same : decode (encoded i) ≡ decode w = ap decode e in cc
-
-pub where_none : (w : ℕ) (o : Option Inst) → o ≡ decode w → IfNone o ((i : Inst) → InRange i → encoded i ≢ w)
-where_none w None e = not_encoded w (sym e)
-where_none w (Some i) e = tt
+encoded_fields w i h e = rw e at (fields_spell w h)

@@ -1,4 +1,5 @@
 pub mod Instructions
 pub mod Spelling
+pub mod Decoding
 pub mod Uses
 pub mod Processor

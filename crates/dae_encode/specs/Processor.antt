@@ -16,7 +16,8 @@ use Rattle.dae_base.specs.Words.{plus, size, width_of, loaded, stored}
 use Rattle.dae_base.specs.Texts.{byte_text, decimal_text, hex_text}
 use Rattle.dae_encode.specs.declared.Form.{Form}
 use Rattle.dae_encode.specs.declared.Form.TheVariants.{Computes, Loads, Stores, Calls}
-use Rattle.dae_encode.specs.Instructions.{form, value, next, decode}
+use Rattle.dae_encode.specs.Instructions.{form, value, next}
+use Rattle.dae_encode.specs.Spelling.{decode}
 use Rattle.dae_encode.specs.Uses.{queue_use}
 
 pub record Processor : Type 0 where

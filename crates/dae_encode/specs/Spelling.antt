@@ -1,8 +1,9 @@
 -- The 32-bit words of the instructions, field by field (RISC-V unprivileged manual, "Base Instruction Formats" and
 -- "Immediate Encoding Variants"), and what each instruction has in these fields ("RV32/64G Instruction Set Listings").
-use Rattle.std.specs.Prelude.{◌≡◌, ℕ, ◌+◌, ◌-◌, ◌*◌, ◌%◌, ◌^◌, ◌<◌, ℤ, pos, neg_ℤ, ◌≤ℤ◌, ◌<ℤ◌}
+use Rattle.std.specs.Prelude.{◌≡◌, ℕ, ◌+◌, ◌-◌, ◌*◌, ◌%◌, ◌^◌, ◌<◌, ℤ, pos, neg_ℤ, ◌≤ℤ◌, ◌<ℤ◌, ◌==◌, List, [], ◌∷◌, Option}
+use Rattle.std.specs.List.{find}
 use Rattle.dae_base.specs.Words.{word}
-use Rattle.dae_encode.specs.Instructions.{field}
+use Rattle.dae_encode.specs.Instructions.{field, imm_i, imm_s, imm_b, imm_u, imm_j}
 use Rattle.dae_encode.specs.declared.Inst.{Inst}
 use Rattle.dae_encode.specs.declared.Inst.TheVariants.{Lui, Auipc, Jal, Jalr, Beq, Bne, Blt, Bge, Bltu, Bgeu, Lb, Lh, Lw, Lbu, Lhu, Sb, Sh, Sw, Addi, Slti, Sltiu, Xori, Ori, Andi, Slli, Srli, Srai, Add, Sub, Sll, Slt, Sltu, Xor, Srl, Sra, Or, And, Mul, Mulh, Mulhsu, Mulhu, Div, Divu, Rem, Remu, Ecall}
 
@@ -107,3 +108,24 @@ encoded i = in_places (layout i)
 -- each field of the instruction is one that its word can hold
 unfoldable pub InRange : Inst → Type 0
 InRange i = Fits (layout i)
+
+-- the listings once more: every instruction, with these registers and immediates in its fields
+abbrev pub listed : (rd rs1 rs2 : ℕ) (i s b u j : ℤ) → List Inst
+listed rd rs1 rs2 i s b u j =
+    Lui rd u ∷ (Auipc rd u ∷ (Jal rd j ∷ (Jalr rd rs1 i ∷
+    (Beq rs1 rs2 b ∷ (Bne rs1 rs2 b ∷ (Blt rs1 rs2 b ∷ (Bge rs1 rs2 b ∷ (Bltu rs1 rs2 b ∷ (Bgeu rs1 rs2 b ∷
+    (Lb rd rs1 i ∷ (Lh rd rs1 i ∷ (Lw rd rs1 i ∷ (Lbu rd rs1 i ∷ (Lhu rd rs1 i ∷
+    (Sb rs1 rs2 s ∷ (Sh rs1 rs2 s ∷ (Sw rs1 rs2 s ∷
+    (Addi rd rs1 i ∷ (Slti rd rs1 i ∷ (Sltiu rd rs1 i ∷ (Xori rd rs1 i ∷ (Ori rd rs1 i ∷ (Andi rd rs1 i ∷
+    (Slli rd rs1 (pos rs2) ∷ (Srli rd rs1 (pos rs2) ∷ (Srai rd rs1 (pos rs2) ∷
+    (Add rd rs1 rs2 ∷ (Sub rd rs1 rs2 ∷ (Sll rd rs1 rs2 ∷ (Slt rd rs1 rs2 ∷ (Sltu rd rs1 rs2 ∷ (Xor rd rs1 rs2 ∷ (Srl rd rs1 rs2 ∷ (Sra rd rs1 rs2 ∷ (Or rd rs1 rs2 ∷ (And rd rs1 rs2 ∷
+    (Mul rd rs1 rs2 ∷ (Mulh rd rs1 rs2 ∷ (Mulhsu rd rs1 rs2 ∷ (Mulhu rd rs1 rs2 ∷ (Div rd rs1 rs2 ∷ (Divu rd rs1 rs2 ∷ (Rem rd rs1 rs2 ∷ (Remu rd rs1 rs2 ∷
+    (Ecall ∷ [])))))))))))))))))))))))))))))))))))))))))))))
+
+-- with what stands in the fields of this word
+abbrev pub listed_for : ℕ → List Inst
+listed_for w = listed (field 7 5 w) (field 15 5 w) (field 20 5 w) (imm_i w) (imm_s w) (imm_b w) (imm_u w) (imm_j w)
+
+-- the instruction that a word spells: of those with what stands in its fields the one whose word it is
+unfoldable pub decode : ℕ → Option Inst
+decode w = find (λ i. encoded i == w) (listed_for w)

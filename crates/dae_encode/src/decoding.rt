@@ -1,12 +1,12 @@
 ghost use Rattle.std.specs.Prelude.{◌≡◌, ◌≢◌, ℕ, ◌<◌, ◌^◌, IfSome, IfNone};
-ghost use Rattle.dae_encode.specs.Instructions.{field, signed_in, imm_i, imm_s, imm_b, imm_u, imm_j, branches, loads, stores, immediates, shifts, operations, multiplications, registers_only, decode};
-ghost use Rattle.dae_encode.specs.Spelling.{InRange, encoded};
+ghost use Rattle.dae_encode.specs.Decoding.{branches, loads, stores, immediates, shifts, operations, multiplications, registers_only, by_fields};
+ghost use Rattle.dae_encode.specs.Instructions.{field, signed_in, imm_i, imm_s, imm_b, imm_u, imm_j};
+ghost use Rattle.dae_encode.specs.Spelling.{InRange, encoded, decode};
 
 use crate::Inst;
 use crate::bits::field;
 
 /// The instruction that a word spells, or None where the word is that of no instruction whose fields are in range.
-#[tactic(auto, using(crate::proofs::Words::encoded_decode))]
 pub fn decode(word: u32) -> Option<Inst>
     ensures told { result ≡ decode word }
     ensures some { IfSome result (λ inst. InRange inst × (encoded inst ≡ word)) }
@@ -15,9 +15,9 @@ pub fn decode(word: u32) -> Option<Inst>
     by_opcode(word)
 }
 
-#[tactic(auto, unfolding(crate::specs::Instructions::decode))]
+#[tactic(auto, unfolding(crate::specs::Decoding::by_fields))]
 fn by_opcode(word: u32) -> Option<Inst>
-    ensures { result ≡ decode word }
+    ensures { result ≡ by_fields word }
 {
     let rd = register(word, 7);
     let rs1 = register(word, 15);
@@ -124,7 +124,7 @@ fn immediate_j(word: u32) -> i32
     )
 }
 
-#[tactic(auto, unfolding(crate::specs::Instructions::branches))]
+#[tactic(auto, unfolding(crate::specs::Decoding::branches))]
 fn branch(funct3: u32, x: u8, y: u8, imm: i32) -> Option<Inst>
     ensures { result ≡ branches funct3 x y imm }
 {
@@ -139,7 +139,7 @@ fn branch(funct3: u32, x: u8, y: u8, imm: i32) -> Option<Inst>
     }
 }
 
-#[tactic(auto, unfolding(crate::specs::Instructions::loads))]
+#[tactic(auto, unfolding(crate::specs::Decoding::loads))]
 fn load(funct3: u32, rd: u8, base: u8, imm: i32) -> Option<Inst>
     ensures { result ≡ loads funct3 rd base imm }
 {
@@ -153,7 +153,7 @@ fn load(funct3: u32, rd: u8, base: u8, imm: i32) -> Option<Inst>
     }
 }
 
-#[tactic(auto, unfolding(crate::specs::Instructions::stores))]
+#[tactic(auto, unfolding(crate::specs::Decoding::stores))]
 fn store(funct3: u32, base: u8, source: u8, imm: i32) -> Option<Inst>
     ensures { result ≡ stores funct3 base source imm }
 {
@@ -165,7 +165,7 @@ fn store(funct3: u32, base: u8, source: u8, imm: i32) -> Option<Inst>
     }
 }
 
-#[tactic(auto, unfolding(crate::specs::Instructions::immediates))]
+#[tactic(auto, unfolding(crate::specs::Decoding::immediates))]
 fn with_immediate(funct3: u32, rd: u8, x: u8, imm: i32) -> Option<Inst>
     ensures { result ≡ immediates funct3 rd x imm }
 {
@@ -180,7 +180,7 @@ fn with_immediate(funct3: u32, rd: u8, x: u8, imm: i32) -> Option<Inst>
     }
 }
 
-#[tactic(auto, unfolding(crate::specs::Instructions::shifts))]
+#[tactic(auto, unfolding(crate::specs::Decoding::shifts))]
 fn shift(funct3: u32, funct7: u32, rd: u8, x: u8, amount: u8) -> Option<Inst>
     ensures { result ≡ shifts funct3 funct7 rd x amount }
 {
@@ -226,7 +226,7 @@ fn multiplication(funct3: u32, rd: u8, x: u8, y: u8) -> Option<Inst>
     }
 }
 
-#[tactic(auto, unfolding(crate::specs::Instructions::registers_only))]
+#[tactic(auto, unfolding(crate::specs::Decoding::registers_only))]
 fn on_registers(funct3: u32, funct7: u32, rd: u8, x: u8, y: u8) -> Option<Inst>
     ensures { result ≡ registers_only funct3 funct7 rd x y }
 {

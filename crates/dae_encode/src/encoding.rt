@@ -1,6 +1,6 @@
 ghost use Rattle.std.specs.Prelude.{◌≡◌, ℕ, ◌<◌, ◌^◌, ◌+◌, ◌≤◌, Some};
-ghost use Rattle.dae_encode.specs.Instructions.{field, decode};
-ghost use Rattle.dae_encode.specs.Spelling.{in_places, R, I, Shift, S, B, U, J, Fits, encoded, InRange};
+ghost use Rattle.dae_encode.specs.Instructions.{field};
+ghost use Rattle.dae_encode.specs.Spelling.{in_places, R, I, Shift, S, B, U, J, Fits, encoded, InRange, decode};
 
 use crate::Inst;
 use crate::bits::field;
@@ -105,7 +105,7 @@ fn j_word(opcode: u32, rd: u8, imm: i32) -> u32
 /// The word of an instruction whose fields are in range: registers from 0 to 31, signed immediates of 12 bits, even
 /// offsets of 13 bits in branches and of 21 in JAL, multiples of 4096 in LUI and AUIPC, and shifts by 0 to 31. It spells
 /// that instruction.
-#[tactic(auto, using(crate::proofs::Spelled::decode_encoded))]
+#[tactic(auto, using(crate::proofs::Listed::decode_encoded))]
 pub fn encode(inst: Inst) -> u32
     requires { InRange inst }
     ensures word { result ≡ encoded inst }

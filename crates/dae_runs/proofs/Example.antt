@@ -12,7 +12,8 @@ use Rattle.dae_encode.specs.declared.Halt.TheVariants.{Plain, Status}
 use Rattle.dae_encode.specs.declared.Inst.TheVariants.{Ecall}
 use Rattle.dae_encode.specs.declared.QueueUse.TheVariants.{Nothing}
 use Rattle.dae_encode.specs.declared.Request.TheVariants.{Asks}
-use Rattle.dae_encode.specs.Instructions.{decode, form}
+use Rattle.dae_encode.specs.Instructions.{form}
+use Rattle.dae_encode.specs.Spelling.{decode}
 use Rattle.dae_encode.specs.Uses.{queue_use}
 use Rattle.dae_encode.specs.Processor.{Processor, request, finish, early_fault, put_word}
 use Rattle.dae_core.specs.Held.{fresh}

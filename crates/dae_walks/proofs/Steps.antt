@@ -18,7 +18,8 @@ use Rattle.dae_encode.specs.declared.Inst.TheVariants.{Lw, Sw, Ecall}
 use Rattle.dae_encode.specs.declared.Form.TheVariants.{Computes, Loads, Stores}
 use Rattle.dae_encode.specs.declared.Halt.{Halt}
 use Rattle.dae_encode.specs.declared.Halt.TheVariants.{Plain}
-use Rattle.dae_encode.specs.Instructions.{Effect, DoesCompute, DoesLoad, DoesStore, effect, form_of, form, value_of, value, next_of, next, decode}
+use Rattle.dae_encode.specs.Instructions.{Effect, DoesCompute, DoesLoad, DoesStore, effect, form_of, form, value_of, value, next_of, next}
+use Rattle.dae_encode.specs.Spelling.{decode}
 use Rattle.dae_encode.specs.Uses.{queue_use}
 use Rattle.dae_encode.specs.Processor.{Processor, held, operand, address, with_result, early_fault, put_word, decoded, if_no_fault, request, finish, is_within, is_good_private, called, prints, halts}
 use Rattle.dae_walks.specs.Walks.{Setting, Acts}
