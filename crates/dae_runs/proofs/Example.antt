@@ -12,8 +12,8 @@ use Rattle.dae_encode.specs.declared.Halt.TheVariants.{Plain, Status}
 use Rattle.dae_encode.specs.declared.Inst.TheVariants.{Ecall}
 use Rattle.dae_encode.specs.declared.QueueUse.TheVariants.{Nothing}
 use Rattle.dae_encode.specs.declared.Request.TheVariants.{Asks}
-use Rattle.dae_encode.specs.Instructions.{form}
-use Rattle.dae_encode.specs.Spelling.{decode}
+use Rattle.dae_encode.specs.Instructions.{form, imm_i, imm_s, imm_b, imm_u, imm_j}
+use Rattle.dae_encode.specs.Spelling.{encoded, layout, decode}
 use Rattle.dae_encode.specs.Uses.{queue_use}
 use Rattle.dae_encode.specs.Processor.{Processor, request, finish, early_fault, put_word}
 use Rattle.dae_core.specs.Held.{fresh}
@@ -69,7 +69,7 @@ abbrev Begun : Processor → Type 0
 Begun q = (q.halt ≡ None) × (q.counter ≡ 0) × (slice_index q.registers 17 ≡ 0) × (slice_index q.registers 10 ≡ 0)
 
 decoded_call : decode 0x73 ≡ Some Ecall
-unfolding decode
+unfolding decode encoded layout imm_i imm_s imm_b imm_u imm_j
 decoded_call = refl
 
 asks_a : (q : Processor) → Begun q → request false A (0x73 ∷ []) 16 q ≡ Asks Nothing 0 Ecall
