@@ -15,8 +15,9 @@ folder of the independent one, which is in Python.
 The option --tight runs each accepted program also with each queue at its budget, under each schedule, and with each queue one
 below its budget. --budget compares the line of budgets (without reuse of loads, with all seven queues; where a condition is
 a comma the other tests its value, and the program its right part, so that a budget may differ). --first asks for the very
-refusal that the other gives, where several are right. --vary chooses sizes of memory, limits of calls and caps. --keep=FOLDER
-keeps each text that differs. Accepted texts with more than so much work (MOST_WORK) are only run a little.
+refusal that the other gives, where several are right. --begin asks only whether a program is accepted, and begins it.
+--vary chooses sizes of memory, limits of calls and caps. --keep=FOLDER keeps each text that differs. Accepted texts with more
+than so much work (MOST_WORK) are only run a little.
 """
 
 import os
@@ -42,7 +43,7 @@ MOST_WORK = 3_000_000
 
 
 class Options:
-    tight, budget, first, vary, keep, place = False, False, False, False, None, None
+    tight, budget, first, begin, vary, keep, place = False, False, False, False, False, None, None
     memory, calls, cap = 1 << 20, 1000, 4
 
     @classmethod
@@ -76,6 +77,8 @@ class Due:
             self.program = front.load(list(zip(names, texts)), Options.memory, 2)
         except Refused as refused:
             self.allowed, self.line = refused.allowed, refused.line
+            return
+        if Options.begin:
             return
         self.result = meaning.run(self.program, Options.calls, MOST_WORK)
 
@@ -121,6 +124,11 @@ def see(names, texts, place, r, say):
         elif Options.first and notes[0] != due.line:
             say("other refusal", "wanted %s, got %s" % (due.line, notes[0]))
         return "refused " + due.line.split()[1]
+    if Options.begin:
+        status, out, notes = run(["run", "--steps=1", *names])
+        if status not in (0, 1, 3):
+            say("accepted", "got %d %s" % (status, notes))
+        return "begun"
     result = due.result
     if result.kind == "running":
         status, out, notes = run(["run", "--steps=100000", *names])
@@ -288,7 +296,7 @@ KEYWORDS = (b"int char short unsigned signed long void struct enum typedef stati
 def main():
     words = []
     for word in sys.argv[3:]:
-        if word in ("--tight", "--budget", "--first", "--vary"):
+        if word in ("--tight", "--budget", "--first", "--begin", "--vary"):
             setattr(Options, word[2:], True)
         elif word.startswith("--keep="):
             Options.keep = os.path.abspath(word[7:])
