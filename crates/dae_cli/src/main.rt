@@ -9,16 +9,30 @@ use std::env;
 use std::io::ErrorKind;
 use std::process::ExitCode;
 
+#[cfg(test)]
+mod calls;
 mod compile;
+#[cfg(test)]
+mod cut_tests;
 mod exec;
+#[cfg(test)]
+mod exec_tests;
 mod fetching;
+#[cfg(test)]
+mod files;
+#[cfg(test)]
+mod images;
 mod job;
 mod laws;
 mod names;
 mod options;
 mod refusals;
+#[cfg(test)]
+mod rows;
 mod run;
 mod sources;
+#[cfg(test)]
+mod tests;
 mod top;
 
 // The words after the program's name.
