@@ -2,8 +2,9 @@
 compare.py OTHER compare FOLDER GOT FIRST COUNT
 
 Compares what the forms of programs do, by interpret.py, with what an independent implementation says of the programs: end,
-output, memory, reads and writes. OTHER is the folder of that implementation, which is in Python, with its maker of random
-programs. The programs are those of tools/meaning/programs.txt and those of the seeds from FIRST on, COUNT of them.
+output, memory, reads and writes; of one that goes on, under a bound on turns, only that with one turn more the form goes on
+and has printed as much. OTHER is the folder of that implementation, which is in Python, with its maker of random programs. The
+programs are those of tools/meaning/programs.txt and those of the seeds from FIRST on, COUNT of them.
 
 It also prints the most variables and the most items of a function for each token of its definition.
 
@@ -82,7 +83,9 @@ def differences(words, sources, turns, limit, memory):
     if want.kind == "running" and turns is None:
         return "too long", []
     if want.kind == "running":
-        return "a bound on turns", []
+        got = interpret.Run(form, data, turns + 1).main()
+        as_much = got.end == ("Going",) and bytes(got.printed).startswith(bytes(want.output))
+        return "going on", [] if as_much else ["it goes on: %r and %r" % (bytes(got.printed), bytes(want.output))]
     got = interpret.Run(form, data, 1 << 33).main()
     pairs = [("end", got.end, (ENDS[want.kind], want.code & 0xFFFFFFFF)), ("output", bytes(got.printed), bytes(want.output)),
              ("memory", bytes(got.memory), bytes(want.memory)), ("reads", got.loads, want.reads),
