@@ -1,4 +1,4 @@
 mod Marked
 mod MarkedExpressions
 mod MarkedStatements
-mod Loads
+mod Bounded

@@ -1,4 +1,4 @@
-use Rattle.dae_bounds.proofs.Loads.{loads_bounded}
+use Rattle.dae_bounds.proofs.Bounded.{loads_bounded}
 use Rattle.dae_bounds.proofs.loads_bounded.Goals as goal
 
 pub returns : goal.returns
