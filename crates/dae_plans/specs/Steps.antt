@@ -312,9 +312,9 @@ prefix_at p q prefix.Increment n m = step_at p false true m
 prefix_at p q prefix.Decrement n m = step_at p true true m
 prefix_at p q prefix.Address n m = address_at p n m
 prefix_at p q prefix.Indirection n m = star_at p (value_at q m)
-prefix_at p q prefix.Plus n m = does (λ s x. (s, valued_by x.tree (promoted_of s x) x.known)) (integer_at p (value_at q m))
-prefix_at p q prefix.Minus n m = does (λ s x. (s, negated p x (promoted_of s x))) (integer_at p (value_at q m))
-prefix_at p q prefix.Complement n m = does (λ s x. (s, complemented p x (promoted_of s x))) (integer_at p (value_at q m))
+prefix_at p q prefix.Plus n m = does (λ s x. (s, valued_by x.tree (promoted_of s x) x.known)) (integer_at p (scalar_at p (value_at q m)))
+prefix_at p q prefix.Minus n m = does (λ s x. (s, negated p x (promoted_of s x))) (integer_at p (scalar_at p (value_at q m)))
+prefix_at p q prefix.Complement n m = does (λ s x. (s, complemented p x (promoted_of s x))) (integer_at p (scalar_at p (value_at q m)))
 prefix_at p q prefix.Not n m = does (λ s x. (s, inverted p x)) (scalar_at p (value_at q m))
 
 abbrev pub postfix_at : Place → PostfixOperator → Plan Typed → Plan Typed

@@ -21,7 +21,7 @@ use Rattle.dae_kinds.specs.declared.tables.Routine.{Routine}
 use Rattle.dae_kinds.specs.declared.values.Known.{Known}
 use Rattle.dae_kinds.specs.declared.values.Known.TheVariants as known
 use Rattle.dae_kinds.specs.Tables.{Tables, found_component}
-use Rattle.dae_kinds.specs.Types.{shape_of, is_integer, is_character, is_unsigned, is_pointer, is_void, is_function, is_array, is_structure, is_scalar, pointee, is_complete, same, layout_at, most_bytes, is_too_large}
+use Rattle.dae_kinds.specs.Types.{shape_of, is_integer, is_character, is_unsigned, is_pointer, is_void, is_function, is_array, is_structure, is_scalar, pointee, is_complete, same, layout_at, layout_of, most_bytes, is_too_large}
 use Rattle.dae_kinds.specs.Values.{Typed, is_number, is_division, is_constant, is_object, is_update, fits, result_of, parameters_of}
 use Rattle.dae_rules.specs.Sites.{Site, AtWord, AtTag, AtBody, AtEnumeration, AtEnumerationBody, AtEnumerator, AtConstant, AtComponent, AtEnd, AtPointer, AtCount, AtElement, AtResult, AtParameter, AtName, AtValue, AtInteger, AtScalar, AtOperands, AtSized, AtSizeof, AtCast, AtAddress, AtStar, AtIndex, AtMember, AtTarget, AtAssign, AtUpdate, AtBranches, AtCall, AtCalled, AtArgument, AtReturn, AtBreak, AtCase, AtDefault, AtCaseOutside, AtSwitchBody, AtFormat, AtPrinted, AtTypedef, AtLocal, AtFunction, AtObject, AtEndOfFile, AtDefinition, AtSecond, AtUnnamed, AtItem, AtScalarList, AtAggregate, AtString, AtTooMany, AtFilled}
 
@@ -59,6 +59,11 @@ points_nowhere s (Some n) = is_void (shape_of s n)
 abbrev pub lacks_component : Tables → Option ℕ → ℕ → Bool
 lacks_component s None name = false
 lacks_component s (Some n) name = is_none (found_component s n name)
+
+-- the structure whose member is asked for is incomplete
+abbrev pub lacks_layout : Tables → Option ℕ → Bool
+lacks_layout s None = false
+lacks_layout s (Some n) = is_none (layout_of s n)
 
 abbrev pub lacks_size : Tables → Option ℕ → Bool
 lacks_size s None = false
@@ -209,15 +214,15 @@ incomplete (AtComponent p taken s t) = not (is_function (shape_of s t)) && not (
 incomplete (AtEnumeration p found) = is_none found
 incomplete (AtSizeof p s t) = not (is_complete s t)
 incomplete (AtSized p s t) = lacks_size s t
+incomplete (AtMember p s n name) = lacks_layout s n
 incomplete (AtValue p s x) = is_structure_value s x && not (is_complete s x.type_id)
 incomplete (AtLocal p taken given s t) = not (is_function (shape_of s t)) && not (is_complete s t) && not (given && is_array (shape_of s t))
 incomplete (AtObject p k given found s t) = is_void (shape_of s t) || (given && not (is_array (shape_of s t)) && not (is_complete s t))
 incomplete (AtEndOfFile p s t) = not (is_complete s t)
 incomplete _ = false
 
--- an object, member, element or parameter has type void
+-- an object, member or parameter has type void
 abbrev pub void_object : Site → Bool
-void_object (AtElement p s t count) = is_void (shape_of s t)
 void_object (AtParameter p taken t) = is_void t
 void_object (AtComponent p taken s t) = is_void (shape_of s t)
 void_object (AtLocal p taken given s t) = is_void (shape_of s t)
@@ -509,7 +514,7 @@ asked (AtComponent p taken s t) = rule.VoidObject ∷ rule.BadFunctionType ∷ r
 asked (AtEnd p l) = rule.ObjectTooLarge ∷ []
 asked (AtPointer p t) = rule.FunctionPointer ∷ []
 asked (AtCount p s x) = rule.NotInteger ∷ rule.ConstantDivision ∷ rule.BadSize ∷ []
-asked (AtElement p s t count) = rule.BadFunctionType ∷ rule.VoidObject ∷ rule.Incomplete ∷ rule.ObjectTooLarge ∷ []
+asked (AtElement p s t count) = rule.BadFunctionType ∷ rule.Incomplete ∷ rule.ObjectTooLarge ∷ []
 asked (AtResult p t) = rule.BadFunctionType ∷ rule.StructureValue ∷ []
 asked (AtParameter p taken t) = rule.FunctionPointer ∷ rule.VoidObject ∷ rule.Incomplete ∷ rule.StructureValue ∷ rule.Redeclared ∷ []
 asked (AtName p found) = rule.Undeclared ∷ rule.FunctionValue ∷ []
@@ -523,7 +528,7 @@ asked (AtCast p t u) = rule.BadCast ∷ []
 asked (AtAddress p c) = rule.NotLvalue ∷ []
 asked (AtStar p s t) = rule.BadDeref ∷ []
 asked (AtIndex p t u) = rule.BadIndex ∷ []
-asked (AtMember p s n name) = rule.NotStructure ∷ rule.BadMember ∷ []
+asked (AtMember p s n name) = rule.NotStructure ∷ rule.Incomplete ∷ rule.BadMember ∷ []
 asked (AtTarget p t c) = rule.NotLvalue ∷ rule.NotModifiable ∷ []
 asked (AtAssign p s x t) = rule.BadAssign ∷ rule.StructureValue ∷ []
 asked (AtUpdate p c) = rule.BadOperands ∷ []

@@ -41,9 +41,6 @@ pub fn make_unsized_array(
     if is_function(shape) {
         return Err(broken(Rule::BadFunctionType, place));
     }
-    if is_void(shape) {
-        return Err(broken(Rule::VoidObject, place));
-    }
     if !checker.is_complete(element) {
         return Err(broken(Rule::Incomplete, place));
     }
@@ -67,9 +64,6 @@ pub fn make_array(
     let shape = checker.shape_of(element);
     if is_function(shape) {
         return Err(broken(Rule::BadFunctionType, place));
-    }
-    if is_void(shape) {
-        return Err(broken(Rule::VoidObject, place));
     }
     if !checker.is_complete(element) {
         return Err(broken(Rule::Incomplete, place));

@@ -310,6 +310,9 @@ pub fn member(
     let Some(structure) = owner(checker, operator, &x) else {
         return Err(broken(Rule::NotStructure, place));
     };
+    if checker.layout_of(structure).is_none() {
+        return Err(broken(Rule::Incomplete, place));
+    }
     let Some(component) = checker.found_component(structure, name.number) else {
         return Err(broken(Rule::BadMember, place));
     };

@@ -205,18 +205,21 @@ pub fn prefix(
         }
         PrefixOperator::Plus => {
             let x = value(alloc, checker, operand, x)?;
+            let x = scalar(checker, place, x)?;
             let x = integer(checker, place, x)?;
             let type_id = promoted(checker.shape_of(x.type_id));
             Ok(Value::of_known(x.tree, type_id, x.known))
         }
         PrefixOperator::Minus => {
             let x = value(alloc, checker, operand, x)?;
+            let x = scalar(checker, place, x)?;
             let x = integer(checker, place, x)?;
             let type_id = promoted(checker.shape_of(x.type_id));
             negated(alloc, place, x, type_id)
         }
         PrefixOperator::Complement => {
             let x = value(alloc, checker, operand, x)?;
+            let x = scalar(checker, place, x)?;
             let x = integer(checker, place, x)?;
             let type_id = promoted(checker.shape_of(x.type_id));
             complemented(alloc, place, x, type_id)
