@@ -1,3 +1,4 @@
 mod Faults
 mod Files
+mod Joined
 mod Stages

@@ -1,18 +1,22 @@
 // Accepted and refused exclude each other.
 
 ghost use Rattle.dae_accept.specs.Accepted.{IsNeverBeside};
-ghost use Rattle.dae_accept.specs.declared.error.CompileError.TheVariants.{Lex, Rule, Tree};
+ghost use Rattle.dae_accept.specs.declared.error.CompileError.TheVariants.{Join, Lex, Rule, Tree};
 ghost use Rattle.dae_kinds.specs.declared.rules.Breach.{Breach};
 ghost use Rattle.dae_parse.specs.declared.error.ParseError.{ParseError};
 ghost use Rattle.dae_tree.specs.declared.faults.LexError.{LexError};
+ghost use Rattle.dae_unit.specs.declared.errors.JoinError.{JoinError};
 
 use dae_sources::texts_are_read_once;
+use dae_unit::outlines_tell_causes;
 
-/// Texts that are accepted are not refused for their tokens, nor for a tree, nor for a rule of types.
+/// Texts that are accepted are not refused for their tokens, nor for a tree, nor for a rule of types, nor since they don't join.
 pub fn accepted_have_no_fault()
     ensures tokens { (e : LexError) → IsNeverBeside (Lex e) }
     ensures trees { (e : ParseError) → IsNeverBeside (Tree e) }
     ensures rules { (b : Breach) → IsNeverBeside (Rule b) }
+    ensures joining { (e : JoinError) → IsNeverBeside (Join e) }
 {
     texts_are_read_once();
+    outlines_tell_causes();
 }

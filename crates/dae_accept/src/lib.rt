@@ -9,4 +9,8 @@ pub use laws::accepted_have_no_fault;
 
 mod accepting;
 mod error;
+#[cfg(test)]
+mod joining_tests;
 mod laws;
+#[cfg(test)]
+mod tests;

@@ -3,6 +3,9 @@ pub mod Across
 pub mod Clashes
 pub mod Placing
 pub mod Meanings
+pub mod Identities
+pub mod Later
 pub mod Contents
 pub mod Joining
+pub mod Outlines
 pub mod Joined

@@ -43,3 +43,7 @@ external_name files k e = elim (slice_get files k) [ None ↦ None | Some f ↦ 
 -- an object or a function of one file and one of another are one where they share a name; in one file each is one with itself
 unfoldable pub is_one : List FileParts → (j : ℕ) → Entity → (k : ℕ) → Entity → Bool
 is_one files j x k y = same_name (external_name files j x) (external_name files k y) || (nat_eq j k && same_entity x y)
+
+-- two rows declare one object or function of one file
+abbrev pub declares_same : FileRow → FileRow → Bool
+declares_same d e = nat_eq d.file e.file && same_entity (entity_of d) (entity_of e)

@@ -1,7 +1,7 @@
 -- Where objects and literals stand: objects with static storage from address 16 on, in the order of the first declaration of
 -- each that isn't a mere reference, each at a multiple of its alignment; then all string literals, each with its zero byte.
 -- Frames begin behind them, at a multiple of 4. Sums stop at 2^64 - 1.
-use Rattle.std.specs.Prelude.{ℕ, ◌+◌, ◌-◌, ◌*◌, ◌/◌, ◌^◌, Bool, true, false, ◌&&◌, not, List, [], ◌∷◌, ◌++◌, length, Option, Some, None, nat_eq, nat_le, if◌then◌else◌, slice_get, min}
+use Rattle.std.specs.Prelude.{ℕ, ◌+◌, ◌-◌, ◌*◌, ◌/◌, ◌^◌, Bool, ◌&&◌, not, List, [], ◌∷◌, ◌++◌, length, Option, Some, None, nat_eq, nat_le, if◌then◌else◌, slice_get, min}
 use Rattle.std.specs.List.{list_any}
 use Rattle.dae_kinds.specs.declared.types.Layout.{Layout}
 use Rattle.dae_kinds.specs.declared.tables.Entity.{Entity}
@@ -17,9 +17,12 @@ use Rattle.dae_unit.specs.Linkage.{is_one, entity_of, refers}
 abbrev pub is_same : List FileParts → FileRow → FileRow → Bool
 is_same files d e = is_one files d.file (entity_of d) e.file (entity_of e)
 
+abbrev pub gives_room : FileRow → Bool
+gives_room d = is_object (entity_of d) && not (refers d)
+
 -- whether a declaration is the first that gives an object room, behind those that do so
 unfoldable pub is_first : List FileParts → List FileRow → FileRow → Bool
-is_first files done d = (is_object (entity_of d) && not (refers d)) && not (list_any (is_same files d) done)
+is_first files done d = gives_room d && not (list_any (is_same files d) done)
 
 abbrev pub placed_rows : List FileParts → List FileRow → List FileRow → List FileRow
 placed_rows files done [] = done

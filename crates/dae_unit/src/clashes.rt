@@ -1,16 +1,26 @@
 // What keeps files from joining: definitions, types, uses and main.
 
-ghost use Rattle.std.specs.Prelude.{◌≡◌, find, slice_get};
+ghost use Rattle.std.specs.Prelude.{◌≡◌, ◌∷◌, ℕ, List, IfOk, None, OnOk, cond, find, reverse, slice_get};
+ghost use Rattle.std.specs.Borrow.{Bor};
 ghost use Rattle.std.specs.List.{list_any};
+ghost use Rattle.std.specs.Str.{bytes_eq};
 ghost use Rattle.dae_typed.specs.Linkage.{is_function, type_in};
-ghost use Rattle.dae_unit.specs.Clashes.{types_differ, shares_name, clashes, first_clash, is_library_in, gives, is_missing, first_missing, is_main};
+ghost use Rattle.dae_unit.specs.Clashes.{clashes, types_differ, first_clash, is_library_in, is_missing, first_missing, is_main};
+ghost use Rattle.dae_unit.specs.Identities.{AreGivers};
+ghost use Rattle.dae_unit.specs.Later.{AreLater, AreNextDefinitions, entry_of_name, items_or_none, nearest, put_first};
+ghost use Rattle.dae_unit.specs.declared.rows.FileRow.{FileRow};
+ghost use Rattle.dae_unit.specs.declared.errors.Clash.TheVariants.{Definitions, Types};
 
 use crate::across::same_across;
 use crate::errors::Clash;
-use crate::linkage::{defines, external_name, is_one, refers, same_name};
+use crate::givers::{givers_of, is_given};
+use crate::identities::Identity;
+use crate::linkage::{declares_same, defines, external_name, same_name};
 use crate::rows::FileRow;
 use dae_kinds::{Entity, Use};
 use dae_typed::{FileParts, TypedFile};
+use indexmap::{IndexMap, IndexSet};
+use std::alloc::{AllocError, Global};
 
 // The types that are there from the start.
 const INT: usize = 6;
@@ -52,48 +62,152 @@ fn types_differ(files: &[TypedFile], x: FileRow, y: FileRow) -> bool
     }
 }
 
-fn shares_name(files: &[TypedFile], x: FileRow, y: FileRow) -> bool
-    ensures { result ≡ shares_name files.now x y }
+/// A declaration with the later one that it clashes with, or else what was found among the later ones.
+fn nearest(
+    row: FileRow,
+    other: Option<FileRow>,
+    found: Option<(FileRow, FileRow)>,
+) -> Option<(FileRow, FileRow)>
+    ensures { result ≡ nearest row other found }
 {
-    let name = external_name(files, x.file, x.declaration.entity);
-    same_name(name, external_name(files, y.file, y.declaration.entity))
-}
-
-#[tactic(auto, unfolding(crate::specs::Clashes::clashes))]
-fn clashes(files: &[TypedFile], clash: Clash, x: FileRow, y: FileRow) -> bool
-    ensures { result ≡ clashes files.now clash x y }
-{
-    match clash {
-        Clash::Definitions => defines(x) && defines(y) && shares_name(files, x, y),
-        Clash::Types => shares_name(files, x, y) && types_differ(files, x, y),
+    match other {
+        Some(other) => Some((row, other)),
+        None => found,
     }
 }
 
-fn find_clash(files: &[TypedFile], clash: Clash, x: FileRow, rows: &[FileRow]) -> Option<FileRow>
-    ensures { result ≡ find (clashes files.now clash x) rows.now }
+/// The next definition of a row's name, where the row is a definition; from then on it is the next one of its name.
+fn next_definition<'f>(
+    files: &'f [TypedFile],
+    next: &mut IndexMap<&'f [u8], FileRow>,
+    row: FileRow,
+) -> Result<Option<FileRow>, AllocError>
+    ensures clash { IfOk result (λ other. (ds : List FileRow) → AreNextDefinitions files.now ds next.old.entries → other ≡ find (clashes files.now Definitions row) ds) }
+    ensures noted { OnOk result ((ds : List FileRow) → AreNextDefinitions files.now ds next.old.entries → AreNextDefinitions files.now (row ∷ ds) next.new.entries) }
 {
-    for y in rows {
-        if clashes(files, clash, x, *y) {
-            return Some(*y);
+    if !defines(row) {
+        return Ok(None);
+    }
+    match external_name(files, row.file, row.declaration.entity) {
+        Some(name) => Ok(next.insert(name, row)?),
+        None => Ok(None),
+    }
+}
+
+/// The first definition of a name that is defined again later, and the next.
+fn first_redefinition(
+    alloc: Global,
+    files: &[TypedFile],
+    rows: &[FileRow],
+) -> Result<Option<(FileRow, FileRow)>, AllocError>
+    ensures { IfOk result (λ found. found ≡ first_clash files.now Definitions rows.now) }
+{
+    let mut next = IndexMap::new(alloc);
+    let mut found = None;
+    for number in (0..rows.len()).rev() {
+        let row = &rows[number];
+        let other = next_definition(files, &mut next, *row)?;
+        found = nearest(*row, other, found);
+    }
+    Ok(found)
+}
+
+/// The last of these declarations whose type isn't that of another.
+fn last_differing(files: &[TypedFile], row: FileRow, others: &[FileRow]) -> Option<FileRow>
+    ensures { result ≡ find (types_differ files.now row) (reverse others.now) }
+{
+    for number in (0..others.len()).rev() {
+        if types_differ(files, row, others[number]) {
+            return Some(others[number]);
         }
     }
     None
+}
+
+/// Puts a declaration behind others, in place of the last where both declare one object or function of one file.
+fn put_last(others: &mut Vec<FileRow>, row: FileRow) -> Result<(), AllocError>
+    ensures { OnOk result (reverse others.new.items ≡ put_first row (reverse others.old.items)) }
+{
+    match others.pop() {
+        Some(last) => {
+            if !declares_same(last, row) {
+                others.push(last)?;
+            }
+        }
+        None => {}
+    }
+    others.push(row)?;
+    Ok(())
+}
+
+/// Takes the declarations that are kept of a name.
+fn take_others<'f>(
+    alloc: Global,
+    later: &mut IndexMap<&'f [u8], Vec<FileRow>>,
+    name: &'f [u8],
+) -> Vec<FileRow>
+    ensures others { result.items ≡ items_or_none (entry_of_name later.old.entries name.entry) }
+    ensures kept { (q : Bor (List ℕ)) → entry_of_name later.new.entries q ≡ cond (bytes_eq name.now q.now) None (entry_of_name later.old.entries q) }
+{
+    match later.swap_remove(&name) {
+        Some(others) => others,
+        None => Vec::new(alloc),
+    }
+}
+
+/// The first of the later declarations of a row's name whose type is another; from then on the row is one of these.
+fn next_difference<'f>(
+    alloc: Global,
+    files: &'f [TypedFile],
+    later: &mut IndexMap<&'f [u8], Vec<FileRow>>,
+    row: FileRow,
+) -> Result<Option<FileRow>, AllocError>
+    ensures clash { IfOk result (λ other. (ds : List FileRow) → AreLater files.now ds later.old.entries → other ≡ find (clashes files.now Types row) ds) }
+    ensures noted { OnOk result ((ds : List FileRow) → AreLater files.now ds later.old.entries → AreLater files.now (row ∷ ds) later.new.entries) }
+{
+    match external_name(files, row.file, row.declaration.entity) {
+        Some(name) => {
+            let mut others = take_others(alloc, later, name);
+            let other = last_differing(files, row, others.as_slice());
+            put_last(&mut others, row)?;
+            later.insert(name, others)?;
+            Ok(other)
+        }
+        None => Ok(None),
+    }
+}
+
+/// The first declaration whose type is another than that of a later one of its name, and the first such.
+fn first_difference(
+    alloc: Global,
+    files: &[TypedFile],
+    rows: &[FileRow],
+) -> Result<Option<(FileRow, FileRow)>, AllocError>
+    ensures { IfOk result (λ found. found ≡ first_clash files.now Types rows.now) }
+{
+    let mut later = IndexMap::new(alloc);
+    let mut found = None;
+    for number in (0..rows.len()).rev() {
+        let row = &rows[number];
+        let other = next_difference(alloc, files, &mut later, *row)?;
+        found = nearest(*row, other, found);
+    }
+    Ok(found)
 }
 
 /// The first declaration that clashes with a later one, and the first of those.
 pub fn first_clash(
+    alloc: Global,
     files: &[TypedFile],
     clash: Clash,
     rows: &[FileRow],
-) -> Option<(FileRow, FileRow)>
-    ensures { result ≡ first_clash files.now clash rows.now }
+) -> Result<Option<(FileRow, FileRow)>, AllocError>
+    ensures { IfOk result (λ found. found ≡ first_clash files.now clash rows.now) }
 {
-    for (index, x) in rows.iter().enumerate() {
-        if let Some(y) = find_clash(files, clash, *x, &rows[index + 1..]) {
-            return Some((*x, y));
-        }
+    match clash {
+        Clash::Definitions => first_redefinition(alloc, files, rows),
+        Clash::Types => first_difference(alloc, files, rows),
     }
-    None
 }
 
 fn is_library_in(files: &[TypedFile], file: usize, entity: Entity) -> bool
@@ -110,36 +224,32 @@ fn is_library_in(files: &[TypedFile], file: usize, entity: Entity) -> bool
     }
 }
 
-#[tactic(auto, unfolding(crate::specs::Clashes::gives))]
-fn gives(files: &[TypedFile], file: usize, entity: Entity, row: FileRow) -> bool
-    ensures { result ≡ gives files.now file entity row }
-{
-    !refers(row) && is_one(files, file, entity, row.file, row.declaration.entity)
-}
-
-fn is_given(files: &[TypedFile], rows: &[FileRow], file: usize, entity: Entity) -> bool
-    ensures { result ≡ list_any (gives files.now file entity) rows.now }
-{
-    for row in rows {
-        if gives(files, file, entity, *row) {
-            return true;
-        }
-    }
-    false
-}
-
 #[tactic(auto, unfolding(crate::specs::Clashes::is_missing))]
-fn is_missing(files: &[TypedFile], rows: &[FileRow], file: usize, used: Use) -> bool
+fn is_missing(
+    files: &[TypedFile],
+    rows: &[FileRow],
+    givers: &IndexSet<Identity<'_>>,
+    file: usize,
+    used: Use,
+) -> bool
+    requires { AreGivers files.now rows.now givers.now.keys }
     ensures { result ≡ is_missing files.now rows.now file used }
 {
-    !is_library_in(files, file, used.entity) && !is_given(files, rows, file, used.entity)
+    !is_library_in(files, file, used.entity) && !is_given(files, rows, givers, file, used.entity)
 }
 
-fn find_missing(files: &[TypedFile], rows: &[FileRow], file: usize, uses: &[Use]) -> Option<Use>
+fn find_missing(
+    files: &[TypedFile],
+    rows: &[FileRow],
+    givers: &IndexSet<Identity<'_>>,
+    file: usize,
+    uses: &[Use],
+) -> Option<Use>
+    requires { AreGivers files.now rows.now givers.now.keys }
     ensures { result ≡ find (is_missing files.now rows.now file) uses.now }
 {
     for used in uses {
-        if is_missing(files, rows, file, *used) {
+        if is_missing(files, rows, givers, file, *used) {
             return Some(*used);
         }
     }
@@ -147,15 +257,21 @@ fn find_missing(files: &[TypedFile], rows: &[FileRow], file: usize, uses: &[Use]
 }
 
 /// The first use, in the order of the files and of the text, of an object or a function that nothing defines.
-pub fn first_missing(files: &[TypedFile], rows: &[FileRow]) -> Option<Use>
-    ensures { result ≡ first_missing files.now rows.now 0 files.now }
+pub fn first_missing(
+    alloc: Global,
+    files: &[TypedFile],
+    rows: &[FileRow],
+) -> Result<Option<Use>, AllocError>
+    ensures { IfOk result (λ used. used ≡ first_missing files.now rows.now 0 files.now) }
 {
+    let givers = givers_of(alloc, files, rows)?;
     for (number, file) in files.iter().enumerate() {
-        if let Some(used) = find_missing(files, rows, number, file.parts().uses.as_slice()) {
-            return Some(used);
+        let uses = file.parts().uses.as_slice();
+        if let Some(used) = find_missing(files, rows, &givers, number, uses) {
+            return Ok(Some(used));
         }
     }
-    None
+    Ok(None)
 }
 
 fn is_function(entity: Entity) -> bool

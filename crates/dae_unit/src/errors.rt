@@ -16,7 +16,7 @@ pub enum Clash {
 /// Why files don't join, in the order in which causes are told: two definitions of one name; two declarations of one name
 /// with different types; a use of an object or function that no file defines; no function `main`; data that end, at a
 /// multiple of 4, behind the memory; no memory for joining.
-#[derive(Clone, Copy)]
+#[derive(Clone, Copy, PartialEq, Eq, Debug)]
 pub enum JoinError {
     DefinedTwice(Place, Place),
     TypesDiffer(Place, Place),

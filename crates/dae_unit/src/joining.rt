@@ -1,7 +1,8 @@
 // Joining.
 
-ghost use Rattle.std.specs.Prelude.{◌≡◌, [], IfOk, IfErr, length};
+ghost use Rattle.std.specs.Prelude.{◌≡◌, ◌<◌, ◌^◌, [], IfOk, IfErr, length};
 ghost use Rattle.dae_unit.specs.declared.errors.JoinError.TheVariants.{Memory};
+ghost use Rattle.dae_unit.specs.Meanings.{links_of};
 ghost use Rattle.dae_unit.specs.Joined.{IsMadeOf, Joins, IsRefused};
 ghost use Rattle.dae_unit.specs.Placing.{object_layouts, end_from, first_place};
 
@@ -9,6 +10,7 @@ use crate::causes::cause_by;
 use crate::contents::content_of;
 use crate::errors::JoinError;
 use crate::meanings::{Rooms, bodies_of, functions_of, links_of, main_of};
+use crate::numbers::{NumberedRows, numbers_of};
 use crate::placing::{
     end_of, object_layouts, placed_rows, places_of, rooms_of, rounded_up, words_of,
 };
@@ -37,6 +39,33 @@ fn objects_end(alloc: Global, files: &[TypedFile], placed: &[FileRow]) -> Result
     Ok(end_of(rooms.as_slice()))
 }
 
+// What the numbers of each file mean, by the declarations that give room, the places and the functions with bodies.
+fn make_links<'r>(
+    alloc: Global,
+    files: &[TypedFile],
+    placed: &'r [FileRow],
+    places: &'r [u32],
+    bodies: &'r [FileRow],
+) -> Result<Vec<Links>, AllocError>
+    requires { length bodies.now < 2 ^ 32 }
+    ensures { IfOk result (λ links. links.items ≡ links_of files.now placed.now bodies.now places.now) }
+{
+    let numbers = numbers_of(alloc, files, placed)?;
+    let rooms = Rooms {
+        placed: NumberedRows {
+            rows: placed,
+            numbers: &numbers,
+        },
+        places,
+    };
+    let numbers = numbers_of(alloc, files, bodies)?;
+    let bodies = NumberedRows {
+        rows: bodies,
+        numbers: &numbers,
+    };
+    links_of(alloc, files, rooms, bodies)
+}
+
 // The program, by the declarations that give room and the places.
 fn make(
     alloc: Global,
@@ -54,8 +83,7 @@ fn make(
     if bodies.len() > u32::MAX as usize {
         return Err(JoinError::Memory);
     }
-    let rooms = Rooms { placed, places };
-    let links = links_of(alloc, files.as_slice(), rooms, bodies.as_slice())?;
+    let links = make_links(alloc, files.as_slice(), placed, places, bodies.as_slice())?;
     let content = content_of(alloc, files.as_slice(), links.as_slice(), end)?;
     let functions = functions_of(alloc, files)?;
     Ok(ProgramParts {
@@ -81,8 +109,9 @@ pub fn join_parts(
     let placed = placed_rows(alloc, files.as_slice(), rows.as_slice())?;
     let rooms = rooms_of(alloc, files.as_slice(), placed.as_slice())?;
     let frames = rounded_up(end_of(rooms.as_slice()), 4);
-    if let Some(cause) = cause_by(files.as_slice(), rows.as_slice(), frames, memory) {
-        return Err(cause);
+    match cause_by(alloc, files.as_slice(), rows.as_slice(), frames, memory)? {
+        Some(cause) => return Err(cause),
+        None => {}
     }
     let places = places_of(alloc, rooms.as_slice())?;
     let places = words_of(alloc, places.as_slice())?;

@@ -4,6 +4,7 @@
 
 pub use errors::{Clash, JoinError};
 pub use joining::{ProgramParts, join_parts};
+pub use laws::outlines_tell_causes;
 pub use rows::FileRow;
 
 mod across;
@@ -11,8 +12,12 @@ mod causes;
 mod clashes;
 mod contents;
 mod errors;
+mod givers;
+mod identities;
 mod joining;
+mod laws;
 mod linkage;
 mod meanings;
+mod numbers;
 mod placing;
 mod rows;

@@ -3,7 +3,7 @@
 ghost use Rattle.std.specs.Prelude.{◌≡◌, slice_get, option_copied};
 ghost use Rattle.dae_typed.specs.Linkage.{name_in, object_name, routine_name, same_name};
 ghost use Rattle.dae_typed.specs.Sound.{same_entity};
-ghost use Rattle.dae_unit.specs.Linkage.{external_name, is_one, defines, refers};
+ghost use Rattle.dae_unit.specs.Linkage.{external_name, declares_same, defines, refers};
 
 use crate::rows::FileRow;
 use dae_file_plans::Role;
@@ -112,18 +112,9 @@ fn same_entity(left: Entity, right: Entity) -> bool
     }
 }
 
-/// Whether an object or function of a file is that of another, or of the same.
-#[tactic(auto, unfolding(crate::specs::Linkage::is_one))]
-pub fn is_one(
-    files: &[TypedFile],
-    file: usize,
-    entity: Entity,
-    other_file: usize,
-    other: Entity,
-) -> bool
-    ensures { result ≡ is_one files.now file entity other_file other }
+/// Whether two rows declare one object or function of one file.
+pub fn declares_same(x: FileRow, y: FileRow) -> bool
+    ensures { result ≡ declares_same x y }
 {
-    let name = external_name(files, file, entity);
-    let shared = same_name(name, external_name(files, other_file, other));
-    shared || (file == other_file && same_entity(entity, other))
+    x.file == y.file && same_entity(x.declaration.entity, y.declaration.entity)
 }

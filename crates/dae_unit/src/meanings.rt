@@ -2,11 +2,13 @@
 
 ghost use Rattle.std.specs.Prelude.{◌≡◌, ◌<◌, ◌≤◌, ◌^◌, ◌++◌, ◌∷◌, [], IfOk, IfErr, OnOk, length, take, drop, slice_index};
 ghost use Rattle.dae_unit.specs.declared.errors.JoinError.TheVariants.{Memory};
-ghost use Rattle.dae_unit.specs.Meanings.{number_from, object_place, object_places, body_rows, bodies_of, function_number, function_numbers, main_from, links_in, links_of, functions_in, functions_from};
+ghost use Rattle.dae_unit.specs.Identities.{IsIndexed};
+ghost use Rattle.dae_unit.specs.Meanings.{object_place, object_places, body_rows, bodies_of, function_number, function_numbers, main_from, links_in, links_of, functions_in, functions_from};
 
 use crate::clashes::is_main;
 use crate::errors::JoinError;
-use crate::linkage::{external_name, is_one, same_name};
+use crate::linkage::{external_name, same_name};
+use crate::numbers::{NumberedRows, number_of};
 use crate::rows::FileRow;
 use dae_base::Items;
 use dae_file_plans::{FileDeclaration, Role};
@@ -15,31 +17,19 @@ use dae_program::{Function, Links};
 use dae_typed::{FileParts, TypedFile, TypedFunction};
 use std::alloc::{AllocError, Global};
 
-/// The number of the first declaration of an object or function, or that behind all.
-fn number_of(files: &[TypedFile], file: usize, entity: Entity, rows: &[FileRow]) -> usize
-    ensures number { result ≡ number_from files.now 0 file entity rows.now }
-    ensures within { result ≤ length rows.now }
-{
-    for (number, row) in rows.iter().enumerate() {
-        if is_one(files, file, entity, row.file, row.declaration.entity) {
-            return number;
-        }
-    }
-    rows.len()
-}
-
 /// Declarations that give room, and the places of objects and literals.
 #[derive(Clone, Copy)]
-pub struct Rooms<'r> {
-    pub placed: &'r [FileRow],
+pub struct Rooms<'r, 'f> {
+    pub placed: NumberedRows<'r, 'f>,
     pub places: &'r [u32],
 }
 
 fn object_place(files: &[TypedFile], rooms: Rooms, file: usize, entity: Entity) -> u32
-    ensures { result ≡ object_place files.now rooms.entry.placed.now rooms.entry.places.now file entity }
+    requires { IsIndexed files.now rooms.placed }
+    ensures { result ≡ object_place files.now rooms.entry.placed.rows.now rooms.entry.places.now file entity }
 {
     let number = number_of(files, file, entity, rooms.placed);
-    if number < rooms.placed.len() {
+    if number < rooms.placed.rows.len() {
         match rooms.places.get(number) {
             Some(place) => *place,
             None => 0,
@@ -56,7 +46,8 @@ fn push_places(
     file: usize,
     objects: &[Object],
 ) -> Result<(), AllocError>
-    ensures { OnOk result (addresses.new.items ≡ object_places files.now rooms.entry.placed.now rooms.entry.places.now file addresses.old.items 0 objects.now) }
+    requires { IsIndexed files.now rooms.placed }
+    ensures { OnOk result (addresses.new.items ≡ object_places files.now rooms.entry.placed.rows.now rooms.entry.places.now file addresses.old.items 0 objects.now) }
 {
     for (number, _) in objects.iter().enumerate() {
         addresses.push(object_place(files, rooms, file, Entity::Object(number)))?;
@@ -96,12 +87,13 @@ pub fn bodies_of(alloc: Global, files: &[TypedFile]) -> Result<Vec<FileRow>, All
 }
 
 #[tactic(auto, unfolding(crate::specs::Meanings::function_number))]
-fn function_number(files: &[TypedFile], bodies: &[FileRow], file: usize, entity: Entity) -> u32
-    requires { length bodies.now < 2 ^ 32 }
-    ensures { result ≡ function_number files.now bodies.now file entity }
+fn function_number(files: &[TypedFile], bodies: NumberedRows, file: usize, entity: Entity) -> u32
+    requires few { length bodies.rows.now < 2 ^ 32 }
+    requires indexed { IsIndexed files.now bodies }
+    ensures { result ≡ function_number files.now bodies.entry.rows.now file entity }
 {
     if same_name(external_name(files, file, entity), Some(b"main")) {
-        bodies.len() as u32
+        bodies.rows.len() as u32
     } else {
         number_of(files, file, entity, bodies) as u32
     }
@@ -110,12 +102,13 @@ fn function_number(files: &[TypedFile], bodies: &[FileRow], file: usize, entity:
 fn function_numbers(
     alloc: Global,
     files: &[TypedFile],
-    bodies: &[FileRow],
+    bodies: NumberedRows,
     file: usize,
     routines: &[Routine],
 ) -> Result<Vec<u32>, AllocError>
-    requires { length bodies.now < 2 ^ 32 }
-    ensures { IfOk result (λ numbers. numbers.items ≡ function_numbers files.now bodies.now file [] 0 routines.now) }
+    requires few { length bodies.rows.now < 2 ^ 32 }
+    requires indexed { IsIndexed files.now bodies }
+    ensures { IfOk result (λ numbers. numbers.items ≡ function_numbers files.now bodies.entry.rows.now file [] 0 routines.now) }
 {
     let mut numbers = Vec::new(alloc);
     for (number, _) in routines.iter().enumerate() {
@@ -162,13 +155,15 @@ fn links_in(
     alloc: Global,
     files: &[TypedFile],
     rooms: Rooms,
-    bodies: &[FileRow],
+    bodies: NumberedRows,
     literals: &[u32],
     file: usize,
     parts: &FileParts,
 ) -> Result<Links, AllocError>
-    requires { length bodies.now < 2 ^ 32 }
-    ensures { IfOk result (λ links. links ≡ links_in files.now rooms.entry.placed.now bodies.now rooms.entry.places.now literals.now file parts.now) }
+    requires few { length bodies.rows.now < 2 ^ 32 }
+    requires rooms { IsIndexed files.now rooms.placed }
+    requires bodies { IsIndexed files.now bodies }
+    ensures { IfOk result (λ links. links ≡ links_in files.now rooms.entry.placed.rows.now bodies.entry.rows.now rooms.entry.places.now literals.now file parts.now) }
 {
     let mut addresses = Vec::from_slice(alloc, literals)?;
     push_places(&mut addresses, files, rooms, file, parts.objects.as_slice())?;
@@ -184,13 +179,15 @@ pub fn links_of(
     alloc: Global,
     files: &[TypedFile],
     rooms: Rooms,
-    bodies: &[FileRow],
+    bodies: NumberedRows,
 ) -> Result<Vec<Links>, AllocError>
-    requires { length bodies.now < 2 ^ 32 }
-    ensures { IfOk result (λ links. links.items ≡ links_of files.now rooms.entry.placed.now bodies.now rooms.entry.places.now) }
+    requires few { length bodies.rows.now < 2 ^ 32 }
+    requires rooms { IsIndexed files.now rooms.placed }
+    requires bodies { IsIndexed files.now bodies }
+    ensures { IfOk result (λ links. links.items ≡ links_of files.now rooms.entry.placed.rows.now bodies.entry.rows.now rooms.entry.places.now) }
 {
     let mut links = Vec::new(alloc);
-    let mut rest = behind(rooms.places, rooms.placed.len());
+    let mut rest = behind(rooms.places, rooms.placed.rows.len());
     for (number, file) in files.iter().enumerate() {
         let parts = file.parts();
         let count = parts.literals.len();

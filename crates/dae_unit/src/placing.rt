@@ -1,19 +1,24 @@
 // Where objects and literals stand.
 
-ghost use Rattle.std.specs.Prelude.{◌≡◌, ℕ, ◌<◌, ◌^◌, [], IfOk, OnOk, slice_get};
-ghost use Rattle.std.specs.List.{All, list_any};
+ghost use Rattle.std.specs.Prelude.{◌≡◌, ℕ, ◌<◌, ◌^◌, ◌++◌, ◌∷◌, [], List, IfOk, OnOk, if◌then◌else◌, slice_get};
+ghost use Rattle.std.specs.List.{All};
 ghost use Rattle.dae_kinds.specs.Types.{layout_of, layout_else, repeated, layout_within, layout_at};
 ghost use Rattle.dae_typed.specs.Linkage.{is_object};
 ghost use Rattle.dae_typed.specs.Sound.{tables_of};
-ghost use Rattle.dae_unit.specs.Placing.{is_same, is_first, placed_rows, layout_of_row, object_layouts, literal_layout, literal_layouts, all_literals, rooms_of, rounded_up, place_behind, places_from, end_from, first_place};
+ghost use Rattle.dae_unit.specs.Identities.{AreDeclaredIn};
+ghost use Rattle.dae_unit.specs.declared.rows.FileRow.{FileRow};
+ghost use Rattle.dae_unit.specs.Placing.{gives_room, is_first, placed_rows, layout_of_row, object_layouts, literal_layout, literal_layouts, all_literals, rooms_of, rounded_up, place_behind, places_from, end_from, first_place};
 
 use crate::across::shape_of;
 use crate::clashes::type_in;
-use crate::linkage::{is_one, refers};
+use crate::givers::add_identity;
+use crate::identities::Identity;
+use crate::linkage::refers;
 use crate::rows::FileRow;
 use dae_base::Items;
 use dae_kinds::{Entity, Layout, Shape};
 use dae_typed::{FileParts, TypedFile};
+use indexmap::IndexSet;
 use std::alloc::{AllocError, Global};
 
 /// Where the first object stands.
@@ -28,34 +33,44 @@ fn is_object(entity: Entity) -> bool
     }
 }
 
-fn is_same(files: &[TypedFile], x: FileRow, y: FileRow) -> bool
-    ensures { result ≡ is_same files.now x y }
+fn gives_room(row: FileRow) -> bool
+    ensures { result ≡ gives_room row }
 {
-    is_one(
-        files,
-        x.file,
-        x.declaration.entity,
-        y.file,
-        y.declaration.entity,
-    )
+    is_object(row.declaration.entity) && !refers(row)
 }
 
-fn is_among(files: &[TypedFile], row: FileRow, rows: &[FileRow]) -> bool
-    ensures { result ≡ list_any (is_same files.now row) rows.now }
+/// Whether a row is the first that gives an object room; from then on the object is among those that have it.
+fn is_first<'f>(
+    files: &'f [TypedFile],
+    seen: &mut IndexSet<Identity<'f>>,
+    row: FileRow,
+) -> Result<bool, AllocError>
+    ensures first { IfOk result (λ first. (done : List FileRow) → AreDeclaredIn files.now done seen.old.keys → first ≡ is_first files.now done row) }
+    ensures seen { OnOk result ((done : List FileRow) → AreDeclaredIn files.now done seen.old.keys → AreDeclaredIn files.now (if is_first files.now done row then done ++ row ∷ [] else done) seen.new.keys) }
 {
-    for other in rows {
-        if is_same(files, row, *other) {
-            return true;
-        }
+    if !gives_room(row) {
+        return Ok(false);
     }
-    false
+    let first = add_identity(files, seen, row)?;
+    Ok(first)
 }
 
-#[tactic(auto, unfolding(crate::specs::Placing::is_first))]
-fn is_first(files: &[TypedFile], done: &[FileRow], row: FileRow) -> bool
-    ensures { result ≡ is_first files.now done.now row }
+/// Puts a row behind those that are first, where it is the first that gives its object room.
+fn place_row<'f>(
+    files: &'f [TypedFile],
+    seen: &mut IndexSet<Identity<'f>>,
+    placed: &mut Vec<FileRow>,
+    row: FileRow,
+) -> Result<(), AllocError>
+    requires { AreDeclaredIn files.now placed.old.items seen.old.keys }
+    ensures seen { OnOk result (AreDeclaredIn files.now placed.new.items seen.new.keys) }
+    ensures placed { OnOk result (placed.new.items ≡ (if is_first files.now placed.old.items row then placed.old.items ++ row ∷ [] else placed.old.items)) }
 {
-    is_object(row.declaration.entity) && !refers(row) && !is_among(files, row, done)
+    let first = is_first(files, seen, row)?;
+    if first {
+        placed.push(row)?;
+    }
+    Ok(())
 }
 
 /// The first declaration of each object that gives it room.
@@ -67,10 +82,9 @@ pub fn placed_rows(
     ensures { IfOk result (λ placed. placed.items ≡ placed_rows files.now [] rows.now) }
 {
     let mut placed = Vec::new(alloc);
+    let mut seen = IndexSet::new(alloc);
     for row in rows {
-        if is_first(files, placed.as_slice(), *row) {
-            placed.push(*row)?;
-        }
+        place_row(files, &mut seen, &mut placed, *row)?;
     }
     Ok(placed)
 }

@@ -1,0 +1,27 @@
+use Rattle.std.proofs.Common.{◌≡◌, ◌∙◌, ap, drop, arith}
+use Rattle.dae_unit.specs.declared.errors.Clash.TheVariants.{Definitions}
+use Rattle.dae_unit.specs.Clashes.{first_clash}
+use Rattle.dae_unit.proofs.Kept.{clash_back, no_clash_yet, none_next, next_back}
+use Rattle.dae_unit.proofs.clashes.first_redefinition.Goals as goal
+
+pub loop-number-init : goal.loop-number-init
+loop-number-init c =
+    record {
+      found = no_clash_yet c.args.files.now Definitions c.args.rows.now;
+      kept = none_next c.args.files.now c.args.rows.now c.new-next.result.entries c.new-next.ensures.empty;
+    }
+
+pub loop-number-preserved : goal.loop-number-preserved
+loop-number-preserved c =
+    let some = c.loop-number-test.true in
+    let le = c.loop-number.auto.number in
+    let l = c.loop-number in
+    record {
+      found = clash_back c.args.files.now c.args.rows.now l.number _ (omega arith) (omega arith) Definitions c.in_ok-other.other l.found c.nearest-found.result (c.in_ok-other.ensures.clash (drop l.number c.args.rows.now) l.invariant.kept) c.nearest-found.ensures l.invariant.found;
+      kept = next_back c.args.files.now c.args.rows.now l.number _ (omega arith) (omega arith) l.next.entries c.next_definition.new.next.entries c.in_ok-other.ensures.noted l.invariant.kept;
+    }
+
+pub returns : goal.returns
+returns c =
+    let first : c.loop-number.number ≡ 0 = (let end = c.loop-number-test.false in omega arith) in
+    c.loop-number.invariant.found ∙ ap (λ n. first_clash c.args.files.now Definitions (drop n c.args.rows.now)) first
