@@ -1,3 +1,5 @@
+// The laws of blocks: they do what the stream does, and all of them have words.
+
 ghost use Rattle.dae_blocks.specs.Laws.{CodeBegins, CodeDoes, CodeInRange, StartInRange};
 
 /// Where the code of a function of a stream stands, it does the function's actions: from each processor that agrees with a

@@ -122,7 +122,7 @@ module _ (setup : Setup) (plan : Plan) (p : Program) (body : ℕ → Actions) (n
             depth = h.depth;
             within = own;
             answer = fits.0.1;
-            resume = λ result t ok lands. (let c = done.1.2 M result t refl own ok lands in record { last = c.last; events = c.events; walks = c.walks; quiet = c.quiet; short = c.short; holds = c.holds.1 });
+            resume = λ result t ok lands. (let c = done.1.2 M result t refl own ok lands in record { last = c.last; steps = c.steps; quiet = c.quiet; short = c.short; holds = c.holds.1 });
           },
           h.calls,
         );

@@ -19,7 +19,7 @@ use Rattle.dae_machine.specs.Uses.{Use, Takes, Pushes, Reserves, Sends, Says, ac
 use Rattle.dae_rounds.specs.Follows.{IsFit, Outcome, Leaves, Quits, Follows, went, takes, pushes, reserves, sends, says, halts}
 use Rattle.dae_machine.specs.Walks.{Goes, Walks, stays, quiet, makes}
 use Rattle.dae_rounds.specs.Sides.{halt_of}
-use Rattle.dae_walks.specs.Walks.{Setting, Event, Goes as Goes', Walks as Walks', Stays, Steps, IsQuiet, Comes, Nears, Acts}
+use Rattle.dae_walks.specs.Walks.{Setting, Happens, Quietly, Stays, Moves, quiet_event, Comes, Nears, Acts}
 use Rattle.dae_faithful.specs.Made.{setting_of}
 use Rattle.dae_walks.specs.Does.{Does, event, halt_of as halt_of'}
 
@@ -55,27 +55,21 @@ module _ (setup : Setup) (by_a : Bool) where
     pub few : steps ≤ most
     pub words : AllByRecursion PushesWord uses
 
-  quietly : {p next : Processor} (access : QueueUse) (put given : ℕ) (piece : List ℕ) → Goes' s p (event access put given piece) next → access ≡ Nothing → given ≡ 0 → piece ≡ [] → Goes setup (side by_a) p (Says []) next
-  quietly {p} {next} access put given piece g ea eg ep = record {
-    word = put;
-    inst = g.inst;
-    asks = subst (λ (u : QueueUse). request setup.copies (side by_a) (code setup (side by_a)) setup.memory p ≡ Asks u put g.inst) ea g.asks;
-    puts = tt;
-    does = subst (λ (u : QueueUse). finish (side by_a) p u g.inst (form g.inst) 0 ≡ Some (next, [])) ea (subst (λ (t : List ℕ). finish (side by_a) p access g.inst (form g.inst) 0 ≡ Some (next, t)) ep (subst (λ (n : ℕ). finish (side by_a) p access g.inst (form g.inst) n ≡ Some (next, piece)) eg g.does));
-  }
+  quietly : {p next : Processor} {put : ℕ} → Happens s p (quiet_event put) next → Goes setup (side by_a) p (Says []) next
+  quietly {put = put} g = record { word = put; inst = g.inst; asks = g.asks; puts = tt; does = g.does }
 
   counted : {p last : Processor} {uses : List Use} {m n : ℕ} → m ≡ n → Walks setup (side by_a) p uses m last → Walks setup (side by_a) p uses n last
   counted {p} {last} {uses} e w = subst (λ (k : ℕ). Walks setup (side by_a) p uses k last) e w
 
   -- quiet instructions, and then a walk
-  pub quiet_first : {p q last : Processor} {uses : List Use} {n : ℕ} (events : List Event) → Walks' s p events q → AllByRecursion IsQuiet events → Walks setup (side by_a) q uses n last → Walks setup (side by_a) p uses (length events + n) last
-  quiet_first {uses = uses} {n = n} [] Stays h w = counted (omega arith) w
-  quiet_first {n = n} (e ∷ es) (Steps g gs) h w = counted {m = suc (length es + n)} (omega arith) (quiet (quietly e.access e.put e.given e.piece g h.0.access h.0.given h.0.piece) (quiet_first es gs h.1 w))
+  pub quiet_first : {p q last : Processor} {uses : List Use} {m n : ℕ} → Quietly s m p q → Walks setup (side by_a) q uses n last → Walks setup (side by_a) p uses (m + n) last
+  quiet_first {n = n} Stays w = counted (omega arith) w
+  quiet_first {n = n} (Moves {n = m} g gs) w = counted {m = suc (m + n)} (omega arith) (quiet (quietly g) (quiet_first gs w))
 
   pub comes_walks : {n k : ℕ} {least most : ℕ} {p : Processor} {uses : List Use} {Q R : Processor → Type 0} → Comes s n p Q → ((q : Processor) → Q q → Walks_to least k q uses R) → n + k ≤ most → Walks_to least most p uses R
   comes_walks c f l =
       let r = f c.last c.holds in let short = c.short in let few = r.few in let some = r.some in
-      record { after = r.after; steps = length c.events + r.steps; walks = quiet_first c.events c.walks c.quiet r.walks; holds = r.holds; some = omega arith; few = omega arith; words = r.words }
+      record { after = r.after; steps = c.steps + r.steps; walks = quiet_first c.quiet r.walks; holds = r.holds; some = omega arith; few = omega arith; words = r.words }
 
   pub here_walks : {p : Processor} {Q : Processor → Type 0} → Q p → Walks_to 0 0 p [] Q
   here_walks {p} h = record { after = p; steps = 0; walks = stays; holds = h; some = omega arith; few = omega arith; words = tt }
@@ -96,7 +90,7 @@ module _ (setup : Setup) (by_a : Bool) where
   pub acts_walks : {put k most : ℕ} {p : Processor} {uses : List Use} {Q R : Processor → Type 0} → Acts s p (event Nothing put 0 []) Q → ((q : Processor) → Q q → Walks_to 0 k q uses R) → suc k ≤ most → Walks_to 1 most p uses R
   acts_walks {put} a f l =
       let r = f a.next a.holds in let few = r.few in
-      record { after = r.after; steps = suc r.steps; walks = quiet (record { word = put; inst = a.goes.inst; asks = a.goes.asks; puts = tt; does = a.goes.does }) r.walks; holds = r.holds; some = omega arith; few = omega arith; words = r.words }
+      record { after = r.after; steps = suc r.steps; walks = quiet (quietly {put = put} a.goes) r.walks; holds = r.holds; some = omega arith; few = omega arith; words = r.words }
 
   abbrev pub Ended : Outcome → (Env → Processor → Type 0) → Processor → Type 0
   Ended (Leaves env) to p = to env p
@@ -105,7 +99,7 @@ module _ (setup : Setup) (by_a : Bool) where
   pub nears_walks : {n most : ℕ} {p : Processor} {uses : List Use} {Q : ℕ → Processor → Type 0} {R : Processor → Type 0} → Nears s n p Q → ((l : ℕ) (q : Processor) → Q l q → Walks_to 0 (suc l) q uses R) → n ≤ most → Walks_to 0 most p uses R
   nears_walks c f l =
       let r = f c.left c.last c.holds in let short = c.short in let few = r.few in
-      record { after = r.after; steps = length c.events + r.steps; walks = quiet_first c.events c.walks c.quiet r.walks; holds = r.holds; some = omega arith; few = omega arith; words = r.words }
+      record { after = r.after; steps = c.steps + r.steps; walks = quiet_first c.quiet r.walks; holds = r.holds; some = omega arith; few = omega arith; words = r.words }
 
   -- a deed with the uses that follow it
   pub does_walks : {uses : List Use} {o : Outcome} (n : ℕ) (to : Env → Processor → Type 0) (d : Deed) (p : Processor) → Does s n d to p → Follows d uses o → AllByRecursion (IsFit setup.memory) uses → Walks_to 0 n p uses (Ended o to)

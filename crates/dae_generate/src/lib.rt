@@ -4,4 +4,8 @@
 
 pub use generating::generate;
 
+#[cfg(test)]
+mod forms;
 mod generating;
+#[cfg(test)]
+mod tests;

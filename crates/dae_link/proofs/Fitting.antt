@@ -7,6 +7,7 @@ use Rattle.dae_image.specs.Contents.{Fits, header}
 use Rattle.dae_image.specs.declared.LineMark.{LineMark}
 use Rattle.dae_image.specs.Ranges.{IsIn, depth_range}
 use Rattle.dae_ir.specs.declared.stream.Pair.{Pair}
+use Rattle.dae_select.specs.declared.growing.PlacedWord.{PlacedWord}
 use Rattle.dae_link.specs.Linked.{CanLink}
 use Rattle.dae_link.specs.Marked.{AreMarks}
 use Rattle.dae_link.specs.declared.marks.MarkRoom.{MarkRoom}
@@ -20,9 +21,9 @@ fourfold n = omega arith
 pub linked_fits : (pair : Pair) (budget : Depths) (content : List ℕ) (names : List (List ℕ)) → CanLink pair budget content names
     → (code_a code_e : List ℕ) (private_a private_e : ℕ) → 1 ≤ length code_a → length code_a ≤ 2 ^ 25 → 1 ≤ length code_e → length code_e ≤ 2 ^ 25 → private_a ≤ 2 ^ 28 → private_e ≤ 2 ^ 28
     → All (λ w. w < 2 ^ 32) code_a → All (λ w. w < 2 ^ 32) code_e
-    → (room : MarkRoom) (lines : List LineMark) → room.words_a ≡ length code_a → room.words_e ≡ length code_e → room.files ≡ length names → AreMarks room lines
+    → (room : MarkRoom) (places_a places_e : List PlacedWord) (lines : List LineMark) → room.words_a ≡ length code_a → room.words_e ≡ length code_e → room.files ≡ length names → AreMarks room places_a places_e lines
     → Fits (record { budget = budget; memory = pair.a.memory; calls = pair.a.calls; private_a = 4 * private_a; private_e = 4 * private_e; entry_a = 0; entry_e = 0; code_a = code_a; code_e = code_e; content = content; lines = lines; names = names })
-linked_fits pair budget content names can code_a code_e private_a private_e some_a few_a some_e few_e low_a low_e words_a words_e room lines long_a long_e files marks =
+linked_fits pair budget content names can code_a code_e private_a private_e some_a few_a some_e few_e low_a low_e words_a words_e room places_a places_e lines long_a long_e files marks =
     let least = can.a.least in let most = can.a.most in let some = can.a.some in let few = can.a.few in let aligned = can.aligned in
     record {
       head = record {

@@ -2,3 +2,4 @@ mod Made
 mod Fitting
 mod Exact
 mod Marking
+mod Among

@@ -1,6 +1,6 @@
 -- What an image is that is compiled of a form, and what linking asks of a pair.
 use Rattle.std.specs.Prelude.{◌≡◌, ◌↔◌, ◌⊎◌, ℕ, ◌-◌, ◌*◌, ◌%◌, ◌^◌, ◌≤◌, ◌<◌, List, length, IsTrue}
-use Rattle.std.specs.List.{All, list_all}
+use Rattle.std.specs.List.{All, AllByRecursion, list_all}
 use Rattle.dae_base.specs.declared.Side.TheVariants.{A, E}
 use Rattle.dae_base.specs.declared.Depths.{Depths}
 use Rattle.dae_base.specs.declared.Queue.{Queue}
@@ -15,9 +15,12 @@ use Rattle.dae_ir.specs.Budgets.{IsBudgetOf}
 use Rattle.dae_uses.specs.Uses.{IsUnused}
 use Rattle.dae_faithful.specs.Made.{IsMade, IsReady}
 use Rattle.dae_runs.specs.Promises.{DoesForm}
-use Rattle.dae_sides.specs.Sides.{HasLimits}
+use Rattle.dae_select.specs.declared.growing.PlacedWord.{PlacedWord}
+use Rattle.dae_sides.specs.Sides.{HasLimits, HasPlaces}
 use Rattle.dae_sides.specs.Settled.{IsTooDeep, IsPrivateWithin}
 use Rattle.dae_sides.specs.Sizes.{most_words}
+use Rattle.dae_link.specs.Marked.{IsMarkOf, line_marks}
+use Rattle.dae_link.specs.declared.marks.MarkRoom.{MarkRoom}
 
 -- the two streams of one program, within what an image can hold, with data and names that it can hold
 pub record CanLink (pair : Pair) (budget : Depths) (content : List ℕ) (names : List (List ℕ)) : Type 0 where
@@ -42,9 +45,26 @@ pub record HasGiven (pair : Pair) (budget : Depths) (content : List ℕ) (names 
   pub bytes : image.content ≡ content
   pub files : image.names ≡ names
 
+-- ---- marks of lines
+
+abbrev pub room_of : Image → MarkRoom
+room_of image = record { words_a = length image.code_a; words_e = length image.code_e; files = length image.names }
+
+-- the words of an image's two codes at which the actions of the two streams begin: each mark is of one of them and names the
+-- line on which its action stands, and those are marked that are of another line than the mark before
+pub record HasMarks (pair : Pair) (image : Image) : Type 0 where
+  pub places_a : List PlacedWord
+  pub places_e : List PlacedWord
+  pub a : HasPlaces pair.a image.code_a places_a
+  pub e : HasPlaces pair.e image.code_e places_e
+  pub each : AllByRecursion (IsMarkOf places_a places_e) image.lines
+  pub lines : image.lines ≡ line_marks (room_of image) places_a places_e
+
+-- ---- what is compiled
+
 -- An image is compiled of a form, where a group has at most cap loads for E and as many copies: there are the least classes of
 -- the form's variables, the pair that they make and its budget, and the image's two codes do the pair, action by action, by
--- homes in which variables that are live at one place are apart.
+-- homes in which variables that are live at one place are apart. Its marks name the lines of the actions.
 pub record IsCompiledOf (ir : Ir) (cap : ℕ) (image : Image) : Type 0 where
   pub tables : List (List Class)
   pub pair : Pair
@@ -53,6 +73,7 @@ pub record IsCompiledOf (ir : Ir) (cap : ℕ) (image : Image) : Type 0 where
   pub budget : IsBudgetOf pair image.budget
   pub calls : image.calls ≡ ir.calls
   pub made : IsMade ir tables cap image
+  pub marks : HasMarks pair image
 
 -- of each form whose pair and budget these are
 abbrev pub IsCompiled : Pair → Depths → Image → Type 0

@@ -1,8 +1,8 @@
 // The marks of lines: the words of both codes at which another line begins.
 
-ghost use Rattle.std.specs.Prelude.{◌≡◌, ◌≤◌, length, OnOk, IfOk};
+ghost use Rattle.std.specs.Prelude.{◌≡◌, ◌≤◌, ◌<◌, ◌^◌, length, OnOk, IfOk};
 ghost use Rattle.dae_image.specs.Contents.{follows};
-ghost use Rattle.dae_link.specs.Marked.{words_in, is_mark, IsMarked, AreMarks};
+ghost use Rattle.dae_link.specs.Marked.{words_in, is_mark, mark_at, is_other_side, is_another_line, HasMarkMore, HasMarksOf, IsMarked, IsRoomy, AreMarks};
 
 use dae_base::Side;
 use dae_image::LineMark;
@@ -61,23 +61,36 @@ fn is_mark(room: MarkRoom, last: Option<LineMark>, mark: LineMark) -> bool
         && 0 < mark.line
 }
 
-/// Whether the last mark is of another line or of the other side.
-fn is_another_line(last: Option<LineMark>, mark: LineMark) -> bool {
-    match last {
-        Some(last) => { last.side != mark.side || last.file != mark.file || last.line != mark.line }
-        None => true,
+fn is_other_side(one: Side, other: Side) -> bool
+    ensures { result ≡ is_other_side one other }
+{
+    match (one, other) {
+        (Side::A, Side::E) | (Side::E, Side::A) => true,
+        (Side::A, Side::A) | (Side::E, Side::E) => false,
     }
 }
 
-/// The mark of a word, if the word has 32 bits.
-fn mark_of(side: Side, placed: PlacedWord) -> Option<LineMark> {
-    let word = u32::try_from(placed.word).ok()?;
-    Some(LineMark {
+/// Whether the last mark is of another line or of the other side.
+fn is_another_line(last: Option<LineMark>, mark: LineMark) -> bool
+    ensures { result ≡ is_another_line last mark }
+{
+    let Some(last) = last else {
+        return true;
+    };
+    is_other_side(last.side, mark.side) || last.file != mark.file || last.line != mark.line
+}
+
+/// The mark of a word at which an action begins.
+fn mark_at(side: Side, placed: PlacedWord) -> LineMark
+    requires { placed.word < 2 ^ 32 }
+    ensures { result ≡ mark_at side placed }
+{
+    LineMark {
         side,
-        word,
+        word: placed.word as u32,
         file: u32::from(placed.place.file),
         line: placed.place.line,
-    })
+    }
 }
 
 /// One mark more, where it is of another line than the last and fits there.
@@ -91,6 +104,7 @@ fn add_mark(
     requires few { length marks.old.lines.items ≤ most }
     ensures marked { OnOk result (IsMarked room marks.new) }
     ensures few { OnOk result (length marks.new.lines.items ≤ most) }
+    ensures more { OnOk result (HasMarkMore room most mark marks.old marks.new) }
 {
     let last = marks.last;
     if marks.lines.len() < most && is_another_line(last, mark) && is_mark(room, last, mark) {
@@ -100,7 +114,7 @@ fn add_mark(
     Ok(())
 }
 
-/// The marks of a side.
+/// The marks of a side: of the words at which actions begin.
 fn add_marks(
     marks: &mut LineMarks,
     room: MarkRoom,
@@ -108,28 +122,32 @@ fn add_marks(
     side: Side,
     places: &[PlacedWord],
 ) -> Result<(), AllocError>
+    requires roomy { IsRoomy room }
     requires marked { IsMarked room marks.old }
     requires few { length marks.old.lines.items ≤ most }
     ensures marked { OnOk result (IsMarked room marks.new) }
     ensures few { OnOk result (length marks.new.lines.items ≤ most) }
+    ensures made { OnOk result (HasMarksOf room most side places.now marks.old marks.new) }
 {
+    let words = words_in(room, side);
     for placed in places {
-        if let Some(mark) = mark_of(side, *placed) {
-            add_mark(marks, room, most, mark)?;
+        if placed.word < words {
+            add_mark(marks, room, most, mark_at(side, *placed))?;
         }
     }
     Ok(())
 }
 
 /// The marks of both sides: a word at which an action begins is marked where the file or the line is another one than that
-/// of the action before it, until there are as many marks as an image can have.
+/// of the mark before it, until there are as many marks as an image can have.
 pub fn marks_of(
     alloc: Global,
     room: MarkRoom,
     a: &[PlacedWord],
     e: &[PlacedWord],
 ) -> Result<Vec<LineMark>, AllocError>
-    ensures { IfOk result (λ lines. AreMarks room lines.items) }
+    requires { IsRoomy room }
+    ensures { IfOk result (λ lines. AreMarks room a.now e.now lines.items) }
 {
     let mut marks = LineMarks {
         lines: Vec::new(alloc),

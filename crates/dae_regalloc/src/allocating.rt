@@ -3,10 +3,10 @@
 ghost use Rattle.std.specs.Prelude.{◌≡◌, ℕ, ◌≤◌, length, IfOk};
 ghost use Rattle.std.specs.List.{AllByRecursion};
 ghost use Rattle.dae_ir.specs.Streams.{actions_of};
-ghost use Rattle.dae_walks.specs.Homes.{AreHomes};
+ghost use Rattle.dae_walks.specs.Homes.{AreHomes, home_in};
 ghost use Rattle.dae_walks.specs.Live.{function_lives};
 ghost use Rattle.dae_regalloc.specs.Seen.{number_in, AreBelow};
-ghost use Rattle.dae_regalloc.specs.Given.{home_in, numbered_home, IsRegister, AreFew};
+ghost use Rattle.dae_regalloc.specs.Given.{numbered_home, IsRegister, AreFew};
 
 use crate::numbers::Numbers;
 use crate::places::spans_of;

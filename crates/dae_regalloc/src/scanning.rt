@@ -1,3 +1,5 @@
+// The scan that gives each span a home, in the order in which spans begin.
+
 ghost use Rattle.std.specs.Prelude.{List, ◌≡◌, ℕ, ◌<◌, ◌≤◌, ◌^◌, length, IfOk, replicate, Some};
 ghost use Rattle.dae_regalloc.specs.Scan.{free_at as first_free, register_at as register_number, scan, AreClear, AreInOrder, NoSlot, depth_at, AreCovered};
 ghost use Rattle.std.specs.List.{AllByRecursion, AllZip};

@@ -2,3 +2,4 @@ mod Distances
 mod Listed
 mod Stacked
 mod Sizes
+mod InFront

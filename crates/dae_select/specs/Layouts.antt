@@ -3,9 +3,9 @@ use Rattle.std.specs.Prelude.{ℕ, ◌<◌, ◌^◌, Bool, true, false, List, []
 use Rattle.dae_base.specs.declared.Side.{Side}
 use Rattle.dae_base.specs.declared.Side.TheVariants.{A, E}
 use Rattle.dae_walks.specs.declared.Home.{Home}
-use Rattle.dae_walks.specs.Homes.{frame_words}
+use Rattle.dae_walks.specs.Homes.{frame_words, home_in}
 use Rattle.dae_walks.specs.Agrees.{Plan}
-use Rattle.dae_select.specs.Tables.{home_in, IsNear}
+use Rattle.dae_select.specs.Tables.{IsNear}
 use Rattle.dae_select.specs.declared.layouts.FunctionLayout.{FunctionLayout}
 use Rattle.dae_select.specs.declared.layouts.Layouts.{Layouts}
 

@@ -3,7 +3,8 @@
 ghost use Rattle.std.specs.Prelude.{◌≡◌, ◌++◌, ◌∷◌, [], OnOk};
 ghost use Rattle.dae_blocks.specs.Blocks.{source, fetch, issue_code, address_code, take_code, push_code, call_number, system_code, hear_code, stop_code};
 ghost use Rattle.dae_select.specs.Layouts.{is_a};
-ghost use Rattle.dae_select.specs.Tables.{home_in, IsNear, AreNear};
+ghost use Rattle.dae_walks.specs.Homes.{home_in};
+ghost use Rattle.dae_select.specs.Tables.{IsNear, AreNear};
 
 use crate::fetching::{fetch, keep, register_or, source};
 use dae_base::{LoadKind, Side, Width};

@@ -1,6 +1,9 @@
+// The code of values: of what an action sets a variable to.
+
 ghost use Rattle.std.specs.Prelude.{◌≡◌, ◌++◌, OnOk};
 ghost use Rattle.dae_blocks.specs.Blocks.{operation_code, extend_code, compare_code, test_code, value_code, register_or, keep};
-ghost use Rattle.dae_select.specs.Tables.{home_in, AreNear};
+ghost use Rattle.dae_walks.specs.Homes.{home_in};
+ghost use Rattle.dae_select.specs.Tables.{AreNear};
 
 use crate::fetching::{fetch, home_of, keep, number_code, register_or, source};
 use dae_base::LoadKind;

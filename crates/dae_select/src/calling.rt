@@ -4,9 +4,9 @@ ghost use Rattle.std.specs.Prelude.{◌≡◌, ℕ, ◌+◌, ◌++◌, ◌∷◌
 ghost use Rattle.dae_blocks.specs.Blocks.{waits_at, arguments_code, argument_code, is_register, save_code, restore_code, deeper_code, back_code, result_code, leave_code};
 ghost use Rattle.dae_blocks.specs.Code.{some_below, filtered, registers_in, call_code, entry_code};
 ghost use Rattle.dae_select.specs.Layouts.{is_a, plan_of, variables_of, AreSmall};
-ghost use Rattle.dae_select.specs.Tables.{home_in, IsNear, AreNear};
+ghost use Rattle.dae_select.specs.Tables.{IsNear, AreNear};
 ghost use Rattle.dae_live.specs.Members.{member};
-ghost use Rattle.dae_walks.specs.Homes.{kept_at};
+ghost use Rattle.dae_walks.specs.Homes.{kept_at, home_in};
 
 use crate::fetching::{
     fetch, home_of, keep, load_code, number_code, register_or, source, store_code,

@@ -3,7 +3,8 @@
 ghost use Rattle.std.specs.Prelude.{◌≡◌, ℕ, ◌+◌, ◌-◌, ◌++◌, ◌∷◌, [], ◌<◌, ◌^◌, nat_lt, if◌then◌else◌, OnOk};
 ghost use Rattle.dae_blocks.specs.Blocks.{fail_code, over, align_code, room_code, place_code, zero_code, depth_code, call_room_code, frame_room_code, check_code};
 ghost use Rattle.dae_select.specs.Layouts.{is_a, plan_of, homes_at};
-ghost use Rattle.dae_select.specs.Tables.{home_in, AreNear};
+ghost use Rattle.dae_walks.specs.Homes.{home_in};
+ghost use Rattle.dae_select.specs.Tables.{AreNear};
 
 use crate::fetching::{fetch, number_code, source};
 use crate::layouts::Layouts;

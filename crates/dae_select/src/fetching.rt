@@ -1,6 +1,9 @@
+// How numbers, words of the private frame and operands come into registers, and how results go home.
+
 ghost use Rattle.std.specs.Prelude.{◌≡◌, ℕ, ◌<◌, ◌^◌, ◌*◌, ◌+◌, ◌++◌, length, OnOk};
 ghost use Rattle.dae_blocks.specs.Blocks.{upper, lower, number_code, load_code, store_code, source, register_or, fetch, fetch_home, keep};
-ghost use Rattle.dae_select.specs.Tables.{home_in, IsNear, AreNear};
+ghost use Rattle.dae_walks.specs.Homes.{home_in};
+ghost use Rattle.dae_select.specs.Tables.{IsNear, AreNear};
 
 use dae_encode::Inst;
 use dae_ir::Operand;

@@ -1,7 +1,7 @@
 // Code that grows at its front, and where its words come from.
 
-ghost use Rattle.std.specs.Prelude.{◌≡◌, List, [], ◌++◌, length, reverse, OnOk, IfOk};
-ghost use Rattle.dae_encode.specs.declared.Inst.{Inst};
+ghost use Rattle.std.specs.Prelude.{◌≡◌, ◌+◌, ◌++◌, ◌<◌, ◌^◌, length, map, reverse, OnOk, IfOk};
+ghost use Rattle.dae_select.specs.Grown.{no_code, glue, acting, advance, in_front, from_front};
 
 use dae_base::Place;
 use dae_encode::Inst;
@@ -15,8 +15,43 @@ pub struct PlacedWord {
     pub place: Place,
 }
 
-/// Instructions that are written from the last to the first. Clauses see them in their order. The words at which actions
-/// begin are counted from the end, so that none of them changes; no clause speaks of them.
+impl PlacedWord {
+    /// The word that is so many further on. A word that a computer can't count needs more memory than there is.
+    pub fn advance(self, words: usize) -> Result<PlacedWord, AllocError>
+        ensures { IfOk result (λ p. p ≡ advance words self) }
+    {
+        match words.checked_add(self.word) {
+            Some(word) => {
+                Ok(PlacedWord {
+                    word,
+                    place: self.place,
+                })
+            }
+            None => Err(AllocError),
+        }
+    }
+}
+
+/// Words that are told from the end of the code, told from its front.
+fn from_front(
+    alloc: Global,
+    places: &[PlacedWord],
+    end: usize,
+) -> Result<Vec<PlacedWord>, AllocError>
+    ensures { IfOk result (λ all. all.items ≡ from_front end places.now) }
+{
+    let mut all = Vec::new(alloc);
+    for placed in places {
+        all.push(PlacedWord {
+            word: end.saturating_sub(placed.word),
+            place: placed.place,
+        })?;
+    }
+    Ok(all)
+}
+
+/// Instructions that are written from the last to the first, and the words at which actions begin, told by how many there are
+/// from them to the end, so that none of them changes. Clauses see both in the order of the code.
 #[derive(Drop)]
 pub struct GrowingCode {
     backward: Vec<Inst>,
@@ -24,18 +59,18 @@ pub struct GrowingCode {
 }
 
 impl Model for GrowingCode {
-    ghost use Rattle.std.specs.Prelude.{List, reverse};
-    ghost use Rattle.dae_encode.specs.declared.Inst.{Inst as AnInst};
+    ghost use Rattle.std.specs.Prelude.{reverse};
+    ghost use Rattle.dae_select.specs.Grown.{Grown};
 
-    ghost Value = { List AnInst };
+    ghost Value = { Grown };
 
-    ghost view = { λ code. reverse code.backward.items };
+    ghost view = { λ grown. record { code = reverse grown.backward.items; places = reverse grown.places.items } };
 }
 
 impl GrowingCode {
     /// No instructions.
     pub fn new(alloc: Global) -> GrowingCode
-        ensures { result ≡ [] }
+        ensures { result ≡ no_code }
     {
         GrowingCode {
             backward: Vec::new(alloc),
@@ -45,14 +80,14 @@ impl GrowingCode {
 
     /// The number of instructions.
     pub fn len(&self) -> usize
-        ensures { result ≡ length self.now }
+        ensures { result ≡ length self.now.code }
     {
         self.backward.len()
     }
 
     /// Instructions come before the others.
     pub fn put_before(&mut self, block: &[Inst]) -> Result<(), AllocError>
-        ensures { OnOk result (self.new ≡ block.now ++ self.old) }
+        ensures { OnOk result (self.new ≡ in_front (glue block.now) self.old) }
     {
         for index in (0..block.len()).rev() {
             self.backward.push(block[index])?;
@@ -62,7 +97,7 @@ impl GrowingCode {
 
     /// The instructions of an action that stands at a place come before the others.
     pub fn put_action(&mut self, place: Place, block: &[Inst]) -> Result<(), AllocError>
-        ensures { OnOk result (self.new ≡ block.now ++ self.old) }
+        ensures { OnOk result (self.new ≡ in_front (acting place block.now) self.old) }
     {
         self.put_before(block)?;
         if !block.is_empty() {
@@ -72,46 +107,40 @@ impl GrowingCode {
         Ok(())
     }
 
-    /// Words of code that comes before these instructions get their places.
+    /// Words of code that comes before these instructions, the last first.
     fn put_places(&mut self, places: &[PlacedWord]) -> Result<(), AllocError>
-        ensures { OnOk result (self.new ≡ self.old) }
+        ensures code { OnOk result (self.new.code ≡ self.old.code) }
+        ensures places { OnOk result (self.new.places ≡ map (advance (length self.old.code)) (reverse places.now) ++ self.old.places) }
     {
         let behind = self.backward.len();
         for placed in places {
-            let word = behind.saturating_add(placed.word);
-            self.places.push(PlacedWord {
-                word,
-                place: placed.place,
-            })?;
+            self.places.push(placed.advance(behind)?)?;
         }
         Ok(())
     }
 
     /// Other code comes before these instructions.
     pub fn put_code(&mut self, code: GrowingCode) -> Result<(), AllocError>
-        ensures { OnOk result (self.new ≡ code ++ self.old) }
+        ensures { OnOk result (self.new ≡ in_front code self.old) }
     {
         self.put_places(code.places.as_slice())?;
         self.put_before(code.into_vec().as_slice())
     }
 
     /// The words at which actions begin, in their order, where so many words come before the first instruction.
-    pub fn places(&self, alloc: Global, before: usize) -> Result<Vec<PlacedWord>, AllocError> {
-        let end = before.saturating_add(self.backward.len());
-        let mut places = Vec::new(alloc);
-        for placed in self.places.as_slice().iter().rev() {
-            let word = end.saturating_sub(placed.word);
-            places.push(PlacedWord {
-                word,
-                place: placed.place,
-            })?;
-        }
+    pub fn places(&self, alloc: Global, before: usize) -> Result<Vec<PlacedWord>, AllocError>
+        requires { before < 2 ^ 63 }
+        ensures { IfOk result (λ places. places.items ≡ from_front (before + length self.now.code) self.now.places) }
+    {
+        let end = before + self.backward.len();
+        let mut places = from_front(alloc, self.places.as_slice(), end)?;
+        places.reverse();
         Ok(places)
     }
 
     /// The instructions in their order.
     pub fn into_vec(self) -> Vec<Inst>
-        ensures { result.items ≡ self }
+        ensures { result.items ≡ self.code }
     {
         let GrowingCode { mut backward, .. } = self;
         backward.reverse();

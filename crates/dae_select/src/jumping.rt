@@ -3,7 +3,8 @@
 ghost use Rattle.std.specs.Prelude.{◌≡◌, ℕ, ◌+◌, ◌*◌, ◌++◌, ◌∷◌, [], ◌<◌, ◌^◌, OnOk};
 ghost use Rattle.dae_blocks.specs.Blocks.{jump_by, jump_over, jump_back, enter_code};
 ghost use Rattle.dae_blocks.specs.Code.{branch_code};
-ghost use Rattle.dae_select.specs.Tables.{home_in, AreNear};
+ghost use Rattle.dae_walks.specs.Homes.{home_in};
+ghost use Rattle.dae_select.specs.Tables.{AreNear};
 
 use crate::assigning::test_code;
 use crate::fetching::{lower, upper};

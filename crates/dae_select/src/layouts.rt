@@ -2,8 +2,8 @@
 
 ghost use Rattle.std.specs.Prelude.{◌≡◌, ℕ, slice_get};
 ghost use Rattle.dae_select.specs.Layouts.{is_a, homes_at, variables_at, entry_at, frame_at, plan_of, variables_of, AreSmall};
-ghost use Rattle.dae_select.specs.Tables.{home_in, AreNear};
-ghost use Rattle.dae_walks.specs.Homes.{frame_words};
+ghost use Rattle.dae_select.specs.Tables.{AreNear};
+ghost use Rattle.dae_walks.specs.Homes.{frame_words, home_in};
 
 use crate::fetching::home_of;
 use dae_base::{Items, Side};

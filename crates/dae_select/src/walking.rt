@@ -8,9 +8,11 @@ ghost use Rattle.dae_walks.specs.Live.{ways, is};
 ghost use Rattle.dae_live.specs.Members.{member};
 ghost use Rattle.dae_blocks.specs.Blocks.{take_code, own_code, jump_over, jump_back};
 ghost use Rattle.dae_blocks.specs.Code.{action_code, call_code, branch_code};
+ghost use Rattle.dae_select.specs.Grown.{glue, acting, in_front};
 ghost use Rattle.dae_select.specs.Growing.{IsCodeOf, IsStepCode};
 ghost use Rattle.dae_select.specs.Layouts.{plan_of, variables_of, AreSmall};
-ghost use Rattle.dae_select.specs.Tables.{home_in, AreNear};
+ghost use Rattle.dae_walks.specs.Homes.{home_in};
+ghost use Rattle.dae_select.specs.Tables.{AreNear};
 
 use crate::accessing::{
     address_code, call_number, hear_code, issue_code, push_code, stop_code, system_code, take_code,
@@ -150,7 +152,7 @@ fn put_jump(
     behind: usize,
     more: u64,
 ) -> Result<(), AllocError>
-    ensures { OnOk result (code.new ≡ jump_over (length code.old - behind + more) ++ code.old) }
+    ensures { OnOk result (code.new ≡ in_front (glue (jump_over (length code.old.code - behind + more))) code.old) }
 {
     let mut block = Vec::new(alloc);
     let words = code.len().saturating_sub(behind);
@@ -164,7 +166,7 @@ fn put_jump_back(
     words: usize,
     more: usize,
 ) -> Result<(), AllocError>
-    ensures { OnOk result (code.new ≡ jump_back (words + more) ++ code.old) }
+    ensures { OnOk result (code.new ≡ in_front (glue (jump_back (words + more))) code.old) }
 {
     let mut block = Vec::new(alloc);
     jump_back(&mut block, words as u64, more as u64)?;
@@ -179,7 +181,7 @@ fn put_branch(
     branch: Branch,
 ) -> Result<(), AllocError>
     requires { AreNear homes.now }
-    ensures { OnOk result (code.new ≡ branch_code (home_in homes.now) branch ++ code.old) }
+    ensures { OnOk result (code.new ≡ in_front (acting place (branch_code (home_in homes.now) branch)) code.old) }
 {
     let mut block = Vec::new(alloc);
     branch_code(&mut block, homes, branch)?;
@@ -200,7 +202,7 @@ fn put_action(
     requires near { AreNear homes.now }
     requires homes { home_in homes.now ≡ (plan_of layouts.now).home function }
     requires small { AreSmall layouts.now }
-    ensures { OnOk result (code.new ≡ action_code (plan_of layouts.now) (variables_of layouts.now) function action.now (member live.now) (length code.old + exits.now.leaves) (length code.old + exits.now.skips) ++ code.old) }
+    ensures { OnOk result (code.new ≡ in_front (acting place (action_code (plan_of layouts.now) (variables_of layouts.now) function action.now (member live.now) (length code.old.code + exits.now.leaves) (length code.old.code + exits.now.skips))) code.old) }
 {
     let mut block = Vec::new(alloc);
     let ahead = code.len() as u64;
@@ -253,7 +255,7 @@ fn put_loop(
     body: GrowingCode,
     step: GrowingCode,
 ) -> Result<(), AllocError>
-    ensures { OnOk result (code.new ≡ body ++ (step ++ (jump_back (length body + length step) ++ code.old))) }
+    ensures { OnOk result (code.new ≡ in_front body (in_front step (in_front (glue (jump_back (length body.code + length step.code))) code.old))) }
 {
     put_jump_back(alloc, code, body.len(), step.len())?;
     code.put_code(step)?;

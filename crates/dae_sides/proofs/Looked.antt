@@ -2,20 +2,18 @@
 use Rattle.std.proofs.Common.{◌≡◌, ℕ, zero, suc, ◌≤◌, ◌<◌, ◌^◌, Bool, true, false, ◌||◌, List, [], ◌∷◌, length, refl, ap, sym, subst, arith}
 use Rattle.std.specs.Prelude.{Option, Some, None, slice_get, nat_lt}
 use Rattle.std.specs.List.{AllByRecursion, AllZip}
-use Rattle.std.proofs.Math.Path.{fun_ext}
 use Rattle.std.proofs.lemmas.Bool.Decides.{nat_tests}
 use Rattle.dae_ir.specs.Classes.{VariableSet}
 use Rattle.dae_ir.specs.SetFirst.{parameters_set}
 use Rattle.dae_ir.specs.Streams.{actions_of}
 use Rattle.dae_ir.specs.declared.stream.StreamFunction.{StreamFunction}
-use Rattle.dae_walks.specs.Homes.{IsHome, AreApart, AreHomes, frame_words}
-use Rattle.dae_walks.specs.Live.{live, lives, nowhere, function_lives}
+use Rattle.dae_walks.specs.Homes.{IsHome, AreApart, frame_words, home_in}
+use Rattle.dae_walks.specs.Live.{live, lives, nowhere}
 use Rattle.dae_walks.specs.declared.Home.{Home}
 use Rattle.dae_walks.specs.declared.Home.TheVariants.{Register, Slot}
 use Rattle.dae_blocks.specs.Wanted.{IsRight}
-use Rattle.dae_regalloc.specs.Given as given
 use Rattle.dae_regalloc.specs.Seen.{AreBelow}
-use Rattle.dae_select.specs.Tables.{home_or, home_in, IsNear}
+use Rattle.dae_select.specs.Tables.{IsNear}
 use Rattle.dae_select.specs.Layouts.{homes_at, variables_at, entry_at, frame_at}
 use Rattle.dae_select.specs.declared.layouts.FunctionLayout.{FunctionLayout}
 use Rattle.dae_sides.specs.Settled.{IsLayoutOf, IsFrameWithin}
@@ -42,20 +40,10 @@ layout_at (f ∷ fs) (l ∷ ls) h (suc g) = layout_at fs ls h.1 g
 
 -- ---- homes
 
-same_or : (o : Option Home) → given.home_or o ≡ home_or o
-same_or None = refl
-same_or (Some h) = refl
-
-same_homes : (homes : List Home) → given.home_in homes ≡ home_in homes
-same_homes homes = fun_ext (λ v. same_or (slice_get homes v))
-
 beyond : (homes : List Home) (v : ℕ) → length homes ≤ v → home_in homes v ≡ Register 8
 beyond [] v le = refl
 beyond (h ∷ homes) zero le = absurd (omega arith)
 beyond (h ∷ homes) (suc v) le = beyond homes v (omega arith)
-
-are_homes : (f : StreamFunction) (l : FunctionLayout) → IsLayoutOf f l → AreHomes l.variables (function_lives f.parameters (actions_of f.body)) (home_in l.homes)
-are_homes f l is = subst (λ (home : ℕ → Home). AreHomes l.variables (function_lives f.parameters (actions_of f.body)) home) (same_homes l.homes) is.homes
 
 pub each_home : (f : Option StreamFunction) (l : Option FunctionLayout) → IsLayoutAt f l → (v : ℕ) → IsHome (variables_at l) (home_in (homes_at l) v)
 each_home None None is v = refl
@@ -64,7 +52,7 @@ each_home (Some f) None is v = absurd is
 each_home (Some f) (Some l) is v = by (nat_lt v l.variables) refl
   where
     by : (b : Bool) → nat_lt v l.variables ≡ b → IsHome l.variables (home_in l.homes v)
-    by true t = (are_homes f l is).each v (grind (arith, nat_tests))
+    by true t = is.homes.each v (grind (arith, nat_tests))
     by false t =
         let count = is.count in
         let le : length l.homes ≤ v = grind (arith, nat_tests) in
@@ -107,7 +95,7 @@ pub right_at : (f : Option StreamFunction) (l : Option FunctionLayout) → IsLay
 right_at None None is = tt
 right_at None (Some l) is = absurd is
 right_at (Some f) None is = absurd is
-right_at (Some f) (Some l) is = rights (home_in l.homes) l.variables (lives (actions_of f.body) nowhere) (are_homes f l is).apart.1 is.inside.1
+right_at (Some f) (Some l) is = rights (home_in l.homes) l.variables (lives (actions_of f.body) nowhere) is.homes.apart.1 is.inside.1
 
 with_one : (a b : Bool) → a ≡ true → (a || b) ≡ true
 with_one true b e = refl
@@ -127,4 +115,4 @@ pub apart_at : (f : Option StreamFunction) (l : Option FunctionLayout) → IsLay
 apart_at None None is u v hu hv other = absurd (grind (arith, nat_tests))
 apart_at None (Some l) is u v hu hv other = absurd is
 apart_at (Some f) None is u v hu hv other = absurd is
-apart_at (Some f) (Some l) is u v hu hv other = (are_homes f l is).apart.0 u v (with_other _ _ hu) (with_other _ _ hv) other
+apart_at (Some f) (Some l) is u v hu hv other = is.homes.apart.0 u v (with_other _ _ hu) (with_other _ _ hv) other

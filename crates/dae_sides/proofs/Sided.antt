@@ -16,7 +16,7 @@ use Rattle.dae_ir.specs.Streams.{Actions, actions_of}
 use Rattle.dae_ir.specs.declared.form.Operand.TheVariants.{Number}
 use Rattle.dae_ir.specs.declared.stream.Stream.{Stream}
 use Rattle.dae_ir.specs.declared.stream.StreamFunction.{StreamFunction}
-use Rattle.dae_walks.specs.Homes.{IsHome, frame_words}
+use Rattle.dae_walks.specs.Homes.{IsHome, frame_words, home_in}
 use Rattle.dae_walks.specs.Layout.{CodeAt}
 use Rattle.dae_walks.specs.Live.{live, nowhere}
 use Rattle.dae_walks.specs.Agrees.{Plan}
@@ -27,7 +27,7 @@ use Rattle.dae_blocks.specs.Fits.{Fits}
 use Rattle.dae_blocks.specs.Wanted.{IsPlanOf, IsLinked}
 use Rattle.dae_blocks.specs.Laws.{opened_with}
 use Rattle.dae_blocks.proofs.LawsOfBlocks.{words_are_code, fit_append, function_fits, start_fits, finish_fits, code_take, code_drop, start_short}
-use Rattle.dae_select.specs.Tables.{home_in, IsNear}
+use Rattle.dae_select.specs.Tables.{IsNear}
 use Rattle.dae_select.specs.Layouts.{is_a, homes_at, variables_at, entry_at, start_at, frame_at, plan_of, variables_of, AreSmall}
 use Rattle.dae_select.specs.declared.layouts.FunctionLayout.{FunctionLayout}
 use Rattle.dae_select.specs.declared.layouts.Layouts.{Layouts}

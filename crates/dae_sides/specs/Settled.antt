@@ -4,9 +4,8 @@ use Rattle.std.specs.List.{AllByRecursion, AllZip}
 use Rattle.dae_ir.specs.Streams.{actions_of}
 use Rattle.dae_ir.specs.declared.stream.Stream.{Stream}
 use Rattle.dae_ir.specs.declared.stream.StreamFunction.{StreamFunction}
-use Rattle.dae_walks.specs.Homes.{AreHomes, frame_words}
+use Rattle.dae_walks.specs.Homes.{AreHomes, frame_words, home_in}
 use Rattle.dae_walks.specs.Live.{function_lives}
-use Rattle.dae_regalloc.specs.Given.{home_in}
 use Rattle.dae_regalloc.specs.Seen.{AreBelow}
 use Rattle.dae_select.specs.declared.layouts.FunctionLayout.{FunctionLayout}
 use Rattle.dae_select.specs.declared.layouts.Layouts.{Layouts}

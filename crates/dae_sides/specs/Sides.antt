@@ -1,7 +1,8 @@
 -- What the code of a stream is.
-use Rattle.std.specs.Prelude.{◌≡◌, ◌↔◌, ℕ, ◌+◌, ◌^◌, ◌≤◌, length, slice_get, Option, Some, None, List}
+use Rattle.std.specs.Prelude.{◌≡◌, ◌↔◌, ℕ, ◌+◌, ◌^◌, ◌≤◌, length, slice_get, map, Option, Some, None, List}
 use Rattle.dae_base.specs.declared.Queue.{Queue}
 use Rattle.dae_encode.specs.declared.Inst.{Inst}
+use Rattle.dae_encode.specs.Spelling.{encoded}
 use Rattle.dae_machine.specs.Machine.{Setup, code}
 use Rattle.dae_ir.specs.Code.{Done}
 use Rattle.dae_ir.specs.Form.{Program}
@@ -12,10 +13,11 @@ use Rattle.dae_blocks.specs.Code.{start_code}
 use Rattle.dae_blocks.specs.Laws.{opened_with}
 use Rattle.dae_uses.specs.Uses.{IsUnused, AllOfSide, AllUntouched}
 use Rattle.dae_select.specs.Layouts.{is_a, plan_of, variables_of}
+use Rattle.dae_select.specs.declared.growing.PlacedWord.{PlacedWord}
 use Rattle.dae_select.specs.declared.layouts.FunctionLayout.{FunctionLayout}
 use Rattle.dae_select.specs.declared.layouts.Layouts.{Layouts}
 use Rattle.dae_faithful.specs.Made.{IsSide}
-use Rattle.dae_sides.specs.Placed.{functions_code, opening_code, whole_code, placed}
+use Rattle.dae_sides.specs.Placed.{functions_code, opening_code, whole_code, placed, functions_places}
 
 -- a machine can have such a memory, with the frames in it, and calls so deep
 pub record HasLimits (stream : Stream) : Type 0 where
@@ -97,3 +99,17 @@ end_of stream all = word_behind all (length (opening_by all stream)) stream.func
 -- the whole code, with the functions at their places
 abbrev pub code_at : Stream → Layouts → List Inst
 code_at stream all = whole_by (at_places stream all) stream
+
+-- the words at which the actions of functions begin, the first of which is entered at a word
+abbrev pub begins_by : Layouts → ℕ → List StreamFunction → List PlacedWord
+begins_by all word fs = functions_places (plan_of all) (variables_of all) word 0 fs
+
+-- and those of the whole code
+abbrev pub places_by : Layouts → Stream → List PlacedWord
+places_by all stream = begins_by all (length (opening_by all stream)) stream.functions
+
+-- there are layouts by which these words are the whole code of the stream, and its actions begin at these of them
+pub record HasPlaces (stream : Stream) (words : List ℕ) (places : List PlacedWord) : Type 0 where
+  pub all : Layouts
+  pub code : words ≡ map encoded (whole_by all stream)
+  pub begins : places ≡ places_by all stream

@@ -59,7 +59,8 @@ pub fn place(
     requires low { first ≤ 2 ^ 25 }
     ensures placed { IfOk result (λ all. all.items ≡ placed_by layouts.now first functions.now) }
     ensures ends { IfOk result (λ all. word_behind layouts.now first functions.now ≤ 2 ^ 25) }
-    ensures err { IfErr result (λ e. e ≡ errors.Code → 2 ^ 25 < word_behind layouts.now first functions.now) }
+    ensures err { IfErr result (λ e. e ≡ errors.Code
+        → 2 ^ 25 < word_behind layouts.now first functions.now) }
     ensures private { IfErr result (λ e. e ≢ errors.Private) }
 {
     let mut all = Vec::new(alloc);

@@ -1,6 +1,6 @@
 // The code of a stream.
 
-ghost use Rattle.std.specs.Prelude.{◌≡◌, ◌≢◌, ℕ, ◌+◌, ◌*◌, ◌≤◌, ◌<◌, ◌^◌, length, IfOk, IfErr};
+ghost use Rattle.std.specs.Prelude.{◌≡◌, ◌≢◌, ℕ, ◌+◌, ◌*◌, ◌≤◌, ◌<◌, ◌^◌, ◌++◌, length, IfOk, IfErr, OnOk};
 ghost use Rattle.std.specs.List.{All};
 ghost use Rattle.dae_blocks.specs.Code.{start_code};
 ghost use Rattle.dae_select.specs.Layouts.{plan_of, AreSmall};
@@ -8,7 +8,7 @@ ghost use Rattle.dae_sides.specs.declared.error.CodeError.TheVariants as errors;
 ghost use Rattle.dae_sides.specs.Settled.{AreUnplaced, IsPrivateWithin, IsTooDeep};
 ghost use Rattle.dae_sides.specs.Placed.{opening_code};
 ghost use Rattle.dae_sides.specs.Sizes.{most_words};
-ghost use Rattle.dae_sides.specs.Sides.{HasLimits, HasUsesOf, IsCodeOf, at_places, code_at, end_of};
+ghost use Rattle.dae_sides.specs.Sides.{HasLimits, HasPlaces, HasUsesOf, IsCodeOf, at_places, code_at, end_of, places_by};
 
 use crate::MOST_WORDS;
 use crate::error::CodeError;
@@ -41,7 +41,8 @@ fn finish_of(alloc: Global, layouts: &Layouts, main: u32, frames: u32) -> Result
 /// The word at which the first function is entered.
 fn first_of(alloc: Global, layouts: &Layouts, main: u32, frames: u32) -> Result<u32, AllocError>
     requires { AreSmall layouts.now }
-    ensures word { IfOk result (λ word. word ≡ length (opening_code (plan_of layouts.now) main frames)) }
+    ensures word { IfOk result (λ word.
+        word ≡ length (opening_code (plan_of layouts.now) main frames)) }
     ensures low { IfOk result (λ word. word ≤ 8) }
 {
     Ok(opening_code(alloc, layouts, main, frames)?.len() as u32)
@@ -80,6 +81,8 @@ fn placed_code(
     requires unplaced { AreUnplaced stream.now layouts.now }
     requires few { length stream.now.functions ≤ 2 ^ 25 }
     ensures code { IfOk result (λ code. code.items ≡ code_at stream.now layouts.now) }
+    ensures places { OnOk result (places.new.items
+        ≡ places.old.items ++ places_by (at_places stream.now layouts.now) stream.now) }
     ensures ends { IfOk result (λ code. end_of stream.now layouts.now ≤ 2 ^ 25) }
     ensures err { IfErr result (λ e. e ≡ errors.Code → 2 ^ 25 < end_of stream.now layouts.now) }
     ensures private { IfErr result (λ e. e ≢ errors.Private) }
@@ -100,6 +103,7 @@ pub fn side_code(alloc: Global, stream: &Stream) -> Result<SideCode, CodeError>
     ensures short { IfOk result (λ made. length made.words ≤ most_words stream.now) }
     ensures private { IfOk result (λ made. made.private ≤ 2 ^ 28) }
     ensures uses { IfOk result (λ made. HasUsesOf stream.now made.words) }
+    ensures places { IfOk result (λ made. HasPlaces stream.now made.words made.places.items) }
     ensures frames { IfOk result (λ made. IsPrivateWithin stream.now made.private) }
     ensures err { IfErr result (λ e. e ≡ errors.Code → 2 ^ 25 < most_words stream.now) }
     ensures deep { IfErr result (λ e. e ≡ errors.Private → IsTooDeep stream.now) }

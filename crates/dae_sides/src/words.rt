@@ -3,9 +3,10 @@
 ghost use Rattle.std.specs.Prelude.{◌≡◌, ℕ, ◌≤◌, ◌<◌, ◌^◌, ◌++◌, length, map, IfOk, OnOk};
 ghost use Rattle.std.specs.List.{All, AllByRecursion};
 ghost use Rattle.dae_encode.specs.Spelling.{InRange, encoded};
+ghost use Rattle.dae_select.specs.Grown.{advance};
 ghost use Rattle.dae_select.specs.Layouts.{plan_of, AreSmall};
 ghost use Rattle.dae_sides.specs.Placed.{opening_code};
-ghost use Rattle.dae_sides.specs.Sides.{functions_by, whole_by};
+ghost use Rattle.dae_sides.specs.Sides.{functions_by, whole_by, begins_by, places_by};
 
 use dae_encode::{Inst, encode};
 use dae_ir::{Stream, StreamFunction};
@@ -17,13 +18,12 @@ fn add_places(
     places: &mut Vec<PlacedWord>,
     before: usize,
     of_function: &[PlacedWord],
-) -> Result<(), AllocError> {
+) -> Result<(), AllocError>
+    ensures { OnOk result (places.new.items
+        ≡ places.old.items ++ map (advance before) of_function.now) }
+{
     for placed in of_function {
-        let word = before.saturating_add(placed.word);
-        places.push(PlacedWord {
-            word,
-            place: placed.place,
-        })?;
+        places.push(placed.advance(before)?)?;
     }
     Ok(())
 }
@@ -38,7 +38,10 @@ fn add_functions(
 ) -> Result<(), AllocError>
     requires small { AreSmall layouts.now }
     requires few { length functions.now ≤ 2 ^ 25 }
-    ensures { OnOk result (code.new.items ≡ code.old.items ++ functions_by layouts.now functions.now) }
+    ensures code { OnOk result (code.new.items
+        ≡ code.old.items ++ functions_by layouts.now functions.now) }
+    ensures places { OnOk result (places.new.items
+        ≡ places.old.items ++ begins_by layouts.now (length code.old.items) functions.now) }
 {
     for index in 0..functions.len() {
         let body = functions[index].body.as_slice();
@@ -73,7 +76,9 @@ pub fn whole_code(
 ) -> Result<Vec<Inst>, AllocError>
     requires small { AreSmall layouts.now }
     requires few { length stream.now.functions ≤ 2 ^ 25 }
-    ensures { IfOk result (λ code. code.items ≡ whole_by layouts.now stream.now) }
+    ensures code { IfOk result (λ code. code.items ≡ whole_by layouts.now stream.now) }
+    ensures places { OnOk result (places.new.items
+        ≡ places.old.items ++ places_by layouts.now stream.now) }
 {
     let mut code = opening_code(alloc, layouts, stream.main, stream.frames)?;
     add_functions(

@@ -1,68 +1,64 @@
 -- A processor's run in parts.
-use Rattle.std.proofs.Common.{ℕ, suc, ◌+◌, ◌≤◌, List, [], ◌∷◌, ◌++◌, refl, arith, length-append}
-use Rattle.std.specs.List.{AllByRecursion}
+use Rattle.std.proofs.Common.{◌≡◌, ℕ, suc, ◌+◌, ◌≤◌, [], subst, arith}
 use Rattle.dae_encode.specs.declared.QueueUse.TheVariants.{Nothing}
 use Rattle.dae_encode.specs.Processor.{Processor}
 use Rattle.dae_meaning.specs.Variables.{Env}
 use Rattle.dae_ir.specs.Deeds.{Deed, Went, Take, Push, Reserve, Send, Say, Halts}
-use Rattle.dae_walks.specs.Walks.{Setting, Event, Goes, Walks, Stays, Steps, IsQuiet, Comes, Nears, Acts}
+use Rattle.dae_walks.specs.Walks.{Setting, Event, Happens, Quietly, Stays, Moves, Comes, Nears, Acts}
 use Rattle.dae_walks.specs.Does.{Does, event}
 
-pub quiet_append : (es fs : List Event) → AllByRecursion IsQuiet es → AllByRecursion IsQuiet fs → AllByRecursion IsQuiet (es ++ fs)
-quiet_append [] fs h k = k
-quiet_append (e ∷ es) fs h k = (h.0, quiet_append es fs h.1 k)
-
 module _ (s : Setting) where
-  pub walks_append : {p q r : Processor} {es fs : List Event} → Walks s p es q → Walks s q fs r → Walks s p (es ++ fs) r
-  walks_append Stays w = w
-  walks_append (Steps g v) w = Steps g (walks_append v w)
+  counted : {m n : ℕ} {p q : Processor} → m ≡ n → Quietly s m p q → Quietly s n p q
+  counted {p = p} {q = q} e w = subst (λ (k : ℕ). Quietly s k p q) e w
+
+  pub quiet_then : {m n : ℕ} {p q r : Processor} → Quietly s m p q → Quietly s n q r → Quietly s (m + n) p r
+  quiet_then {n = n} Stays w = counted (omega arith) w
+  quiet_then {n = n} (Moves {n = k} g v) w = counted {m = suc (k + n)} (omega arith) (Moves g (quiet_then v w))
 
   pub comes_here : {n : ℕ} {p : Processor} {Q : Processor → Type 0} → Q p → Comes s n p Q
-  comes_here {p = p} h = record { last = p; events = []; walks = Stays; quiet = tt; short = omega arith; holds = h }
+  comes_here {p = p} h = record { last = p; steps = 0; quiet = Stays; short = omega arith; holds = h }
 
   pub comes_map : {n : ℕ} {p : Processor} {Q R : Processor → Type 0} (m : ℕ) → n ≤ m → ((q : Processor) → Q q → R q) → Comes s n p Q → Comes s m p R
-  comes_map m l f c = let short = c.short in record { last = c.last; events = c.events; walks = c.walks; quiet = c.quiet; short = omega arith; holds = f c.last c.holds }
+  comes_map m l f c = let short = c.short in record { last = c.last; steps = c.steps; quiet = c.quiet; short = omega arith; holds = f c.last c.holds }
 
   pub comes_then : {n k : ℕ} {p : Processor} {Q R : Processor → Type 0} → Comes s n p Q → ((q : Processor) → Q q → Comes s k q R) → Comes s (n + k) p R
   comes_then c f =
       let d = f c.last c.holds in
-      let one = c.short in let two = d.short in let both = length-append c.events d.events in
+      let one = c.short in let two = d.short in
       record {
         last = d.last;
-        events = c.events ++ d.events;
-        walks = walks_append c.walks d.walks;
-        quiet = quiet_append c.events d.events c.quiet d.quiet;
+        steps = c.steps + d.steps;
+        quiet = quiet_then c.quiet d.quiet;
         short = omega arith;
         holds = d.holds;
       }
 
-  pub comes_more : {n w : ℕ} {p q : Processor} {Q : Processor → Type 0} → Goes s p (event Nothing w 0 []) q → Comes s n q Q → Comes s (suc n) p Q
+  pub comes_more : {n w : ℕ} {p q : Processor} {Q : Processor → Type 0} → Happens s p (event Nothing w 0 []) q → Comes s n q Q → Comes s (suc n) p Q
   comes_more {w = w} g c =
       let short = c.short in
-      record { last = c.last; events = event Nothing w 0 [] ∷ c.events; walks = Steps g c.walks; quiet = (record { access = refl; given = refl; piece = refl }, c.quiet); short = omega arith; holds = c.holds }
+      record { last = c.last; steps = suc c.steps; quiet = Moves g c.quiet; short = omega arith; holds = c.holds }
 
   pub acts_map : {p : Processor} {e : Event} {Q R : Processor → Type 0} → ((q : Processor) → Q q → R q) → Acts s p e Q → Acts s p e R
   acts_map f a = record { next = a.next; goes = a.goes; holds = f a.next a.holds }
 
   pub nears_here : {n : ℕ} {p : Processor} {Q : ℕ → Processor → Type 0} (l : ℕ) → l + 1 ≤ n → Q l p → Nears s n p Q
-  nears_here {p = p} l small h = record { last = p; events = []; walks = Stays; quiet = tt; left = l; short = omega arith; holds = h }
+  nears_here {p = p} l small h = record { last = p; steps = 0; quiet = Stays; left = l; short = omega arith; holds = h }
 
   pub nears_map : {n m : ℕ} {p : Processor} {Q R : ℕ → Processor → Type 0} → n ≤ m → ((l : ℕ) (q : Processor) → Q l q → R l q) → Nears s n p Q → Nears s m p R
-  nears_map l f c = let short = c.short in record { last = c.last; events = c.events; walks = c.walks; quiet = c.quiet; left = c.left; short = omega arith; holds = f c.left c.last c.holds }
+  nears_map l f c = let short = c.short in record { last = c.last; steps = c.steps; quiet = c.quiet; left = c.left; short = omega arith; holds = f c.left c.last c.holds }
 
   -- more is left
   pub nears_shift : {n : ℕ} {p : Processor} {Q R : ℕ → Processor → Type 0} (k : ℕ) → ((l : ℕ) (q : Processor) → Q l q → R (l + k) q) → Nears s n p Q → Nears s (n + k) p R
-  nears_shift k f c = let short = c.short in record { last = c.last; events = c.events; walks = c.walks; quiet = c.quiet; left = c.left + k; short = omega arith; holds = f c.left c.last c.holds }
+  nears_shift k f c = let short = c.short in record { last = c.last; steps = c.steps; quiet = c.quiet; left = c.left + k; short = omega arith; holds = f c.left c.last c.holds }
 
   pub comes_nears : {n k : ℕ} {p : Processor} {Q : Processor → Type 0} {R : ℕ → Processor → Type 0} → Comes s n p Q → ((q : Processor) → Q q → Nears s k q R) → Nears s (n + k) p R
   comes_nears c f =
       let d = f c.last c.holds in
-      let one = c.short in let two = d.short in let both = length-append c.events d.events in
+      let one = c.short in let two = d.short in
       record {
         last = d.last;
-        events = c.events ++ d.events;
-        walks = walks_append c.walks d.walks;
-        quiet = quiet_append c.events d.events c.quiet d.quiet;
+        steps = c.steps + d.steps;
+        quiet = quiet_then c.quiet d.quiet;
         left = d.left;
         short = omega arith;
         holds = d.holds;

@@ -166,9 +166,3 @@ module _ (s : Setting) (plan : Plan) (program : Program) (entries : ℕ → Vari
       × CodeDone f step again (exits (exit end (turn body step (live k (ways_of x)))) (exit next (live k (ways_of x))) (exit end (turn body step (live k (ways_of x)))))
       × Turns f (exit end (turn body step (live k (ways_of x)))) (exit here (turn body step (live k (ways_of x))))
       × CodeDone f k next x
-
-  -- each function of a stream is done from its start, with a return of 0 behind its code; and the opened processor comes to
-  -- the start of main
-  pub record StreamDone (code : ℕ → Actions) (functions main first : ℕ) (opened : Processor) : Type 0 where
-    pub bodies : (f : ℕ) → f < functions → (end : ℕ) × CodeDone f (code f) (plan.start f) (exits (exit end none) (exit end none) (exit end none)) × ActionDone f (Return (Some (Number 0))) (exit end none) (exit end none) (exits (exit end none) (exit end none) (exit end none))
-    pub begins : Comes s most opened (At main (exit (plan.start main) (entries main)) (record { function = main; env = (λ _. 0); frame = first; waiting = [] }))

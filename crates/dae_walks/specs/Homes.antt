@@ -1,6 +1,6 @@
 -- Where variables are kept. A private frame has the address to return to, then a word for each of the 18 registers that
 -- variables may have, kept across a call, and then the slots.
-use Rattle.std.specs.Prelude.{◌≡◌, ◌≢◌, ℕ, ◌+◌, ◌-◌, ◌<◌, Bool, true, nat_lt, ◌||◌, ◌&&◌, if◌then◌else◌, List, nat_le}
+use Rattle.std.specs.Prelude.{◌≡◌, ◌≢◌, ℕ, ◌+◌, ◌-◌, ◌<◌, Bool, true, nat_lt, ◌||◌, ◌&&◌, if◌then◌else◌, List, nat_le, slice_get, Option, Some, None}
 use Rattle.std.specs.List.{AllByRecursion}
 use Rattle.dae_ir.specs.Classes.{VariableSet}
 use Rattle.dae_walks.specs.declared.Home.{Home}
@@ -16,6 +16,15 @@ is_home_register r = (nat_le 8 r && nat_lt r 10) || ((nat_le 11 r && nat_lt r 17
 abbrev pub IsHome : ℕ → Home → Type 0
 IsHome variables (Register r) = is_home_register r ≡ true
 IsHome variables (Slot i) = i < variables
+
+-- what has no home is nowhere live, and any register is right
+abbrev pub home_or : Option Home → Home
+home_or None = Register 8
+home_or (Some home) = home
+
+-- the homes of a table
+abbrev pub home_in : List Home → ℕ → Home
+home_in homes v = home_or (slice_get homes v)
 
 -- two variables that are live at one place have different homes
 abbrev pub AreApart : (ℕ → Home) → VariableSet → Type 0

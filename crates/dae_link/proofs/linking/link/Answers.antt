@@ -1,13 +1,15 @@
-use Rattle.std.proofs.Common.{refl}
+use Rattle.std.proofs.Common.{refl, ◌∙◌}
 use Rattle.dae_link.proofs.Fitting.{linked_fits}
 use Rattle.dae_link.proofs.Exact.{exact}
 use Rattle.dae_link.proofs.Made.{is_made}
+use Rattle.dae_link.proofs.Among.{has_marks}
+use Rattle.dae_link.proofs.Marking.{same_room, same_marks}
 use Rattle.dae_link.proofs.linking.link.Goals as goal
 
 pub invariant_of-result : goal.invariant_of-result
 invariant_of-result c =
     let a = c.in_ok-a.ensures in let e = c.in_ok-e.ensures in
-    rw c.from_vec.ensures (record { fits = linked_fits c.args.pair.now c.args.budget c.args.content c.args.names c.requires _ _ _ _ a.some a.few e.some e.few a.private e.private a.words e.words _ _ c.len.ensures c.len-2.ensures c.len-3.ensures c.in_ok-lines.ensures })
+    rw c.from_vec.ensures (record { fits = linked_fits c.args.pair.now c.args.budget c.args.content c.args.names c.requires _ _ _ _ a.some a.few e.some e.few a.private e.private a.words e.words _ _ _ _ c.len.ensures c.len-2.ensures c.len-3.ensures c.in_ok-lines.ensures })
 
 pub returns-clause-compiled : goal.returns-clause-compiled
 returns-clause-compiled c = λ ir tables cap classes is_pair is_budget. record {
@@ -18,6 +20,8 @@ returns-clause-compiled c = λ ir tables cap classes is_pair is_budget. record {
   budget = is_budget;
   calls = is_pair.a.calls;
   made = is_made ir tables cap c.args.pair.now is_pair _ c.in_ok-a.a.private c.in_ok-e.e.private c.in_ok-a.ensures.code c.in_ok-e.ensures.code refl refl refl;
+  marks = has_marks c.args.pair.now _ _ _ c.in_ok-a.ensures.places c.in_ok-e.ensures.places
+      (c.from_vec.ensures ∙ same_marks _ _ _ _ _ _ _ (same_room _ _ _ _ _ _ c.len.ensures c.len-2.ensures c.len-3.ensures) c.as_slice.ensures.value c.as_slice-2.ensures.value c.in_ok-lines.ensures.made);
 }
 
 pub returns-clause-does : goal.returns-clause-does
@@ -34,3 +38,8 @@ returns-clause-exact c = λ ir tables cap is_pair is_budget.
 
 pub returns-clause-short : goal.returns-clause-short
 returns-clause-short c = record { a = c.in_ok-a.ensures.short; e = c.in_ok-e.ensures.short }
+
+pub returns-clause-marks : goal.returns-clause-marks
+returns-clause-marks c =
+    has_marks c.args.pair.now _ _ _ c.in_ok-a.ensures.places c.in_ok-e.ensures.places
+    (c.from_vec.ensures ∙ same_marks _ _ _ _ _ _ _ (same_room _ _ _ _ _ _ c.len.ensures c.len-2.ensures c.len-3.ensures) c.as_slice.ensures.value c.as_slice-2.ensures.value c.in_ok-lines.ensures.made)

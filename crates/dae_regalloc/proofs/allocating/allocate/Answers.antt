@@ -7,7 +7,8 @@ use Rattle.dae_walks.specs.declared.Home.{Home}
 use Rattle.dae_regalloc.specs.declared.Span.{Span}
 use Rattle.dae_regalloc.specs.Scan.{AreClear, depth_at, NoSlot}
 use Rattle.dae_regalloc.specs.Seen.{number_in, AreBelow}
-use Rattle.dae_regalloc.specs.Given.{IsOwnHome, home_in, numbered_home}
+use Rattle.dae_walks.specs.Homes.{home_in}
+use Rattle.dae_regalloc.specs.Given.{IsOwnHome, numbered_home}
 use Rattle.dae_regalloc.proofs.Giving.{allocated, all_registers, held_below}
 use Rattle.dae_regalloc.proofs.allocating.allocate.Goals as goal
 

@@ -1,4 +1,4 @@
-use Rattle.std.proofs.Common.{ℕ, ◌+◌, ◌-◌, ◌*◌, ◌<◌, Bool, List, [], ◌++◌, length, refl, ap, ◌∙◌, subst, arith}
+use Rattle.std.proofs.Common.{ℕ, ◌+◌, ◌-◌, ◌*◌, ◌<◌, Bool, List, length, refl, ap, ◌∙◌, subst, arith}
 use Rattle.std.proofs.lemmas.Result.{IfOk-weaker}
 use Rattle.dae_ir.specs.Streams.{actions_of}
 use Rattle.dae_ir.specs.declared.stream.Step.{Step}
@@ -7,6 +7,7 @@ use Rattle.dae_walks.specs.Live.{ways, turn}
 use Rattle.dae_live.specs.Members.{member}
 use Rattle.dae_blocks.specs.Blocks.{jump_over}
 use Rattle.dae_blocks.specs.Code.{branch_code}
+use Rattle.dae_select.specs.Grown.{no_code, glue, acting, in_front}
 use Rattle.dae_select.specs.Growing.{IsCodeOf}
 use Rattle.dae_select.specs.Layouts.{plan_of, variables_of}
 use Rattle.dae_select.proofs.Sizes.{deepest, first_in_if, second_in_if, first_in_loop, second_in_loop, list_below}
@@ -51,9 +52,9 @@ step_code-returns-in_ok-put_branch-in-If t c =
     let q = moved_code P V f a.code.now a.code.now x.leaves x.leaves x.skips x.skips c.in_ok-copy-in-If.field-0 x.leaves_live x.leaves_live x.skips_live x.skips_live c.deref.result.now i.q.items c1 second refl refl refl refl refl c.deref.ensures.value c.in_ok-second-in-If.ensures in
     let q' = subst (λ (n : List Bool). IsCodeOf P V f a.code.now x.leaves x.skips (ways (member n) (member x.leaves_live) (member x.skips_live)) (actions_of i.q.items) c1 second) c.in_ok-copy-in-If.ensures q in
     let p = moved_code P V f c2 c2 x.leaves x.leaves x.skips x.skips a.next x.leaves_live x.leaves_live x.skips_live x.skips_live c.deref-in-If.result.now i.p.items c3 first refl refl refl refl refl c.deref-in-If.ensures.value c.in_ok-first-in-If.ensures in
-    let e2 = c.in_ok-put_jump-in-If.ensures ∙ ap (λ (n : ℕ). jump_over (length c1 - n + 0) ++ c1) c.len-rest.ensures in
-    let e4 = c.in_ok-put_jump-in-If-2.ensures ∙ ap (λ (n : ℕ). jump_over (length c3 - n + 2) ++ c3) c.len-behind.ensures in
-    let e5 = c.in_ok-put_branch-in-If.ensures ∙ ap (λ (home : ℕ → Home). branch_code home i.branch ++ c4) c.requires.homes in
+    let e2 = c.in_ok-put_jump-in-If.ensures ∙ ap (λ (n : ℕ). in_front (glue (jump_over (length c1.code - n + 0))) c1) c.len-rest.ensures in
+    let e4 = c.in_ok-put_jump-in-If-2.ensures ∙ ap (λ (n : ℕ). in_front (glue (jump_over (length c3.code - n + 2))) c3) c.len-behind.ensures in
+    let e5 = c.in_ok-put_branch-in-If.ensures ∙ ap (λ (home : ℕ → Home). in_front (acting i.mark.place (branch_code home i.branch)) c4) c.requires.homes in
     IfOk-weaker c.live_with_branch.result _ _ (λ set h. branched P V f x a.step.now i.mark i.branch i.p i.q a.code.now a.next set first second c1 c2 c3 c4 c.put_branch.new.code i.is q' e2 p e4 e5 h) c.live_with_branch.ensures
 
 pub step_code-returns-in_ok-put_loop-in-Loop : goal.step_code-returns-in_ok-put_loop-in-Loop
@@ -65,9 +66,9 @@ step_code-returns-in_ok-put_loop-in-Loop t c =
     let c1 = c.list_code-in-Loop.new.code in let c2 = c.list_code-in-Loop-2.new.code in
     let first = c.in_ok-turn-in-Loop.ensures ∙ ap (λ (l : List Step). turn (actions_of l) (actions_of c.deref-in-Loop-2.result.now) (member a.next)) c.deref-in-Loop.ensures.value
     ∙ ap (λ (l : List Step). turn (actions_of i.body.items) (actions_of l) (member a.next)) c.deref-in-Loop-2.ensures.value in
-    let step = moved_code P V f c.new-again.result [] s.step_exits.leaves 2 s.step_exits.skips 0 turned s.step_exits.leaves_live a.next s.step_exits.skips_live turned c.deref-in-Loop-3.result.now i.step.items c1 again
+    let step = moved_code P V f c.new-again.result no_code s.step_exits.leaves 2 s.step_exits.skips 0 turned s.step_exits.leaves_live a.next s.step_exits.skips_live turned c.deref-in-Loop-3.result.now i.step.items c1 again
     c.new-again.ensures s.ensures.leaves s.ensures.skips s.ensures.leaves_live s.ensures.skips_live c.deref-in-Loop-3.ensures.value c.in_ok-step_live-in-Loop.ensures in
-    let body = moved_code P V f c.new-turned.result [] b.body_exits.leaves (length c1 + 2) b.body_exits.skips 0 again b.body_exits.leaves_live a.next b.body_exits.skips_live again c.deref-in-Loop-4.result.now i.body.items c2 set
+    let body = moved_code P V f c.new-turned.result no_code b.body_exits.leaves (length c1.code + 2) b.body_exits.skips 0 again b.body_exits.leaves_live a.next b.body_exits.skips_live again c.deref-in-Loop-4.result.now i.body.items c2 set
     c.new-turned.ensures (b.ensures.leaves ∙ ap (λ (n : ℕ). n + 2) c.len-words.ensures) b.ensures.skips b.ensures.leaves_live b.ensures.skips_live c.deref-in-Loop-4.ensures.value c.in_ok-live-in-Loop.ensures in
     looped P V f x a.step.now i.field-0 i.body i.step a.code.now a.next turned again set c1 c2 c.put_loop.new.code i.is first step body c.in_ok-put_loop-in-Loop.ensures
 

@@ -3,10 +3,9 @@ use Rattle.std.specs.List.{AllByRecursion}
 use Rattle.std.proofs.lemmas.Result.{err_from_is_err_and}
 use Rattle.dae_ir.specs.Streams.{actions_of}
 use Rattle.dae_ir.specs.declared.stream.Step.{Step}
-use Rattle.dae_walks.specs.Homes.{AreHomes}
+use Rattle.dae_walks.specs.Homes.{AreHomes, home_in}
 use Rattle.dae_walks.specs.Live.{function_lives}
 use Rattle.dae_walks.specs.declared.Home.{Home}
-use Rattle.dae_regalloc.specs.Given.{home_in}
 use Rattle.dae_regalloc.specs.Seen.{AreBelow}
 use Rattle.dae_sides.proofs.homes.layout_of.Goals as goal
 

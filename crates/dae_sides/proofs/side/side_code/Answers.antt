@@ -1,9 +1,10 @@
-use Rattle.std.proofs.Common.{◌≡◌, ℕ, List, length, map, ap, sym, subst, ◌∙◌, arith}
+use Rattle.std.proofs.Common.{◌≡◌, ℕ, List, ◌++◌, length, map, ap, sym, subst, ◌∙◌, arith}
 use Rattle.std.specs.List.{AllByRecursion}
 use Rattle.std.proofs.lemmas.List.{length-map}
 use Rattle.dae_encode.specs.Spelling.{InRange, encoded}
 use Rattle.dae_encode.specs.declared.Inst.{Inst}
-use Rattle.dae_sides.specs.Sides.{HasUsesOf, IsCodeOf, code_at}
+use Rattle.dae_select.specs.declared.growing.PlacedWord.{PlacedWord}
+use Rattle.dae_sides.specs.Sides.{HasUsesOf, IsCodeOf, at_places, code_at, places_by}
 use Rattle.dae_sides.proofs.Settling.{private_within}
 use Rattle.dae_sides.proofs.Sizes.{functions_some}
 use Rattle.dae_sides.proofs.Sided.{code_fits, code_long, code_short, code_made}
@@ -47,3 +48,12 @@ returns-clause-uses c =
     let stream = c.args.stream.now in let all = c.in_ok-layouts.layouts in
     let words : c.from_vec.result ≡ map encoded (code_at stream all) = c.from_vec.ensures ∙ c.in_ok-encode_all.ensures.words ∙ ap (map encoded) (c.as_slice.ensures.value ∙ c.in_ok-code.ensures.code) in
     subst (λ (ws : List ℕ). HasUsesOf stream ws) (sym words) (code_used stream all c.in_ok-layouts.ensures.layouts)
+
+pub returns-clause-places : goal.returns-clause-places
+returns-clause-places c =
+    let stream = c.args.stream.now in let all = c.in_ok-layouts.layouts in
+    record {
+      all = at_places stream all;
+      code = c.from_vec.ensures ∙ c.in_ok-encode_all.ensures.words ∙ ap (map encoded) (c.as_slice.ensures.value ∙ c.in_ok-code.ensures.code);
+      begins = c.in_ok-code.ensures.places ∙ ap (λ (ps : List PlacedWord). ps ++ places_by (at_places stream all) stream) c.new-places.ensures.items;
+    }

@@ -2,4 +2,7 @@ use Rattle.std.specs.Prelude.{◌≡◌, ◌++◌, drop, reverse}
 use Rattle.dae_select.proofs.growing.GrowingCode.put_before.Given as goal
 
 abbrev pub invariant-loop-index : goal.invariant-loop-index
-invariant-loop-index l = reverse l.self-inside.backward.items ≡ drop l.index l.block ++ l.fn.self
+invariant-loop-index l = record {
+  code : reverse l.self-inside.backward.items ≡ drop l.index l.block ++ l.fn.self.code;
+  places : reverse l.self-inside.places.items ≡ l.fn.self.places;
+}

@@ -3,7 +3,8 @@ use Rattle.std.proofs.lemmas.Option.{slice_get_past, slice_get_read}
 use Rattle.dae_walks.specs.declared.Home.{Home}
 use Rattle.dae_select.specs.declared.layouts.FunctionLayout.{FunctionLayout}
 use Rattle.dae_select.specs.Layouts.{homes_at}
-use Rattle.dae_select.specs.Tables.{home_in, IsNear}
+use Rattle.dae_walks.specs.Homes.{home_in}
+use Rattle.dae_select.specs.Tables.{IsNear}
 use Rattle.dae_select.proofs.layouts.Layouts.homes.Goals as goal
 
 pub returns-in-Some-clause-near : goal.returns-in-Some-clause-near
