@@ -1,0 +1,4 @@
+mod From
+mod Trees
+mod Functions
+mod Sound

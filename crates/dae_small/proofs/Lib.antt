@@ -1,0 +1,4 @@
+mod Joined
+mod Forms
+mod Totals
+mod Checked

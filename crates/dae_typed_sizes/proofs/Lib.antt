@@ -1,0 +1,10 @@
+mod Within
+mod Weighing
+mod Steps
+mod Expressions
+mod Initialisers
+mod Printing
+mod Statements
+mod Leads
+mod Files
+mod Laws
