@@ -47,10 +47,11 @@ fn each_row_that_runs_is_answered_alike_under_every_schedule(rt: HostRuntime) ->
     Ok(())
 }
 
-// What is answered, put out and noted where `a.c` holds the text.
+// What is answered for the words, put out and noted where `a.c` holds the text.
 fn runs(
     rt: &impl Abort,
     alloc: Global,
+    words: &str,
     text: &[u8],
     status: u8,
     due: &[u8],
@@ -58,7 +59,7 @@ fn runs(
 ) -> Result<(), Fail> {
     let files = [("a.c", text)];
     let mut shelf = shelf_of(alloc, &files, &[])?;
-    let (given, out, note) = answer_over(alloc, "run a.c", &mut shelf, (&[], &[]))?;
+    let (given, out, note) = answer_over(alloc, words, &mut shelf, (&[], &[]))?;
     assert_eq!(rt; given, status);
     assert_eq!(rt; out.as_slice(), due);
     if let Some(line) = noted {
@@ -70,7 +71,7 @@ fn runs(
 #[test]
 fn each_file_is_run(rt: HostRuntime) -> Result<(), Fail> {
     for (text, status, due) in &FILES {
-        runs(&rt, rt.alloc(), text, *status, due, None)?;
+        runs(&rt, rt.alloc(), "run a.c", text, *status, due, None)?;
     }
     Ok(())
 }
@@ -238,6 +239,48 @@ fn each_long_text_is_answered(rt: HostRuntime) -> Result<(), Fail> {
         runs(
             &rt,
             rt.alloc(),
+            "run a.c",
+            text.as_slice(),
+            row.status,
+            b"",
+            Some(row.note),
+        )?;
+    }
+    Ok(())
+}
+
+/// Texts that are read twice, in one room for their bytes and one for their tokens.
+const TWICE: [Long; 4] = [
+    Long {
+        parts: &[(b" ", 524_288)],
+        status: 2,
+        note: b"refused no-main\n",
+    },
+    Long {
+        parts: &[(b" ", 524_289)],
+        status: 2,
+        note: b"refused source-too-long a.c\n",
+    },
+    Long {
+        parts: &[(b"int a;", 10_922)],
+        status: 2,
+        note: b"refused no-main\n",
+    },
+    Long {
+        parts: &[(b"int a;", 10_922), (b"int\na;", 1)],
+        status: 2,
+        note: b"refused too-many-tokens a.c:2:1\n",
+    },
+];
+
+#[test]
+fn files_share_one_room(rt: HostRuntime) -> Result<(), Fail> {
+    for row in &TWICE {
+        let text = text_of(rt.alloc(), row.parts)?;
+        runs(
+            &rt,
+            rt.alloc(),
+            "run a.c a.c",
             text.as_slice(),
             row.status,
             b"",
