@@ -1,4 +1,6 @@
 mod Faults
 mod Files
 mod Joined
+mod Origins
 mod Stages
+mod Within

@@ -2,11 +2,14 @@
 
 ghost use Rattle.std.specs.Prelude.{◌≤◌, ◌^◌, length, IfErr, IfOk};
 ghost use Rattle.std.specs.List.{All};
+ghost use Rattle.dae_tree.specs.Files.{IsFile};
 ghost use Rattle.dae_sources.specs.Read.{IsShort, texts_in};
 ghost use Rattle.dae_accept.specs.Accepted.{IsAccepted, IsRefusedFor};
 ghost use Rattle.dae_accept.specs.Checked.{Checks};
+ghost use Rattle.dae_accept.specs.Origins.{IsOfFiles};
 
 use crate::error::CompileError;
+use dae_file_sizes::starts_keep_literals;
 use dae_join::join;
 use dae_kinds::CheckError;
 use dae_program::Program;
@@ -15,6 +18,15 @@ use dae_tree::File;
 use dae_typed::TypedFile;
 use dae_types::check;
 use std::alloc::Global;
+
+// Each file is one of the grammar.
+fn see_files(files: &[File])
+    ensures { All IsFile files.now }
+{
+    for file in files {
+        file.externals();
+    }
+}
 
 /// What the files are after a check of each, in order; or a rule that is broken in the first file that breaks one.
 fn check_files(alloc: Global, files: &[File]) -> Result<Vec<TypedFile>, CheckError>
@@ -43,9 +55,12 @@ pub fn accept(alloc: Global, texts: &[Vec<u8>], memory: u32) -> Result<Program, 
     requires short { All IsShort texts.now }
     requires memory { memory ≤ 2 ^ 26 }
     ensures accepted { IfOk result (IsAccepted (texts_in texts.now) memory) }
+    ensures files { IfOk result (IsOfFiles (texts_in texts.now)) }
     ensures refused { IfErr result (IsRefusedFor (texts_in texts.now) memory) }
 {
+    starts_keep_literals();
     let files = read_files(alloc, texts)?;
+    see_files(files.as_slice());
     let typed = check_files(alloc, files.as_slice())?;
     let program = join(alloc, typed, memory)?;
     Ok(program)

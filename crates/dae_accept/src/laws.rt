@@ -1,6 +1,7 @@
-// Accepted and refused exclude each other.
+// Accepted and refused exclude each other; and files that are read are small.
 
 ghost use Rattle.dae_accept.specs.Accepted.{IsNeverBeside};
+ghost use Rattle.dae_accept.specs.Origins.{ReadAreWithin};
 ghost use Rattle.dae_accept.specs.declared.error.CompileError.TheVariants.{Join, Lex, Rule, Tree};
 ghost use Rattle.dae_kinds.specs.declared.rules.Breach.{Breach};
 ghost use Rattle.dae_parse.specs.declared.error.ParseError.{ParseError};
@@ -20,3 +21,8 @@ pub fn accepted_have_no_fault()
     texts_are_read_once();
     outlines_tell_causes();
 }
+
+/// Files that are read have at most 65,536 tokens and 65,536 bytes of literals.
+pub fn read_are_within()
+    ensures { ReadAreWithin }
+{}

@@ -1,11 +1,11 @@
 // From the texts of several files to the program that they are: all are cut into tokens, then all parsed, then the
 // types of all checked, and then they are joined. The first refusal in this order counts. Which texts are accepted,
-// and for what others are refused, is defined in specs/Accepted.antt.
+// and for what others are refused, is defined in specs/Accepted.antt; which files a program comes from in specs/Origins.antt.
 #![tactic(auto)]
 
 pub use accepting::accept;
 pub use error::CompileError;
-pub use laws::accepted_have_no_fault;
+pub use laws::{accepted_have_no_fault, read_are_within};
 
 mod accepting;
 mod error;

@@ -1,17 +1,20 @@
--- What is lowered fits a machine, and its image keeps the program's meaning.
-use Rattle.std.proofs.Common.{◌≡◌, ℕ, zero, suc, ◌%◌, ◌<◌, ◌≤◌, List, length, arith}
-use Rattle.std.specs.Prelude.{IsTrue, IfOk, Result, Ok, Err}
+-- What is lowered fits a machine, and its image keeps the program's meaning and is compiled from it.
+use Rattle.std.proofs.Common.{◌≡◌, ℕ, zero, suc, ◌%◌, ◌^◌, ◌<◌, ◌≤◌, List, length, arith}
+use Rattle.std.specs.Prelude.{IsTrue, IfErr, IfOk, Result, Ok, Err}
 use Rattle.std.specs.List.{All, list_all}
 use Rattle.dae_image.specs.declared.Image.{Image}
 use Rattle.dae_image.specs.Contents.{is_name}
 use Rattle.dae_ir.specs.declared.form.Ir.{Ir}
 use Rattle.dae_runs.specs.Promises.{DoesForm}
 use Rattle.dae_sides.specs.declared.error.CodeError.{CodeError}
+use Rattle.dae_sides.specs.declared.error.CodeError.TheVariants as errors
 use Rattle.dae_program.specs.declared.program.Program.{Program}
 use Rattle.dae_formed.specs.Formed.{IsLowered}
 use Rattle.dae_make_forms.specs.Lowered.{HasRoom}
-use Rattle.dae_generate.specs.Generated.{FitsMachine}
+use Rattle.dae_link.specs.Linked.{IsCompiledOf}
+use Rattle.dae_generate.specs.Generated.{FitsMachine, HasFramesWithin, IsShort, NeedsTooMuch, words_of_form}
 use Rattle.dae_promise.specs.Promises.{KeepsMeaning, ImageKeepsMeaning}
+use Rattle.dae_compile.specs.Compiled.{IsCompiledFrom, HasTooMuchPrivate, HasTooMuchCode}
 
 pub fits : (p : Program) (calls : ℕ) (ir : Ir) (content : List ℕ) (names : List (List ℕ)) → content ≡ p.content
     → IsLowered p ir → ir.calls ≡ calls → HasRoom p ir → 64 ≤ p.memory → p.memory % 16 ≡ 0 → 1 ≤ calls → calls ≤ 4096
@@ -40,3 +43,20 @@ pub keeps_if : (p : Program) (calls : ℕ) (ir : Ir) (result : Result Image Code
     → IfOk result (λ image. image.content ≡ p.content) → IfOk result (λ image. DoesForm ir image 14) → IfOk result (KeepsMeaning p calls)
 keeps_if p calls ir (Ok image) law some lowered depth is does = keeps p calls ir image law some lowered depth is does
 keeps_if p calls ir (Err e) law some lowered depth is does = tt
+
+pub compiled_if : (p : Program) (calls cap : ℕ) (ir : Ir) (result : Result Image CodeError) → IsLowered p ir → ir.calls ≡ calls
+    → IfOk result (λ image. IsCompiledOf ir cap image) → IfOk result (λ image. image.content ≡ p.content) → IfOk result (λ image. IsShort ir image)
+    → IfOk result (λ image. HasFramesWithin ir image) → IfOk result (IsCompiledFrom p calls cap)
+compiled_if p calls cap ir (Ok image) lowered depth compiled content short frames =
+    record { form = ir; lowered = lowered; depth = depth; compiled = compiled; content = content; short = short; frames = frames }
+compiled_if p calls cap ir (Err e) lowered depth compiled content short frames = tt
+
+pub long_if : (p : Program) (ir : Ir) (result : Result Image CodeError) → IsLowered p ir → IfErr result (λ e. e ≡ errors.Code → 2 ^ 25 < words_of_form ir)
+    → IfErr result (λ e. e ≡ errors.Code → HasTooMuchCode p)
+long_if p ir (Ok image) lowered h = tt
+long_if p ir (Err e) lowered h = λ code. record { form = ir; lowered = lowered; long = h code }
+
+pub deep_if : (p : Program) (calls : ℕ) (ir : Ir) (result : Result Image CodeError) → IsLowered p ir → ir.calls ≡ calls
+    → IfErr result (λ e. e ≡ errors.Private → NeedsTooMuch ir) → IfErr result (λ e. e ≡ errors.Private → HasTooMuchPrivate p calls)
+deep_if p calls ir (Ok image) lowered depth h = tt
+deep_if p calls ir (Err e) lowered depth h = λ private'. record { form = ir; lowered = lowered; depth = depth; needs = h private' }

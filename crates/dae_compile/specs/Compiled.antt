@@ -1,16 +1,32 @@
--- What an image is that is compiled from a program.
-use Rattle.std.specs.Prelude.{◌≡◌, ℕ}
+-- What an image is that is compiled from a program, and what a program is that has none.
+use Rattle.std.specs.Prelude.{◌≡◌, ℕ, ◌^◌, ◌<◌}
 use Rattle.dae_image.specs.declared.Image.{Image}
 use Rattle.dae_ir.specs.declared.form.Ir.{Ir}
 use Rattle.dae_program.specs.declared.program.Program.{Program}
 use Rattle.dae_formed.specs.Formed.{IsLowered}
 use Rattle.dae_link.specs.Linked.{IsCompiledOf}
+use Rattle.dae_generate.specs.Generated.{HasFramesWithin, IsShort, NeedsTooMuch, words_of_form}
 
 -- It has the program's data, memory and limit on calls, and is compiled of the form of the program, where a group
--- holds at most cap loads for E and as many copies.
+-- holds at most cap loads for E and as many copies. The form bounds its code and its private memories.
 pub record IsCompiledFrom (p : Program) (calls cap : ℕ) (image : Image) : Type 0 where
   pub form : Ir
   pub lowered : IsLowered p form
   pub depth : form.calls ≡ calls
   pub compiled : IsCompiledOf form cap image
   pub content : image.content ≡ p.content
+  pub short : IsShort form image
+  pub frames : HasFramesWithin form image
+
+-- what bounds the code of its form is larger than an image's code may be
+pub record HasTooMuchCode (p : Program) : Type 0 where
+  pub form : Ir
+  pub lowered : IsLowered p form
+  pub long : 2 ^ 25 < words_of_form form
+
+-- frames for all variables of its form need more private memory than an image may have
+pub record HasTooMuchPrivate (p : Program) (calls : ℕ) : Type 0 where
+  pub form : Ir
+  pub lowered : IsLowered p form
+  pub depth : form.calls ≡ calls
+  pub needs : NeedsTooMuch form

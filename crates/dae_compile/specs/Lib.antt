@@ -1,3 +1,4 @@
 pub mod Compiled
 pub mod Images
 pub mod Options
+pub mod Sizes

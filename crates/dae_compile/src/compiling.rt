@@ -6,21 +6,24 @@ ghost use Rattle.dae_image.specs.Contents.{is_name};
 ghost use Rattle.dae_sources.specs.Read.{IsShort, texts_in};
 ghost use Rattle.dae_accept.specs.Accepted.{IsRefusedFor};
 ghost use Rattle.dae_compile.specs.Images.{IsImageOf};
+ghost use Rattle.dae_compile.specs.Sizes.{IsSmallBeside};
 
 use crate::options::Options;
 use crate::programs::compile_program;
-use dae_accept::{CompileError, accept};
+use dae_accept::{CompileError, accept, read_are_within};
 use dae_base::{Items, Text};
 use dae_image::Image;
+use dae_sides::CodeError;
+use dae_small::{definitions_are_short, forms_are_within, frames_are_within};
 use std::alloc::Global;
 
 /// The image of texts, which are those of the files with these names: at most 1,024, each of at most 1,048,576 bytes.
+/// It is small beside them.
 ///
 /// # Errors
 ///
-/// `Memory` where memory is wanting. It also comes where a code or a private memory is larger than an image may
-/// have, which programs of at most 65,536 tokens don't reach. Every other error comes where the texts aren't
-/// accepted, and says why, as `accept` of `dae_accept` does.
+/// `Memory` where memory is wanting. Every other error comes where the texts aren't accepted, and says why, as
+/// `accept` of `dae_accept` does. No accepted texts have a code or a private memory that an image can't have.
 pub fn compile(
     alloc: Global,
     texts: &[Vec<u8>],
@@ -32,12 +35,19 @@ pub fn compile(
     requires each { length names ≡ length texts.now }
     requires named { IsTrue (list_all is_name names) }
     ensures image { IfOk result (IsImageOf (texts_in texts.now) options) }
+    ensures small { IfOk result (IsSmallBeside (texts_in texts.now) options.calls) }
     ensures names { IfOk result (λ image. image.names ≡ names) }
     ensures refused { IfErr result (IsRefusedFor (texts_in texts.now) options.memory) }
 {
+    read_are_within();
+    definitions_are_short();
+    forms_are_within();
+    frames_are_within();
     let program = accept(alloc, texts, options.memory)?;
-    let Ok(image) = compile_program(alloc, program, options.calls, options.cap, names) else {
-        return Err(CompileError::Memory);
-    };
-    Ok(image)
+    match compile_program(alloc, program, options.calls, options.cap, names) {
+        Ok(image) => Ok(image),
+        Err(CodeError::Memory) => Err(CompileError::Memory),
+        Err(CodeError::Code) => unreachable!(),
+        Err(CodeError::Private) => unreachable!(),
+    }
 }

@@ -1,11 +1,12 @@
 // The image of a typed program.
 
-ghost use Rattle.std.specs.Prelude.{◌≡◌, ◌<◌, ◌≤◌, ◌%◌, length, IfOk, IsTrue};
+ghost use Rattle.std.specs.Prelude.{◌≡◌, ◌<◌, ◌≤◌, ◌%◌, length, IfErr, IfOk, IsTrue};
 ghost use Rattle.std.specs.List.{All, list_all};
 ghost use Rattle.dae_image.specs.Contents.{is_name};
 ghost use Rattle.dae_pair.specs.Budget.{IsWithinCap};
 ghost use Rattle.dae_promise.specs.Promises.{KeepsMeaning};
-ghost use Rattle.dae_compile.specs.Compiled.{IsCompiledFrom};
+ghost use Rattle.dae_sides.specs.declared.error.CodeError.TheVariants as errors;
+ghost use Rattle.dae_compile.specs.Compiled.{IsCompiledFrom, HasTooMuchPrivate, HasTooMuchCode};
 
 use dae_base::{Items, Text};
 use dae_generate::generate;
@@ -48,6 +49,8 @@ pub fn compile_program(
     ensures compiled { IfOk result (IsCompiledFrom program calls cap) }
     ensures budget { IfOk result (λ image. IsWithinCap cap image.budget) }
     ensures names { IfOk result (λ image. image.names ≡ names) }
+    ensures long { IfErr result (λ e. e ≡ errors.Code → HasTooMuchCode program) }
+    ensures deep { IfErr result (λ e. e ≡ errors.Private → HasTooMuchPrivate program calls) }
 {
     image_keeps_meaning();
     let ir = lower(alloc, &program, calls)?;

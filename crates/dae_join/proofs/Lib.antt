@@ -14,4 +14,5 @@ mod Causes
 mod Uses
 mod Room
 mod Calls
+mod Counts
 pub mod Whole

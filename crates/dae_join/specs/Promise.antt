@@ -1,10 +1,11 @@
--- What typed files join to is a lawful program.
+-- What typed files join to is a lawful program, and files that join have functions with the parameters of their types.
 use Rattle.std.specs.Prelude.{◌≡◌, ℕ, ◌≤◌, ◌^◌, true, List}
 use Rattle.std.specs.List.{AllByRecursion}
 use Rattle.dae_program.specs.declared.program.Program.{Program}
 use Rattle.dae_program.specs.Lawful.{is_lawful}
 use Rattle.dae_typed.specs.declared.files.FileParts.{FileParts}
 use Rattle.dae_typed.specs.Sound.{IsSound}
+use Rattle.dae_file_sizes.specs.Small.{HasParameters}
 use Rattle.dae_unit.specs.declared.joining.ProgramParts.{ProgramParts}
 use Rattle.dae_unit.specs.Joined.{Joins}
 
@@ -16,6 +17,16 @@ abbrev pub JoinedIsLawful : Type 0
 JoinedIsLawful =
     (files : List FileParts) (memory : ℕ) (p : ProgramParts) →
     AllByRecursion IsSound files → memory ≤ 2 ^ 26 → Joins files memory p → IsLawful memory p
+
+-- each function of a file has the parameters of its type
+abbrev pub HaveParameters : FileParts → Type 0
+HaveParameters file = AllByRecursion (HasParameters file) file.functions
+
+-- in files without a broken rule, where they join
+abbrev pub JoinedHaveParameters : Type 0
+JoinedHaveParameters =
+    (files : List FileParts) (memory : ℕ) (p : ProgramParts) →
+    AllByRecursion IsSound files → memory ≤ 2 ^ 26 → Joins files memory p → AllByRecursion HaveParameters files
 
 -- a program, but for the size of its memory
 abbrev pub parts_of : Program → ProgramParts

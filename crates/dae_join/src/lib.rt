@@ -5,9 +5,16 @@ pub use joining::join;
 
 mod joining;
 
-ghost use Rattle.dae_join.specs.Promise.{JoinedIsLawful};
+ghost use Rattle.dae_join.specs.Promise.{JoinedHaveParameters, JoinedIsLawful};
 
 /// What files without a broken rule join to is lawful.
 pub fn joined_is_lawful()
     ensures { JoinedIsLawful }
 {}
+
+/// In files without a broken rule that join, each function has the parameters of its type.
+pub fn joined_have_parameters()
+    ensures { JoinedHaveParameters }
+{
+    dae_file_sizes::sound_have_parameters();
+}

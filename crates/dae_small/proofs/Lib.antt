@@ -1,4 +1,3 @@
 mod Joined
 mod Forms
 mod Totals
-mod Checked

@@ -1,10 +1,11 @@
 -- How small the functions, the form and the code of a program are beside the tokens of its files.
-use Rattle.std.specs.Prelude.{◌≡◌, ℕ, ◌+◌, ◌*◌, ◌^◌, ◌≤◌, Bool, List, [], ◌∷◌, Some, slice_get}
+use Rattle.std.specs.Prelude.{◌≡◌, ℕ, ◌+◌, ◌*◌, ◌≤◌, Bool, List, [], ◌∷◌}
+use Rattle.std.specs.List.{AllByRecursion}
+use Rattle.dae_tree.specs.Depth.{greatest_length}
 use Rattle.dae_tree.specs.Files.{Contents}
 use Rattle.dae_program.specs.Views.{view_statements}
 use Rattle.dae_program.specs.declared.program.Function.{Function}
 use Rattle.dae_program.specs.declared.program.Program.{Program}
-use Rattle.dae_typed.specs.Sound.{HaveRoom}
 use Rattle.dae_typed.specs.declared.files.FileParts.{FileParts}
 use Rattle.dae_unit.specs.Meanings.{functions_from}
 use Rattle.dae_ir.specs.Classes.{Classes}
@@ -21,14 +22,7 @@ use Rattle.dae_code_sizes.specs.Code.{burden}
 use Rattle.dae_word_sizes.specs.Words.{words_in}
 use Rattle.dae_file_sizes.specs.From.{AreFrom}
 use Rattle.dae_file_sizes.specs.Small.{tokens, text, HasFew, HasLittle}
-use Rattle.dae_small.specs.Sources.{Source, sources_in, AreTypedAs, AreCheckedAs, tokens_in, bytes_in}
-
--- ---- files that are sound, whose objects have room somewhere in memory
-
-abbrev pub CheckedAreTyped : Type 0
-CheckedAreTyped =
-    (files : List Contents) (typed : List FileParts) (memory : ℕ) → AreCheckedAs files typed → memory ≤ 2 ^ 26 →
-    ((k : ℕ) (f : FileParts) → slice_get typed k ≡ Some f → (address : ℕ → ℕ) × HaveRoom f memory address) → AreTypedAs files typed
+use Rattle.dae_small.specs.Sources.{Source, sources_in, AreTypedAs, AreUpTo, tokens_in, bytes_in}
 
 -- ---- the functions that files join to
 
@@ -44,7 +38,7 @@ FunctionsAreLittle =
 
 -- ---- the form of a program of these functions
 
-pub record IsFormOfFiles (files : List Contents) (ir : Ir) : Type 0 where
+pub record IsForm (files : List Contents) (ir : Ir) : Type 0 where
   pub typed : List FileParts
   pub from : AreTypedAs files typed
   pub program : Program
@@ -54,26 +48,45 @@ pub record IsFormOfFiles (files : List Contents) (ir : Ir) : Type 0 where
 -- a function has at most 4 variables for each token of its definition, and 7 fewer
 abbrev pub FormsAreFew : Type 0
 FormsAreFew =
-    (files : List Contents) (ir : Ir) → IsFormOfFiles files ir →
+    (files : List Contents) (ir : Ir) → IsForm files ir →
     AreFrom (λ (x : Source) (g : FormFunction). IsDefinition x.external × (7 + g.variables ≤ 4 * tokens x.external)) (sources_in files) ir.functions
 
 -- a frame of 19 words and one for each variable has at most 8 words for each token
 abbrev pub FramesAreSmall : Type 0
 FramesAreSmall =
-    (files : List Contents) (ir : Ir) → IsFormOfFiles files ir →
+    (files : List Contents) (ir : Ir) → IsForm files ir →
     AreFrom (λ (x : Source) (g : FormFunction). 19 + g.variables ≤ 8 * tokens x.external) (sources_in files) ir.functions
 
 -- and at most 8 items for each token and 4 for each byte of a literal, where a call counts one and a half more
 abbrev pub FormsAreLittle : Type 0
 FormsAreLittle =
-    (files : List Contents) (ir : Ir) → IsFormOfFiles files ir →
+    (files : List Contents) (ir : Ir) → IsForm files ir →
     AreFrom (λ (x : Source) (g : FormFunction). 28 + burden (form_of g.body) ≤ 16 * tokens x.external + 8 * text x.literals x.external) (sources_in files) ir.functions
+
+-- where no definition has more than n tokens, such a frame has at most 8 words for each of n
+abbrev pub FramesAreWithin : Type 0
+FramesAreWithin =
+    (files : List Contents) (ir : Ir) (n : ℕ) → IsForm files ir → AreUpTo n files →
+    AllByRecursion (λ (g : FormFunction). 19 + g.variables ≤ 8 * n) ir.functions
+
+-- the definitions of files that are typed have at most 8,192 tokens
+abbrev pub DefinitionsAreShort : Type 0
+DefinitionsAreShort = (files : List Contents) (typed : List FileParts) → AreTypedAs files typed → AreUpTo greatest_length files
+
+-- what the code of functions weighs, with 28 for each function
+abbrev pub burdens_of : List FormFunction → ℕ
+burdens_of [] = 0
+burdens_of (g ∷ gs) = 28 + burden (form_of g.body) + burdens_of gs
+
+-- that is at most 16 for each token of the files and 8 for each byte of their literals
+abbrev pub FormsAreWithin : Type 0
+FormsAreWithin = (files : List Contents) (ir : Ir) → IsForm files ir → burdens_of ir.functions ≤ 16 * tokens_in files + 8 * bytes_in files
 
 -- a stream has at most 224 words for each token of the definition and 112 for each byte of a literal, with the 25 that its
 -- function begins and ends with
 abbrev pub StreamsAreLittle : Type 0
 StreamsAreLittle =
-    (files : List Contents) (ir : Ir) (by_a : Bool) (of : ℕ → Classes) (cap : ℕ) (s : Stream) → IsFormOfFiles files ir → IsStreamOf by_a of cap ir s →
+    (files : List Contents) (ir : Ir) (by_a : Bool) (of : ℕ → Classes) (cap : ℕ) (s : Stream) → IsForm files ir → IsStreamOf by_a of cap ir s →
     AreFrom (λ (x : Source) (g : StreamFunction). words_in (actions_of g.body) + 25 ≤ 224 * tokens x.external + 112 * text x.literals x.external) (sources_in files) s.functions
 
 -- the words of functions, each with the 25 that it begins and ends with
@@ -84,5 +97,5 @@ words_of (g ∷ gs) = words_in (actions_of g.body) + 25 + words_of gs
 -- a stream has at most 224 words for each token of the files, 112 for each byte of their literals, and 8
 abbrev pub StreamsAreWithin : Type 0
 StreamsAreWithin =
-    (files : List Contents) (ir : Ir) (by_a : Bool) (of : ℕ → Classes) (cap : ℕ) (s : Stream) → IsFormOfFiles files ir → IsStreamOf by_a of cap ir s →
+    (files : List Contents) (ir : Ir) (by_a : Bool) (of : ℕ → Classes) (cap : ℕ) (s : Stream) → IsForm files ir → IsStreamOf by_a of cap ir s →
     8 + words_of s.functions ≤ 224 * tokens_in files + 112 * bytes_in files + 8

@@ -1,15 +1,14 @@
 -- The definitions and declarations that a program comes from, file by file.
-use Rattle.std.specs.Prelude.{◌≡◌, ℕ, ◌+◌, List, [], ◌∷◌, ◌++◌, length}
-use Rattle.std.specs.List.{AllByRecursion, range_with_len}
-use Rattle.dae_tree.specs.Files.{Contents}
+use Rattle.std.specs.Prelude.{◌≡◌, ℕ, ◌+◌, ◌≤◌, List, [], ◌∷◌, ◌++◌, length}
+use Rattle.std.specs.List.{AllByRecursion}
+use Rattle.dae_tree.specs.Files.{Contents, IsFile}
 use Rattle.dae_tree.specs.FileViews.{view_externals}
-use Rattle.dae_tree.specs.Marks.{literal_numbers}
-use Rattle.dae_tree.specs.Statements.{AreExternals, spell_file}
+use Rattle.dae_tree.specs.Statements.{spell_file}
 use Rattle.dae_tree.specs.Trees.{External}
 use Rattle.dae_kinds.specs.Tables.{Tables}
-use Rattle.dae_typed.specs.Sound.{IsSound}
 use Rattle.dae_typed.specs.declared.files.FileParts.{FileParts}
-use Rattle.dae_file_sizes.specs.Small.{HasParameters, IsPlanned}
+use Rattle.dae_tree_sizes.specs.Sizes.{IsDefinition}
+use Rattle.dae_file_sizes.specs.Small.{tokens, HasParameters, IsFileOf}
 
 -- a definition or declaration, with the literals of its file
 pub record Source : Type 0 where
@@ -24,30 +23,14 @@ abbrev pub sources_in : List Contents → List Source
 sources_in [] = []
 sources_in (c ∷ cs) = sources_of c.literals (view_externals c.externals) ++ sources_in cs
 
--- the file is one of the grammar, and its literals have the numbers from 0 on; no rule is broken in it, and this is what it
--- comes to; each function has the parameters of its type
+-- the file is one of the grammar, no rule is broken in it, and this is what it comes to; each function has the parameters of
+-- its type
 pub record IsTypedAs (c : Contents) (file : FileParts) : Type 0 where
-  pub grammar : AreExternals [] (view_externals c.externals)
-  pub counted : literal_numbers (spell_file (view_externals c.externals) []) ≡ range_with_len 0 (length c.literals)
+  pub parsed : IsFile c
   pub start : Tables
   pub literals : start.literals ≡ c.literals
-  pub typed : IsPlanned (view_externals c.externals) start file
+  pub typed : IsFileOf (view_externals c.externals) start file
   pub parameters : AllByRecursion (HasParameters file) file.functions
-
--- the same of files that are sound, whose functions therefore have these parameters where the files join
-pub record IsCheckedAs (c : Contents) (file : FileParts) : Type 0 where
-  pub grammar : AreExternals [] (view_externals c.externals)
-  pub counted : literal_numbers (spell_file (view_externals c.externals) []) ≡ range_with_len 0 (length c.literals)
-  pub start : Tables
-  pub literals : start.literals ≡ c.literals
-  pub typed : IsPlanned (view_externals c.externals) start file
-  pub sound : IsSound file
-
-abbrev pub AreCheckedAs : List Contents → List FileParts → Type 0
-AreCheckedAs [] [] = Unit {0}
-AreCheckedAs [] (f ∷ fs) = ⊥
-AreCheckedAs (c ∷ cs) [] = ⊥
-AreCheckedAs (c ∷ cs) (f ∷ fs) = IsCheckedAs c f × AreCheckedAs cs fs
 
 abbrev pub AreTypedAs : List Contents → List FileParts → Type 0
 AreTypedAs [] [] = Unit {0}
@@ -71,3 +54,10 @@ bytes_of (bytes ∷ literals) = length bytes + bytes_of literals
 abbrev pub bytes_in : List Contents → ℕ
 bytes_in [] = 0
 bytes_in (c ∷ cs) = bytes_of c.literals + bytes_in cs
+
+-- no definition in the files has more tokens
+abbrev pub IsUpTo : ℕ → Source → Type 0
+IsUpTo n x = IsDefinition x.external → tokens x.external ≤ n
+
+abbrev pub AreUpTo : ℕ → List Contents → Type 0
+AreUpTo n files = AllByRecursion (IsUpTo n) (sources_in files)

@@ -2,16 +2,10 @@
 // the contracts of functions that do nothing but call others like them.
 #![tactic(auto)]
 
-ghost use Rattle.dae_small.specs.Promise.{CheckedAreTyped, FormsAreFew, FormsAreLittle, FramesAreSmall};
+ghost use Rattle.dae_small.specs.Promise.{DefinitionsAreShort, FormsAreFew, FormsAreLittle};
+ghost use Rattle.dae_small.specs.Promise.{FormsAreWithin, FramesAreSmall, FramesAreWithin};
 ghost use Rattle.dae_small.specs.Promise.{FunctionsAreFew, FunctionsAreLittle};
 ghost use Rattle.dae_small.specs.Promise.{StreamsAreLittle, StreamsAreWithin};
-
-/// The functions of sound files have the parameters of their types, where the objects that the files use have room.
-pub fn checked_are_typed()
-    ensures { CheckedAreTyped }
-{
-    dae_file_sizes::sound_have_parameters();
-}
 
 /// The functions that files join to come from the files' definitions, at most one from each, and each has fewer variables, with
 /// those that lowering makes, than 4 for each token of its definition.
@@ -44,12 +38,34 @@ pub fn frames_are_small()
     forms_are_few();
 }
 
+/// Where no definition has more than n tokens, such a frame has at most 8 words for each of n.
+pub fn frames_are_within()
+    ensures { FramesAreWithin }
+{
+    dae_tree_sizes::definitions_are_long();
+    forms_are_few();
+}
+
+/// A definition of a typed file has at most 8,192 tokens.
+pub fn definitions_are_short()
+    ensures { DefinitionsAreShort }
+{}
+
 /// A function of the form has at most 8 items for each token of its definition and 4 for each byte of its literals.
 pub fn forms_are_little()
     ensures { FormsAreLittle }
 {
     dae_code_sizes::code_within();
     functions_are_little();
+}
+
+/// The functions of the form weigh at most 16 for each token of the files and 8 for each byte of their literals, where an item
+/// weighs 2 and a call 3 more.
+pub fn forms_are_within()
+    ensures { FormsAreWithin }
+{
+    dae_tree_sizes::parts_pay();
+    forms_are_little();
 }
 
 /// A function of a stream has at most 224 words for each token of its definition and 112 for each byte of its literals.

@@ -1,6 +1,6 @@
 use Rattle.std.proofs.Common.{ℕ, ◌<◌, List, refl, subst}
 use Rattle.std.specs.List.{All}
-use Rattle.dae_compile.proofs.Fitting.{fits, keeps_if}
+use Rattle.dae_compile.proofs.Fitting.{compiled_if, deep_if, fits, keeps_if, long_if}
 use Rattle.dae_compile.proofs.programs.compile_program.Goals as goal
 
 pub generate-requires-clause-fits : goal.generate-requires-clause-fits
@@ -15,3 +15,19 @@ returns-clause-keeps c =
     let made = c.in_ok-ir.ensures in
     keeps_if c.args.program c.args.calls c.in_ok-ir.ir c.generate.result c.image_keeps_meaning.ensures c.requires.called made.lowered made.calls
     c.generate.ensures.content c.generate.ensures.does
+
+pub returns-clause-compiled : goal.returns-clause-compiled
+returns-clause-compiled c =
+    let made = c.in_ok-ir.ensures in
+    compiled_if c.args.program c.args.calls c.args.cap c.in_ok-ir.ir c.generate.result made.lowered made.calls
+    c.generate.ensures.compiled c.generate.ensures.content c.generate.ensures.short c.generate.ensures.private
+
+pub returns-clause-long : goal.returns-clause-long
+returns-clause-long c =
+    let made = c.in_ok-ir.ensures in
+    long_if c.args.program c.in_ok-ir.ir c.generate.result made.lowered c.generate.ensures.err
+
+pub returns-clause-deep : goal.returns-clause-deep
+returns-clause-deep c =
+    let made = c.in_ok-ir.ensures in
+    deep_if c.args.program c.args.calls c.in_ok-ir.ir c.generate.result made.lowered made.calls c.generate.ensures.deep

@@ -10,3 +10,7 @@ pub invariant_of-result : goal.invariant_of-result
 invariant_of-result c = record {
   lawful = joined_lawful c.args.files.items c.args.memory c.in_ok-parts.parts (recursion_from_All IsSound c.args.files.items (subst (All IsSound) c.as_slice.ensures.value c.see_sound.ensures)) c.requires c.in_ok-parts.ensures.ok;
 }
+
+pub returns-clause-parameters : goal.returns-clause-parameters
+returns-clause-parameters c =
+    c.joined_have_parameters.ensures c.args.files.items c.args.memory c.in_ok-parts.parts (recursion_from_All IsSound c.args.files.items (subst (All IsSound) c.as_slice.ensures.value c.see_sound.ensures)) c.requires c.in_ok-parts.ensures.ok

@@ -1,0 +1,18 @@
+use Rattle.std.proofs.Common.{refl}
+use Rattle.dae_sources.specs.Read.{texts_in}
+use Rattle.dae_compile.proofs.Small.{never_deep, never_long, small}
+use Rattle.dae_compile.proofs.compiling.compile.Goals as goal
+
+pub returns-in-Ok-clause-small : goal.returns-in-Ok-clause-small
+returns-in-Ok-clause-small c =
+    small c.forms_are_within.ensures c.frames_are_within.ensures (texts_in c.args.texts.now) c.in_ok-program.program c.args.options.calls c.args.options.cap c.in-Ok.image
+    c.in_ok-program.ensures.files c.in-Ok.ensures.compiled
+
+pub unreachable-requires : goal.unreachable-requires
+unreachable-requires c =
+    never_long c.read_are_within.ensures c.forms_are_within.ensures (texts_in c.args.texts.now) c.in_ok-program.program c.in_ok-program.ensures.files (c.in-Err-Code.ensures.long c.in-Err-Code.field-0-is)
+
+pub unreachable-requires-in-Err-Private : goal.unreachable-requires-in-Err-Private
+unreachable-requires-in-Err-Private c =
+    never_deep c.definitions_are_short.ensures c.frames_are_within.ensures (texts_in c.args.texts.now) c.in_ok-program.program c.args.options.calls c.args.options.ranges.shallow
+    c.in_ok-program.ensures.files (c.in-Err-Private.ensures.deep c.in-Err-Private.field-0-is)
