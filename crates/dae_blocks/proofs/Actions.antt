@@ -11,7 +11,6 @@ use Rattle.dae_base.specs.declared.Width.TheVariants.{B1, B2, B4}
 use Rattle.dae_base.specs.declared.LoadKind.{LoadKind}
 use Rattle.dae_base.specs.declared.LoadKind.TheVariants.{I8, U8, I16, U16, I32}
 use Rattle.dae_encode.specs.declared.Inst.{Inst}
-use Rattle.dae_encode.specs.declared.Inst.TheVariants.{Addi}
 use Rattle.dae_encode.specs.declared.QueueUse.TheVariants.{Take as Takes, Push as Pushes}
 use Rattle.dae_encode.specs.declared.Form.TheVariants.{Computes}
 use Rattle.dae_encode.specs.Instructions.{effect, DoesLoad, DoesStore}
@@ -19,7 +18,7 @@ use Rattle.dae_encode.specs.Uses.{queue_use}
 use Rattle.dae_encode.specs.Processor.{Processor}
 use Rattle.dae_ir.specs.Classes.{VariableSet}
 use Rattle.dae_meaning.specs.Variables.{Env}
-use Rattle.dae_ir.specs.Form.{Program, value, computed}
+use Rattle.dae_ir.specs.Form.{value, computed}
 use Rattle.dae_meaning.specs.Variables as form
 use Rattle.dae_ir.specs.Deeds.{Deed, Went, Take, Push, Reserve, Send, told_on}
 use Rattle.dae_ir.specs.declared.form.Operand.{Operand}
@@ -31,14 +30,14 @@ use Rattle.dae_walks.specs.Homes.{Contents}
 use Rattle.dae_walks.specs.Agrees.{Plan, Moment, Stands}
 use Rattle.dae_walks.specs.Compiled.{with_env}
 use Rattle.dae_walks.proofs.LawsOfWalks.{put, step_shared, step_address}
-use Rattle.dae_blocks.specs.Blocks.{register_or, source, fetch, keep, value_code, issue_code, address_code, take_code, push_code}
+use Rattle.dae_blocks.specs.Blocks.{register_or, source, fetch, keep, value_code, issue_code, address_code, take_code, move_code}
 use Rattle.dae_blocks.specs.Fits.{Fits}
 use Rattle.dae_blocks.proofs.Plain.{takes, pushes}
 use Rattle.dae_blocks.proofs.Runs.{Runs, runs_nothing, runs_push, runs_take, runs_reserve, runs_send}
-use Rattle.dae_blocks.proofs.Agreement.{Ready, ready_gets}
-use Rattle.dae_blocks.proofs.Operands.{runs_keep}
+use Rattle.dae_blocks.proofs.Agreement.{Ready, ready_gets, ready_like}
+use Rattle.dae_blocks.proofs.Operands.{runs_keep, runs_move}
 use Rattle.dae_blocks.specs.Wanted.{IsNumber, AreNumbers}
-use Rattle.dae_blocks.proofs.Computing.{plus_zero, register_plain, register_low, source_plain, runs_one, runs_value}
+use Rattle.dae_blocks.proofs.Computing.{plus_zero, register_plain, register_low, source_plain, is_scratch, runs_one, runs_value}
 use Rattle.dae_blocks.proofs.Uses.{takes_load, takes_own, takes_copy, pushes_datum, pushes_copy, pushes_message, issues, issues_own, gives_address}
 
 issue_is : (kind : LoadKind) (queue base : ℕ) → effect (issue_code kind queue base) ≡ DoesLoad kind queue base (word (pos 0))
@@ -75,7 +74,7 @@ module _ (s : Setting) (plan : Plan) (variables : ℕ → ℕ) (fine : Fits s pl
         zero = h.zero;
         fits = h.fits;
         small = h.small;
-        agrees = record { base = a.base; variables = λ v l. a.variables v (stays v l); pointer = a.pointer; frame = a.frame; depth = a.depth; waiting = a.waiting; room = a.room; within = a.within };
+        agrees = record { base = a.base; variables = λ v l. a.variables v (stays v l); pointer = a.pointer; frame = a.frame; depth = a.depth; addresses = a.addresses; waiting = a.waiting; room = a.room; within = a.within };
       }
 
   -- all but v, which is set, is live before, and in another home than v
@@ -111,13 +110,12 @@ module _ (s : Setting) (plan : Plan) (variables : ℕ → ℕ) (fine : Fits s pl
 
   -- Datum, Tell, Offer: an operand goes into a queue
   pub pushed : {c : Contents} (q : ℕ) (queue : Queue) (x : Operand) → (nat_lt 0 q && nat_lt q 28) ≡ false → ((r : ℕ) → r < 28 → queue_use s.copies s.side (Computes q r 0) ≡ Some (Pushes queue)) → Ready plan live m c → Reads x → IsNumber x → Stays →
-      Does' (push_code (plan.home m.function) q x) c (Push queue (value x m.env) (Went m.env))
+      Does' (move_code (plan.home m.function) q x) c (Push queue (value x m.env) (Went m.env))
   pushed q queue x high legal h reads number stays =
-      runs_one s plan variables fine To x (Addi q (source (plan.home m.function) 5 x) (pos 0) ∷ []) h reads number (λ c1 h1 got.
-      let plain = source_plain s plan variables fine To m.function 5 x (omega arith) in
-      let small : value x m.env < 2 ^ 32 = (let a = h1.fits (source (plan.home m.function) 5 x) in rw got at a) in
-      let same : plus (c1.register (source (plan.home m.function) 5 x)) (word (pos 0)) ≡ value x m.env = rw got (plus_zero (value x m.env) small) in
-      runs_push s plan.private To (pushes s plan.private To q (source (plan.home m.function) 5 x) (pos 0) queue (value x m.env) plain high (legal (source (plan.home m.function) 5 x) plain) same) small (ends m.env (ready_stays stays h1)))
+      let run = runs_move s plan variables fine To {d = Push queue (value x m.env) (Went m.env)} q x [] h reads number (λ c1 r imm like plain same small.
+      let h1 = ready_like s plan variables fine 5 (is_scratch plan 5 (omega arith) (omega arith)) like h in
+      runs_push s plan.private To (pushes s plan.private To q r imm queue (value x m.env) plain high (legal r plain) same) small (ends m.env (ready_stays stays h1))) in
+      rw append-nil at run
 
   -- an address in a register is the operand's value
   addressed : {c : Contents} (x : Operand) → Ready plan live m c → c.register (source (plan.home m.function) 5 x) ≡ value x m.env → plus (c.register (source (plan.home m.function) 5 x)) (word (pos 0)) ≡ value x m.env
@@ -150,7 +148,7 @@ module _ (s : Setting) (plan : Plan) (variables : ℕ → ℕ) (fine : Fits s pl
         runs_send s plan.private To (λ good k w small here is p shows. step_address s plan.private (address_code width r) width r 30 (word (pos 0)) (value x m.env) w shows here is small (address_is width r) (rw by_a (gives_address s.copies width r (word (pos 0)) plain)) plain (addressed x h1 got) good) (ends m.env (ready_stays stays h1)))
 
     -- Offer
-    pub offer_done : {c : Contents} (v : ℕ) → s.copies ≡ true → Ready plan live m c → live v ≡ true → Stays → Does' (push_code (plan.home m.function) 28 (Variable v)) c (Push Cq (m.env v) (Went m.env))
+    pub offer_done : {c : Contents} (v : ℕ) → s.copies ≡ true → Ready plan live m c → live v ≡ true → Stays → Does' (move_code (plan.home m.function) 28 (Variable v)) c (Push Cq (m.env v) (Went m.env))
     offer_done v copies h reads stays = pushed 28 Cq (Variable v) refl (λ r l. rw (by_a, copies) (pushes_copy r l)) h (λ u e. (let same : u ≡ v = grind (arith, nat_tests) in rw same reads)) tt stays
 
   module _ (by_e : s.side ≡ E) where
@@ -160,9 +158,9 @@ module _ (s : Setting) (plan : Plan) (variables : ℕ → ℕ) (fine : Fits s pl
     pub accept_done : {c : Contents} (v : ℕ) → s.copies ≡ true → Ready plan live m c → Apart v → Does' (take_code 28 (plan.home m.function v)) c (Take Cq (λ y. Went (form.put true v y m.env)))
     accept_done v copies h apart = taken v 28 Cq refl (λ t l. rw (by_e, copies) (takes_copy t l)) h apart
 
-    pub datum_done : {c : Contents} (x : Operand) → Ready plan live m c → Reads x → IsNumber x → Stays → Does' (push_code (plan.home m.function) 30 x) c (Push Sd (value x m.env) (Went m.env))
+    pub datum_done : {c : Contents} (x : Operand) → Ready plan live m c → Reads x → IsNumber x → Stays → Does' (move_code (plan.home m.function) 30 x) c (Push Sd (value x m.env) (Went m.env))
     datum_done x h reads number stays = pushed 30 Sd x refl (λ r l. rw by_e (pushes_datum s.copies r l)) h reads number stays
 
   -- Tell, on both sides
-  pub tell_done : {c : Contents} (x : Operand) → Ready plan live m c → Reads x → IsNumber x → Stays → Does' (push_code (plan.home m.function) 29 x) c (Push (told_on plan.by_a) (value x m.env) (Went m.env))
+  pub tell_done : {c : Contents} (x : Operand) → Ready plan live m c → Reads x → IsNumber x → Stays → Does' (move_code (plan.home m.function) 29 x) c (Push (told_on plan.by_a) (value x m.env) (Went m.env))
   tell_done x h reads number stays = pushed 29 (told_on plan.by_a) x refl (λ r l. rw fine.side (pushes_message s.copies plan.by_a r l)) h reads number stays

@@ -34,6 +34,7 @@ pub record IsScratch (plan : Plan) (r : ℕ) : Type 0 where
   pub three : 3 ≢ r
   pub home : is_home_register r ≡ false
   pub depth : plan.by_a ≡ true → 10 ≢ r
+  pub addresses : plan.by_a ≡ true → 4 ≢ r
 
 -- only that register may be another
 pub record Like (r : ℕ) (c c' : Contents) : Type 0 where
@@ -83,6 +84,7 @@ module _ (s : Setting) (plan : Plan) (variables : ℕ → ℕ) (fine : Fits s pl
           pointer = like.registers 2 scratch.two ∙ a.pointer;
           frame = like.registers 3 scratch.three ∙ a.frame;
           depth = λ by_a. like.registers 10 (scratch.depth by_a) ∙ a.depth by_a;
+          addresses = λ by_a. like.registers 4 (scratch.addresses by_a) ∙ a.addresses by_a;
           waiting = waiting_same c c' a.base m.frame m.waiting (λ i l. like.words i) a.waiting;
           room = a.room;
           within = a.within;
@@ -97,6 +99,7 @@ module _ (s : Setting) (plan : Plan) (variables : ℕ → ℕ) (fine : Fits s pl
     pub two : c'.register 2 ≡ c.register 2
     pub three : c'.register 3 ≡ c.register 3
     pub depth : plan.by_a ≡ true → c'.register 10 ≡ c.register 10
+    pub addresses : plan.by_a ≡ true → c'.register 4 ≡ c.register 4
     pub below : (i : ℕ) → i ≤ base → c'.word i ≡ c.word i
     pub fits : (r : ℕ) → c'.register r < 2 ^ 32
     pub small : (i : ℕ) → c'.word i < 2 ^ 32
@@ -116,6 +119,7 @@ module _ (s : Setting) (plan : Plan) (variables : ℕ → ℕ) (fine : Fits s pl
           pointer = g.two ∙ a.pointer;
           frame = g.three ∙ a.frame;
           depth = λ by_a. g.depth by_a ∙ a.depth by_a;
+          addresses = λ by_a. g.addresses by_a ∙ a.addresses by_a;
           waiting = waiting_same c c' a.base m.frame m.waiting g.below a.waiting;
           room = a.room;
           within = record { depth = a.within.depth; frame = a.within.frame };

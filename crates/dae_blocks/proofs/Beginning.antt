@@ -21,7 +21,7 @@ use Rattle.dae_blocks.specs.Blocks.{number_code, enter_code, restore_code}
 use Rattle.dae_blocks.specs.Code.{registers_in, entry_code, start_code}
 use Rattle.dae_blocks.specs.Fits.{Fits}
 use Rattle.dae_blocks.specs.Laws.{opened_with, CodeBegins}
-use Rattle.dae_blocks.proofs.Lengths.{entry_alone, start_short}
+use Rattle.dae_blocks.proofs.Lengths.{entry_alone, opening_short, finish_some}
 use Rattle.dae_blocks.specs.Wanted.{IsLinked}
 use Rattle.dae_blocks.proofs.Plain.{computes, stores_word}
 use Rattle.dae_blocks.proofs.Frames.{runs_number}
@@ -62,11 +62,12 @@ record Begun (plan : Plan) (first k : ℕ) (p : Processor) : Type 0 where
   pub words : (i : ℕ) → contents.word i ≡ 0
   pub two : contents.register 2 ≡ 0
   pub three : contents.register 3 ≡ first
+  pub four : plan.by_a ≡ true → contents.register 4 ≡ plan.memory - 16
   pub ten : plan.by_a ≡ true → contents.register 10 ≡ 1
 
 module _ (s : Setting) (plan : Plan) (variables : ℕ → ℕ) (fine : Fits s plan variables) (entries : ℕ → VariableSet) (linked : IsLinked s plan variables entries) where
   abbrev before_main : ℕ → List Inst
-  before_main first = number_code 3 first ++ (if plan.by_a then Addi 10 0 (pos 1) ∷ [] else [])
+  before_main first = number_code 3 first ++ (if plan.by_a then number_code 4 (plan.memory - 16) ++ Addi 10 0 (pos 1) ∷ [] else [])
 
   begun : (first : ℕ) → first ≤ plan.memory → length (before_main first) < 2 ^ 29 → CodeAt s.code 0 (before_main first) → Comes s (length (before_main first)) (opened_with plan.private) (Begun plan first (0 + length (before_main first)))
   begun first fits small at =
@@ -75,11 +76,15 @@ module _ (s : Setting) (plan : Plan) (variables : ℕ → ℕ) (fine : Fits s pl
       let run : Runs s plan.private to (before_main first) nothing (Went (λ _. 0)) = runs_number s plan.private to 3 first _ refl (omega arith) (omega arith) (omega arith) (by plan.by_a refl) in
       run.from 0 (omega arith) at (opened_with plan.private) (opened_shows plan.private)
     where
-      by : (b : Bool) → plan.by_a ≡ b → Runs s plan.private (λ k env q. Begun plan first k q) (if b then Addi 10 0 (pos 1) ∷ [] else []) (put 3 first nothing) (Went (λ _. 0))
+      by : (b : Bool) → plan.by_a ≡ b → Runs s plan.private (λ k env q. Begun plan first k q) (if b then number_code 4 (plan.memory - 16) ++ Addi 10 0 (pos 1) ∷ [] else []) (put 3 first nothing) (Went (λ _. 0))
       by true e =
-          runs_quiet s plan.private (λ k env q. Begun plan first k q) (computes s plan.private (λ k env q. Begun plan first k q) (Addi 10 0 (pos 1)) 10 0 0 (λ x y. plus x (word (pos 1))) refl (omega arith) (omega arith) (omega arith) (omega arith)) (
-          runs_nothing s plan.private (λ k env q. Begun plan first k q) (λ k q shows. record { contents = put 10 1 (put 3 first nothing); shows = shows; words = (λ i. refl); two = refl; three = refl; ten = (λ _. refl) }))
-      by false e = runs_nothing s plan.private (λ k env q. Begun plan first k q) (λ k q shows. record { contents = put 3 first nothing; shows = shows; words = (λ i. refl); two = refl; three = refl; ten = (λ t. absurd cc) })
+          let most = fine.common in
+          let to : ℕ → Env → Processor → Type 0 = λ k env q. Begun plan first k q in
+          let c : Contents = put 4 (plan.memory - 16) (put 3 first nothing) in
+          runs_number s plan.private to 4 (plan.memory - 16) (Addi 10 0 (pos 1) ∷ []) refl (omega arith) (omega arith) (omega arith) (
+          runs_quiet s plan.private to (computes s plan.private to {c = c} (Addi 10 0 (pos 1)) 10 0 0 (λ x y. plus x (word (pos 1))) refl (omega arith) (omega arith) (omega arith) (omega arith)) (
+          runs_nothing s plan.private to (λ k q shows. record { contents = put 10 1 c; shows = shows; words = (λ i. refl); two = refl; three = refl; four = (λ _. refl); ten = (λ _. refl) })))
+      by false e = runs_nothing s plan.private (λ k env q. Begun plan first k q) (λ k q shows. record { contents = put 3 first nothing; shows = shows; words = (λ i. refl); two = refl; three = refl; four = (λ t. absurd cc); ten = (λ t. absurd cc) })
 
   -- main reads nothing at its entry
   pub begins : (main first : ℕ) → main < plan.functions → ((u : ℕ) → entries main u ≡ false) → first ≤ plan.memory → 1 ≤ plan.limit → plan.limit * plan.largest ≤ plan.private → plan.finish ≡ length (start_code plan main first) →
@@ -114,6 +119,7 @@ module _ (s : Setting) (plan : Plan) (variables : ℕ → ℕ) (fine : Fits s pl
           pointer = restored.others 2 (among_not s plan variables fine entries linked (plan.home main) (variables main) 2 (entries main) refl) ∙ b.two;
           frame = restored.others 3 (among_not s plan variables fine entries linked (plan.home main) (variables main) 3 (entries main) refl) ∙ b.three;
           depth = (λ e. restored.others 10 (among_not s plan variables fine entries linked (plan.home main) (variables main) 10 (entries main) refl) ∙ b.ten e);
+          addresses = (λ e. restored.others 4 (among_not s plan variables fine entries linked (plan.home main) (variables main) 4 (entries main) refl) ∙ b.four e);
           waiting = (refl, (omega arith), restored.words 0 ∙ ap (λ n. 4 * n) back);
           room = (let same : plan.limit + 1 - 1 ≡ plan.limit = omega arith in rw same (omega arith));
           within = record { depth = deep; frame = fits };
@@ -136,5 +142,5 @@ module _ (s : Setting) (plan : Plan) (variables : ℕ → ℕ) (fine : Fits s pl
 
 pub code_begins : CodeBegins
 code_begins s plan variables entries main frames fine linked b =
-    let l1 = entry_alone plan variables main (entries main) b.reads in let l2 = start_short plan main frames in
-    comes_map s 6 (omega arith) (λ q g. g) (begins s plan variables fine entries linked main frames b.there b.reads b.first b.deep b.room b.finish b.code)
+    let l1 = entry_alone plan variables main (entries main) b.reads in let l2 = opening_short plan main frames in let l3 = finish_some plan.by_a in
+    comes_map s 8 (omega arith) (λ q g. g) (begins s plan variables fine entries linked main frames b.there b.reads b.first b.deep b.room b.finish b.code)

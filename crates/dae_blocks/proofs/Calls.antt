@@ -216,6 +216,7 @@ module _ (s : Setting) (plan : Plan) (variables : ℕ → ℕ) (fine : Fits s pl
           pointer = registers 2 (omega arith) ∙ a.pointer;
           frame = registers 3 (omega arith) ∙ a.frame;
           depth = λ by_a. registers 10 (omega arith) ∙ a.depth by_a;
+          addresses = λ by_a. registers 4 (omega arith) ∙ a.addresses by_a;
           waiting = waiting_same s plan variables fine c c' a.base m.frame m.waiting (λ i l. words i (omega arith)) a.waiting;
           room = a.room;
           within = a.within;
@@ -250,7 +251,7 @@ module _ (s : Setting) (plan : Plan) (variables : ℕ → ℕ) (fine : Fits s pl
       let h2 = ready_like s plan variables fine 5 (is_scratch plan 5 (omega arith) (omega arith)) like h1 in
       let pointer : c2.register 2 ≡ 4 * base = like.registers 2 (omega arith) ∙ (h1.agrees.pointer ∙ ap (λ n. 4 * n) at_base) in
       let based = base_is h2 base pointer in
-      runs_word base r w is pointer (source_apart s plan variables fine to m.function 5 7 x.operand (omega arith) (omega arith)) (source_plain s plan variables fine to m.function 5 x.operand (omega arith)) (omega arith) h2.fits h2.small (λ c3 one.
+      runs_word base r w is pointer (source_apart s plan variables fine to m.function 5 7 x.operand (omega arith) (omega arith) (omega arith)) (source_plain s plan variables fine to m.function 5 x.operand (omega arith)) (omega arith) h2.fits h2.small (λ c3 one.
       run c3 (record {
         ready = ready_far h2 (λ i l. one.others i (omega arith)) one.registers one.fits one.small;
         based = base_is (ready_far h2 (λ i l. one.others i (omega arith)) one.registers one.fits one.small) base (one.registers 2 (omega arith) ∙ pointer);

@@ -34,9 +34,9 @@ use Rattle.dae_blocks.proofs.Plain.{computes, takes, pushes, put_other, branch_t
 use Rattle.dae_blocks.proofs.Frames.{plus_small, runs_number}
 use Rattle.dae_blocks.proofs.Runs.{runs_quiet, runs_push, runs_take, runs_say, runs_halt, runs_over}
 use Rattle.dae_blocks.proofs.Agreement.{Ready, IsScratch, ready_like}
-use Rattle.dae_blocks.proofs.Operands.{like_put}
+use Rattle.dae_blocks.proofs.Operands.{like_put, runs_move}
 use Rattle.dae_blocks.specs.Wanted.{IsNumber}
-use Rattle.dae_blocks.proofs.Computing.{plus_zero, source_plain, source_apart, runs_one, is_scratch}
+use Rattle.dae_blocks.proofs.Computing.{source_plain, source_apart, runs_one, is_scratch}
 use Rattle.dae_blocks.proofs.Uses.{pushes_message, takes_message}
 use Rattle.dae_blocks.proofs.Actions.{To, Does', Stays, Reads, ends, ready_stays}
 
@@ -50,8 +50,8 @@ fail_short false code = omega arith
 
 -- on E the registers of the environment call have no meaning between blocks
 call_scratch : (plan : Plan) (r : ℕ) → plan.by_a ≡ false → r ≡ 10 ⊎ r ≡ 17 → IsScratch plan r
-call_scratch plan r by_e (inl e) = rw e (record { zero = (omega arith); two = (omega arith); three = (omega arith); home = refl; depth = λ by_a. absurd cc })
-call_scratch plan r by_e (inr e) = rw e (record { zero = (omega arith); two = (omega arith); three = (omega arith); home = refl; depth = λ by_a. (omega arith) })
+call_scratch plan r by_e (inl e) = rw e (record { zero = (omega arith); two = (omega arith); three = (omega arith); home = refl; depth = (λ by_a. absurd cc); addresses = (λ by_a. (omega arith)) })
+call_scratch plan r by_e (inr e) = rw e (record { zero = (omega arith); two = (omega arith); three = (omega arith); home = refl; depth = (λ by_a. (omega arith)); addresses = (λ by_a. (omega arith)) })
 
 module _ (s : Setting) (plan : Plan) (variables : ℕ → ℕ) (fine : Fits s plan variables) (live live' : VariableSet) (m : Moment) where
   by_side : plan.by_a ≡ false → s.side ≡ E
@@ -64,16 +64,14 @@ module _ (s : Setting) (plan : Plan) (variables : ℕ → ℕ) (fine : Fits s pl
   system : {c : Contents} {d : Deed} (n : ℕ) (x : Operand) (is : List Inst) → plan.by_a ≡ false → n < 2048 → Ready plan live m c → Reads s plan variables fine live live' m x → IsNumber x →
       ((c' : Contents) → Ready plan live m c' → c'.register 17 ≡ n → c'.register 10 ≡ value x m.env → Does' s plan variables fine live live' m (Ecall ∷ is) c' d) → Does' s plan variables fine live live' m (system_code (plan.home m.function) n x ++ is) c d
   system n x is by_e small h reads number run =
-      rw append_assoc (runs_one s plan variables fine (To s plan variables fine live live' m) x (Addi 10 (source (plan.home m.function) 5 x) (pos 0) ∷ (Addi 17 0 (pos n) ∷ (Ecall ∷ is))) h reads number (λ c1 h1 got.
+      rw append_assoc (runs_move s plan variables fine (To s plan variables fine live live' m) 10 x (Addi 17 0 (pos n) ∷ (Ecall ∷ is)) h reads number (λ c1 r imm like plain same fits.
       let t = To s plan variables fine live live' m in
-      let r = source (plan.home m.function) 5 x in let plain = source_plain s plan variables fine t m.function 5 x (omega arith) in
-      let fits : value x m.env < 2 ^ 32 = (let a = h1.fits r in rw got at a) in
-      let same : plus (c1.register r) (word (pos 0)) ≡ value x m.env = rw got (plus_zero (value x m.env) fits) in
+      let h1 = ready_like s plan variables fine 5 (is_scratch plan 5 (omega arith) (omega arith)) like h in
       let h2 = ready_like s plan variables fine 10 (call_scratch plan 10 by_e (inl refl)) (like_put 10 (value x m.env) c1 fits h1.fits) h1 in
       let c2 : Contents = put 10 (value x m.env) c1 in
       let number_is : plus (c2.register 0) (word (pos n)) ≡ n = rw h2.zero (omega arith) in
       let h3 = ready_like s plan variables fine 17 (call_scratch plan 17 by_e (inr refl)) (like_put 17 n c2 (omega arith) h2.fits) h2 in
-      runs_quiet s plan.private t (computes s plan.private t (Addi 10 r (pos 0)) 10 r 0 (λ x y. plus x (word (pos 0))) refl (omega arith) plain (omega arith) (plus_small (c1.register r) 0)) (rw same (
+      runs_quiet s plan.private t (computes s plan.private t (Addi 10 r imm) 10 r 0 (λ x y. plus x (word imm)) refl (omega arith) plain (omega arith) (plus_small (c1.register r) (word imm))) (rw same (
       runs_quiet s plan.private t (computes s plan.private t (Addi 17 0 (pos n)) 17 0 0 (λ x y. plus x (word (pos n))) refl (omega arith) (omega arith) (omega arith) (plus_small (c2.register 0) n)) (rw number_is (
       run (put 17 n c2) h3 refl refl))))))
 
@@ -178,39 +176,47 @@ module _ (s : Setting) (plan : Plan) (variables : ℕ → ℕ) (fine : Fits s pl
     tested code i x y test true does a b e small h stays = rw append-nil at (caught_a code i x y test [] does a b e small h)
     tested code i x y test false does a b e small h stays = rw append-nil at (guarded_a code i x y test [] does a b e (ends s plan variables fine live live' m m.env (ready_stays s plan variables fine live live' m stays h)))
 
-    -- the address lies in common memory
-    range_done : {c : Contents} (r a n : ℕ) → r < 28 → r ≢ 6 → Ready plan live m c → c.register r ≡ a → n ≤ 4 → Stays s plan variables fine live live' m →
-        Does' s plan variables fine live live' m (Addi 6 r (negsuc 15) ∷ (number_code 7 (plan.memory - n - 15) ++ Bltu 6 7 (pos 12) ∷ fail_code true 2)) c (probed true (if nat_lt a 16 || nat_lt plan.memory (a + n) then Some 2 else None) m.env)
-    range_done {c} r a n plain apart h got short stays =
-        let t = To s plan variables fine live live' m in
-        let small = h.fits r in let most = fine.common in let least = fine.least in
-        let v : ℕ = plus (c.register r) (word (negsuc 15)) in
-        let fits : v < 2 ^ 32 = plus_small (c.register r) (word (negsuc 15)) in
-        let h1 = ready_like s plan variables fine 6 (is_scratch plan 6 (omega arith) (omega arith)) (like_put 6 v c fits h.fits) h in
-        let c1 : Contents = put 6 v c in
-        let limit : ℕ = plan.memory - n - 15 in
-        let h2 = ready_like s plan variables fine 7 (is_scratch plan 7 (omega arith) (omega arith)) (like_put 7 limit c1 (omega arith) h1.fits) h1 in
-        let same : nat_lt v limit ≡ not (nat_lt a 16 || nat_lt plan.memory (a + n)) = rw got (between a n (rw got at small) short) in
-        runs_quiet s plan.private t (computes s plan.private t (Addi 6 r (negsuc 15)) 6 r 0 (λ x y. plus x (word (negsuc 15))) refl (omega arith) plain (omega arith) fits) (
-        runs_number s plan.private t 7 limit (Bltu 6 7 (pos 12) ∷ fail_code true 2) h1.zero (omega arith) (omega arith) (omega arith) (
-        tested 2 (Bltu 6 7 (pos 12)) 6 7 (λ x y. nat_lt x y) (nat_lt a 16 || nat_lt plan.memory (a + n)) refl (omega arith) (omega arith) same (omega arith) h2 stays))
-      where
-        between : (a n : ℕ) → a < 2 ^ 32 → n ≤ 4 → nat_lt (plus a (word (negsuc 15))) (plan.memory - n - 15) ≡ not (nat_lt a 16 || nat_lt plan.memory (a + n))
-        between a n l k = let most = fine.common in let least = fine.least in grind (arith, nat_tests)
+    -- of an aligned address the last byte tells both ends
+    abbrev IsRange : ℕ → ℕ → Type 0
+    IsRange a n = nat_lt (plus a (word (negsuc (16 - n)))) (plan.memory - 16) ≡ not (nat_lt a 16 || nat_lt plan.memory (a + n))
+
+    range_one : (a : ℕ) → a < 2 ^ 32 → IsRange a 1
+    range_one a l = let most = fine.common in let least = fine.least in grind (arith, nat_tests)
+
+    range_two : (a : ℕ) → a < 2 ^ 32 → a % 2 ≡ 0 → IsRange a 2
+    range_two a l even = let most = fine.common in let least = fine.least in grind (arith, nat_tests)
+
+    range_four : (a : ℕ) → a < 2 ^ 32 → a % 4 ≡ 0 → IsRange a 4
+    range_four a l whole = let most = fine.common in let least = fine.least in grind (arith, nat_tests)
 
     abbrev range_code : ℕ → ℕ → List Inst
-    range_code r n = Addi 6 r (negsuc 15) ∷ (number_code 7 (plan.memory - n - 15) ++ Bltu 6 7 (pos 12) ∷ fail_code true 2)
+    range_code r n = Addi 6 r (negsuc (16 - n)) ∷ (Bltu 6 4 (pos 12) ∷ fail_code true 2)
+
+    -- the address lies in common memory
+    range_done : {c : Contents} (r a n : ℕ) → r < 28 → Ready plan live m c → c.register r ≡ a → IsRange a n → Stays s plan variables fine live live' m →
+        Does' s plan variables fine live live' m (range_code r n) c (probed true (if nat_lt a 16 || nat_lt plan.memory (a + n) then Some 2 else None) m.env)
+    range_done {c} r a n plain h got is stays =
+        let t = To s plan variables fine live live' m in
+        let v : ℕ = plus (c.register r) (word (negsuc (16 - n))) in
+        let fits : v < 2 ^ 32 = plus_small (c.register r) (word (negsuc (16 - n))) in
+        let h1 = ready_like s plan variables fine 6 (is_scratch plan 6 (omega arith) (omega arith)) (like_put 6 v c fits h.fits) h in
+        let c1 : Contents = put 6 v c in
+        let same : nat_lt (c1.register 6) (c1.register 4) ≡ not (nat_lt a 16 || nat_lt plan.memory (a + n)) = rw (h1.agrees.addresses by_a, got) is in
+        runs_quiet s plan.private t (computes s plan.private t (Addi 6 r (negsuc (16 - n))) 6 r 0 (λ x y. plus x (word (negsuc (16 - n)))) refl (omega arith) plain (omega arith) fits) (
+        tested 2 (Bltu 6 4 (pos 12)) 6 4 (λ x y. nat_lt x y) (nat_lt a 16 || nat_lt plan.memory (a + n)) refl (omega arith) (omega arith) same (omega arith) h1 stays)
 
     abbrev range_code_fault : ℕ → ℕ → Option ℕ
     range_code_fault a n = if nat_lt a 16 || nat_lt plan.memory (a + n) then Some 2 else None
 
-    aligned : {c : Contents} (r a n mask : ℕ) → ((x : ℕ) → bit_and x mask ≡ x % n) → 0 < n → n ≤ 4 → r < 28 → r ≢ 6 → Ready plan live m c → c.register r ≡ a → Stays s plan variables fine live live' m →
+    aligned : {c : Contents} (r a n mask : ℕ) → ((x : ℕ) → bit_and x mask ≡ x % n) → 0 < n → n ≤ 4 → (a % n ≡ 0 → IsRange a n) → r < 28 → r ≢ 6 → Ready plan live m c → c.register r ≡ a → Stays s plan variables fine live live' m →
         Does' s plan variables fine live live' m (Andi 6 r (pos mask) ∷ (Beq 6 0 (pos 12) ∷ (fail_code true 3 ++ range_code r n))) c (probed true (if not (nat_eq (a % n) 0) then Some 3 else range_code_fault a n) m.env)
-    aligned {c} r a n mask masks some short plain apart h got stays = by (nat_eq (a % n) 0) refl
+    aligned {c} r a n mask masks some short is_range plain apart h got stays = by (nat_eq (a % n) 0) refl
       where
-        last : (c1 : Contents) (b : Bool) → Ready plan live m c1 → c1.register r ≡ a → nat_eq (c1.register 6) (c1.register 0) ≡ b → Does' s plan variables fine live live' m (Beq 6 0 (pos 12) ∷ (fail_code true 3 ++ range_code r n)) c1 (probed true (if not b then Some 3 else range_code_fault a n) m.env)
-        last c1 true h1 still same = guarded_a 3 (Beq 6 0 (pos 12)) 6 0 (λ x y. nat_eq x y) (range_code r n) refl (omega arith) (omega arith) same (range_done r a n plain apart h1 still short stays)
-        last c1 false h1 still same = caught_a 3 (Beq 6 0 (pos 12)) 6 0 (λ x y. nat_eq x y) (range_code r n) refl (omega arith) (omega arith) same (omega arith) h1
+        last : (c1 : Contents) (b : Bool) → nat_eq (a % n) 0 ≡ b → Ready plan live m c1 → c1.register r ≡ a → nat_eq (c1.register 6) (c1.register 0) ≡ b → Does' s plan variables fine live live' m (Beq 6 0 (pos 12) ∷ (fail_code true 3 ++ range_code r n)) c1 (probed true (if not b then Some 3 else range_code_fault a n) m.env)
+        last c1 true e h1 still same =
+            let whole : a % n ≡ 0 = grind (arith, nat_tests) in
+            guarded_a 3 (Beq 6 0 (pos 12)) 6 0 (λ x y. nat_eq x y) (range_code r n) refl (omega arith) (omega arith) same (range_done r a n plain h1 still (is_range whole) stays)
+        last c1 false e h1 still same = caught_a 3 (Beq 6 0 (pos 12)) 6 0 (λ x y. nat_eq x y) (range_code r n) refl (omega arith) (omega arith) same (omega arith) h1
 
         by : (b : Bool) → nat_eq (a % n) 0 ≡ b → Does' s plan variables fine live live' m (Andi 6 r (pos mask) ∷ (Beq 6 0 (pos 12) ∷ (fail_code true 3 ++ range_code r n))) c (probed true (if not b then Some 3 else range_code_fault a n) m.env)
         by b e =
@@ -222,14 +228,20 @@ module _ (s : Setting) (plan : Plan) (variables : ℕ → ℕ) (fine : Fits s pl
             let h1 = ready_like s plan variables fine 6 (is_scratch plan 6 (omega arith) (omega arith)) (like_put 6 v c fits h.fits) h in
             let still : c1.register r ≡ a = put_other 6 v r c apart ∙ got in
             let same : nat_eq (c1.register 6) (c1.register 0) ≡ b = rw (h1.zero, is) e in
-            runs_quiet s plan.private t (computes s plan.private t (Andi 6 r (pos mask)) 6 r 0 (λ x y. bit_and x (word (pos mask))) refl (omega arith) plain (omega arith) fits) (last c1 b h1 still same)
+            runs_quiet s plan.private t (computes s plan.private t (Andi 6 r (pos mask)) 6 r 0 (λ x y. bit_and x (word (pos mask))) refl (omega arith) plain (omega arith) fits) (last c1 b e h1 still same)
 
     place_at : {c : Contents} (width : Width) (r a : ℕ) → r < 28 → r ≢ 6 → Ready plan live m c → c.register r ≡ a → Stays s plan variables fine live live' m →
         Does' s plan variables fine live live' m (align_code width r ++ range_code r (size width)) c (probed true (misplaced width a plan.memory) m.env)
     unfolding misplaced
-    place_at B1 r a plain apart h got stays = let whole : nat_eq (a % 1) 0 ≡ true = grind (arith, nat_tests) in rw whole (range_done r a 1 plain apart h got (omega arith) stays)
-    place_at B2 r a plain apart h got stays = aligned r a 2 1 (λ x. and_mask x 1) (omega arith) (omega arith) plain apart h got stays
-    place_at B4 r a plain apart h got stays = aligned r a 4 3 (λ x. and_mask x 2) (omega arith) (omega arith) plain apart h got stays
+    place_at B1 r a plain apart h got stays =
+        let fits : a < 2 ^ 32 = (let f = h.fits r in rw got at f) in
+        let whole : nat_eq (a % 1) 0 ≡ true = grind (arith, nat_tests) in rw whole (range_done r a 1 plain h got (range_one a fits) stays)
+    place_at B2 r a plain apart h got stays =
+        let fits : a < 2 ^ 32 = (let f = h.fits r in rw got at f) in
+        aligned r a 2 1 (λ x. and_mask x 1) (omega arith) (omega arith) (range_two a fits) plain apart h got stays
+    place_at B4 r a plain apart h got stays =
+        let fits : a < 2 ^ 32 = (let f = h.fits r in rw got at f) in
+        aligned r a 4 3 (λ x. and_mask x 2) (omega arith) (omega arith) (range_four a fits) plain apart h got stays
 
     -- Probe(Place)
     pub place_done : {c : Contents} (f : ℕ) (width : Width) (x : Operand) → m.function ≡ f → Ready plan live m c → Reads s plan variables fine live live' m x → IsNumber x → Stays s plan variables fine live live' m →
@@ -238,7 +250,7 @@ module _ (s : Setting) (plan : Plan) (variables : ℕ → ℕ) (fine : Fits s pl
         let t = To s plan variables fine live live' m in
         let r = source (plan.home m.function) 5 x in
         runs_one s plan variables fine t x (align_code width r ++ range_code r (size width)) h reads number (λ c1 h1 got.
-        place_at width r (value x m.env) (source_plain s plan variables fine t m.function 5 x (omega arith)) (source_apart s plan variables fine t m.function 5 6 x (omega arith) (omega arith)) h1 got stays)
+        place_at width r (value x m.env) (source_plain s plan variables fine t m.function 5 x (omega arith)) (source_apart s plan variables fine t m.function 5 6 x (omega arith) (omega arith) (omega arith)) h1 got stays)
 
     -- the frame must begin at most at n
     room_done : {c : Contents} {d : Deed} (n : ℕ) (rest : List Inst) (bad : Bool) → n < 2 ^ 32 → bad ≡ nat_lt n m.frame → Ready plan live m c → (bad ≡ false → (c' : Contents) → Ready plan live m c' → Does' s plan variables fine live live' m rest c' d) → (bad ≡ true → d ≡ probed true (Some 4) m.env) →

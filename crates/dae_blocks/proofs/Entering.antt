@@ -40,6 +40,7 @@ pub record Prepared (plan : Plan) (m : Moment) (w : Waiting) (base g : ℕ) (xs 
   pub shows : Shows plan.private contents k p
   pub two : contents.register 2 ≡ 4 * (base + plan.words m.function)
   pub three : contents.register 3 ≡ top_of plan m
+  pub four : plan.by_a ≡ true → contents.register 4 ≡ plan.memory - 16
   pub ten : plan.by_a ≡ true → contents.register 10 ≡ depth_of m + 1
   pub given : (u : ℕ) → gives xs u ≡ true → contents.word (base + (plan.words m.function + waits_at (plan.home g u))) ≡ given xs m.env u
   pub variables : AreIn (kept contents base) (plan.home m.function) w.live m.env
@@ -94,6 +95,7 @@ module _ (s : Setting) (plan : Plan) (variables : ℕ → ℕ) (fine : Fits s pl
         shows = shows;
         two = moved.two;
         three = moved.three;
+        four = λ e. moved.others 4 (omega arith) (omega arith) (omega arith) (omega arith) ∙ (saved.registers 4 (omega arith) ∙ h1.agrees.addresses e);
         ten = moved.ten;
         given = λ u e. moved.words (base + (plan.words m.function + waits_at (plan.home g u))) ∙ (saved.others (base + (plan.words m.function + waits_at (plan.home g u))) (inr (omega arith)) ∙ gave.given u e);
         variables = λ u e. one base u w.live c1 c2 c3 h1 gave.based saved moved.words e (keeps u e) (scope u (keeps u e)) (plan.home m.function u) refl;
@@ -135,6 +137,7 @@ module _ (s : Setting) (plan : Plan) (variables : ℕ → ℕ) (fine : Fits s pl
     pub registers : (r : ℕ) → among r (registers_in (plan.home g) (variables g) (entries g)) ≡ true → c.register r ≡ before'.word (base + plan.words m.function + kept_at r)
     pub two : c.register 2 ≡ before'.register 2
     pub three : c.register 3 ≡ before'.register 3
+    pub four : c.register 4 ≡ before'.register 4
     pub ten : c.register 10 ≡ before'.register 10
 
   arrives : {live : VariableSet} {m : Moment} {k : ℕ} {p : Processor} (v : Option ℕ) (behind : VariableSet) (g : ℕ) (xs : List Argument) {c0 c : Contents} (h : Ready plan live m c0) → ((u : ℕ) → entries g u ≡ true → gives xs u ≡ true) → k + 2 < 2 ^ 29 → IsWithin plan (called plan g xs (waiting_of v behind (k + 2) m) m) →
@@ -154,6 +157,7 @@ module _ (s : Setting) (plan : Plan) (variables : ℕ → ℕ) (fine : Fits s pl
         pointer = a.two ∙ q.two;
         frame = a.three ∙ q.three;
         depth = λ e. a.ten ∙ (q.ten e ∙ next);
+        addresses = λ e. a.four ∙ q.four e;
         waiting = (
           h.agrees.base,
           refl,
@@ -219,6 +223,7 @@ module _ (s : Setting) (plan : Plan) (variables : ℕ → ℕ) (fine : Fits s pl
           registers = λ r e. (let low = kept_low r (good r e) in restored.kept r e ∙ words2 (b + kept_at r) (omega arith));
           two = restored.others 2 (among_not (plan.home g) (variables g) 2 (entries g) refl);
           three = restored.others 3 (among_not (plan.home g) (variables g) 3 (entries g) refl);
+          four = restored.others 4 (among_not (plan.home g) (variables g) 4 (entries g) refl);
           ten = restored.others 10 (among_not (plan.home g) (variables g) 10 (entries g) refl);
         });
       })) in

@@ -1,11 +1,12 @@
 -- The code of a whole function, and the code that begins, have instructions whose fields their words can hold.
-use Rattle.std.proofs.Common.{◌≡◌, ℕ, ◌+◌, ◌-◌, ◌*◌, ◌%◌, ◌^◌, ◌<◌, Bool, true, false, ◌&&◌, List, [], ◌∷◌, ◌++◌, length, Option, Some, refl, arith, pos, negsuc}
-use Rattle.std.specs.Prelude.{if◌then◌else◌}
+use Rattle.std.proofs.Common.{◌≡◌, ℕ, ◌+◌, ◌-◌, ◌*◌, ◌%◌, ◌^◌, ◌<◌, Bool, true, false, ◌&&◌, List, [], ◌∷◌, ◌++◌, length, Option, Some, refl, arith, pos, negsuc, ◌||◌}
+use Rattle.std.specs.Prelude.{nat_eq, if◌then◌else◌}
 use Rattle.std.specs.List.{AllByRecursion}
 use Rattle.std.proofs.lemmas.Int.{ints}
+use Rattle.dae_base.specs.Words.{minus}
 use Rattle.dae_encode.specs.Spelling.{InRange, layout}
 use Rattle.dae_encode.specs.declared.Inst.{Inst}
-use Rattle.dae_encode.specs.declared.Inst.TheVariants.{Jalr, Sw, Addi, Add, Sub, Ecall}
+use Rattle.dae_encode.specs.declared.Inst.TheVariants.{Addi, Add, Sub}
 use Rattle.dae_ir.specs.Code.{Done, Do, If, Loop}
 use Rattle.dae_ir.specs.Classes.{VariableSet}
 use Rattle.dae_ir.specs.Streams.{Actions}
@@ -18,10 +19,11 @@ use Rattle.dae_meaning.specs.declared.Spelling.TheVariants.{Byte, Signed, Unsign
 use Rattle.dae_walks.specs.Homes.{IsHome, kept_at}
 use Rattle.dae_walks.specs.Live.{Ways, live, behind, body_ways, step_ways, nowhere}
 use Rattle.dae_walks.specs.Agrees.{Plan}
-use Rattle.dae_blocks.specs.Blocks.{is_register, number_code, register_or, source, fetch, keep, take_code, call_number, jump_over, jump_back, enter_code, argument_code, arguments_code, waits_at, store_code, save_code, restore_code, deeper_code, back_code, result_code, leave_code}
-use Rattle.dae_blocks.specs.Code.{some_below, filtered, home_registers, registers_in, call_code, action_code, branch_code, code_of, entry_code, function_code, finish_code, start_code}
-use Rattle.dae_blocks.proofs.Ranges.{AllFit, fit_append, fit_either, lui_fits, jalr_fits, addi_small, sw_small, add_fits, number_fits, load_fits, store_fits, register_fits, fetch_fits, keep_fits, jump_fits}
-use Rattle.dae_blocks.proofs.Fitting.{ecall_fits, issue_fits, address_fits, source_fits, value_fits, take_fits, push_fits, branch_fits, system_fits, stop_fits, leave_fits, result_fits, hear_fits, check_fits}
+use Rattle.dae_blocks.specs.Blocks.{lower, is_immediate, more_code, less_code, is_register, number_code, register_or, source, fetch, keep, take_code, call_number, jump_over, jump_back, enter_code, argument_code, arguments_code, waits_at, store_code, save_code, restore_code, deeper_code, back_code, result_code, leave_code, jump_words}
+use Rattle.dae_blocks.specs.Code.{some_below, filtered, home_registers, registers_in, call_code, action_code, branch_code, code_of, entry_code, function_code, finish_code, start_code, does_nothing, past_code}
+use Rattle.dae_blocks.proofs.Ranges.{AllFit, fit_append, fit_either, lui_fits, jalr_fits, addi_fits, addi_small, sw_small, add_fits, number_fits, load_fits, store_fits, register_fits, fetch_fits, move_fits, keep_fits, jump_fits, over_fits, back_fits}
+use Rattle.dae_blocks.proofs.Fitting.{ecall_fits, issue_fits, address_fits, source_fits, value_fits, take_fits, branch_fits, system_fits, stop_fits, leave_fits, result_fits, hear_fits, check_fits}
+use Rattle.dae_blocks.specs.Sizes.{is_short}
 
 -- ---- registers of variables
 
@@ -76,74 +78,83 @@ module _ (plan : Plan) (variables : ℕ → ℕ) (good : (f v : ℕ) → IsHome 
       fit_append _ _ (arguments_fit f g xs) (fit_append _ _ (fetch_fits (variables f) (plan.home f) 5 x.operand (omega arith))
       (store_fits (source (plan.home f) 5 x.operand) (plan.words f + waits_at (plan.home g x.parameter)) (source_fits (variables f) (plan.home f) (good f) 5 x.operand (omega arith))))
 
+  more_fits : (r n : ℕ) → r < 32 → AllFit (more_code r n)
+  more_fits r n h =
+      fit_either (nat_eq n 0) [] _ (λ e. tt) (λ e. fit_either (is_immediate n) (Addi r r (lower n) ∷ []) (number_code 5 n ++ Add r r 5 ∷ [])
+      (λ e. (addi_fits r r n h h, tt)) (λ e. fit_append _ _ (number_fits 5 n (omega arith)) (add_fits r r 5 h h (omega arith), tt)))
+
+  less_fits : (r n : ℕ) → r < 32 → AllFit (less_code r n)
+  less_fits r n h =
+      fit_either (nat_eq n 0) [] _ (λ e. tt) (λ e. fit_either (is_immediate (minus 0 n)) (Addi r r (lower (minus 0 n)) ∷ []) (number_code 5 n ++ Sub r r 5 ∷ [])
+      (λ e. (addi_fits r r (minus 0 n) h h, tt)) (λ e. fit_append _ _ (number_fits 5 n (omega arith)) (sub_fits r r 5 h h (omega arith), tt)))
+
   deeper_fits : (f : ℕ) → AllFit (deeper_code plan f)
   deeper_fits f =
-      fit_append _ _ (number_fits 5 (plan.frame f % 2 ^ 32) (omega arith)) (
-        add_fits 3 3 5 (omega arith) (omega arith) (omega arith),
-        fit_append _ _ (number_fits 5 (4 * plan.words f) (omega arith)) (
-          add_fits 2 2 5 (omega arith) (omega arith) (omega arith),
-          fit_either plan.by_a (Addi 10 10 (pos 1) ∷ []) [] (λ e. (addi_small 10 10 1 (omega arith) (omega arith) (omega arith), tt)) (λ e. tt),
-        ),
-      )
+      fit_append _ _ (more_fits 3 (plan.frame f % 2 ^ 32) (omega arith)) (fit_append _ _ (more_fits 2 (4 * plan.words f) (omega arith))
+      (fit_either plan.by_a (Addi 10 10 (pos 1) ∷ []) [] (λ e. (addi_small 10 10 1 (omega arith) (omega arith) (omega arith), tt)) (λ e. tt)))
 
-  back_fits : (f : ℕ) → AllFit (back_code plan f)
-  back_fits f =
-      fit_append _ _ (number_fits 5 (plan.frame f % 2 ^ 32) (omega arith)) (
-        sub_fits 3 3 5 (omega arith) (omega arith) (omega arith),
-        fit_append _ _ (number_fits 5 (4 * plan.words f) (omega arith)) (
-          sub_fits 2 2 5 (omega arith) (omega arith) (omega arith),
-          fit_either plan.by_a (Addi 10 10 (negsuc 0) ∷ []) [] (λ e. (addi_one_less 10 10 (omega arith) (omega arith), tt)) (λ e. tt),
-        ),
-      )
+  returning_fits : (f : ℕ) → AllFit (back_code plan f)
+  returning_fits f =
+      fit_append _ _ (less_fits 3 (plan.frame f % 2 ^ 32) (omega arith)) (fit_append _ _ (less_fits 2 (4 * plan.words f) (omega arith))
+      (fit_either plan.by_a (Addi 10 10 (negsuc 0) ∷ []) [] (λ e. (addi_one_less 10 10 (omega arith) (omega arith), tt)) (λ e. tt)))
 
   call_fits : (f : ℕ) (v : Option ℕ) (g : ℕ) (xs : List Argument) (live : VariableSet) → AllFit (call_code plan variables f v g xs live)
   call_fits f v g xs live =
       let rs = live_registers plan (variables f) f live in
       fit_append _ _ (arguments_fit f g xs) (fit_append _ _ (save_fits _ rs) (fit_append (deeper_code plan f) _ (deeper_fits f) (fit_append (enter_code (plan.entry g)) _ (enter_fits (plan.entry g))
-      (fit_append (back_code plan f) _ (back_fits f) (fit_append _ _ (restore_fits _ rs) (result_fits (variables f) (plan.home f) (good f) v))))))
+      (fit_append (back_code plan f) _ (returning_fits f) (fit_append _ _ (restore_fits _ rs) (result_fits (variables f) (plan.home f) (good f) v))))))
 
-  action_fits : (f : ℕ) (a : Action) (live : VariableSet) (leaves skips : ℕ) → AllFit (action_code plan variables f a live leaves skips)
-  action_fits f (Compute v x) live leaves skips =
-      fit_append _ _ (value_fits (variables f) (plan.home f) (good f) (register_or 5 (plan.home f v)) x (register_fits (variables f) 5 (plan.home f v) (good f v) (omega arith))) (keep_fits (plan.home f v))
-  action_fits f (Issue kind x) live leaves skips =
-      fit_append _ _ (fetch_fits (variables f) (plan.home f) 5 x (omega arith)) (issue_fits kind 30 (source (plan.home f) 5 x) (omega arith) (source_fits (variables f) (plan.home f) (good f) 5 x (omega arith)), tt)
-  action_fits f (Own v kind x) live leaves skips =
-      fit_append _ _ (fetch_fits (variables f) (plan.home f) 5 x (omega arith)) (issue_fits kind 31 (source (plan.home f) 5 x) (omega arith) (source_fits (variables f) (plan.home f) (good f) 5 x (omega arith)), take_fits (variables f) (plan.home f) (good f) 31 v (omega arith))
-  action_fits f (Receive v) live leaves skips = take_fits (variables f) (plan.home f) (good f) 30 v (omega arith)
-  action_fits f (Address width x) live leaves skips =
-      fit_append _ _ (fetch_fits (variables f) (plan.home f) 5 x (omega arith)) (address_fits width (source (plan.home f) 5 x) (source_fits (variables f) (plan.home f) (good f) 5 x (omega arith)), tt)
-  action_fits f (Datum x) live leaves skips = push_fits (variables f) (plan.home f) (good f) 30 x (omega arith)
-  action_fits f (Offer v) live leaves skips = push_fits (variables f) (plan.home f) (good f) 28 (Variable v) (omega arith)
-  action_fits f (Accept v) live leaves skips = take_fits (variables f) (plan.home f) (good f) 28 v (omega arith)
-  action_fits f (Emit spelling x) live leaves skips = system_fits (variables f) (plan.home f) (good f) (call_number spelling) x (number_small spelling)
-  action_fits f (Probe check) live leaves skips = check_fits plan (variables f) f check (good f)
-  action_fits f (Tell x) live leaves skips = push_fits (variables f) (plan.home f) (good f) 29 x (omega arith)
-  action_fits f Hear live leaves skips = hear_fits plan.by_a
-  action_fits f (Stop x) live leaves skips = stop_fits (variables f) (plan.home f) (good f) plan.by_a x
-  action_fits f Break live leaves skips = jump_fits (4 * (leaves + 2))
-  action_fits f Continue live leaves skips = jump_fits (4 * (skips + 2))
-  action_fits f (Call v g xs) live leaves skips = call_fits f v g xs _
-  action_fits f (Return x) live leaves skips = leave_fits (variables f) (plan.home f) (good f) x
+  module _ (short : Bool) where
+    action_fits : (f : ℕ) (a : Action) (live : VariableSet) (leaves skips : ℕ) → AllFit (action_code plan variables f a live (jump_over short leaves) (jump_over short skips))
+    action_fits f (Compute v x) live leaves skips =
+        fit_append _ _ (value_fits (variables f) (plan.home f) (good f) (register_or 5 (plan.home f v)) x (register_fits (variables f) 5 (plan.home f v) (good f v) (omega arith))) (keep_fits (plan.home f v))
+    action_fits f (Issue kind x) live leaves skips =
+        fit_append _ _ (fetch_fits (variables f) (plan.home f) 5 x (omega arith)) (issue_fits kind 30 (source (plan.home f) 5 x) (omega arith) (source_fits (variables f) (plan.home f) (good f) 5 x (omega arith)), tt)
+    action_fits f (Own v kind x) live leaves skips =
+        fit_append _ _ (fetch_fits (variables f) (plan.home f) 5 x (omega arith)) (issue_fits kind 31 (source (plan.home f) 5 x) (omega arith) (source_fits (variables f) (plan.home f) (good f) 5 x (omega arith)), take_fits (variables f) (plan.home f) (good f) 31 v (omega arith))
+    action_fits f (Receive v) live leaves skips = take_fits (variables f) (plan.home f) (good f) 30 v (omega arith)
+    action_fits f (Address width x) live leaves skips =
+        fit_append _ _ (fetch_fits (variables f) (plan.home f) 5 x (omega arith)) (address_fits width (source (plan.home f) 5 x) (source_fits (variables f) (plan.home f) (good f) 5 x (omega arith)), tt)
+    action_fits f (Datum x) live leaves skips = move_fits (variables f) (plan.home f) (good f) 30 x (omega arith)
+    action_fits f (Offer v) live leaves skips = move_fits (variables f) (plan.home f) (good f) 28 (Variable v) (omega arith)
+    action_fits f (Accept v) live leaves skips = take_fits (variables f) (plan.home f) (good f) 28 v (omega arith)
+    action_fits f (Emit spelling x) live leaves skips = system_fits (variables f) (plan.home f) (good f) (call_number spelling) x (number_small spelling)
+    action_fits f (Probe check) live leaves skips = check_fits plan (variables f) f check (good f)
+    action_fits f (Tell x) live leaves skips = move_fits (variables f) (plan.home f) (good f) 29 x (omega arith)
+    action_fits f Hear live leaves skips = hear_fits plan.by_a
+    action_fits f (Stop x) live leaves skips = stop_fits (variables f) (plan.home f) (good f) plan.by_a x
+    action_fits f Break live leaves skips = over_fits short leaves
+    action_fits f Continue live leaves skips = over_fits short skips
+    action_fits f (Call v g xs) live leaves skips = call_fits f v g xs _
+    action_fits f (Return x) live leaves skips = leave_fits (variables f) (plan.home f) (good f) x
 
-  pub code_fits : (f : ℕ) (code : Actions) (x : Ways) (leaves skips : ℕ) → AllFit (code_of plan variables f code x leaves skips)
-  code_fits f Done x leaves skips = tt
-  code_fits f (Do m a k) x leaves skips = fit_append _ _ (action_fits f a (live k x) _ _) (code_fits f k x leaves skips)
-  code_fits f (If m b p q k) x leaves skips =
-      let rest = code_of plan variables f k x leaves skips in
-      let second = code_of plan variables f q (behind (live k x) x) (length rest + leaves) (length rest + skips) in
-      let first = code_of plan variables f p (behind (live k x) x) (2 + length second + length rest + leaves) (2 + length second + length rest + skips) in
-      fit_append (branch_code (plan.home f) b) (jump_over (length first + 2) ++ (first ++ (jump_over (length second) ++ (second ++ rest)))) (branch_fits (variables f) (plan.home f) (good f) b)
-      (fit_append (jump_over (length first + 2)) (first ++ (jump_over (length second) ++ (second ++ rest))) (jump_fits (4 * (length first + 2 + 2)))
-      (fit_append first (jump_over (length second) ++ (second ++ rest)) (code_fits f p (behind (live k x) x) (2 + length second + length rest + leaves) (2 + length second + length rest + skips))
-      (fit_append (jump_over (length second)) (second ++ rest) (jump_fits (4 * (length second + 2)))
-      (fit_append second rest (code_fits f q (behind (live k x) x) (length rest + leaves) (length rest + skips)) (code_fits f k x leaves skips)))))
-  code_fits f (Loop m body step k) x leaves skips =
-      let rest = code_of plan variables f k x leaves skips in
-      let again = code_of plan variables f step (step_ways body step (live k x)) 2 0 in
-      let turned = code_of plan variables f body (body_ways body step (live k x)) (length again + 2) 0 in
-      fit_append turned (again ++ (jump_back (length turned + length again) ++ rest)) (code_fits f body (body_ways body step (live k x)) (length again + 2) 0)
-      (fit_append again (jump_back (length turned + length again) ++ rest) (code_fits f step (step_ways body step (live k x)) 2 0)
-      (fit_append (jump_back (length turned + length again)) rest (jump_fits ((2 ^ 32 - 4 * (length turned + length again) % 2 ^ 32) % 2 ^ 32)) (code_fits f k x leaves skips)))
+    past_fits : (none : Bool) (n : ℕ) → AllFit (past_code short none n)
+    past_fits true n = tt
+    past_fits false n = over_fits short n
+
+    pub code_fits : (f : ℕ) (code : Actions) (x : Ways) (leaves skips : ℕ) → AllFit (code_of short plan variables f code x leaves skips)
+    code_fits f Done x leaves skips = tt
+    code_fits f (Do m a k) x leaves skips = fit_append _ _ (action_fits f a (live k x) _ _) (code_fits f k x leaves skips)
+    code_fits f (If m b p q k) x leaves skips =
+        let none = does_nothing p in
+        let rest = code_of short plan variables f k x leaves skips in
+        let second = code_of short plan variables f q (behind (live k x) x) (length rest + leaves) (length rest + skips) in
+        let past = past_code short (none || does_nothing q) (length second) in
+        let far = length past + length second + length rest in
+        let first = code_of short plan variables f p (behind (live k x) x) (far + leaves) (far + skips) in
+        let n = if none then length second else length first + length past in
+        fit_append (branch_code (plan.home f) short b none n) (first ++ (past ++ (second ++ rest))) (branch_fits (variables f) (plan.home f) (good f) short b none n)
+        (fit_append first (past ++ (second ++ rest)) (code_fits f p (behind (live k x) x) (far + leaves) (far + skips))
+        (fit_append past (second ++ rest) (past_fits (none || does_nothing q) (length second))
+        (fit_append second rest (code_fits f q (behind (live k x) x) (length rest + leaves) (length rest + skips)) (code_fits f k x leaves skips))))
+    code_fits f (Loop m body step k) x leaves skips =
+        let rest = code_of short plan variables f k x leaves skips in
+        let again = code_of short plan variables f step (step_ways body step (live k x)) (jump_words short) 0 in
+        let turned = code_of short plan variables f body (body_ways body step (live k x)) (length again + jump_words short) 0 in
+        let back = jump_back short (length turned + length again) in
+        fit_append turned (again ++ (back ++ rest)) (code_fits f body (body_ways body step (live k x)) (length again + jump_words short) 0)
+        (fit_append again (back ++ rest) (code_fits f step (step_ways body step (live k x)) (jump_words short) 0)
+        (fit_append back rest (back_fits short (length turned + length again)) (code_fits f k x leaves skips)))
 
   pub entry_fits : (f : ℕ) (live : VariableSet) → AllFit (entry_code plan variables f live)
   entry_fits f live = (sw_small 2 1 0 (omega arith) (omega arith) (omega arith), restore_fits _ (live_registers plan (variables f) f live))
@@ -151,7 +162,7 @@ module _ (plan : Plan) (variables : ℕ → ℕ) (good : (f v : ℕ) → IsHome 
   pub function_fits : (f : ℕ) (code : Actions) → AllFit (function_code plan variables f code)
   function_fits f code =
       fit_append (entry_code plan variables f (live code nowhere)) _ (entry_fits f (live code nowhere))
-      (fit_append (code_of plan variables f code nowhere 0 0) (leave_code (plan.home f) (Some (Number 0))) (code_fits f code nowhere 0 0) (leave_fits (variables f) (plan.home f) (good f) (Some (Number 0))))
+      (fit_append (code_of (is_short code) plan variables f code nowhere 0 0) (leave_code (plan.home f) (Some (Number 0))) (code_fits (is_short code) f code nowhere 0 0) (leave_fits (variables f) (plan.home f) (good f) (Some (Number 0))))
 
 pub finish_fits : (by_a : Bool) → AllFit (finish_code by_a)
 finish_fits true = (ecall_fits, tt)
@@ -159,6 +170,8 @@ finish_fits false = (addi_small 10 6 0 (omega arith) (omega arith) (omega arith)
 
 pub start_fits : (plan : Plan) (main frames : ℕ) → AllFit (start_code plan main frames)
 start_fits plan main frames =
-    fit_append (number_code 3 frames ++ (if plan.by_a then Addi 10 0 (pos 1) ∷ [] else [])) (enter_code (plan.entry main))
-    (fit_append (number_code 3 frames) (if plan.by_a then Addi 10 0 (pos 1) ∷ [] else []) (number_fits 3 frames (omega arith)) (fit_either plan.by_a (Addi 10 0 (pos 1) ∷ []) [] (λ e. (addi_small 10 0 1 (omega arith) (omega arith) (omega arith), tt)) (λ e. tt)))
+    let addresses : List Inst = number_code 4 (plan.memory - 16) ++ Addi 10 0 (pos 1) ∷ [] in
+    let fit : AllFit addresses = fit_append (number_code 4 (plan.memory - 16)) (Addi 10 0 (pos 1) ∷ []) (number_fits 4 (plan.memory - 16) (omega arith)) (addi_small 10 0 1 (omega arith) (omega arith) (omega arith), tt) in
+    fit_append (number_code 3 frames ++ (if plan.by_a then addresses else [])) (enter_code (plan.entry main))
+    (fit_append (number_code 3 frames) (if plan.by_a then addresses else []) (number_fits 3 frames (omega arith)) (fit_either plan.by_a addresses [] (λ e. fit) (λ e. tt)))
     (enter_fits (plan.entry main))

@@ -1,18 +1,20 @@
 -- The blocks of values, accesses and branches have instructions whose fields their words can hold.
-use Rattle.std.proofs.Common.{◌≡◌, ℕ, ◌+◌, ◌-◌, ◌%◌, ◌^◌, ◌<◌, Bool, true, false, List, ◌∷◌, ◌++◌, Option, Some, None, refl, arith, pos, negsuc}
-use Rattle.std.specs.Prelude.{nat_lt}
+use Rattle.std.proofs.Common.{◌≡◌, ℕ, ◌+◌, ◌-◌, ◌%◌, ◌^◌, ◌<◌, Bool, true, false, List, [], ◌∷◌, ◌++◌, Option, Some, None, refl, subst, arith, pos, negsuc, ◌*◌}
+use Rattle.std.specs.Prelude.{nat_lt, nat_eq, if◌then◌else◌}
+use Rattle.std.proofs.lemmas.Option.{same_Some}
 use Rattle.dae_ir.specs.declared.form.Check.{Check}
 use Rattle.dae_ir.specs.declared.form.Check.TheVariants.{Place, Zero, Room, Frame, Abort}
 use Rattle.dae_walks.specs.Agrees.{Plan}
 use Rattle.std.proofs.lemmas.Int.{ints}
-use Rattle.dae_base.specs.Words.{size}
+use Rattle.dae_base.specs.Words.{minus, size}
+use Rattle.std.proofs.lemmas.Bool.Decides.{nat_tests}
 use Rattle.dae_base.specs.declared.Width.{Width}
 use Rattle.dae_base.specs.declared.Width.TheVariants.{B1, B2, B4}
 use Rattle.dae_base.specs.declared.LoadKind.{LoadKind}
 use Rattle.dae_base.specs.declared.LoadKind.TheVariants.{I8, U8, I16, U16, I32}
 use Rattle.dae_encode.specs.Spelling.{InRange, layout}
 use Rattle.dae_encode.specs.declared.Inst.{Inst}
-use Rattle.dae_encode.specs.declared.Inst.TheVariants.{Jalr, Beq, Bne, Bltu, Bgeu, Addi, Andi, Ecall}
+use Rattle.dae_encode.specs.declared.Inst.TheVariants.{Jalr, Beq, Bne, Bltu, Bgeu, Addi, Sltiu, Xori, Ori, Andi, Slli, Srli, Srai, Add, Sltu, Ecall}
 use Rattle.dae_ir.specs.declared.form.Operand.{Operand}
 use Rattle.dae_ir.specs.declared.form.Operand.TheVariants.{Variable, Number}
 use Rattle.dae_meaning.specs.declared.Operator.{Operator}
@@ -26,9 +28,10 @@ use Rattle.dae_ir.specs.declared.stream.Branch.{Branch}
 use Rattle.dae_ir.specs.declared.stream.Branch.TheVariants.{Silent, Tells, Hears}
 use Rattle.dae_walks.specs.declared.Home.{Home}
 use Rattle.dae_walks.specs.Homes.{IsHome}
-use Rattle.dae_blocks.specs.Blocks.{number_code, register_or, source, fetch, operation_code, extend_code, compare_code, test_code, value_code, issue_code, address_code, take_code, push_code, fail_code, over, align_code, room_code, check_code, system_code, hear_code, stop_code, leave_code, result_code}
+use Rattle.dae_blocks.specs.Blocks.{lower, is_immediate, number_code, register_or, source, fetch, move_code, operation_code, exponent, power_code, immediate_code, commutes, exchanged_code, behind_or, combine_registers, binary_code, extend_code, compare_code, takes_number, compare_number_code, compare_registers, compare_operands, test_code, frame_code, value_code, issue_code, address_code, take_code, fail_code, over, align_code, room_code, check_code, system_code, hear_code, stop_code, leave_code, result_code, branch_inst, opposite, one_way, goes_by, goes_code}
 use Rattle.dae_blocks.specs.Code.{branch_code}
-use Rattle.dae_blocks.proofs.Ranges.{AllFit, fit_append, fit_either, addi_small, lw_small, add_fits, number_fits, register_fits, fetch_fits, keep_fits}
+use Rattle.dae_blocks.proofs.Ranges.{AllFit, fit_append, fit_either, lower_fits, addi_fits, addi_small, lw_small, add_fits, number_fits, register_fits, fetch_fits, move_fits, keep_fits, over_fits}
+use Rattle.dae_blocks.proofs.Values.{power_of_two, is_some_where}
 
 three_fit : (o : Operator) (t x y : ℕ) → t < 32 → x < 32 → y < 32 → InRange (operation_code o t x y)
 unfolding InRange layout
@@ -45,6 +48,37 @@ three_fit Differ t x y a b c = (a, b, c)
 three_fit ShiftLeft t x y a b c = (a, b, c)
 three_fit ShiftRightSigned t x y a b c = (a, b, c)
 three_fit ShiftRightUnsigned t x y a b c = (a, b, c)
+
+slli_fits : (t x k : ℕ) → t < 32 → x < 32 → k < 32 → InRange (Slli t x (pos k))
+unfolding InRange layout
+slli_fits t x k a b l = (a, b, (omega (arith, ints), omega (arith, ints)))
+
+power_fits : (o : Option ℕ) (t x : ℕ) (i : Inst) → ((k : ℕ) → o ≡ Some k → k < 32) → t < 32 → x < 32 → power_code o t x ≡ Some i → InRange i
+power_fits None t x i low a b e = absurd (let none : None ≡ Some i = e in cc)
+power_fits (Some k) t x i low a b e = subst InRange (same_Some (Slli t x (pos k)) i e) (slli_fits t x k a b (low k refl))
+
+immediate_fits : (o : Operator) (t x n : ℕ) (i : Inst) → t < 32 → x < 32 → immediate_code o t x n ≡ Some i → InRange i
+unfolding InRange layout
+immediate_fits Plus t x n i a b e = subst InRange (is_some_where (is_immediate n) (Addi t x (lower n)) i e).1 (a, b, lower_fits n)
+immediate_fits Subtract t x n i a b e = subst InRange (is_some_where (is_immediate (minus 0 n)) (Addi t x (lower (minus 0 n))) i e).1 (a, b, lower_fits (minus 0 n))
+immediate_fits Multiply t x n i a b e = power_fits (exponent n) t x i (λ k is. (power_of_two n k is).0) a b e
+immediate_fits DivideSigned t x n i a b e = absurd (let none : None ≡ Some i = e in cc)
+immediate_fits DivideUnsigned t x n i a b e = absurd (let none : None ≡ Some i = e in cc)
+immediate_fits RemainderSigned t x n i a b e = absurd (let none : None ≡ Some i = e in cc)
+immediate_fits RemainderUnsigned t x n i a b e = absurd (let none : None ≡ Some i = e in cc)
+immediate_fits Both t x n i a b e = subst InRange (is_some_where (is_immediate n) (Andi t x (lower n)) i e).1 (a, b, lower_fits n)
+immediate_fits Either t x n i a b e = subst InRange (is_some_where (is_immediate n) (Ori t x (lower n)) i e).1 (a, b, lower_fits n)
+immediate_fits Differ t x n i a b e = subst InRange (is_some_where (is_immediate n) (Xori t x (lower n)) i e).1 (a, b, lower_fits n)
+immediate_fits ShiftLeft t x n i a b e = subst InRange (same_Some (Slli t x (pos (n % 32))) i e) (a, b, (omega (arith, ints), omega (arith, ints)))
+immediate_fits ShiftRightSigned t x n i a b e = subst InRange (same_Some (Srai t x (pos (n % 32))) i e) (a, b, (omega (arith, ints), omega (arith, ints)))
+immediate_fits ShiftRightUnsigned t x n i a b e = subst InRange (same_Some (Srli t x (pos (n % 32))) i e) (a, b, (omega (arith, ints), omega (arith, ints)))
+
+exchanged_fits : (o : Operator) (t x n : ℕ) (i : Inst) → t < 32 → x < 32 → exchanged_code o t x n ≡ Some i → InRange i
+exchanged_fits o t x n i a b e = by (commutes o) e
+  where
+    by : (b : Bool) → (if b then immediate_code o t x n else None) ≡ Some i → InRange i
+    by true f = immediate_fits o t x n i a b f
+    by false f = absurd (let none : None ≡ Some i = f in cc)
 
 extends_fit : (kind : LoadKind) (t x : ℕ) → t < 32 → x < 32 → AllFit (extend_code kind t x)
 unfolding InRange layout
@@ -63,33 +97,58 @@ compares_fit AtLeastSigned t x y a b c = ((a, b, c), ((a, a, (omega (arith, ints
 compares_fit LessUnsigned t x y a b c = ((a, b, c), tt)
 compares_fit AtLeastUnsigned t x y a b c = ((a, b, c), ((a, a, (omega (arith, ints), omega (arith, ints))), tt))
 
+compares_number_fit : (r : Comparison) (t x n : ℕ) → t < 32 → x < 32 → AllFit (compare_number_code r t x n)
+unfolding InRange layout
+compares_number_fit Equal t x n a b =
+    fit_either (nat_eq n 0) (Sltiu t x (pos 1) ∷ []) (Addi t x (lower (minus 0 n)) ∷ (Sltiu t t (pos 1) ∷ [])) (λ e. ((a, b, (omega (arith, ints), omega (arith, ints))), tt)) (λ e. ((a, b, lower_fits (minus 0 n)), ((a, a, (omega (arith, ints), omega (arith, ints))), tt)))
+compares_number_fit NotEqual t x n a b =
+    fit_either (nat_eq n 0) (Sltu t 0 x ∷ []) (Addi t x (lower (minus 0 n)) ∷ (Sltu t 0 t ∷ [])) (λ e. ((a, (omega arith), b), tt)) (λ e. ((a, b, lower_fits (minus 0 n)), ((a, (omega arith), a), tt)))
+compares_number_fit LessSigned t x n a b = ((a, b, lower_fits n), tt)
+compares_number_fit AtLeastSigned t x n a b = ((a, b, lower_fits n), ((a, a, (omega (arith, ints), omega (arith, ints))), tt))
+compares_number_fit LessUnsigned t x n a b = ((a, b, lower_fits n), tt)
+compares_number_fit AtLeastUnsigned t x n a b = ((a, b, lower_fits n), ((a, a, (omega (arith, ints), omega (arith, ints))), tt))
+
 pub ecall_fits : InRange Ecall
 unfolding InRange layout
 ecall_fits = (omega arith, omega arith, (omega (arith, ints), omega (arith, ints)))
 
-pub bne_fits : (x y n : ℕ) → x < 32 → y < 32 → n < 2 ^ 11 → n % 2 ≡ 0 → InRange (Bne x y (pos n))
+pub branch_inst_fits : (relation : Comparison) (x y n : ℕ) → x < 32 → y < 32 → n < 2 ^ 12 → n % 2 ≡ 0 → InRange (branch_inst relation x y (pos n))
 unfolding InRange layout
-bne_fits x y n a b l e = (a, b, ((omega (arith, ints), omega (arith, ints)), e))
+branch_inst_fits Equal x y n a b l e = (a, b, ((omega (arith, ints), omega (arith, ints)), e))
+branch_inst_fits NotEqual x y n a b l e = (a, b, ((omega (arith, ints), omega (arith, ints)), e))
+branch_inst_fits LessSigned x y n a b l e = (a, b, ((omega (arith, ints), omega (arith, ints)), e))
+branch_inst_fits AtLeastSigned x y n a b l e = (a, b, ((omega (arith, ints), omega (arith, ints)), e))
+branch_inst_fits LessUnsigned x y n a b l e = (a, b, ((omega (arith, ints), omega (arith, ints)), e))
+branch_inst_fits AtLeastUnsigned x y n a b l e = (a, b, ((omega (arith, ints), omega (arith, ints)), e))
+
+pub bne_fits : (x y n : ℕ) → x < 32 → y < 32 → n < 2 ^ 11 → n % 2 ≡ 0 → InRange (Bne x y (pos n))
+bne_fits x y n a b l e = branch_inst_fits NotEqual x y n a b (omega arith) e
 
 pub beq_fits : (x y n : ℕ) → x < 32 → y < 32 → n < 2 ^ 11 → n % 2 ≡ 0 → InRange (Beq x y (pos n))
-unfolding InRange layout
-beq_fits x y n a b l e = (a, b, ((omega (arith, ints), omega (arith, ints)), e))
+beq_fits x y n a b l e = branch_inst_fits Equal x y n a b (omega arith) e
 
 pub bltu_fits : (x y n : ℕ) → x < 32 → y < 32 → n < 2 ^ 11 → n % 2 ≡ 0 → InRange (Bltu x y (pos n))
-unfolding InRange layout
-bltu_fits x y n a b l e = (a, b, ((omega (arith, ints), omega (arith, ints)), e))
+bltu_fits x y n a b l e = branch_inst_fits LessUnsigned x y n a b (omega arith) e
 
 pub bgeu_fits : (x y n : ℕ) → x < 32 → y < 32 → n < 2 ^ 11 → n % 2 ≡ 0 → InRange (Bgeu x y (pos n))
-unfolding InRange layout
-bgeu_fits x y n a b l e = (a, b, ((omega (arith, ints), omega (arith, ints)), e))
+bgeu_fits x y n a b l e = branch_inst_fits AtLeastUnsigned x y n a b (omega arith) e
+
+-- on to what stands so many words ahead
+by_fits : (t short : Bool) (relation : Comparison) (x y n : ℕ) → (t ≡ true → n < 1000) → x < 32 → y < 32 → AllFit (goes_by t short relation x y n)
+by_fits true short relation x y n near a b = (let l = near refl in branch_inst_fits relation x y (4 * (n + 1)) a b (omega arith) (omega arith), tt)
+by_fits false true relation x y n near a b = (branch_inst_fits (opposite relation) x y 8 a b (omega arith) refl, over_fits true n)
+by_fits false false relation x y n near a b = (branch_inst_fits (opposite relation) x y 12 a b (omega arith) refl, over_fits false n)
+
+goes_fits : (short : Bool) (relation : Comparison) (x y n : ℕ) → x < 32 → y < 32 → AllFit (goes_code short relation x y n)
+goes_fits short relation x y n a b = by_fits (nat_lt n 1000) short relation x y n (λ e. grind (arith, nat_tests)) a b
 
 andi_fits : (t x n : ℕ) → t < 32 → x < 32 → n < 2 ^ 11 → InRange (Andi t x (pos n))
 unfolding InRange layout
 andi_fits t x n a b l = (a, b, (omega (arith, ints), omega (arith, ints)))
 
-addi_minus : (t x : ℕ) → t < 32 → x < 32 → InRange (Addi t x (negsuc 15))
+addi_minus : (t x n : ℕ) → t < 32 → x < 32 → n < 2 ^ 11 → InRange (Addi t x (negsuc n))
 unfolding InRange layout
-addi_minus t x a b = (a, b, (omega (arith, ints), omega (arith, ints)))
+addi_minus t x n a b l = (a, b, (omega (arith, ints), omega (arith, ints)))
 
 jalr_zero : (b : ℕ) → b < 32 → InRange (Jalr 0 b (pos 0))
 unfolding InRange layout
@@ -112,34 +171,62 @@ address_fits B4 b k = (k, (omega arith), (omega (arith, ints), omega (arith, int
 module _ (n : ℕ) (home : ℕ → Home) (good : (v : ℕ) → IsHome n (home v)) where
   pub source_fits : (r : ℕ) (x : Operand) → r < 32 → source home r x < 32
   source_fits r (Variable v) h = register_fits n r (home v) (good v) h
-  source_fits r (Number k) h = h
+  source_fits r (Number k) h = by (nat_eq k 0)
+    where
+      by : (b : Bool) → (if b then 0 else r) < 32
+      by true = omega arith
+      by false = h
 
   fetched_fit : (r : ℕ) (x : Operand) (is : List Inst) → r < 32 → AllFit is → AllFit (fetch home r x ++ is)
   fetched_fit r x is h k = fit_append (fetch home r x) is (fetch_fits n home r x h) k
 
+  registers_fit : (t : ℕ) (o : Operator) (x y : Operand) → t < 32 → AllFit (combine_registers home t o x y)
+  registers_fit t o x y h = fetched_fit 5 x _ (omega arith) (fetched_fit 6 y _ (omega arith) (three_fit o t (source home 5 x) (source home 6 y) h (source_fits 5 x (omega arith)) (source_fits 6 y (omega arith)), tt))
+
+  binary_fits : (t : ℕ) (o : Operator) (x y : Operand) → t < 32 → AllFit (binary_code home t o x y)
+  binary_fits t o x (Number k) h = by (immediate_code o t (source home 5 x) k) refl
+    where
+      by : (i : Option Inst) → immediate_code o t (source home 5 x) k ≡ i → AllFit (behind_or (fetch home 5 x) i (combine_registers home t o x (Number k)))
+      by (Some i) e = fetched_fit 5 x (i ∷ []) (omega arith) (immediate_fits o t (source home 5 x) k i h (source_fits 5 x (omega arith)) e, tt)
+      by None e = registers_fit t o x (Number k) h
+  binary_fits t o (Number k) (Variable v) h = by (exchanged_code o t (source home 5 (Variable v)) k) refl
+    where
+      by : (i : Option Inst) → exchanged_code o t (source home 5 (Variable v)) k ≡ i → AllFit (behind_or (fetch home 5 (Variable v)) i (combine_registers home t o (Number k) (Variable v)))
+      by (Some i) e = fetched_fit 5 (Variable v) (i ∷ []) (omega arith) (exchanged_fits o t (source home 5 (Variable v)) k i h (source_fits 5 (Variable v) (omega arith)) e, tt)
+      by None e = registers_fit t o (Number k) (Variable v) h
+  binary_fits t o (Variable u) (Variable v) h = registers_fit t o (Variable u) (Variable v) h
+
+  compares_registers_fit : (t : ℕ) (r : Comparison) (x y : Operand) → t < 32 → AllFit (compare_registers home t r x y)
+  compares_registers_fit t r x y h = fetched_fit 5 x _ (omega arith) (fetched_fit 6 y _ (omega arith) (compares_fit r t (source home 5 x) (source home 6 y) h (source_fits 5 x (omega arith)) (source_fits 6 y (omega arith))))
+
+  compares_operands_fit : (t : ℕ) (r : Comparison) (x y : Operand) → t < 32 → AllFit (compare_operands home t r x y)
+  compares_operands_fit t r x (Variable v) h = compares_registers_fit t r x (Variable v) h
+  compares_operands_fit t r x (Number k) h =
+      fit_either (takes_number r k) (fetch home 5 x ++ compare_number_code r t (source home 5 x) k) (compare_registers home t r x (Number k))
+      (λ e. fetched_fit 5 x _ (omega arith) (compares_number_fit r t (source home 5 x) k h (source_fits 5 x (omega arith)))) (λ e. compares_registers_fit t r x (Number k) h)
+
   pub test_fits : (t : ℕ) (test : Test) → t < 32 → AllFit (test_code home t test)
-  test_fits t test h = fetched_fit 5 test.left _ (omega arith) (fetched_fit 6 test.right _ (omega arith) (compares_fit test.comparison t (source home 5 test.left) (source home 6 test.right) h (source_fits 5 test.left (omega arith)) (source_fits 6 test.right (omega arith))))
+  test_fits t test h = compares_operands_fit t test.comparison test.left test.right h
 
   pub value_fits : (t : ℕ) (x : Value) → t < 32 → AllFit (value_code home t x)
-  value_fits t (Same x) h = fetched_fit 5 x _ (omega arith) (addi_small t (source home 5 x) 0 h (source_fits 5 x (omega arith)) (omega arith), tt)
+  value_fits t (Same x) h = move_fits n home good t x h
   value_fits t (Extended kind x) h = fetched_fit 5 x _ (omega arith) (extends_fit kind t (source home 5 x) h (source_fits 5 x (omega arith)))
-  value_fits t (Binary o x y) h = fetched_fit 5 x _ (omega arith) (fetched_fit 6 y _ (omega arith) (three_fit o t (source home 5 x) (source home 6 y) h (source_fits 5 x (omega arith)) (source_fits 6 y (omega arith)), tt))
+  value_fits t (Binary o x y) h = binary_fits t o x y h
   value_fits t (Holds test) h = test_fits t test h
-  value_fits t (FrameAddress offset) h = fit_append _ _ (number_fits 5 offset (omega arith)) (add_fits t 3 5 h (omega arith) (omega arith), tt)
+  value_fits t (FrameAddress offset) h =
+      fit_either (is_immediate offset) (Addi t 3 (lower offset) ∷ []) (number_code 5 offset ++ Add t 3 5 ∷ [])
+      (λ e. (addi_fits t 3 offset h (omega arith), tt)) (λ e. fit_append _ _ (number_fits 5 offset (omega arith)) (add_fits t 3 5 h (omega arith) (omega arith), tt))
 
   pub take_fits : (q v : ℕ) → q < 32 → AllFit (take_code q (home v))
   take_fits q v h = (addi_small (register_or 5 (home v)) q 0 (register_fits n 5 (home v) (good v) (omega arith)) h (omega arith), keep_fits (home v))
 
-  pub push_fits : (q : ℕ) (x : Operand) → q < 32 → AllFit (push_code home q x)
-  push_fits q x h = fetched_fit 5 x _ (omega arith) (addi_small q (source home 5 x) 0 h (source_fits 5 x (omega arith)) (omega arith), tt)
-
-  pub branch_fits : (b : Branch) → AllFit (branch_code home b)
-  branch_fits (Silent t) = fit_append _ _ (test_fits 5 t (omega arith)) (bne_fits 5 0 12 (omega arith) (omega arith) (omega arith) refl, tt)
-  branch_fits (Tells t) = fit_append _ _ (test_fits 5 t (omega arith)) (addi_small 29 5 0 (omega arith) (omega arith) (omega arith), (bne_fits 5 0 12 (omega arith) (omega arith) (omega arith) refl, tt))
-  branch_fits Hears = (bne_fits 29 0 12 (omega arith) (omega arith) (omega arith) refl, tt)
+  pub branch_fits : (short : Bool) (b : Branch) (way : Bool) (n : ℕ) → AllFit (branch_code home short b way n)
+  branch_fits short (Silent t) way n = fetched_fit 5 t.left _ (omega arith) (fetched_fit 6 t.right _ (omega arith) (goes_fits short (one_way way t.comparison) (source home 5 t.left) (source home 6 t.right) n (source_fits 5 t.left (omega arith)) (source_fits 6 t.right (omega arith))))
+  branch_fits short (Tells t) way n = fit_append _ _ (test_fits 5 t (omega arith)) (addi_small 29 5 0 (omega arith) (omega arith) (omega arith), goes_fits short (one_way way NotEqual) 5 0 n (omega arith) (omega arith))
+  branch_fits short Hears way n = goes_fits short (one_way way NotEqual) 29 0 n (omega arith) (omega arith)
 
   pub system_fits : (k : ℕ) (x : Operand) → k < 2 ^ 11 → AllFit (system_code home k x)
-  system_fits k x h = fetched_fit 5 x _ (omega arith) (addi_small 10 (source home 5 x) 0 (omega arith) (source_fits 5 x (omega arith)) (omega arith), (addi_small 17 0 k (omega arith) (omega arith) h, (ecall_fits, tt)))
+  system_fits k x h = fit_append _ _ (move_fits n home good 10 x (omega arith)) (addi_small 17 0 k (omega arith) (omega arith) h, (ecall_fits, tt))
 
   pub stop_fits : (b : Bool) (x : Option Operand) → AllFit (stop_code b home x)
   stop_fits true x = (ecall_fits, tt)
@@ -148,7 +235,7 @@ module _ (n : ℕ) (home : ℕ → Home) (good : (v : ℕ) → IsHome n (home v)
 
   pub leave_fits : (y : Option Operand) → AllFit (leave_code home y)
   leave_fits None = (lw_small 1 2 0 (omega arith) (omega arith) (omega arith), (jalr_zero 1 (omega arith), tt))
-  leave_fits (Some x) = fetched_fit 5 x _ (omega arith) (addi_small 6 (source home 5 x) 0 (omega arith) (source_fits 5 x (omega arith)) (omega arith), (lw_small 1 2 0 (omega arith) (omega arith) (omega arith), (jalr_zero 1 (omega arith), tt)))
+  leave_fits (Some x) = fit_append _ _ (move_fits n home good 6 x (omega arith)) (lw_small 1 2 0 (omega arith) (omega arith) (omega arith), (jalr_zero 1 (omega arith), tt))
 
   pub result_fits : (v : Option ℕ) → AllFit (result_code home v)
   result_fits None = tt
@@ -170,19 +257,19 @@ align_fits B4 x h = (andi_fits 6 x 3 (omega arith) h (omega arith), (beq_fits 6 
 room_fits : (k : ℕ) → AllFit (room_code k)
 room_fits k = fit_append _ _ (number_fits 6 k (omega arith)) (bgeu_fits 6 3 12 (omega arith) (omega arith) (omega arith) refl, fail_fits true 4 (omega arith))
 
-over_fits : (b : Bool) (x : ℕ) → x < 32 → InRange (Bne x 0 (over b))
-over_fits true x h = bne_fits x 0 12 h (omega arith) (omega arith) refl
-over_fits false x h = bne_fits x 0 20 h (omega arith) (omega arith) refl
+leads_fit : (b : Bool) (x : ℕ) → x < 32 → InRange (Bne x 0 (over b))
+leads_fit true x h = bne_fits x 0 12 h (omega arith) (omega arith) refl
+leads_fit false x h = bne_fits x 0 20 h (omega arith) (omega arith) refl
 
 pub check_fits : (plan : Plan) (n f : ℕ) (check : Check) → ((v : ℕ) → IsHome n (plan.home f v)) → AllFit (check_code plan f check)
 check_fits plan n f (Place width x) good =
     let r : ℕ = source (plan.home f) 5 x in
     let low = source_fits n (plan.home f) good 5 x (omega arith) in
-    let last : List Inst = number_code 7 (plan.memory - size width - 15) ++ Bltu 6 7 (pos 12) ∷ fail_code true 2 in
-    let ends : AllFit last = fit_append (number_code 7 (plan.memory - size width - 15)) (Bltu 6 7 (pos 12) ∷ fail_code true 2) (number_fits 7 (plan.memory - size width - 15) (omega arith)) (bltu_fits 6 7 12 (omega arith) (omega arith) (omega arith) refl, fail_fits true 2 (omega arith)) in
-    let rest : AllFit (Addi 6 r (negsuc 15) ∷ last) = (addi_minus 6 r (omega arith) low, ends) in
-    fetched_fit n (plan.home f) good 5 x (align_code width r ++ Addi 6 r (negsuc 15) ∷ last) (omega arith) (fit_append (align_code width r) (Addi 6 r (negsuc 15) ∷ last) (align_fits width r low) rest)
-check_fits plan n f (Zero x) good = fetched_fit n (plan.home f) good 5 x _ (omega arith) (over_fits plan.by_a (source (plan.home f) 5 x) (source_fits n (plan.home f) good 5 x (omega arith)), fail_fits plan.by_a 1 (omega arith))
+    let last : List Inst = Bltu 6 4 (pos 12) ∷ fail_code true 2 in
+    let ends : AllFit last = (bltu_fits 6 4 12 (omega arith) (omega arith) (omega arith) refl, fail_fits true 2 (omega arith)) in
+    let rest : AllFit (Addi 6 r (negsuc (16 - size width)) ∷ last) = (addi_minus 6 r (16 - size width) (omega arith) low (omega arith), ends) in
+    fetched_fit n (plan.home f) good 5 x (align_code width r ++ Addi 6 r (negsuc (16 - size width)) ∷ last) (omega arith) (fit_append (align_code width r) (Addi 6 r (negsuc (16 - size width)) ∷ last) (align_fits width r low) rest)
+check_fits plan n f (Zero x) good = fetched_fit n (plan.home f) good 5 x _ (omega arith) (leads_fit plan.by_a (source (plan.home f) 5 x) (source_fits n (plan.home f) good 5 x (omega arith)), fail_fits plan.by_a 1 (omega arith))
 check_fits plan n f (Room g) good =
     fit_either (nat_lt plan.memory (plan.frame f + plan.frame g)) (fail_code true 4) (room_code (plan.memory - (plan.frame f + plan.frame g)) ++ (number_code 6 plan.limit ++ Bltu 10 6 (pos 12) ∷ fail_code true 4)) (λ e. fail_fits true 4 (omega arith))
     (λ e. fit_append _ _ (room_fits (plan.memory - (plan.frame f + plan.frame g))) (fit_append (number_code 6 plan.limit) (Bltu 10 6 (pos 12) ∷ fail_code true 4) (number_fits 6 plan.limit (omega arith)) (bltu_fits 10 6 12 (omega arith) (omega arith) (omega arith) refl, fail_fits true 4 (omega arith))))

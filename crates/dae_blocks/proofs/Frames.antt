@@ -1,6 +1,6 @@
 -- Numbers, and the words of the private frame.
-use Rattle.std.proofs.Common.{◌≡◌, ◌≢◌, ℕ, ◌+◌, ◌*◌, ◌^◌, ◌<◌, ◌≤◌, Bool, true, false, List, [], ◌∷◌, ◌++◌, refl, ◌∙◌, arith}
-use Rattle.std.specs.Prelude.{nat_lt, if◌then◌else◌, pos}
+use Rattle.std.proofs.Common.{◌≡◌, ◌≢◌, ℕ, ◌+◌, ◌*◌, ◌%◌, ◌^◌, ◌<◌, ◌≤◌, Bool, true, false, List, [], ◌∷◌, ◌++◌, refl, ◌∙◌, arith}
+use Rattle.std.specs.Prelude.{nat_lt, nat_eq, if◌then◌else◌, pos}
 use Rattle.std.proofs.lemmas.Bool.Decides.{nat_tests}
 use Rattle.dae_base.specs.Words.{plus, word}
 use Rattle.dae_encode.specs.declared.Inst.{Inst}
@@ -11,13 +11,10 @@ use Rattle.dae_ir.specs.Deeds.{Deed}
 use Rattle.dae_walks.specs.Walks.{Setting}
 use Rattle.dae_walks.specs.Homes.{Contents}
 use Rattle.dae_walks.proofs.LawsOfWalks.{put, store}
-use Rattle.dae_blocks.specs.Blocks.{upper, lower, number_code, load_code, store_code}
-use Rattle.dae_blocks.proofs.Halves.{halves, halves_to, word_upper}
+use Rattle.dae_blocks.specs.Blocks.{upper, lower, is_immediate, number_code, load_code, store_code}
+use Rattle.dae_blocks.proofs.Halves.{halves, halves_to, word_upper, word_whole, immediate_word}
 use Rattle.dae_blocks.proofs.Plain.{computes, loads_word, stores_word, put_same, put_other, put_twice, put_itself}
 use Rattle.dae_blocks.proofs.Runs.{Runs, runs_quiet}
-
-small_word : (n : ℕ) → n < 2048 → word (pos n) ≡ n
-small_word n h = omega arith
 
 pub plus_small : (x y : ℕ) → plus x y < 2 ^ 32
 plus_small x y = omega arith
@@ -28,14 +25,17 @@ upper_small n = rw (word_upper n) (omega arith)
 module _ (s : Setting) (private : ℕ) (to : ℕ → Env → Processor → Type 0) where
   -- a number goes into a register
   pub runs_number : {c : Contents} {d : Deed} (r n : ℕ) (is : List Inst) → c.register 0 ≡ 0 → 0 < r → r < 28 → n < 2 ^ 32 → Runs s private to is (put r n c) d → Runs s private to (number_code r n ++ is) c d
-  runs_number {c} {d} r n is zero low high fits run = by (nat_lt n 2048) refl
+  runs_number {c} {d} r n is zero low high fits run = by (is_immediate n) refl (nat_eq (n % 2 ^ 12) 0) refl
     where
-      by : (b : Bool) → nat_lt n 2048 ≡ b → Runs s private to ((if b then Addi r 0 (pos n) ∷ [] else Lui r (upper n) ∷ (Addi r r (lower n) ∷ [])) ++ is) c d
-      by true e =
-          let short : n < 2048 = grind (arith, nat_tests) in
-          let same : plus (c.register 0) (word (pos n)) ≡ n = rw zero (omega arith) in
-          runs_quiet s private to (computes s private to (Addi r 0 (pos n)) r 0 0 (λ x y. plus x (word (pos n))) refl high (omega arith) (omega arith) (plus_small (c.register 0) (word (pos n)))) (rw same run)
-      by false e =
+      by : (b : Bool) → is_immediate n ≡ b → (whole : Bool) → nat_eq (n % 2 ^ 12) 0 ≡ whole →
+          Runs s private to ((if b then Addi r 0 (lower n) ∷ [] else (if whole then Lui r (upper n) ∷ [] else Lui r (upper n) ∷ (Addi r r (lower n) ∷ []))) ++ is) c d
+      by true e whole f =
+          let same : plus (c.register 0) (word (lower n)) ≡ n = rw (zero, immediate_word n fits e) (omega arith) in
+          runs_quiet s private to (computes s private to (Addi r 0 (lower n)) r 0 0 (λ x y. plus x (word (lower n))) refl high (omega arith) (omega arith) (plus_small (c.register 0) (word (lower n)))) (rw same run)
+      by false e true f =
+          let same : word (upper n) ≡ n = word_whole n fits (grind (arith, nat_tests)) in
+          runs_quiet s private to (computes s private to (Lui r (upper n)) r 0 0 (λ x y. word (upper n)) refl high (omega arith) (omega arith) (upper_small n)) (rw same run)
+      by false e false f =
           let first = put_same r (word (upper n)) c low high in
           let same : plus ((put r (word (upper n)) c).register r) (word (lower n)) ≡ n = rw first (halves n fits) in
           let both = put_twice r (word (upper n)) n c in

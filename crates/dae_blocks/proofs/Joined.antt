@@ -22,7 +22,7 @@ use Rattle.dae_walks.specs.Live.{in_option, in_arguments, is, before}
 use Rattle.dae_walks.specs.Homes.{Contents}
 use Rattle.dae_walks.specs.Agrees.{Plan, Moment, Stands, AreWaiting, IsWithin}
 use Rattle.dae_walks.specs.Compiled.{Exits, exit, ways_of, At, MainEnds, waiting_of, called, result_of, with_env, with_result}
-use Rattle.dae_walks.proofs.LawsOfWalks.{comes_here, nears_here, comes_map, comes_then, comes_does, does_map}
+use Rattle.dae_walks.proofs.LawsOfWalks.{nears_here, comes_map, comes_then, comes_does, does_map}
 use Rattle.dae_walks.proofs.LawsOfWalks.{put, step_ends, step_stops}
 use Rattle.dae_blocks.specs.Blocks.{arguments_code, save_code, restore_code, deeper_code, enter_code, back_code, result_code, leave_code}
 use Rattle.dae_blocks.specs.Code.{registers_in, entry_code, finish_code, call_code}
@@ -64,11 +64,11 @@ module _ (s : Setting) (plan : Plan) (variables : ℕ → ℕ) (fine : Fits s pl
       runs_halt s plan.private to' (λ k w small here is r shows. step_ends s plan.private by_e w 0 (Status (value x m.env)) shows here is refl (omega arith) (λ q. refl)))))) in
       run.from plan.finish (omega arith) at q g.shows))
 
-  pub returns_done : (f : ℕ) (y : Option Operand) (k : VariableSet) (x : Exits) (leaves' skips here : ℕ) → length (leave_code (plan.home f) y) + 3 ≤ most → Stood s plan variables fine program is_plan entries most widest f (Return y) k (ways_of x) leaves' skips here → Done' s plan variables fine program is_plan entries most widest f (Return y) k x leaves' skips here
-  returns_done f y k x leaves' skips here short t m p h =
+  pub returns_done : (short : Bool) (f : ℕ) (y : Option Operand) (k : VariableSet) (x : Exits) (leaves' skips here : ℕ) → length (leave_code (plan.home f) y) + 3 ≤ most → Stood s plan variables fine program is_plan entries most widest short f (Return y) k (ways_of x) leaves' skips here → Done' s plan variables fine program is_plan entries most widest short f (Return y) k x leaves' skips here
+  returns_done short f y k x leaves' skips here brief' t m p h =
       let stands : CodeAt s.code here (leave_code (plan.home m.function) y) = (let a = t.stands in rw h.0 a) in
       let small : here + length (leave_code (plan.home m.function) y) < 2 ^ 29 = (let a = t.small in rw h.0 a) in
-      let brief : length (leave_code (plan.home m.function) y) + 3 ≤ most = rw h.0 short in
+      let brief : length (leave_code (plan.home m.function) y) + 3 ≤ most = rw h.0 brief' in
       let reads : (u : ℕ) → in_option y u ≡ true → before (Return y) k (ways_of x) u ≡ true = λ u e. rw e refl in
       let low = linked.low in (
         (λ none. (let a = h.1.agrees.waiting in let b : AreWaiting plan h.1.contents h.1.agrees.base m.frame [] = rw none at a in
@@ -100,10 +100,10 @@ module _ (s : Setting) (plan : Plan) (variables : ℕ → ℕ) (fine : Fits s pl
       let l5 = length-append (save_code rs) (deeper_code plan f) in
       omega arith
 
-  pub calls_done : (f g : ℕ) (v : Option ℕ) (xs : List Argument) (k : VariableSet) (x : Exits) (leaves' skips here : ℕ) →
+  pub calls_done : (short : Bool) (f g : ℕ) (v : Option ℕ) (xs : List Argument) (k : VariableSet) (x : Exits) (leaves' skips here : ℕ) →
       length (prepared_code f g xs (without v k)) + 2 + length (entry_code plan variables g (entries g)) ≤ widest + 6 * length xs → length (resumed_code f v (without v k)) ≤ 3 * most →
-      Stood s plan variables fine program is_plan entries most widest f (Call v g xs) k (ways_of x) leaves' skips here → Done' s plan variables fine program is_plan entries most widest f (Call v g xs) k x leaves' skips here
-  calls_done f g v xs k x leaves' skips here wide brief t =
+      Stood s plan variables fine program is_plan entries most widest short f (Call v g xs) k (ways_of x) leaves' skips here → Done' s plan variables fine program is_plan entries most widest short f (Call v g xs) k x leaves' skips here
+  calls_done short f g v xs k x leaves' skips here wide brief t =
       let live : VariableSet = before (Call v g xs) k (ways_of x) in
       let prep : List Inst = prepared_code f g xs (without v k) in
       let rest : List Inst = resumed_code f v (without v k) in

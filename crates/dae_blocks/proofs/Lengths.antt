@@ -1,17 +1,18 @@
 -- How long blocks are.
 use Rattle.std.specs.List.{AllByRecursion}
 use Rattle.std.proofs.Common.{◌≡◌, refl, ℕ, zero, suc, ◌+◌, ◌-◌, ◌*◌, ◌%◌, ◌^◌, ◌≤◌, Bool, true, false, ◌&&◌, List, [], ◌∷◌, ◌++◌, Option, Some, None, length, arith, length-append}
-use Rattle.std.specs.Prelude.{nat_lt, if◌then◌else◌, pos, negsuc}
+use Rattle.std.specs.Prelude.{nat_lt, nat_eq, if◌then◌else◌, pos, negsuc}
 use Rattle.dae_base.specs.declared.Width.{Width}
 use Rattle.dae_base.specs.declared.Width.TheVariants.{B1, B2, B4}
 use Rattle.dae_base.specs.declared.LoadKind.{LoadKind}
 use Rattle.dae_base.specs.declared.LoadKind.TheVariants.{I8, U8, I16, U16, I32}
 use Rattle.dae_encode.specs.declared.Inst.{Inst}
 use Rattle.dae_encode.specs.declared.Inst.TheVariants.{Addi, Add, Sub, Bne, Bltu, Bgeu, Lw, Jalr, Ecall}
-use Rattle.dae_base.specs.Words.{size}
+use Rattle.dae_base.specs.Words.{minus, size}
 use Rattle.dae_ir.specs.Classes.{VariableSet}
 use Rattle.dae_ir.specs.declared.form.Operand.{Operand}
 use Rattle.dae_ir.specs.declared.form.Operand.TheVariants.{Variable, Number}
+use Rattle.dae_meaning.specs.declared.Operator.{Operator}
 use Rattle.dae_meaning.specs.declared.Comparison.{Comparison}
 use Rattle.dae_meaning.specs.declared.Comparison.TheVariants.{Equal, NotEqual, LessSigned, AtLeastSigned, LessUnsigned, AtLeastUnsigned}
 use Rattle.dae_ir.specs.declared.form.Test.{Test}
@@ -28,8 +29,8 @@ use Rattle.dae_walks.specs.declared.Home.{Home}
 use Rattle.dae_walks.specs.declared.Home.TheVariants.{Register, Slot}
 use Rattle.dae_walks.specs.Homes.{slot_at, kept_at}
 use Rattle.dae_walks.specs.Agrees.{Plan}
-use Rattle.dae_blocks.specs.Blocks.{operation_code, issue_code, address_code, call_number, over, is_register, number_code, load_code, store_code, register_or, source, fetch_home, fetch, keep, compare_code, test_code, extend_code, value_code, fail_code, align_code, room_code, check_code, take_code, hear_code, stop_code, arguments_code, save_code, restore_code, deeper_code, back_code, result_code, leave_code, waits_at, enter_code}
-use Rattle.dae_blocks.specs.Code.{some_below, filtered, home_registers, registers_in, action_code, branch_code, entry_code, start_code}
+use Rattle.dae_blocks.specs.Blocks.{operation_code, issue_code, address_code, call_number, over, is_register, number_code, load_code, store_code, register_or, source, fetch_home, fetch, keep, compare_code, test_code, extend_code, value_code, fail_code, align_code, room_code, check_code, take_code, hear_code, stop_code, arguments_code, save_code, restore_code, deeper_code, back_code, result_code, leave_code, waits_at, enter_code, more_code, less_code, is_immediate, move_code, immediate_code, exchanged_code, behind_or, combine_registers, binary_code, takes_number, compare_number_code, compare_registers, compare_operands, frame_code, system_code, one_way, jump_over, jump_back, goes_by, goes_code}
+use Rattle.dae_blocks.specs.Code.{some_below, filtered, home_registers, registers_in, action_code, branch_code, entry_code, start_code, finish_code, past_code}
 use Rattle.dae_blocks.proofs.Simple.{IsSimple}
 
 either_short : (b : Bool) (x y : List Inst) (n : ℕ) → length x ≤ n → length y ≤ n → length (if b then x else y) ≤ n
@@ -37,7 +38,7 @@ either_short true x y n h k = h
 either_short false x y n h k = k
 
 number_short : (r n : ℕ) → length (number_code r n) ≤ 2
-number_short r n = either_short (nat_lt n 2048) _ _ 2 (omega arith) (omega arith)
+number_short r n = either_short (is_immediate n) _ _ 2 (omega arith) (either_short (nat_eq (n % 2 ^ 12) 0) _ _ 2 (omega arith) (omega arith))
 
 load_short : (r i : ℕ) → length (load_code r i) ≤ 3
 load_short r i = either_short (nat_lt i 512) _ _ 3 (omega arith) (omega arith)
@@ -51,7 +52,15 @@ home_short r (Slot i) = load_short r (slot_at i)
 
 fetch_short : (home : ℕ → Home) (r : ℕ) (x : Operand) → length (fetch home r x) ≤ 3
 fetch_short home r (Variable v) = home_short r (home v)
-fetch_short home r (Number n) = let l = number_short r n in omega arith
+fetch_short home r (Number n) = let l = number_short r n in either_short (nat_eq n 0) [] (number_code r n) 3 (omega arith) (omega arith)
+
+move_short : (home : ℕ → Home) (t : ℕ) (x : Operand) → length (move_code home t x) ≤ 4
+move_short home t (Variable v) = let l = home_short 5 (home v) in let both = length-append (fetch_home 5 (home v)) (Addi t (register_or 5 (home v)) (pos 0) ∷ []) in omega arith
+move_short home t (Number n) = either_short (is_immediate n) _ _ 4 (omega arith) (omega arith)
+
+-- a list behind an operand that goes into a register
+moved_short : (home : ℕ → Home) (t n : ℕ) (x : Operand) (is : List Inst) → length is ≤ n → length (move_code home t x ++ is) ≤ 4 + n
+moved_short home t n x is h = let l = move_short home t x in let both = length-append (move_code home t x) is in omega arith
 
 keep_short : (h : Home) → length (keep h) ≤ 3
 keep_short (Register g) = omega arith
@@ -76,15 +85,46 @@ extend_short I32 t x = omega arith
 behind_short : (home : ℕ → Home) (r n : ℕ) (x : Operand) (is : List Inst) → length is ≤ n → length (fetch home r x ++ is) ≤ 3 + n
 behind_short home r n x is h = let l = fetch_short home r x in let both = length-append (fetch home r x) is in omega arith
 
+registers_short : (home : ℕ → Home) (t : ℕ) (o : Operator) (x y : Operand) → length (combine_registers home t o x y) ≤ 8
+registers_short home t o x y = let l = behind_short home 5 4 x _ (behind_short home 6 1 y (operation_code o t (source home 5 x) (source home 6 y) ∷ []) (omega arith)) in omega arith
+
+single_short : (home : ℕ → Home) (x : Operand) (i : Option Inst) (other : List Inst) → length other ≤ 8 → length (behind_or (fetch home 5 x) i other) ≤ 8
+single_short home x (Some i) other h = let l = behind_short home 5 1 x (i ∷ []) (omega arith) in omega arith
+single_short home x None other h = h
+
+binary_short : (home : ℕ → Home) (t : ℕ) (o : Operator) (x y : Operand) → length (binary_code home t o x y) ≤ 8
+binary_short home t o x (Number n) = single_short home x (immediate_code o t (source home 5 x) n) (combine_registers home t o x (Number n)) (registers_short home t o x (Number n))
+binary_short home t o (Number n) (Variable v) = single_short home (Variable v) (exchanged_code o t (register_or 5 (home v)) n) (combine_registers home t o (Number n) (Variable v)) (registers_short home t o (Number n) (Variable v))
+binary_short home t o (Variable u) (Variable v) = registers_short home t o (Variable u) (Variable v)
+
+compare_number_short : (r : Comparison) (t x n : ℕ) → length (compare_number_code r t x n) ≤ 2
+compare_number_short Equal t x n = either_short (nat_eq n 0) _ _ 2 (omega arith) (omega arith)
+compare_number_short NotEqual t x n = either_short (nat_eq n 0) _ _ 2 (omega arith) (omega arith)
+compare_number_short LessSigned t x n = omega arith
+compare_number_short AtLeastSigned t x n = omega arith
+compare_number_short LessUnsigned t x n = omega arith
+compare_number_short AtLeastUnsigned t x n = omega arith
+
+compare_registers_short : (home : ℕ → Home) (t : ℕ) (r : Comparison) (x y : Operand) → length (compare_registers home t r x y) ≤ 8
+compare_registers_short home t r x y = behind_short home 5 5 x _ (behind_short home 6 2 y _ (compare_short r t (source home 5 x) (source home 6 y)))
+
+compare_operands_short : (home : ℕ → Home) (t : ℕ) (r : Comparison) (x y : Operand) → length (compare_operands home t r x y) ≤ 8
+compare_operands_short home t r x (Variable v) = compare_registers_short home t r x (Variable v)
+compare_operands_short home t r x (Number n) =
+    let l = behind_short home 5 2 x (compare_number_code r t (source home 5 x) n) (compare_number_short r t (source home 5 x) n) in
+    either_short (takes_number r n) (fetch home 5 x ++ compare_number_code r t (source home 5 x) n) (compare_registers home t r x (Number n)) 8 (omega arith) (compare_registers_short home t r x (Number n))
+
 test_short : (home : ℕ → Home) (t : ℕ) (test : Test) → length (test_code home t test) ≤ 8
-test_short home t test = behind_short home 5 5 test.left _ (behind_short home 6 2 test.right _ (compare_short test.comparison t (source home 5 test.left) (source home 6 test.right)))
+test_short home t test = compare_operands_short home t test.comparison test.left test.right
 
 value_short : (home : ℕ → Home) (t : ℕ) (x : Value) → length (value_code home t x) ≤ 8
-value_short home t (Same x) = let l = behind_short home 5 1 x (Addi t (source home 5 x) (pos 0) ∷ []) (omega arith) in omega arith
+value_short home t (Same x) = let l = move_short home t x in omega arith
 value_short home t (Extended kind x) = let l = behind_short home 5 2 x (extend_code kind t (source home 5 x)) (extend_short kind t (source home 5 x)) in omega arith
-value_short home t (Binary o x y) = let l = behind_short home 5 4 x _ (behind_short home 6 1 y (operation_code o t (source home 5 x) (source home 6 y) ∷ []) (omega arith)) in omega arith
+value_short home t (Binary o x y) = binary_short home t o x y
 value_short home t (Holds test) = test_short home t test
-value_short home t (FrameAddress offset) = let l = number_short 5 offset in let both = length-append (number_code 5 offset) (Add t 3 5 ∷ []) in omega arith
+value_short home t (FrameAddress offset) =
+    let l = number_short 5 offset in let both = length-append (number_code 5 offset) (Add t 3 5 ∷ []) in
+    either_short (is_immediate offset) _ (number_code 5 offset ++ Add t 3 5 ∷ []) 8 (omega arith) (omega arith)
 
 fail_short : (b : Bool) (code : ℕ) → length (fail_code b code) ≤ 4
 fail_short true code = omega arith
@@ -101,12 +141,10 @@ room_short n = let l = number_short 6 n in let both = length-append (number_code
 check_short : (plan : Plan) (f : ℕ) (check : Check) → length (check_code plan f check) ≤ 13
 check_short plan f (Place width x) =
     let r = source (plan.home f) 5 x in
-    let last : List Inst = number_code 7 (plan.memory - size width - 15) ++ Bltu 6 7 (pos 12) ∷ fail_code true 2 in
-    let l1 = number_short 7 (plan.memory - size width - 15) in
-    let b1 = length-append (number_code 7 (plan.memory - size width - 15)) (Bltu 6 7 (pos 12) ∷ fail_code true 2) in
-    let l2 = align_short width r in
-    let b2 = length-append (align_code width r) (Addi 6 r (negsuc 15) ∷ last) in
-    behind_short (plan.home f) 5 10 x (align_code width r ++ Addi 6 r (negsuc 15) ∷ last) (omega arith)
+    let last : List Inst = Bltu 6 4 (pos 12) ∷ fail_code true 2 in
+    let l = align_short width r in
+    let b = length-append (align_code width r) (Addi 6 r (negsuc (16 - size width)) ∷ last) in
+    behind_short (plan.home f) 5 10 x (align_code width r ++ Addi 6 r (negsuc (16 - size width)) ∷ last) (omega arith)
 check_short plan f (Zero x) = let l = fail_short plan.by_a 1 in let a = behind_short (plan.home f) 5 5 x (Bne (source (plan.home f) 5 x) 0 (over plan.by_a) ∷ fail_code plan.by_a 1) (omega arith) in omega arith
 check_short plan f (Room g) =
     let n : ℕ = plan.memory - (plan.frame f + plan.frame g) in
@@ -123,11 +161,11 @@ hear_short false = omega arith
 
 stop_short : (b : Bool) (home : ℕ → Home) (x : Option Operand) → length (stop_code b home x) ≤ 6
 stop_short true home x = omega arith
-stop_short false home None = omega arith
-stop_short false home (Some x) = behind_short home 5 3 x (Addi 10 (source home 5 x) (pos 0) ∷ (Addi 17 0 (pos 0) ∷ (Ecall ∷ []))) (omega arith)
+stop_short false home None = moved_short home 10 2 (Number 0) (Addi 17 0 (pos 0) ∷ (Ecall ∷ [])) (omega arith)
+stop_short false home (Some x) = moved_short home 10 2 x (Addi 17 0 (pos 0) ∷ (Ecall ∷ [])) (omega arith)
 
 -- the blocks of actions that go on
-pub simple_short : (plan : Plan) (variables : ℕ → ℕ) (f : ℕ) (a : Action) (live : VariableSet) (leaves skips : ℕ) → IsSimple a → length (action_code plan variables f a live leaves skips) ≤ 13
+pub simple_short : (plan : Plan) (variables : ℕ → ℕ) (f : ℕ) (a : Action) (live : VariableSet) (leaves skips : List Inst) → IsSimple a → length (action_code plan variables f a live leaves skips) ≤ 13
 simple_short plan variables f (Compute v x) live leaves skips is =
     let l = value_short (plan.home f) (register_or 5 (plan.home f v)) x in let k = keep_short (plan.home f v) in
     let both = length-append (value_code (plan.home f) (register_or 5 (plan.home f v)) x) (keep (plan.home f v)) in omega arith
@@ -135,12 +173,12 @@ simple_short plan variables f (Issue kind x) live leaves skips is = let l = behi
 simple_short plan variables f (Own v kind x) live leaves skips is = let k = keep_short (plan.home f v) in let l = behind_short (plan.home f) 5 5 x (issue_code kind 31 (source (plan.home f) 5 x) ∷ take_code 31 (plan.home f v)) (omega arith) in omega arith
 simple_short plan variables f (Receive v) live leaves skips is = let k = keep_short (plan.home f v) in omega arith
 simple_short plan variables f (Address width x) live leaves skips is = let l = behind_short (plan.home f) 5 1 x (address_code width (source (plan.home f) 5 x) ∷ []) (omega arith) in omega arith
-simple_short plan variables f (Datum x) live leaves skips is = let l = behind_short (plan.home f) 5 1 x (Addi 30 (source (plan.home f) 5 x) (pos 0) ∷ []) (omega arith) in omega arith
-simple_short plan variables f (Offer v) live leaves skips is = let l = behind_short (plan.home f) 5 1 (Variable v) (Addi 28 (source (plan.home f) 5 (Variable v)) (pos 0) ∷ []) (omega arith) in omega arith
+simple_short plan variables f (Datum x) live leaves skips is = let l = move_short (plan.home f) 30 x in omega arith
+simple_short plan variables f (Offer v) live leaves skips is = let l = move_short (plan.home f) 28 (Variable v) in omega arith
 simple_short plan variables f (Accept v) live leaves skips is = let k = keep_short (plan.home f v) in omega arith
-simple_short plan variables f (Emit spelling x) live leaves skips is = let l = behind_short (plan.home f) 5 3 x (Addi 10 (source (plan.home f) 5 x) (pos 0) ∷ (Addi 17 0 (pos (call_number spelling)) ∷ (Ecall ∷ []))) (omega arith) in omega arith
+simple_short plan variables f (Emit spelling x) live leaves skips is = let l = moved_short (plan.home f) 10 2 x (Addi 17 0 (pos (call_number spelling)) ∷ (Ecall ∷ [])) (omega arith) in omega arith
 simple_short plan variables f (Probe check) live leaves skips is = check_short plan f check
-simple_short plan variables f (Tell x) live leaves skips is = let l = behind_short (plan.home f) 5 1 x (Addi 29 (source (plan.home f) 5 x) (pos 0) ∷ []) (omega arith) in omega arith
+simple_short plan variables f (Tell x) live leaves skips is = let l = move_short (plan.home f) 29 x in omega arith
 simple_short plan variables f Hear live leaves skips is = let l = hear_short plan.by_a in omega arith
 simple_short plan variables f (Stop x) live leaves skips is = let l = stop_short plan.by_a (plan.home f) x in omega arith
 simple_short plan variables f Break live leaves skips is = elim is [ ]
@@ -148,10 +186,36 @@ simple_short plan variables f Continue live leaves skips is = elim is [ ]
 simple_short plan variables f (Call v g xs) live leaves skips is = elim is [ ]
 simple_short plan variables f (Return x) live leaves skips is = elim is [ ]
 
-pub branch_short : (home : ℕ → Home) (b : Branch) → length (branch_code home b) ≤ 10
-branch_short home (Silent t) = let l = test_short home 5 t in let both = length-append (test_code home 5 t) (Bne 5 0 (pos 12) ∷ []) in omega arith
-branch_short home (Tells t) = let l = test_short home 5 t in let both = length-append (test_code home 5 t) (Addi 29 5 (pos 0) ∷ (Bne 5 0 (pos 12) ∷ [])) in omega arith
-branch_short home Hears = omega arith
+-- ---- jumps and branches
+
+pub over_short : (short : Bool) (n : ℕ) → length (jump_over short n) ≤ 2
+over_short true n = omega arith
+over_short false n = omega arith
+
+pub back_short : (short : Bool) (n : ℕ) → length (jump_back short n) ≤ 2
+back_short true n = omega arith
+back_short false n = omega arith
+
+pub past_short : (short none : Bool) (n : ℕ) → length (past_code short none n) ≤ 2
+past_short short true n = omega arith
+past_short short false n = over_short short n
+
+by_short : (t short : Bool) (relation : Comparison) (x y n : ℕ) → length (goes_by t short relation x y n) ≤ 3
+by_short true short relation x y n = omega arith
+by_short false short relation x y n = let l = over_short short n in omega arith
+
+goes_short : (short : Bool) (relation : Comparison) (x y n : ℕ) → length (goes_code short relation x y n) ≤ 3
+goes_short short relation x y n = by_short (nat_lt n 1000) short relation x y n
+
+pub branch_short : (home : ℕ → Home) (short : Bool) (b : Branch) (way : Bool) (n : ℕ) → length (branch_code home short b way n) ≤ 12
+branch_short home short (Silent t) way n =
+    let last : List Inst = goes_code short (one_way way t.comparison) (source home 5 t.left) (source home 6 t.right) n in
+    let l = behind_short home 5 6 t.left (fetch home 6 t.right ++ last) (behind_short home 6 3 t.right last (goes_short short (one_way way t.comparison) (source home 5 t.left) (source home 6 t.right) n)) in omega arith
+branch_short home short (Tells t) way n =
+    let last : List Inst = goes_code short (one_way way NotEqual) 5 0 n in
+    let k = goes_short short (one_way way NotEqual) 5 0 n in
+    let l = test_short home 5 t in let both = length-append (test_code home 5 t) (Addi 29 5 (pos 0) ∷ last) in omega arith
+branch_short home short Hears way n = let l = goes_short short (one_way way NotEqual) 29 0 n in omega arith
 
 -- ---- calls
 
@@ -196,11 +260,30 @@ arguments_short plan f g (x ∷ xs) =
     let both = length-append (arguments_code plan f g xs) (fetch (plan.home f) 5 x.operand ++ one) in
     omega arith
 
-moves_short : (b : Bool) (n1 n2 : ℕ) (i j k : Inst) → length (number_code 5 n1 ++ (i ∷ (number_code 5 n2 ++ (j ∷ (if b then k ∷ [] else []))))) ≤ 7
-moves_short b n1 n2 i j k =
-    let l1 = number_short 5 n1 in let l2 = number_short 5 n2 in let l3 = either_short b (k ∷ []) [] 1 (omega arith) (omega arith) in
-    let b1 = length-append (number_code 5 n2) (j ∷ (if b then k ∷ [] else [])) in
-    let b2 = length-append (number_code 5 n1) (i ∷ (number_code 5 n2 ++ (j ∷ (if b then k ∷ [] else [])))) in
+more_short : (r n : ℕ) → length (more_code r n) ≤ 3
+more_short r n =
+    let l = number_short 5 n in let both = length-append (number_code 5 n) (Add r r 5 ∷ []) in
+    either_short (nat_eq n 0) _ _ 3 (omega arith) (either_short (is_immediate n) _ (number_code 5 n ++ Add r r 5 ∷ []) 3 (omega arith) (omega arith))
+
+less_short : (r n : ℕ) → length (less_code r n) ≤ 3
+less_short r n =
+    let l = number_short 5 n in let both = length-append (number_code 5 n) (Sub r r 5 ∷ []) in
+    either_short (nat_eq n 0) _ _ 3 (omega arith) (either_short (is_immediate (minus 0 n)) _ (number_code 5 n ++ Sub r r 5 ∷ []) 3 (omega arith) (omega arith))
+
+deeper_short : (plan : Plan) (f : ℕ) → length (deeper_code plan f) ≤ 7
+deeper_short plan f =
+    let l1 = more_short 3 (plan.frame f % 2 ^ 32) in let l2 = more_short 2 (4 * plan.words f) in
+    let l3 = either_short plan.by_a (Addi 10 10 (pos 1) ∷ []) [] 1 (omega arith) (omega arith) in
+    let b1 = length-append (more_code 2 (4 * plan.words f)) (if plan.by_a then Addi 10 10 (pos 1) ∷ [] else []) in
+    let b2 = length-append (more_code 3 (plan.frame f % 2 ^ 32)) (more_code 2 (4 * plan.words f) ++ (if plan.by_a then Addi 10 10 (pos 1) ∷ [] else [])) in
+    omega arith
+
+returning_short : (plan : Plan) (f : ℕ) → length (back_code plan f) ≤ 7
+returning_short plan f =
+    let l1 = less_short 3 (plan.frame f % 2 ^ 32) in let l2 = less_short 2 (4 * plan.words f) in
+    let l3 = either_short plan.by_a (Addi 10 10 (negsuc 0) ∷ []) [] 1 (omega arith) (omega arith) in
+    let b1 = length-append (less_code 2 (4 * plan.words f)) (if plan.by_a then Addi 10 10 (negsuc 0) ∷ [] else []) in
+    let b2 = length-append (less_code 3 (plan.frame f % 2 ^ 32)) (less_code 2 (4 * plan.words f) ++ (if plan.by_a then Addi 10 10 (negsuc 0) ∷ [] else [])) in
     omega arith
 
 pub entry_short : (plan : Plan) (variables : ℕ → ℕ) (g : ℕ) (live : VariableSet) → length (entry_code plan variables g live) ≤ 19
@@ -210,7 +293,7 @@ pub prepared_short : (plan : Plan) (variables : ℕ → ℕ) (f g : ℕ) (xs : L
 prepared_short plan variables f g xs live =
     let rs : List ℕ = registers_in (plan.home f) (variables f) live in
     let a = arguments_short plan f g xs in let c = saved_short (plan.home f) (variables f) live in
-    let d = moves_short plan.by_a (plan.frame f % 2 ^ 32) (4 * plan.words f) (Add 3 3 5) (Add 2 2 5) (Addi 10 10 (pos 1)) in
+    let d = deeper_short plan f in
     let l1 = length-append (save_code rs) (deeper_code plan f) in let l2 = length-append (arguments_code plan f g xs) (save_code rs ++ deeper_code plan f) in
     omega arith
 
@@ -218,7 +301,7 @@ pub resumed_short : (plan : Plan) (variables : ℕ → ℕ) (f : ℕ) (v : Optio
 resumed_short plan variables f v live =
     let rs : List ℕ = registers_in (plan.home f) (variables f) live in
     let c = restored_short (plan.home f) (variables f) live in
-    let d = moves_short plan.by_a (plan.frame f % 2 ^ 32) (4 * plan.words f) (Sub 3 3 5) (Sub 2 2 5) (Addi 10 10 (negsuc 0)) in
+    let d = returning_short plan f in
     let e = result_short (plan.home f) v in
     let l1 = length-append (restore_code rs) (result_code (plan.home f) v) in let l2 = length-append (back_code plan f) (restore_code rs ++ result_code (plan.home f) v) in
     omega arith
@@ -229,14 +312,26 @@ resumed_short plan variables f v live =
 
 pub leave_short : (home : ℕ → Home) (y : Option Operand) → length (leave_code home y) ≤ 6
 leave_short home None = omega arith
-leave_short home (Some x) = behind_short home 5 3 x (Addi 6 (source home 5 x) (pos 0) ∷ (Lw 1 2 (pos 0) ∷ (Jalr 0 1 (pos 0) ∷ []))) (omega arith)
+leave_short home (Some x) = moved_short home 6 2 x (Lw 1 2 (pos 0) ∷ (Jalr 0 1 (pos 0) ∷ [])) (omega arith)
 
-pub start_short : (plan : Plan) (main frames : ℕ) → length (start_code plan main frames) ≤ 5
-start_short plan main frames =
-    let l1 = number_short 3 frames in let l2 = either_short plan.by_a (Addi 10 0 (pos 1) ∷ []) [] 1 (omega arith) (omega arith) in
-    let b1 = length-append (number_code 3 frames) (if plan.by_a then Addi 10 0 (pos 1) ∷ [] else []) in
-    let b2 = length-append (number_code 3 frames ++ (if plan.by_a then Addi 10 0 (pos 1) ∷ [] else [])) (enter_code (plan.entry main)) in
+addresses_short : (n : ℕ) → length (number_code 4 n ++ Addi 10 0 (pos 1) ∷ []) ≤ 3
+addresses_short n = let l = number_short 4 n in let both = length-append (number_code 4 n) (Addi 10 0 (pos 1) ∷ []) in omega arith
+
+pub finish_some : (b : Bool) → 1 ≤ length (finish_code b)
+finish_some true = omega arith
+finish_some false = omega arith
+
+-- what a side begins with, and what main returns to
+pub opening_short : (plan : Plan) (main frames : ℕ) → length (start_code plan main frames) + length (finish_code plan.by_a) ≤ 8
+opening_short plan main frames =
+    let l1 = number_short 3 frames in let l2 = both plan.by_a in
+    let b1 = length-append (number_code 3 frames) (if plan.by_a then number_code 4 (plan.memory - 16) ++ Addi 10 0 (pos 1) ∷ [] else []) in
+    let b2 = length-append (number_code 3 frames ++ (if plan.by_a then number_code 4 (plan.memory - 16) ++ Addi 10 0 (pos 1) ∷ [] else [])) (enter_code (plan.entry main)) in
     omega arith
+  where
+    both : (b : Bool) → length (if b then number_code 4 (plan.memory - 16) ++ Addi 10 0 (pos 1) ∷ [] else []) + length (finish_code b) ≤ 4
+    both true = let l = addresses_short (plan.memory - 16) in omega arith
+    both false = omega arith
 
 -- ---- where nothing is live
 

@@ -18,6 +18,7 @@ mod Entering
 mod Leaving
 mod Joined
 mod Lengths
+mod Sizes
 mod Function
 mod Beginning
 mod Ranges

@@ -1,6 +1,6 @@
 -- Every instruction of a block has fields that its word can hold, and words of such instructions are code.
 use Rattle.std.proofs.Common.{◌≡◌, ℕ, ◌+◌, ◌-◌, ◌*◌, ◌/◌, ◌%◌, ◌^◌, ◌<◌, Bool, true, false, List, [], ◌∷◌, ◌++◌, map, length, Some, refl, arith, pos, negsuc, append_assoc, length-append}
-use Rattle.std.specs.Prelude.{nat_lt, if◌then◌else◌, slice_get}
+use Rattle.std.specs.Prelude.{nat_lt, nat_eq, if◌then◌else◌, slice_get}
 use Rattle.std.specs.List.{AllByRecursion}
 use Rattle.std.proofs.lemmas.Int.{ints}
 use Rattle.std.proofs.lemmas.Bool.Decides.{nat_tests}
@@ -8,14 +8,14 @@ use Rattle.dae_base.specs.Words.{word, signed}
 use Rattle.dae_encode.specs.Spelling.{InRange, layout, IsSigned, encoded}
 use Rattle.dae_encode.proofs.Laws.{decode_encoded}
 use Rattle.dae_encode.specs.declared.Inst.{Inst}
-use Rattle.dae_encode.specs.declared.Inst.TheVariants.{Lui, Auipc, Jalr, Lw, Sw, Addi, Add}
+use Rattle.dae_encode.specs.declared.Inst.TheVariants.{Lui, Auipc, Jal, Jalr, Lw, Sw, Addi, Add}
 use Rattle.dae_ir.specs.declared.form.Operand.{Operand}
 use Rattle.dae_ir.specs.declared.form.Operand.TheVariants.{Variable, Number}
 use Rattle.dae_walks.specs.Layout.{CodeAt}
 use Rattle.dae_walks.specs.declared.Home.{Home}
 use Rattle.dae_walks.specs.declared.Home.TheVariants.{Register, Slot}
 use Rattle.dae_walks.specs.Homes.{IsHome, slot_at}
-use Rattle.dae_blocks.specs.Blocks.{upper, lower, number_code, load_code, store_code, register_or, fetch_home, fetch, keep, jump_by}
+use Rattle.dae_blocks.specs.Blocks.{upper, lower, is_immediate, number_code, load_code, store_code, register_or, fetch_home, fetch, move_code, keep, jump_by, near_offset, jump_over, jump_back}
 use Rattle.dae_blocks.proofs.Halves.{word_upper}
 use Rattle.dae_blocks.proofs.Agreement.{home_register}
 
@@ -49,9 +49,17 @@ lower_by : (n : ℕ) → n < 2 ^ 12 → (b : Bool) → nat_lt n (2 ^ 11) ≡ b �
 lower_by n h true t = grind (arith, nat_tests, ints)
 lower_by n h false t = grind (arith, nat_tests, ints)
 
-lower_fits : (w : ℕ) → IsSigned 12 (lower w)
+pub lower_fits : (w : ℕ) → IsSigned 12 (lower w)
 unfolding lower
 lower_fits w = lower_by (w % 2 ^ 12) (omega arith) (nat_lt (w % 2 ^ 12) (2 ^ 11)) refl
+
+near_by : (n : ℕ) → n < 2 ^ 21 → n % 2 ≡ 0 → (b : Bool) → nat_lt n (2 ^ 20) ≡ b → IsSigned 21 (if b then pos n else negsuc (2 ^ 21 - 1 - n)) × (word (if b then pos n else negsuc (2 ^ 21 - 1 - n)) % 2 ≡ 0)
+near_by n h even true t = (grind (arith, nat_tests, ints), omega arith)
+near_by n h even false t = (grind (arith, nat_tests, ints), omega arith)
+
+near_fits : (w : ℕ) → w % 4 ≡ 0 → IsSigned 21 (near_offset w) × (word (near_offset w) % 2 ≡ 0)
+unfolding near_offset
+near_fits w h = near_by (w % 2 ^ 21) (omega arith) (omega arith) (nat_lt (w % 2 ^ 21) (2 ^ 20)) refl
 
 small_fits : (n : ℕ) → n < 2 ^ 11 → IsSigned 12 (pos n)
 small_fits n h = omega (arith, ints)
@@ -65,6 +73,10 @@ lui_fits r w h = (h, (upper_fits w, upper_even w))
 pub auipc_fits : (r w : ℕ) → r < 32 → InRange (Auipc r (upper w))
 unfolding InRange layout
 auipc_fits r w h = (h, (upper_fits w, upper_even w))
+
+jal_fits : (r w : ℕ) → r < 32 → w % 4 ≡ 0 → InRange (Jal r (near_offset w))
+unfolding InRange layout
+jal_fits r w h even = (h, near_fits w even)
 
 pub jalr_fits : (r b w : ℕ) → r < 32 → b < 32 → InRange (Jalr r b (lower w))
 unfolding InRange layout
@@ -113,8 +125,9 @@ fit_either false x y h k = k refl
 
 pub number_fits : (r n : ℕ) → r < 32 → AllFit (number_code r n)
 number_fits r n h =
-    fit_either (nat_lt n 2048) (Addi r 0 (pos n) ∷ []) (Lui r (upper n) ∷ (Addi r r (lower n) ∷ []))
-    (λ e. (addi_small r 0 n h (omega arith) (grind (arith, nat_tests)), tt)) (λ e. (lui_fits r n h, (addi_fits r r n h h, tt)))
+    fit_either (is_immediate n) (Addi r 0 (lower n) ∷ []) (if nat_eq (n % 2 ^ 12) 0 then Lui r (upper n) ∷ [] else Lui r (upper n) ∷ (Addi r r (lower n) ∷ []))
+    (λ e. (addi_fits r 0 n h (omega arith), tt))
+    (λ e. fit_either (nat_eq (n % 2 ^ 12) 0) (Lui r (upper n) ∷ []) (Lui r (upper n) ∷ (Addi r r (lower n) ∷ [])) (λ e. (lui_fits r n h, tt)) (λ e. (lui_fits r n h, (addi_fits r r n h h, tt))))
 
 pub load_fits : (r i : ℕ) → r < 32 → AllFit (load_code r i)
 load_fits r i h =
@@ -136,7 +149,13 @@ fetch_fits n home r (Variable v) h = by (home v)
     by : (g : Home) → AllFit (fetch_home r g)
     by (Register q) = tt
     by (Slot i) = load_fits r (slot_at i) h
-fetch_fits n home r (Number k) h = number_fits r k h
+fetch_fits n home r (Number k) h = fit_either (nat_eq k 0) [] (number_code r k) (λ e. tt) (λ e. number_fits r k h)
+
+pub move_fits : (n : ℕ) (home : ℕ → Home) → ((v : ℕ) → IsHome n (home v)) → (t : ℕ) (x : Operand) → t < 32 → AllFit (move_code home t x)
+move_fits n home good t (Variable v) h = fit_append _ _ (fetch_fits n home 5 (Variable v) (omega arith)) (addi_small t (register_or 5 (home v)) 0 h (register_fits n 5 (home v) (good v) (omega arith)) (omega arith), tt)
+move_fits n home good t (Number k) h =
+    fit_either (is_immediate k) (Addi t 0 (lower k) ∷ []) (Lui 5 (upper k) ∷ (Addi t 5 (lower k) ∷ []))
+    (λ e. (addi_fits t 0 k h (omega arith), tt)) (λ e. (lui_fits 5 k (omega arith), (addi_fits t 5 k h (omega arith), tt)))
 
 pub keep_fits : (h : Home) → AllFit (keep h)
 keep_fits (Register g) = tt
@@ -144,3 +163,11 @@ keep_fits (Slot i) = store_fits 5 (slot_at i) (omega arith)
 
 pub jump_fits : (bytes : ℕ) → AllFit (jump_by bytes)
 jump_fits bytes = (auipc_fits 5 bytes (omega arith), (jalr_fits 0 5 bytes (omega arith) (omega arith), tt))
+
+pub over_fits : (short : Bool) (n : ℕ) → AllFit (jump_over short n)
+over_fits true n = (jal_fits 0 (4 * (n + 1)) (omega arith) (omega arith), tt)
+over_fits false n = jump_fits (4 * (n + 2))
+
+pub back_fits : (short : Bool) (n : ℕ) → AllFit (jump_back short n)
+back_fits true n = (jal_fits 0 ((2 ^ 32 - 4 * n % 2 ^ 32) % 2 ^ 32) (omega arith) (omega arith), tt)
+back_fits false n = jump_fits ((2 ^ 32 - 4 * n % 2 ^ 32) % 2 ^ 32)

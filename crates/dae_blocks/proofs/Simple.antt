@@ -61,7 +61,7 @@ module _ (s : Setting) (plan : Plan) (variables : ℕ → ℕ) (fine : Fits s pl
     stops false e (Some x) wanted reads h = stop_e_done s plan variables fine live live' m x e h reads wanted
 
     -- each block from contents that agree
-    pub simple_runs : {c : Contents} (a : Action) (leaves skips : ℕ) → IsSimple a → IsWanted plan s.copies entries a → Around (plan.home m.function) a live live' → Ready plan live m c →
+    pub simple_runs : {c : Contents} (a : Action) (leaves skips : List Inst) → IsSimple a → IsWanted plan s.copies entries a → Around (plan.home m.function) a live live' → Ready plan live m c →
         Does' s plan variables fine live live' m (action_code plan variables m.function a live' leaves skips) c (deed program plan.by_a a w m.env)
     simple_runs (Compute v x) leaves skips is wanted round h =
         rw world.frame (set_done s plan variables fine live live' m v x h round.reads wanted (λ u l ne. (round.stays u l (grind (arith, nat_tests)), round.apart u v (grind (arith, nat_tests)) l ne)))

@@ -1,8 +1,8 @@
 -- The code of structured actions. Every jump is told by the lengths of what it leads over, so no labels are needed: the
 -- code of a list stands anywhere, and depends only on the words at which functions are entered.
-use Rattle.std.specs.Prelude.{ℕ, zero, suc, ◌+◌, Bool, true, false, not, ◌&&◌, ◌||◌, List, [], ◌∷◌, ◌++◌, length, Option, Some, pos, if◌then◌else◌}
+use Rattle.std.specs.Prelude.{ℕ, zero, suc, ◌+◌, ◌-◌, Bool, true, false, not, ◌&&◌, ◌||◌, List, [], ◌∷◌, ◌++◌, length, Option, Some, pos, if◌then◌else◌}
 use Rattle.dae_encode.specs.declared.Inst.{Inst}
-use Rattle.dae_encode.specs.declared.Inst.TheVariants.{Sw, Bne, Addi, Ecall}
+use Rattle.dae_encode.specs.declared.Inst.TheVariants.{Sw, Addi, Ecall}
 use Rattle.dae_ir.specs.Code.{Done, Do, If, Loop}
 use Rattle.dae_ir.specs.Classes.{VariableSet}
 use Rattle.dae_ir.specs.Streams.{Actions}
@@ -12,10 +12,12 @@ use Rattle.dae_ir.specs.declared.stream.Action.{Action}
 use Rattle.dae_ir.specs.declared.stream.Action.TheVariants.{Set as Compute, Issue, Own, Receive, Address, Datum, Offer, Accept, Emit, Probe, Tell, Hear, Stop, Break, Continue, Call, Return}
 use Rattle.dae_ir.specs.declared.stream.Branch.{Branch}
 use Rattle.dae_ir.specs.declared.stream.Branch.TheVariants.{Silent, Tells, Hears}
+use Rattle.dae_meaning.specs.declared.Comparison.TheVariants.{NotEqual}
 use Rattle.dae_walks.specs.declared.Home.{Home}
 use Rattle.dae_walks.specs.Live.{Ways, behind, live, is, nowhere, step_ways, body_ways}
 use Rattle.dae_walks.specs.Agrees.{Plan}
-use Rattle.dae_blocks.specs.Blocks.{number_code, register_or, source, fetch, keep, value_code, issue_code, address_code, take_code, own_code, push_code, call_number, system_code, hear_code, stop_code, check_code, test_code, jump_over, jump_back, enter_code, arguments_code, is_register, save_code, restore_code, deeper_code, back_code, result_code, leave_code}
+use Rattle.dae_blocks.specs.Blocks.{number_code, register_or, source, fetch, keep, value_code, issue_code, address_code, take_code, own_code, move_code, call_number, system_code, hear_code, stop_code, check_code, test_code, jump_over, jump_back, enter_code, arguments_code, is_register, save_code, restore_code, deeper_code, back_code, result_code, leave_code, jump_words, one_way, goes_code}
+use Rattle.dae_blocks.specs.Sizes.{is_short}
 
 -- ---- the registers that a call keeps
 
@@ -42,60 +44,79 @@ call_code plan variables f v g xs live =
     arguments_code plan f g xs ++ (save_code (registers_in (plan.home f) (variables f) live) ++ (deeper_code plan f ++ (enter_code (plan.entry g)
     ++ (back_code plan f ++ (restore_code (registers_in (plan.home f) (variables f) live) ++ result_code (plan.home f) v)))))
 
--- the block of an action in the function f, behind which these variables are live, and from whose end it is so many words to
--- where a Break goes, and a Continue
-abbrev pub action_code : Plan → (ℕ → ℕ) → ℕ → Action → VariableSet → ℕ → ℕ → List Inst
+-- the block of an action in the function f, behind which these variables are live, with the jumps to where a Break goes and a
+-- Continue
+abbrev pub action_code : Plan → (ℕ → ℕ) → ℕ → Action → VariableSet → List Inst → List Inst → List Inst
 action_code plan variables f (Compute v x) live leaves skips = value_code (plan.home f) (register_or 5 (plan.home f v)) x ++ keep (plan.home f v)
 action_code plan variables f (Issue kind x) live leaves skips = fetch (plan.home f) 5 x ++ issue_code kind 30 (source (plan.home f) 5 x) ∷ []
 action_code plan variables f (Own v kind x) live leaves skips = own_code (plan.home f) v kind x
 action_code plan variables f (Receive v) live leaves skips = take_code 30 (plan.home f v)
 action_code plan variables f (Address width x) live leaves skips = fetch (plan.home f) 5 x ++ address_code width (source (plan.home f) 5 x) ∷ []
-action_code plan variables f (Datum x) live leaves skips = push_code (plan.home f) 30 x
-action_code plan variables f (Offer v) live leaves skips = push_code (plan.home f) 28 (Variable v)
+action_code plan variables f (Datum x) live leaves skips = move_code (plan.home f) 30 x
+action_code plan variables f (Offer v) live leaves skips = move_code (plan.home f) 28 (Variable v)
 action_code plan variables f (Accept v) live leaves skips = take_code 28 (plan.home f v)
 action_code plan variables f (Emit spelling x) live leaves skips = system_code (plan.home f) (call_number spelling) x
 action_code plan variables f (Probe check) live leaves skips = check_code plan f check
-action_code plan variables f (Tell x) live leaves skips = push_code (plan.home f) 29 x
+action_code plan variables f (Tell x) live leaves skips = move_code (plan.home f) 29 x
 action_code plan variables f Hear live leaves skips = hear_code plan.by_a
 action_code plan variables f (Stop x) live leaves skips = stop_code plan.by_a (plan.home f) x
-action_code plan variables f Break live leaves skips = jump_over leaves
-action_code plan variables f Continue live leaves skips = jump_over skips
+action_code plan variables f Break live leaves skips = leaves
+action_code plan variables f Continue live leaves skips = skips
 action_code plan variables f (Call v g xs) live leaves skips = call_code plan variables f v g xs (λ u. live u && not (is v u))
 action_code plan variables f (Return x) live leaves skips = leave_code (plan.home f) x
 
--- the branch leads over the jump behind it where its test holds, or where a number other than 0 is heard
-abbrev pub branch_code : (ℕ → Home) → Branch → List Inst
-branch_code home (Silent t) = test_code home 5 t ++ Bne 5 0 (pos 12) ∷ []
-branch_code home (Tells t) = test_code home 5 t ++ Addi 29 5 (pos 0) ∷ (Bne 5 0 (pos 12) ∷ [])
-branch_code home Hears = Bne 29 0 (pos 12) ∷ []
+-- the code of a branch goes on n words ahead of its end where its test holds, or where a number other than 0 is heard (way is
+-- true), or just where not (way is false). Else it goes on behind its end
+abbrev pub branch_code : (ℕ → Home) → Bool → Branch → Bool → ℕ → List Inst
+branch_code home short (Silent t) way n =
+    fetch home 5 t.left ++ (fetch home 6 t.right ++ goes_code short (one_way way t.comparison) (source home 5 t.left) (source home 6 t.right) n)
+branch_code home short (Tells t) way n = test_code home 5 t ++ Addi 29 5 (pos 0) ∷ goes_code short (one_way way NotEqual) 5 0 n
+branch_code home short Hears way n = goes_code short (one_way way NotEqual) 29 0 n
 
 -- ---- structured code
 
-abbrev pub followed : (ℕ → ℕ → List Inst) → List Inst → ℕ → ℕ → List Inst
-followed code rest leaves skips = code (length rest + leaves) (length rest + skips) ++ rest
+abbrev pub followed : Bool → (List Inst → List Inst → List Inst) → List Inst → ℕ → ℕ → List Inst
+followed short code rest leaves skips = code (jump_over short (length rest + leaves)) (jump_over short (length rest + skips)) ++ rest
 
-abbrev pub if_code : List Inst → (ℕ → ℕ → List Inst) → (ℕ → ℕ → List Inst) → List Inst → ℕ → ℕ → List Inst
-if_code test p q rest leaves skips =
+abbrev pub does_nothing : Actions → Bool
+does_nothing Done = true
+does_nothing code = false
+
+-- behind a first list a jump leads over the second one, where neither is empty
+abbrev pub past_code : Bool → Bool → ℕ → List Inst
+past_code short true n = []
+past_code short false n = jump_over short n
+
+-- the branch leads to the second list, over the first one; where the first one is empty (none is true), over the second one
+abbrev pub either_code : Bool → (Bool → ℕ → List Inst) → List Inst → List Inst → List Inst → List Inst → List Inst
+either_code none branch first past second rest =
+    branch none (if none then length second else length first + length past) ++ (first ++ (past ++ (second ++ rest)))
+
+abbrev pub if_code : Bool → Bool → Bool → (Bool → ℕ → List Inst) → (ℕ → ℕ → List Inst) → (ℕ → ℕ → List Inst) → List Inst → ℕ → ℕ → List Inst
+if_code short none none' branch p q rest leaves skips =
     let second = q (length rest + leaves) (length rest + skips) in
-    let first = p (2 + length second + length rest + leaves) (2 + length second + length rest + skips) in
-    test ++ (jump_over (length first + 2) ++ (first ++ (jump_over (length second) ++ (second ++ rest))))
+    let past = past_code short (none || none') (length second) in
+    let far = length past + length second + length rest in
+    either_code none branch (p (far + leaves) (far + skips)) past second rest
 
 -- a Break in the body leads over the step and the jump back, and one in the step over the jump back
-abbrev pub loop_code : (ℕ → ℕ → List Inst) → List Inst → List Inst → List Inst
-loop_code body step rest =
-    let turn = body (length step + 2) 0 in
-    turn ++ (step ++ (jump_back (length turn + length step) ++ rest))
+abbrev pub loop_code : Bool → (ℕ → ℕ → List Inst) → List Inst → List Inst → List Inst
+loop_code short body step rest =
+    let turn = body (length step + jump_words short) 0 in
+    turn ++ (step ++ (jump_back short (length turn + length step) ++ rest))
 
-abbrev pub code_of : Plan → (ℕ → ℕ) → ℕ → Actions → Ways → ℕ → ℕ → List Inst
-code_of plan variables f Done x leaves skips = []
-code_of plan variables f (Do m a k) x leaves skips =
-    followed (action_code plan variables f a (live k x)) (code_of plan variables f k x leaves skips) leaves skips
-code_of plan variables f (If m b p q k) x leaves skips =
-    if_code (branch_code (plan.home f) b) (code_of plan variables f p (behind (live k x) x)) (code_of plan variables f q (behind (live k x) x))
-    (code_of plan variables f k x leaves skips) leaves skips
-code_of plan variables f (Loop m body step k) x leaves skips =
-    loop_code (code_of plan variables f body (body_ways body step (live k x))) (code_of plan variables f step (step_ways body step (live k x)) 2 0)
-    (code_of plan variables f k x leaves skips)
+-- short says whether jumps are to be
+abbrev pub code_of : Bool → Plan → (ℕ → ℕ) → ℕ → Actions → Ways → ℕ → ℕ → List Inst
+code_of short plan variables f Done x leaves skips = []
+code_of short plan variables f (Do m a k) x leaves skips =
+    followed short (action_code plan variables f a (live k x)) (code_of short plan variables f k x leaves skips) leaves skips
+code_of short plan variables f (If m b p q k) x leaves skips =
+    if_code short (does_nothing p) (does_nothing q) (branch_code (plan.home f) short b)
+    (code_of short plan variables f p (behind (live k x) x)) (code_of short plan variables f q (behind (live k x) x))
+    (code_of short plan variables f k x leaves skips) leaves skips
+code_of short plan variables f (Loop m body step k) x leaves skips =
+    loop_code short (code_of short plan variables f body (body_ways body step (live k x)))
+    (code_of short plan variables f step (step_ways body step (live k x)) (jump_words short) 0) (code_of short plan variables f k x leaves skips)
 
 -- ---- functions
 
@@ -106,14 +127,16 @@ entry_code plan variables f live = Sw 2 1 (pos 0) ∷ restore_code (registers_in
 
 abbrev pub function_code : Plan → (ℕ → ℕ) → ℕ → Actions → List Inst
 function_code plan variables f code =
-    entry_code plan variables f (live code nowhere) ++ (code_of plan variables f code nowhere 0 0 ++ leave_code (plan.home f) (Some (Number 0)))
+    entry_code plan variables f (live code nowhere) ++ (code_of (is_short code) plan variables f code nowhere 0 0 ++ leave_code (plan.home f) (Some (Number 0)))
 
 -- where main returns to: A halts, and E halts with the result
 abbrev pub finish_code : Bool → List Inst
 finish_code true = Ecall ∷ []
 finish_code false = Addi 10 6 (pos 0) ∷ (Addi 17 0 (pos 0) ∷ (Ecall ∷ []))
 
--- the code that begins: where frames begin, on A that main stands at depth 1, and the call of main
+-- the code that begins: where frames begin, on A how many addresses common memory has and that main stands at depth 1, and
+-- the call of main
 abbrev pub start_code : Plan → ℕ → ℕ → List Inst
 start_code plan main first =
-    (number_code 3 first ++ (if plan.by_a then Addi 10 0 (pos 1) ∷ [] else [])) ++ enter_code (plan.entry main)
+    (number_code 3 first ++ (if plan.by_a then number_code 4 (plan.memory - 16) ++ Addi 10 0 (pos 1) ∷ [] else []))
+    ++ enter_code (plan.entry main)

@@ -17,6 +17,7 @@ use Rattle.dae_walks.specs.Agrees.{Plan, Stands as Stands'}
 use Rattle.dae_walks.specs.Compiled.{exit, exits, ActionDone, CodeDone}
 use Rattle.dae_blocks.specs.Blocks.{leave_code}
 use Rattle.dae_blocks.specs.Code.{code_of, function_code, start_code, finish_code}
+use Rattle.dae_blocks.specs.Sizes.{is_short}
 use Rattle.dae_blocks.specs.Fits.{Fits}
 use Rattle.dae_blocks.specs.Wanted.{IsWanted, IsWantedBranch, IsPlanOf, IsLinked, IsRight}
 
@@ -24,8 +25,8 @@ use Rattle.dae_blocks.specs.Wanted.{IsWanted, IsWantedBranch, IsPlanOf, IsLinked
 pub record Stands (s : Setting) (plan : Plan) (variables : ℕ → ℕ) (entries : ℕ → VariableSet) (f : ℕ) (code : Actions) : Type 0 where
   pub wanted : Each (IsWanted plan s.copies entries) IsWantedBranch code
   pub right : AllByRecursion (IsRight (plan.home f) (variables f)) (lives code nowhere)
-  pub there : CodeAt s.code (plan.start f) (code_of plan variables f code nowhere 0 0 ++ leave_code (plan.home f) (Some (Number 0)))
-  pub small : plan.start f + length (code_of plan variables f code nowhere 0 0 ++ leave_code (plan.home f) (Some (Number 0))) < 2 ^ 29
+  pub there : CodeAt s.code (plan.start f) (code_of (is_short code) plan variables f code nowhere 0 0 ++ leave_code (plan.home f) (Some (Number 0)))
+  pub small : plan.start f + length (code_of (is_short code) plan variables f code nowhere 0 0 ++ leave_code (plan.home f) (Some (Number 0))) < 2 ^ 29
 
 -- then it does them, action by action, in at most 14 instructions an action, 46 a call and 6 more an argument
 abbrev pub CodeDoes : Type 0
@@ -63,4 +64,4 @@ pub record Begins (s : Setting) (plan : Plan) (entries : ℕ → VariableSet) (m
 abbrev pub CodeBegins : Type 0
 CodeBegins =
     (s : Setting) (plan : Plan) (variables : ℕ → ℕ) (entries : ℕ → VariableSet) (main frames : ℕ) → Fits s plan variables → IsLinked s plan variables entries → Begins s plan entries main frames
-    → Comes s 6 (opened_with plan.private) (Stands' plan (entries main) (record { function = main; env = (λ _. 0); frame = frames; waiting = [] }) (plan.start main))
+    → Comes s 8 (opened_with plan.private) (Stands' plan (entries main) (record { function = main; env = (λ _. 0); frame = frames; waiting = [] }) (plan.start main))

@@ -1,7 +1,7 @@
-// The words of instructions that blocks are made of, as binutils assembles them; behind each its disassembly.
+// The words of instructions that blocks are made of, as binutils and LLVM assemble them; behind each its disassembly.
 use dae_encode::{Inst, decode};
 
-const WORDS: [(u32, Inst); 73] = [
+const WORDS: [(u32, Inst); 111] = [
     (0x123452b7, Inst::Lui(5, 305_418_240)), // lui t0,0x12345
     (0xfffff437, Inst::Lui(8, -4096)), // lui s0,0xfffff
     (0x00001297, Inst::Auipc(5, 4096)), // auipc t0,0x1
@@ -74,6 +74,44 @@ const WORDS: [(u32, Inst); 73] = [
     (0x00112023, Inst::Sw(2, 1, 0)), // sw ra,0(sp)
     (0x05b12423, Inst::Sw(2, 27, 72)), // sw s11,72(sp)
     (0x8053a023, Inst::Sw(7, 5, -2048)), // sw t0,-2048(t2)
+    (0x04042293, Inst::Slti(5, 8, 64)), // slti t0,s0,64
+    (0x80042293, Inst::Slti(5, 8, -2048)), // slti t0,s0,-2048
+    (0x7ff43293, Inst::Sltiu(5, 8, 2047)), // sltiu t0,s0,2047
+    (0xfff43293, Inst::Sltiu(5, 8, -1)), // sltiu t0,s0,-1
+    (0x7ff4e413, Inst::Ori(8, 9, 2047)), // ori s0,s1,2047
+    (0x8004e413, Inst::Ori(8, 9, -2048)), // ori s0,s1,-2048
+    (0xfff4c413, Inst::Xori(8, 9, -1)), // xori s0,s1,-1
+    (0xffc4f413, Inst::Andi(8, 9, -4)), // andi s0,s1,-4
+    (0x80048413, Inst::Addi(8, 9, -2048)), // addi s0,s1,-2048
+    (0x7ff48413, Inst::Addi(8, 9, 2047)), // addi s0,s1,2047
+    (0xfff00e93, Inst::Addi(29, 0, -1)), // addi t4,zero,-1
+    (0x01f49413, Inst::Slli(8, 9, 31)), // slli s0,s1,31
+    (0x00049413, Inst::Slli(8, 9, 0)), // slli s0,s1,0
+    (0x41f4d413, Inst::Srai(8, 9, 31)), // srai s0,s1,31
+    (0x0014d413, Inst::Srli(8, 9, 1)), // srli s0,s1,1
+    (0x000101b7, Inst::Lui(3, 65_536)), // lui gp,0x10
+    (0xff348313, Inst::Addi(6, 9, -13)), // addi t1,s1,-13
+    (0xff148313, Inst::Addi(6, 9, -15)), // addi t1,s1,-15
+    (0xff048313, Inst::Addi(6, 9, -16)), // addi t1,s1,-16
+    (0x00436663, Inst::Bltu(6, 4, 12)), // bltu t1,tp,12
+    (0x7f020213, Inst::Addi(4, 4, 2032)), // addi tp,tp,2032
+    (0x0040006f, Inst::Jal(0, 4)), // jal zero,4
+    (0x7fdff06f, Inst::Jal(0, 1_048_572)), // jal zero,1048572
+    (0xffdff06f, Inst::Jal(0, -4)), // jal zero,-4
+    (0x8000006f, Inst::Jal(0, -1_048_576)), // jal zero,-1048576
+    (0x0000006f, Inst::Jal(0, 0)), // jal zero,0
+    (0x00028263, Inst::Beq(5, 0, 4)), // beq t0,zero,4
+    (0x7a9400e3, Inst::Beq(8, 9, 4000)), // beq s0,s1,4000
+    (0x7a0410e3, Inst::Bne(8, 0, 4000)), // bne s0,zero,4000
+    (0x00944463, Inst::Blt(8, 9, 8)), // blt s0,s1,8
+    (0x7a9440e3, Inst::Blt(8, 9, 4000)), // blt s0,s1,4000
+    (0x00645663, Inst::Bge(8, 6, 12)), // bge s0,t1,12
+    (0x7a8050e3, Inst::Bge(0, 8, 4000)), // bge zero,s0,4000
+    (0x7a9460e3, Inst::Bltu(8, 9, 4000)), // bltu s0,s1,4000
+    (0x00647263, Inst::Bgeu(8, 6, 4)), // bgeu s0,t1,4
+    (0x000e8463, Inst::Beq(29, 0, 8)), // beq t4,zero,8
+    (0x06810113, Inst::Addi(2, 2, 104)), // addi sp,sp,104
+    (0xf9810113, Inst::Addi(2, 2, -104)), // addi sp,sp,-104
     (0x00000073, Inst::Ecall), // ecall
 ];
 

@@ -67,7 +67,7 @@ const JOBS: [Job; 7] = [
             Put::Out(b"34"),
             Put::Out(b"\n"),
             Put::Note(b"ended 0\n"),
-            Put::Note(b"steps 30\n"),
+            Put::Note(b"steps 27\n"),
             Put::Note(b"memory 0: 00\n"),
         ],
         status: 0,

@@ -26,7 +26,8 @@ use Rattle.dae_ir.specs.declared.stream.Mark.{Mark}
 use Rattle.dae_ir.specs.declared.stream.Action.{Action}
 use Rattle.dae_ir.specs.declared.stream.Action.TheVariants.{Tell, Hear}
 use Rattle.dae_pair.proofs.Laws.{streams_are_small}
-use Rattle.dae_sides.specs.Sizes.{one_call, calls_in, most_words_in, most_of_functions, most_words}
+use Rattle.dae_blocks.specs.Sizes.{one_call, calls_in, most_words_in}
+use Rattle.dae_sides.specs.Sizes.{most_of_functions, most_words}
 use Rattle.dae_link.specs.Linked.{HasShortCode, IsTooLong}
 use Rattle.dae_generate.specs.Generated.{calls_of_form, words_of_functions, words_of_form, IsShort}
 

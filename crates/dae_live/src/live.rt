@@ -20,7 +20,8 @@ pub fn live_before_action(
     leaves: &LiveSet,
     skips: &LiveSet,
 ) -> Result<LiveSet, AllocError>
-    ensures { IfOk result (λ set. (n : VariableSet) → member set ≡ before action.now (member next) (ways n (member leaves.now) (member skips.now))) }
+    ensures { IfOk result (λ set. (n : VariableSet) → member set
+        ≡ before action.now (member next) (ways n (member leaves.now) (member skips.now))) }
 {
     let mut set = live_after_action(alloc, action, next, leaves, skips)?;
     set.remove_known(set_by(action));
@@ -35,7 +36,8 @@ fn live_after_action(
     leaves: &LiveSet,
     skips: &LiveSet,
 ) -> Result<LiveSet, AllocError>
-    ensures { IfOk result (λ set. (n : VariableSet) → member set ≡ after action.now (member next) (ways n (member leaves.now) (member skips.now))) }
+    ensures { IfOk result (λ set. (n : VariableSet) → member set
+        ≡ after action.now (member next) (ways n (member leaves.now) (member skips.now))) }
 {
     match action {
         Action::Break => leaves.copy(alloc),
@@ -50,7 +52,8 @@ pub fn live_with_branch(
     first: LiveSet,
     second: &LiveSet,
 ) -> Result<LiveSet, AllocError>
-    ensures { IfOk result (λ set. member set ≡ with_all (decided branch) (with_all (member first) (member second.now))) }
+    ensures { IfOk result (λ set. member set
+        ≡ with_all (decided branch) (with_all (member first) (member second.now))) }
 {
     let mut set = first;
     set.add_all(second)?;
@@ -66,7 +69,9 @@ fn live_before_step(
     leaves: &LiveSet,
     skips: &LiveSet,
 ) -> Result<LiveSet, AllocError>
-    ensures { IfOk result (λ set. (k : Actions) (n : VariableSet) → live k (ways n (member leaves.now) (member skips.now)) ≡ member next → member set ≡ live (step_onto step.now k) (ways n (member leaves.now) (member skips.now))) }
+    ensures { IfOk result (λ set. (k : Actions) (n : VariableSet)
+        → live k (ways n (member leaves.now) (member skips.now)) ≡ member next → member set
+        ≡ live (step_onto step.now k) (ways n (member leaves.now) (member skips.now))) }
 {
     match step {
         Step::Act(_, action) => live_before_action(alloc, action, next, leaves, skips),
@@ -93,7 +98,8 @@ pub fn live_before(
     leaves: &LiveSet,
     skips: &LiveSet,
 ) -> Result<LiveSet, AllocError>
-    ensures { IfOk result (λ set. member set ≡ live (actions_of steps.now) (ways (member next) (member leaves.now) (member skips.now))) }
+    ensures { IfOk result (λ set. member set
+        ≡ live (actions_of steps.now) (ways (member next) (member leaves.now) (member skips.now))) }
 {
     let mut set = next;
     for index in (0..steps.len()).rev() {
@@ -109,7 +115,8 @@ pub fn live_at_turn(
     step: &[Step],
     next: &LiveSet,
 ) -> Result<LiveSet, AllocError>
-    ensures { IfOk result (λ set. member set ≡ turn (actions_of body.now) (actions_of step.now) (member next.now)) }
+    ensures { IfOk result (λ set. member set
+        ≡ turn (actions_of body.now) (actions_of step.now) (member next.now)) }
 {
     let nothing = LiveSet::new(alloc);
     let again = live_before(alloc, step, LiveSet::new(alloc), next, &nothing)?;

@@ -19,7 +19,8 @@ fn add_operand(set: &mut LiveSet, operand: Operand) -> Result<(), AllocError>
 
 #[tactic(auto, using(crate::proofs::Several::all_of_two))]
 fn add_two(set: &mut LiveSet, left: Operand, right: Operand) -> Result<(), AllocError>
-    ensures { OnOk result (member set.new ≡ with_all (with_all (in_operand left) (in_operand right)) (member set.old)) }
+    ensures { OnOk result (member set.new
+        ≡ with_all (with_all (in_operand left) (in_operand right)) (member set.old)) }
 {
     add_operand(set, right)?;
     add_operand(set, left)
@@ -61,13 +62,15 @@ fn add_check(set: &mut LiveSet, check: Check) -> Result<(), AllocError>
 }
 
 fn add_argument(set: &mut LiveSet, argument: &Argument) -> Result<(), AllocError>
-    ensures { OnOk result (member set.new ≡ with_all (in_operand argument.now.operand) (member set.old)) }
+    ensures { OnOk result (member set.new
+        ≡ with_all (in_operand argument.now.operand) (member set.old)) }
 {
     add_operand(set, argument.operand)
 }
 
 fn add_arguments(set: &mut LiveSet, arguments: &[Argument]) -> Result<(), AllocError>
-    ensures { OnOk result (member set.new ≡ with_all (in_arguments arguments.now) (member set.old)) }
+    ensures { OnOk result (member set.new
+        ≡ with_all (in_arguments arguments.now) (member set.old)) }
 {
     for index in (0..arguments.len()).rev() {
         add_argument(set, &arguments[index])?;

@@ -87,7 +87,8 @@ impl LiveSet {
     #[tactic(auto, using(crate::proofs::Flags::set_where, crate::proofs::Flags::kept_where))]
     fn add_where(&mut self, variable: usize, flag: bool)
         requires { variable < length self.old }
-        ensures member { member self.new ≡ with_all (λ u. nat_eq u variable && flag) (member self.old) }
+        ensures member { member self.new ≡ with_all (λ u.
+            nat_eq u variable && flag) (member self.old) }
         ensures long { length self.new ≡ length self.old }
     {
         if flag {

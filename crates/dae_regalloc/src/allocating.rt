@@ -34,7 +34,8 @@ fn homes_by_variable(
     numbers: &Numbers,
     homes: &[Home],
 ) -> Result<Vec<Home>, AllocError>
-    ensures homes { IfOk result (λ table. (v : ℕ) → home_in table.items v ≡ numbered_home homes.now (number_in numbers.now v)) }
+    ensures homes { IfOk result (λ table. (v : ℕ) → home_in table.items v
+        ≡ numbered_home homes.now (number_in numbers.now v)) }
     ensures length { IfOk result (λ table. length table.items ≡ length numbers.now) }
 {
     let mut table = Vec::new(alloc);
@@ -48,10 +49,18 @@ fn homes_by_variable(
 /// so that two variables that are live at one place have different ones; and a register for each where around no place more
 /// than 18 are live. A variable that is live anywhere is among them.
 pub fn allocate(alloc: Global, parameters: u32, body: &[Step]) -> Result<Vec<Home>, AllocError>
-    ensures homes { IfOk result (λ homes. (variables : ℕ) → AreHomes variables (function_lives parameters (actions_of body.now)) (home_in homes.items)) }
-    ensures inside { IfOk result (λ homes. AllByRecursion (AreBelow (length homes.items)) (function_lives parameters (actions_of body.now))) }
-    ensures few { IfOk result (λ homes. (n : ℕ) → AllByRecursion (AreBelow n) (function_lives parameters (actions_of body.now)) → length homes.items ≤ n) }
-    ensures registers { IfOk result (λ homes. AreFew 18 (function_lives parameters (actions_of body.now)) → (v : ℕ) → IsRegister (home_in homes.items v)) }
+    ensures homes { IfOk result (λ homes. (variables : ℕ)
+        → AreHomes variables (function_lives parameters (actions_of body.now))
+        (home_in homes.items)) }
+    ensures inside { IfOk result (λ homes.
+        AllByRecursion (AreBelow (length homes.items)) (function_lives parameters
+        (actions_of body.now))) }
+    ensures few { IfOk result (λ homes. (n : ℕ)
+        → AllByRecursion (AreBelow n) (function_lives parameters (actions_of body.now))
+        → length homes.items ≤ n) }
+    ensures registers { IfOk result (λ homes.
+        AreFew 18 (function_lives parameters (actions_of body.now)) → (v : ℕ)
+        → IsRegister (home_in homes.items v)) }
 {
     let seen = spans_of(alloc, parameters, body)?;
     let homes = homes_of(alloc, seen.spans.as_slice())?;

@@ -54,7 +54,8 @@ impl Numbers {
     fn grow(&mut self, bound: usize) -> Result<(), AllocError>
         ensures same { OnOk result (number_in self.new ≡ number_in self.old) }
         ensures long { OnOk result (bound ≤ length self.new) }
-        ensures few { OnOk result ((n : ℕ) → length self.old ≤ n → bound ≤ n → length self.new ≤ n) }
+        ensures few { OnOk result ((n : ℕ) → length self.old ≤ n → bound ≤ n
+            → length self.new ≤ n) }
     {
         for _ in 0..bound.saturating_sub(self.inside.len()) {
             self.inside.push(None)?;
@@ -65,8 +66,10 @@ impl Numbers {
     /// The variable gets a number.
     #[tactic(auto, using(crate::proofs::Numbering::number_set))]
     pub fn put(&mut self, variable: u32, number: usize) -> Result<(), AllocError>
-        ensures number { OnOk result (number_in self.new ≡ with_number variable number (number_in self.old)) }
-        ensures few { OnOk result ((n : ℕ) → length self.old ≤ n → variable < n → length self.new ≤ n) }
+        ensures number { OnOk result (number_in self.new
+            ≡ with_number variable number (number_in self.old)) }
+        ensures few { OnOk result ((n : ℕ) → length self.old ≤ n → variable < n
+            → length self.new ≤ n) }
     {
         self.grow(variable as usize + 1)?;
         self.inside[variable as usize] = Some(number);

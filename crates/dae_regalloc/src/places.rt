@@ -25,7 +25,8 @@ fn live_at_action(alloc: Global, action: &Action, before: &LiveSet) -> Result<Li
 
 /// What is live at the entry of a function: what is live before its actions, and its parameters.
 fn live_at_entry(before: LiveSet, parameters: u32) -> Result<LiveSet, AllocError>
-    ensures { IfOk result (λ set. member set ≡ with_all (member before) (parameters_of parameters)) }
+    ensures { IfOk result (λ set. member set
+        ≡ with_all (member before) (parameters_of parameters)) }
 {
     let mut set = before;
     for parameter in 0..parameters {
@@ -43,7 +44,8 @@ fn see_step(
     leaves: &LiveSet,
     skips: &LiveSet,
 ) -> Result<LiveSet, AllocError>
-    ensures { IfOk result (λ set. ArePlacesOfStep step.now spans.old next leaves.now skips.now spans.new set) }
+    ensures { IfOk result (λ set.
+        ArePlacesOfStep step.now spans.old next leaves.now skips.now spans.new set) }
 {
     match step {
         Step::Act(_, action) => {
@@ -80,7 +82,9 @@ fn see_steps(
     leaves: &LiveSet,
     skips: &LiveSet,
 ) -> Result<LiveSet, AllocError>
-    ensures { IfOk result (λ set. ArePlacesOf (actions_of steps.now) (ways (member next) (member leaves.now) (member skips.now)) spans.old spans.new set) }
+    ensures { IfOk result (λ set.
+        ArePlacesOf (actions_of steps.now) (ways (member next) (member leaves.now)
+        (member skips.now)) spans.old spans.new set) }
 {
     let mut set = next;
     for index in (0..steps.len()).rev() {
@@ -91,7 +95,8 @@ fn see_steps(
 
 /// The spans over the places of a function with so many parameters.
 pub fn spans_of(alloc: Global, parameters: u32, body: &[Step]) -> Result<Spans, AllocError>
-    ensures { IfOk result (λ spans. AreSeen (function_lives parameters (actions_of body.now)) spans) }
+    ensures { IfOk result (λ spans.
+        AreSeen (function_lives parameters (actions_of body.now)) spans) }
 {
     let mut spans = Spans::new(alloc);
     let leaves = LiveSet::new(alloc);

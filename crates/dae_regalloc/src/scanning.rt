@@ -60,9 +60,11 @@ fn scanned(alloc: Global, spans: &[Span]) -> Result<Vec<Home>, AllocError>
 pub fn homes_of(alloc: Global, spans: &[Span]) -> Result<Vec<Home>, AllocError>
     requires order { AreInOrder 0 spans.now }
     ensures clear { IfOk result (λ homes. AreClear spans.now homes.items) }
-    ensures apart { IfOk result (λ homes. (places : List VariableSet) (home : ℕ → Home) → AreCovered places 0 home spans.now homes.items → AllByRecursion (AreApart home) places) }
+    ensures apart { IfOk result (λ homes. (places : List VariableSet) (home : ℕ → Home)
+        → AreCovered places 0 home spans.now homes.items → AllByRecursion (AreApart home) places) }
     ensures own { IfOk result (λ homes. AllZip IsOwnHome spans.now homes.items) }
-    ensures registers { IfOk result (λ homes. ((place : ℕ) → depth_at spans.now place ≤ 18) → NoSlot homes.items) }
+    ensures registers { IfOk result (λ homes. ((place : ℕ) → depth_at spans.now place ≤ 18)
+        → NoSlot homes.items) }
 {
     let homes = scanned(alloc, spans)?;
     Ok(homes)

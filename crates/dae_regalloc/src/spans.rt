@@ -41,7 +41,9 @@ impl Spans {
     /// A span comes to reach up to the next place.
     fn widen(&mut self, number: usize)
         requires { number < length self.old.spans.items }
-        ensures spans { (x : _) → slice_get self.old.spans.items number ≡ Some x → self.new.spans.items ≡ slice_set self.old.spans.items number (widened x self.old.places) }
+        ensures spans { (x : _) → slice_get self.old.spans.items number ≡ Some x
+            → self.new.spans.items
+            ≡ slice_set self.old.spans.items number (widened x self.old.places) }
         ensures numbers { self.new.numbers ≡ self.old.numbers }
         ensures places { self.new.places ≡ self.old.places }
     {
@@ -86,7 +88,8 @@ impl Spans {
 
     /// The next place is seen, where the variables of the set are live.
     pub fn see(&mut self, set: &LiveSet) -> Result<(), AllocError>
-        ensures { OnOk result ((places : List VariableSet) → AreSeen places self.old → AreSeen (member set.now ∷ places) self.new) }
+        ensures { OnOk result ((places : List VariableSet) → AreSeen places self.old
+            → AreSeen (member set.now ∷ places) self.new) }
     {
         self.see_variables(set)?;
         match self.places.checked_add(1) {

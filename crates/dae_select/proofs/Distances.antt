@@ -1,7 +1,7 @@
--- A jump's two immediates depend on its distance modulo 2 ^ 32 only.
+-- A jump's immediates depend on its distance modulo 2 ^ 32 only.
 use Rattle.std.proofs.Common.{◌≡◌, ℕ, ◌%◌, ◌^◌, refl, ap, sym, arith}
 use Rattle.dae_base.specs.Words.{signed}
-use Rattle.dae_blocks.specs.Blocks.{upper, lower, jump_by}
+use Rattle.dae_blocks.specs.Blocks.{upper, lower, near_offset, jump_by}
 
 upper_of : (w : ℕ) → upper (w % 2 ^ 32) ≡ upper w
 unfolding upper
@@ -13,3 +13,10 @@ lower_of w = (let e : w % 2 ^ 32 % 2 ^ 12 ≡ w % 2 ^ 12 = omega arith in rw e r
 
 pub jump_of : (v w : ℕ) → v % 2 ^ 32 ≡ w % 2 ^ 32 → jump_by v ≡ jump_by w
 jump_of v w e = rw (sym (upper_of v), sym (lower_of v), e, upper_of w, lower_of w) refl
+
+near_offset_of : (w : ℕ) → near_offset (w % 2 ^ 32) ≡ near_offset w
+unfolding near_offset
+near_offset_of w = (let e : w % 2 ^ 32 % 2 ^ 21 ≡ w % 2 ^ 21 = omega arith in rw e refl)
+
+pub near_of : (v w : ℕ) → v % 2 ^ 32 ≡ w % 2 ^ 32 → near_offset v ≡ near_offset w
+near_of v w e = rw (sym (near_offset_of v), e, near_offset_of w) refl

@@ -1,5 +1,7 @@
+mod Counted
 mod Distances
 mod Listed
 mod Stacked
 mod Sizes
 mod InFront
+mod Powers

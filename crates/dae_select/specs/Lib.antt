@@ -2,3 +2,4 @@ pub mod Tables
 pub mod Layouts
 pub mod Growing
 pub mod Grown
+pub mod Counting

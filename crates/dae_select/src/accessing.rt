@@ -1,12 +1,12 @@
 // The blocks of accesses to queues and memory, of printing and of halting.
 
 ghost use Rattle.std.specs.Prelude.{◌≡◌, ◌++◌, ◌∷◌, [], OnOk};
-ghost use Rattle.dae_blocks.specs.Blocks.{source, fetch, issue_code, address_code, take_code, push_code, call_number, system_code, hear_code, stop_code};
+ghost use Rattle.dae_blocks.specs.Blocks.{source, fetch, issue_code, address_code, take_code, call_number, system_code, hear_code, stop_code};
 ghost use Rattle.dae_select.specs.Layouts.{is_a};
 ghost use Rattle.dae_walks.specs.Homes.{home_in};
 ghost use Rattle.dae_select.specs.Tables.{IsNear, AreNear};
 
-use crate::fetching::{fetch, keep, register_or, source};
+use crate::fetching::{fetch, keep, move_code, register_or, source};
 use dae_base::{LoadKind, Side, Width};
 use dae_encode::Inst;
 use dae_ir::Operand;
@@ -35,7 +35,8 @@ pub fn issue_code(
     operand: Operand,
 ) -> Result<(), AllocError>
     requires { AreNear homes.now }
-    ensures { OnOk result (code.new.items ≡ code.old.items ++ (fetch (home_in homes.now) 5 operand ++ issue_code kind queue (source (home_in homes.now) 5 operand) ∷ [])) }
+    ensures { OnOk result (code.new.items ≡ code.old.items ++ (fetch (home_in homes.now) 5 operand
+        ++ issue_code kind queue (source (home_in homes.now) 5 operand) ∷ [])) }
 {
     fetch(code, homes, 5, operand)?;
     code.push(issue_inst(kind, queue, source(homes, 5, operand)))?;
@@ -60,7 +61,8 @@ pub fn address_code(
     operand: Operand,
 ) -> Result<(), AllocError>
     requires { AreNear homes.now }
-    ensures { OnOk result (code.new.items ≡ code.old.items ++ (fetch (home_in homes.now) 5 operand ++ address_code width (source (home_in homes.now) 5 operand) ∷ [])) }
+    ensures { OnOk result (code.new.items ≡ code.old.items ++ (fetch (home_in homes.now) 5 operand
+        ++ address_code width (source (home_in homes.now) 5 operand) ∷ [])) }
 {
     fetch(code, homes, 5, operand)?;
     code.push(address_inst(width, source(homes, 5, operand)))?;
@@ -74,21 +76,6 @@ pub fn take_code(code: &mut Vec<Inst>, queue: u8, home: Home) -> Result<(), Allo
 {
     code.push(Inst::Addi(register_or(5, home), queue, 0))?;
     keep(code, home)
-}
-
-/// An operand is pushed.
-pub fn push_code(
-    code: &mut Vec<Inst>,
-    homes: &[Home],
-    queue: u8,
-    operand: Operand,
-) -> Result<(), AllocError>
-    requires { AreNear homes.now }
-    ensures { OnOk result (code.new.items ≡ code.old.items ++ push_code (home_in homes.now) queue operand) }
-{
-    fetch(code, homes, 5, operand)?;
-    code.push(Inst::Addi(queue, source(homes, 5, operand), 0))?;
-    Ok(())
 }
 
 /// The number of the environment call that prints so.
@@ -111,14 +98,11 @@ pub fn system_code(
     operand: Operand,
 ) -> Result<(), AllocError>
     requires { AreNear homes.now }
-    ensures { OnOk result (code.new.items ≡ code.old.items ++ system_code (home_in homes.now) number operand) }
+    ensures { OnOk result (code.new.items ≡ code.old.items
+        ++ system_code (home_in homes.now) number operand) }
 {
-    fetch(code, homes, 5, operand)?;
-    code.extend_from_slice(&[
-        Inst::Addi(10, source(homes, 5, operand), 0),
-        Inst::Addi(17, 0, i32::from(number)),
-        Inst::Ecall,
-    ])
+    move_code(code, homes, 10, operand)?;
+    code.extend_from_slice(&[Inst::Addi(17, 0, i32::from(number)), Inst::Ecall])
 }
 
 /// A message is taken, and for a code other than 0 the processor halts.
@@ -144,7 +128,8 @@ pub fn stop_code(
     status: Option<Operand>,
 ) -> Result<(), AllocError>
     requires { AreNear homes.now }
-    ensures { OnOk result (code.new.items ≡ code.old.items ++ stop_code (is_a side) (home_in homes.now) status) }
+    ensures { OnOk result (code.new.items ≡ code.old.items
+        ++ stop_code (is_a side) (home_in homes.now) status) }
 {
     match (side, status) {
         (Side::A, _) => code.extend_from_slice(&[Inst::Ecall]),

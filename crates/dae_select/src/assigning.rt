@@ -1,14 +1,17 @@
 // The code of values: of what an action sets a variable to.
 
 ghost use Rattle.std.specs.Prelude.{◌≡◌, ◌++◌, OnOk};
-ghost use Rattle.dae_blocks.specs.Blocks.{operation_code, extend_code, compare_code, test_code, value_code, register_or, keep};
+ghost use Rattle.dae_blocks.specs.Blocks.{operation_code, combine_registers, binary_code, extend_code, compare_code, compare_registers, compare_operands, test_code, frame_code, value_code, register_or, keep};
 ghost use Rattle.dae_walks.specs.Homes.{home_in};
 ghost use Rattle.dae_select.specs.Tables.{AreNear};
 
-use crate::fetching::{fetch, home_of, keep, number_code, register_or, source};
+use crate::fetching::{
+    fetch, home_of, is_immediate, keep, lower, move_code, number_code, register_or, source,
+};
+use crate::numbers::{compare_number, exchanged, immediate, takes_number};
 use dae_base::LoadKind;
 use dae_encode::Inst;
-use dae_ir::{Test, Value};
+use dae_ir::{Operand, Test, Value};
 use dae_meaning::{Comparison, Operator};
 use dae_walks::Home;
 use std::alloc::AllocError;
@@ -30,6 +33,69 @@ fn operation(operator: Operator, target: u8, left: u8, right: u8) -> Inst
         Operator::ShiftLeft => Inst::Sll(target, left, right),
         Operator::ShiftRightSigned => Inst::Sra(target, left, right),
         Operator::ShiftRightUnsigned => Inst::Srl(target, left, right),
+    }
+}
+
+/// An operation on two registers.
+fn combine_registers(
+    code: &mut Vec<Inst>,
+    homes: &[Home],
+    target: u8,
+    operator: Operator,
+    left: Operand,
+    right: Operand,
+) -> Result<(), AllocError>
+    requires { AreNear homes.now }
+    ensures { OnOk result (code.new.items ≡ code.old.items
+        ++ combine_registers (home_in homes.now) target operator left right) }
+{
+    fetch(code, homes, 5, left)?;
+    fetch(code, homes, 6, right)?;
+    code.extend_from_slice(&[operation(
+        operator,
+        target,
+        source(homes, 5, left),
+        source(homes, 6, right),
+    )])
+}
+
+/// An operation, with a number as an immediate where it can be one.
+fn binary_code(
+    code: &mut Vec<Inst>,
+    homes: &[Home],
+    target: u8,
+    operator: Operator,
+    left: Operand,
+    right: Operand,
+) -> Result<(), AllocError>
+    requires { AreNear homes.now }
+    ensures { OnOk result (code.new.items ≡ code.old.items
+        ++ binary_code (home_in homes.now) target operator left right) }
+{
+    match right {
+        Operand::Number(number) => {
+            match immediate(operator, target, source(homes, 5, left), number) {
+                Some(inst) => {
+                    fetch(code, homes, 5, left)?;
+                    code.extend_from_slice(&[inst])
+                }
+                None => combine_registers(code, homes, target, operator, left, right),
+            }
+        }
+        Operand::Variable(_) => match left {
+            Operand::Number(number) => {
+                match exchanged(operator, target, source(homes, 5, right), number) {
+                    Some(inst) => {
+                        fetch(code, homes, 5, right)?;
+                        code.extend_from_slice(&[inst])
+                    }
+                    None => combine_registers(code, homes, target, operator, left, right),
+                }
+            }
+            Operand::Variable(_) => {
+                combine_registers(code, homes, target, operator, left, right)
+            }
+        },
     }
 }
 
@@ -61,7 +127,8 @@ fn compare(
     left: u8,
     right: u8,
 ) -> Result<(), AllocError>
-    ensures { OnOk result (code.new.items ≡ code.old.items ++ compare_code comparison target left right) }
+    ensures { OnOk result (code.new.items ≡ code.old.items
+        ++ compare_code comparison target left right) }
 {
     match comparison {
         Comparison::Equal => code.extend_from_slice(&[
@@ -85,15 +152,16 @@ fn compare(
     }
 }
 
-/// A register gets 1 where the test holds, and else 0.
-pub fn test_code(
+/// A comparison of two registers.
+fn compare_registers(
     code: &mut Vec<Inst>,
     homes: &[Home],
     target: u8,
     test: Test,
 ) -> Result<(), AllocError>
     requires { AreNear homes.now }
-    ensures { OnOk result (code.new.items ≡ code.old.items ++ test_code (home_in homes.now) target test) }
+    ensures { OnOk result (code.new.items ≡ code.old.items
+        ++ compare_registers (home_in homes.now) target test.comparison test.left test.right) }
 {
     fetch(code, homes, 5, test.left)?;
     fetch(code, homes, 6, test.right)?;
@@ -106,6 +174,43 @@ pub fn test_code(
     )
 }
 
+/// A register gets 1 where the test holds, and else 0.
+pub fn test_code(
+    code: &mut Vec<Inst>,
+    homes: &[Home],
+    target: u8,
+    test: Test,
+) -> Result<(), AllocError>
+    requires { AreNear homes.now }
+    ensures { OnOk result (code.new.items ≡ code.old.items
+        ++ test_code (home_in homes.now) target test) }
+{
+    match test.right {
+        Operand::Variable(_) => compare_registers(code, homes, target, test),
+        Operand::Number(number) => {
+            if takes_number(test.comparison, number) {
+                fetch(code, homes, 5, test.left)?;
+                let register = source(homes, 5, test.left);
+                compare_number(code, test.comparison, target, register, number)
+            } else {
+                compare_registers(code, homes, target, test)
+            }
+        }
+    }
+}
+
+/// The address of a byte of the frame in common memory.
+fn frame_code(code: &mut Vec<Inst>, target: u8, offset: u32) -> Result<(), AllocError>
+    ensures { OnOk result (code.new.items ≡ code.old.items ++ frame_code target offset) }
+{
+    if is_immediate(offset) {
+        code.extend_from_slice(&[Inst::Addi(target, 3, lower(offset))])
+    } else {
+        number_code(code, 5, offset)?;
+        code.extend_from_slice(&[Inst::Add(target, 3, 5)])
+    }
+}
+
 fn value_code(
     code: &mut Vec<Inst>,
     homes: &[Home],
@@ -113,32 +218,20 @@ fn value_code(
     value: Value,
 ) -> Result<(), AllocError>
     requires { AreNear homes.now }
-    ensures { OnOk result (code.new.items ≡ code.old.items ++ value_code (home_in homes.now) target value) }
+    ensures { OnOk result (code.new.items ≡ code.old.items
+        ++ value_code (home_in homes.now) target value) }
 {
     match value {
-        Value::Same(operand) => {
-            fetch(code, homes, 5, operand)?;
-            code.extend_from_slice(&[Inst::Addi(target, source(homes, 5, operand), 0)])
-        }
+        Value::Same(operand) => move_code(code, homes, target, operand),
         Value::Extended(kind, operand) => {
             fetch(code, homes, 5, operand)?;
             extend(code, kind, target, source(homes, 5, operand))
         }
         Value::Binary(operator, left, right) => {
-            fetch(code, homes, 5, left)?;
-            fetch(code, homes, 6, right)?;
-            code.extend_from_slice(&[operation(
-                operator,
-                target,
-                source(homes, 5, left),
-                source(homes, 6, right),
-            )])
+            binary_code(code, homes, target, operator, left, right)
         }
         Value::Holds(test) => test_code(code, homes, target, test),
-        Value::FrameAddress(offset) => {
-            number_code(code, 5, offset)?;
-            code.extend_from_slice(&[Inst::Add(target, 3, 5)])
-        }
+        Value::FrameAddress(offset) => frame_code(code, target, offset),
     }
 }
 
@@ -150,7 +243,9 @@ pub fn set_code(
     value: Value,
 ) -> Result<(), AllocError>
     requires { AreNear homes.now }
-    ensures { OnOk result (code.new.items ≡ code.old.items ++ (value_code (home_in homes.now) (register_or 5 (home_in homes.now variable)) value ++ keep (home_in homes.now variable))) }
+    ensures { OnOk result (code.new.items ≡ code.old.items
+        ++ (value_code (home_in homes.now) (register_or 5 (home_in homes.now variable)) value
+        ++ keep (home_in homes.now variable))) }
 {
     let home = home_of(homes, variable);
     value_code(code, homes, register_or(5, home), value)?;

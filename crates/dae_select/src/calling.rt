@@ -9,10 +9,11 @@ ghost use Rattle.dae_live.specs.Members.{member};
 ghost use Rattle.dae_walks.specs.Homes.{kept_at, home_in};
 
 use crate::fetching::{
-    fetch, home_of, keep, load_code, number_code, register_or, source, store_code,
+    fetch, home_of, keep, load_code, move_code, register_or, source, store_code,
 };
 use crate::jumping::enter_code;
 use crate::layouts::Layouts;
+use crate::numbers::{less_code, more_code};
 use dae_base::Side;
 use dae_encode::Inst;
 use dae_ir::{Argument, Operand};
@@ -60,7 +61,8 @@ fn argument_code(
     requires near { AreNear homes.now }
     requires homes { home_in homes.now ≡ (plan_of layouts.now).home function }
     requires small { AreSmall layouts.now }
-    ensures { OnOk result (code.new.items ≡ code.old.items ++ argument_code (plan_of layouts.now) function callee argument) }
+    ensures { OnOk result (code.new.items ≡ code.old.items
+        ++ argument_code (plan_of layouts.now) function callee argument) }
 {
     fetch(code, homes, 5, argument.operand)?;
     let place = waits_at(layouts.home(callee, argument.parameter));
@@ -80,7 +82,8 @@ fn arguments_code(
     requires near { AreNear homes.now }
     requires homes { home_in homes.now ≡ (plan_of layouts.now).home function }
     requires small { AreSmall layouts.now }
-    ensures { OnOk result (code.new.items ≡ code.old.items ++ arguments_code (plan_of layouts.now) function callee arguments.now) }
+    ensures { OnOk result (code.new.items ≡ code.old.items
+        ++ arguments_code (plan_of layouts.now) function callee arguments.now) }
 {
     for index in (0..arguments.len()).rev() {
         argument_code(code, layouts, function, homes, callee, arguments[index])?;
@@ -89,7 +92,8 @@ fn arguments_code(
 }
 
 fn is_live_in(homes: &[Home], live: &LiveSet, register: u8, variable: u32) -> bool
-    ensures { result ≡ (member live.now variable && is_register register (home_in homes.now variable)) }
+    ensures { result
+        ≡ (member live.now variable && is_register register (home_in homes.now variable)) }
 {
     match home_of(homes, variable) {
         Home::Register(other) => live.contains(variable) && register == other,
@@ -99,7 +103,8 @@ fn is_live_in(homes: &[Home], live: &LiveSet, register: u8, variable: u32) -> bo
 
 /// Whether a live variable is in the register.
 fn is_home_of(homes: &[Home], variables: u32, live: &LiveSet, register: u8) -> bool
-    ensures { result ≡ some_below variables (λ v. member live.now v && is_register register (home_in homes.now v)) }
+    ensures { result ≡ some_below variables (λ v.
+        member live.now v && is_register register (home_in homes.now v)) }
 {
     for variable in 0..variables {
         if is_live_in(homes, live, register, variable) {
@@ -116,7 +121,8 @@ fn registers_among(
     live: &LiveSet,
     registers: &[u8],
 ) -> Result<Vec<u8>, AllocError>
-    ensures { IfOk result (λ found. found.items ≡ filtered (λ r. some_below variables (λ v. member live.now v && is_register r (home_in homes.now v))) registers.now) }
+    ensures { IfOk result (λ found. found.items ≡ filtered (λ r. some_below variables (λ v.
+        member live.now v && is_register r (home_in homes.now v))) registers.now) }
 {
     let mut found = Vec::new(alloc);
     for register in registers {
@@ -134,7 +140,8 @@ fn registers_in(
     variables: u32,
     live: &LiveSet,
 ) -> Result<Vec<u8>, AllocError>
-    ensures { IfOk result (λ registers. registers.items ≡ registers_in (home_in homes.now) variables (member live.now)) }
+    ensures { IfOk result (λ registers. registers.items
+        ≡ registers_in (home_in homes.now) variables (member live.now)) }
 {
     registers_among(alloc, homes, variables, live, &HOME_REGISTERS)
 }
@@ -164,28 +171,28 @@ fn low_word(frame: u64) -> u32
     (frame % 4_294_967_296) as u32
 }
 
+/// The frames of the function that is called follow the caller's; on A the call is one deeper.
 fn deeper_code(code: &mut Vec<Inst>, layouts: &Layouts, function: u32) -> Result<(), AllocError>
     requires { AreSmall layouts.now }
-    ensures { OnOk result (code.new.items ≡ code.old.items ++ deeper_code (plan_of layouts.now) function) }
+    ensures { OnOk result (code.new.items ≡ code.old.items
+        ++ deeper_code (plan_of layouts.now) function) }
 {
-    number_code(code, 5, low_word(layouts.frame(function)))?;
-    code.push(Inst::Add(3, 3, 5))?;
-    number_code(code, 5, 4 * (19 + layouts.variables(function)))?;
-    code.push(Inst::Add(2, 2, 5))?;
+    more_code(code, 3, low_word(layouts.frame(function)))?;
+    more_code(code, 2, 4 * (19 + layouts.variables(function)))?;
     match layouts.side {
         Side::A => code.extend_from_slice(&[Inst::Addi(10, 10, 1)]),
         Side::E => Ok(()),
     }
 }
 
+/// The frames are given up again.
 fn back_code(code: &mut Vec<Inst>, layouts: &Layouts, function: u32) -> Result<(), AllocError>
     requires { AreSmall layouts.now }
-    ensures { OnOk result (code.new.items ≡ code.old.items ++ back_code (plan_of layouts.now) function) }
+    ensures { OnOk result (code.new.items ≡ code.old.items
+        ++ back_code (plan_of layouts.now) function) }
 {
-    number_code(code, 5, low_word(layouts.frame(function)))?;
-    code.push(Inst::Sub(3, 3, 5))?;
-    number_code(code, 5, 4 * (19 + layouts.variables(function)))?;
-    code.push(Inst::Sub(2, 2, 5))?;
+    less_code(code, 3, low_word(layouts.frame(function)))?;
+    less_code(code, 2, 4 * (19 + layouts.variables(function)))?;
     match layouts.side {
         Side::A => code.extend_from_slice(&[Inst::Addi(10, 10, -1)]),
         Side::E => Ok(()),
@@ -198,7 +205,8 @@ fn result_code(
     variable: Option<u32>,
 ) -> Result<(), AllocError>
     requires { AreNear homes.now }
-    ensures { OnOk result (code.new.items ≡ code.old.items ++ result_code (home_in homes.now) variable) }
+    ensures { OnOk result (code.new.items ≡ code.old.items
+        ++ result_code (home_in homes.now) variable) }
 {
     match variable {
         None => Ok(()),
@@ -231,7 +239,10 @@ pub fn call_code(
     requires near { AreNear homes.now }
     requires homes { home_in homes.now ≡ (plan_of layouts.now).home function }
     requires small { AreSmall layouts.now }
-    ensures { OnOk result (code.new.items ≡ code.old.items ++ call_code (plan_of layouts.now) (variables_of layouts.now) function callee.result callee.function arguments.now (member live.now)) }
+    ensures { OnOk result (code.new.items ≡ code.old.items
+        ++ call_code (plan_of layouts.now)
+        (variables_of layouts.now) function callee.result callee.function arguments.now
+        (member live.now)) }
 {
     arguments_code(code, layouts, function, homes, callee.function, arguments)?;
     let registers = registers_in(alloc, homes, layouts.variables(function), live)?;
@@ -250,17 +261,14 @@ pub fn leave_code(
     answer: Option<Operand>,
 ) -> Result<(), AllocError>
     requires { AreNear homes.now }
-    ensures { OnOk result (code.new.items ≡ code.old.items ++ leave_code (home_in homes.now) answer) }
+    ensures { OnOk result (code.new.items ≡ code.old.items
+        ++ leave_code (home_in homes.now) answer) }
 {
     match answer {
         None => code.extend_from_slice(&[Inst::Lw(1, 2, 0), Inst::Jalr(0, 1, 0)]),
         Some(operand) => {
-            fetch(code, homes, 5, operand)?;
-            code.extend_from_slice(&[
-                Inst::Addi(6, source(homes, 5, operand), 0),
-                Inst::Lw(1, 2, 0),
-                Inst::Jalr(0, 1, 0),
-            ])
+            move_code(code, homes, 6, operand)?;
+            code.extend_from_slice(&[Inst::Lw(1, 2, 0), Inst::Jalr(0, 1, 0)])
         }
     }
 }
@@ -275,7 +283,8 @@ pub fn entry_code(
     live: &LiveSet,
 ) -> Result<(), AllocError>
     requires { home_in homes.now ≡ (plan_of layouts.now).home function }
-    ensures { OnOk result (code.new.items ≡ code.old.items ++ entry_code (plan_of layouts.now) (variables_of layouts.now) function (member live.now)) }
+    ensures { OnOk result (code.new.items ≡ code.old.items
+        ++ entry_code (plan_of layouts.now) (variables_of layouts.now) function (member live.now)) }
 {
     code.push(Inst::Sw(2, 1, 0))?;
     let registers = registers_in(alloc, homes, layouts.variables(function), live)?;

@@ -50,25 +50,25 @@ fn room_code(code: &mut Vec<Inst>, most: u32) -> Result<(), AllocError>
     fail_code(code, Side::A, 4)
 }
 
+/// The address that an operand is must be good for an access of a width. From the last byte of the access 16 are taken away, and
+/// what is left is compared with the addresses that common memory has.
 fn place_code(
     code: &mut Vec<Inst>,
     homes: &[Home],
-    memory: u32,
     width: Width,
     operand: Operand,
 ) -> Result<(), AllocError>
     requires { AreNear homes.now }
-    ensures { OnOk result (code.new.items ≡ code.old.items ++ place_code (home_in homes.now) memory width operand) }
+    ensures { OnOk result (code.new.items ≡ code.old.items
+        ++ place_code (home_in homes.now) width operand) }
 {
     fetch(code, homes, 5, operand)?;
     let register = source(homes, 5, operand);
     align_code(code, width, register)?;
-    code.push(Inst::Addi(6, register, -16))?;
-    let starts = memory
-        .saturating_sub(u32::from(width.bytes()))
-        .saturating_sub(15);
-    number_code(code, 7, starts)?;
-    code.push(Inst::Bltu(6, 7, 12))?;
+    code.extend_from_slice(&[
+        Inst::Addi(6, register, i32::from(width.bytes()) - 17),
+        Inst::Bltu(6, 4, 12),
+    ])?;
     fail_code(code, Side::A, 2)
 }
 
@@ -79,7 +79,8 @@ fn zero_code(
     operand: Operand,
 ) -> Result<(), AllocError>
     requires { AreNear homes.now }
-    ensures { OnOk result (code.new.items ≡ code.old.items ++ zero_code (is_a side) (home_in homes.now) operand) }
+    ensures { OnOk result (code.new.items ≡ code.old.items
+        ++ zero_code (is_a side) (home_in homes.now) operand) }
 {
     fetch(code, homes, 5, operand)?;
     let over = match side {
@@ -106,7 +107,8 @@ fn call_room_code(
     own: u64,
     next: u64,
 ) -> Result<(), AllocError>
-    ensures { OnOk result (code.new.items ≡ code.old.items ++ call_room_code memory limit own next) }
+    ensures { OnOk result (code.new.items ≡ code.old.items
+        ++ call_room_code memory limit own next) }
 {
     let frames = own.saturating_add(next);
     if u64::from(memory) < frames {
@@ -136,10 +138,11 @@ pub fn check_code(
 ) -> Result<(), AllocError>
     requires near { AreNear homes.now }
     requires homes { home_in homes.now ≡ (plan_of layouts.now).home function }
-    ensures { OnOk result (code.new.items ≡ code.old.items ++ check_code (plan_of layouts.now) function check) }
+    ensures { OnOk result (code.new.items ≡ code.old.items
+        ++ check_code (plan_of layouts.now) function check) }
 {
     match check {
-        Check::Place(width, operand) => place_code(code, homes, layouts.memory, width, operand),
+        Check::Place(width, operand) => place_code(code, homes, width, operand),
         Check::Zero(operand) => zero_code(code, layouts.side, homes, operand),
         Check::Room(callee) => call_room_code(
             code,

@@ -1,7 +1,7 @@
 // How numbers, words of the private frame and operands come into registers, and how results go home.
 
 ghost use Rattle.std.specs.Prelude.{◌≡◌, ℕ, ◌<◌, ◌^◌, ◌*◌, ◌+◌, ◌++◌, length, OnOk};
-ghost use Rattle.dae_blocks.specs.Blocks.{upper, lower, number_code, load_code, store_code, source, register_or, fetch, fetch_home, keep};
+ghost use Rattle.dae_blocks.specs.Blocks.{upper, lower, is_immediate, number_code, load_code, store_code, source, register_or, fetch, fetch_home, move_code, keep};
 ghost use Rattle.dae_walks.specs.Homes.{home_in};
 ghost use Rattle.dae_select.specs.Tables.{IsNear, AreNear};
 
@@ -28,12 +28,22 @@ pub fn lower(word: u32) -> i32
     if low < 2048 { low } else { low - 4096 }
 }
 
+/// Whether the immediate of an instruction can be this number: as a signed one it has twelve bits.
+#[tactic(auto, unfolding(dae_blocks::specs::Blocks::is_immediate))]
+pub fn is_immediate(number: u32) -> bool
+    ensures { result ≡ is_immediate number }
+{
+    number.wrapping_add(2048) < 4096
+}
+
 /// A number goes into a register.
 pub fn number_code(code: &mut Vec<Inst>, register: u8, number: u32) -> Result<(), AllocError>
     ensures { OnOk result (code.new.items ≡ code.old.items ++ number_code register number) }
 {
-    if number < 2048 {
-        code.extend_from_slice(&[Inst::Addi(register, 0, number as i32)])
+    if is_immediate(number) {
+        code.extend_from_slice(&[Inst::Addi(register, 0, lower(number))])
+    } else if number % 4096 == 0 {
+        code.extend_from_slice(&[Inst::Lui(register, upper(number))])
     } else {
         code.extend_from_slice(&[
             Inst::Lui(register, upper(number)),
@@ -85,12 +95,13 @@ pub fn home_of(homes: &[Home], variable: u32) -> Home
     }
 }
 
-/// The register that an operand is in behind its fetching.
+/// The register that an operand is in behind its fetching. The number 0 is in x0.
 pub fn source(homes: &[Home], register: u8, operand: Operand) -> u8
     ensures { result ≡ source (home_in homes.now) register operand }
 {
     match operand {
         Operand::Variable(variable) => register_or(register, home_of(homes, variable)),
+        Operand::Number(0) => 0,
         Operand::Number(_) => register,
     }
 }
@@ -113,10 +124,12 @@ pub fn fetch(
     operand: Operand,
 ) -> Result<(), AllocError>
     requires { AreNear homes.now }
-    ensures { OnOk result (code.new.items ≡ code.old.items ++ fetch (home_in homes.now) register operand) }
+    ensures { OnOk result (code.new.items ≡ code.old.items
+        ++ fetch (home_in homes.now) register operand) }
 {
     match operand {
         Operand::Variable(variable) => fetch_home(code, register, home_of(homes, variable)),
+        Operand::Number(0) => Ok(()),
         Operand::Number(number) => number_code(code, register, number),
     }
 }
@@ -128,6 +141,36 @@ fn fetch_home(code: &mut Vec<Inst>, register: u8, home: Home) -> Result<(), Allo
     match home {
         Home::Register(_) => Ok(()),
         Home::Slot(slot) => load_code(code, register, 19 + slot),
+    }
+}
+
+/// An operand goes into a register, which may stand for a queue: only the last instruction writes it.
+pub fn move_code(
+    code: &mut Vec<Inst>,
+    homes: &[Home],
+    target: u8,
+    operand: Operand,
+) -> Result<(), AllocError>
+    requires { AreNear homes.now }
+    ensures { OnOk result (code.new.items ≡ code.old.items
+        ++ move_code (home_in homes.now) target operand) }
+{
+    match operand {
+        Operand::Variable(variable) => {
+            let home = home_of(homes, variable);
+            fetch_home(code, 5, home)?;
+            code.extend_from_slice(&[Inst::Addi(target, register_or(5, home), 0)])
+        }
+        Operand::Number(number) => {
+            if is_immediate(number) {
+                code.extend_from_slice(&[Inst::Addi(target, 0, lower(number))])
+            } else {
+                code.extend_from_slice(&[
+                    Inst::Lui(5, upper(number)),
+                    Inst::Addi(target, 5, lower(number)),
+                ])
+            }
+        }
     }
 }
 

@@ -5,11 +5,13 @@ ghost use Rattle.dae_walks.specs.Live.{live, nowhere};
 ghost use Rattle.dae_live.specs.Members.{member};
 ghost use Rattle.dae_ir.specs.Streams.{actions_of};
 ghost use Rattle.dae_blocks.specs.Code.{entry_code, function_code};
+ghost use Rattle.dae_blocks.specs.Sizes.{is_short};
 ghost use Rattle.dae_select.specs.Grown.{no_code};
 ghost use Rattle.dae_select.specs.Growing.{marked_code, function_places};
 ghost use Rattle.dae_select.specs.Layouts.{plan_of, variables_of, AreSmall};
 
 use crate::calling::{entry_code, leave_code};
+use crate::counting::is_short;
 use crate::growing::{GrowingCode, PlacedWord};
 use crate::layouts::Layouts;
 use crate::walking::{Exits, list_code};
@@ -28,7 +30,9 @@ fn body_code(
 ) -> Result<LiveSet, AllocError>
     requires small { AreSmall layouts.now }
     requires empty { code.old ≡ no_code }
-    ensures code { OnOk result (code.new ≡ marked_code (plan_of layouts.now) (variables_of layouts.now) function (actions_of body.now) nowhere 0 0) }
+    ensures code { OnOk result (code.new
+        ≡ marked_code (is_short (actions_of body.now)) (plan_of layouts.now)
+        (variables_of layouts.now) function (actions_of body.now) nowhere 0 0) }
     ensures live { IfOk result (λ set. member set ≡ live (actions_of body.now) nowhere) }
 {
     let leaves = LiveSet::new(alloc);
@@ -46,6 +50,7 @@ fn body_code(
         layouts,
         function,
         layouts.homes(function),
+        is_short(body),
         body,
         next,
         &exits,
@@ -68,9 +73,15 @@ pub fn function_code(
     body: &[Step],
 ) -> Result<FunctionCode, AllocError>
     requires { AreSmall layouts.now }
-    ensures code { IfOk result (λ made. made.code.items ≡ function_code (plan_of layouts.now) (variables_of layouts.now) function (actions_of body.now)) }
-    ensures entry { IfOk result (λ made. made.entry ≡ length (entry_code (plan_of layouts.now) (variables_of layouts.now) function (live (actions_of body.now) nowhere))) }
-    ensures places { IfOk result (λ made. made.places.items ≡ function_places (plan_of layouts.now) (variables_of layouts.now) function (actions_of body.now)) }
+    ensures code { IfOk result (λ made. made.code.items
+        ≡ function_code (plan_of layouts.now) (variables_of layouts.now) function
+        (actions_of body.now)) }
+    ensures entry { IfOk result (λ made. made.entry
+        ≡ length (entry_code (plan_of layouts.now) (variables_of layouts.now) function (live
+        (actions_of body.now) nowhere))) }
+    ensures places { IfOk result (λ made. made.places.items
+        ≡ function_places (plan_of layouts.now) (variables_of layouts.now) function
+        (actions_of body.now)) }
 {
     let homes = layouts.homes(function);
     let mut actions = GrowingCode::new(alloc);

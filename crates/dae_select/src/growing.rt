@@ -110,7 +110,8 @@ impl GrowingCode {
     /// Words of code that comes before these instructions, the last first.
     fn put_places(&mut self, places: &[PlacedWord]) -> Result<(), AllocError>
         ensures code { OnOk result (self.new.code ≡ self.old.code) }
-        ensures places { OnOk result (self.new.places ≡ map (advance (length self.old.code)) (reverse places.now) ++ self.old.places) }
+        ensures places { OnOk result (self.new.places
+            ≡ map (advance (length self.old.code)) (reverse places.now) ++ self.old.places) }
     {
         let behind = self.backward.len();
         for placed in places {
@@ -130,7 +131,8 @@ impl GrowingCode {
     /// The words at which actions begin, in their order, where so many words come before the first instruction.
     pub fn places(&self, alloc: Global, before: usize) -> Result<Vec<PlacedWord>, AllocError>
         requires { before < 2 ^ 63 }
-        ensures { IfOk result (λ places. places.items ≡ from_front (before + length self.now.code) self.now.places) }
+        ensures { IfOk result (λ places. places.items
+            ≡ from_front (before + length self.now.code) self.now.places) }
     {
         let end = before + self.backward.len();
         let mut places = from_front(alloc, self.places.as_slice(), end)?;

@@ -1,15 +1,18 @@
 // Transfers: jumps over instructions and back, the way into a function, and branches.
 
-ghost use Rattle.std.specs.Prelude.{◌≡◌, ℕ, ◌+◌, ◌*◌, ◌++◌, ◌∷◌, [], ◌<◌, ◌^◌, OnOk};
-ghost use Rattle.dae_blocks.specs.Blocks.{jump_by, jump_over, jump_back, enter_code};
-ghost use Rattle.dae_blocks.specs.Code.{branch_code};
+ghost use Rattle.std.specs.Prelude.{◌≡◌, ℕ, ◌+◌, ◌*◌, ◌++◌, ◌∷◌, [], ◌<◌, ◌≤◌, ◌^◌, OnOk};
+ghost use Rattle.dae_encode.specs.declared.Inst.TheVariants.{Jal};
+ghost use Rattle.dae_blocks.specs.Blocks.{near_offset, jump_by, jump_words, jump_over, jump_back, enter_code};
+ghost use Rattle.dae_blocks.specs.Blocks.{branch_inst, opposite, one_way, goes_code};
+ghost use Rattle.dae_blocks.specs.Code.{past_code, branch_code};
 ghost use Rattle.dae_walks.specs.Homes.{home_in};
 ghost use Rattle.dae_select.specs.Tables.{AreNear};
 
 use crate::assigning::test_code;
-use crate::fetching::{lower, upper};
+use crate::fetching::{fetch, lower, source, upper};
 use dae_encode::Inst;
 use dae_ir::Branch;
+use dae_meaning::Comparison;
 use dae_walks::Home;
 use std::alloc::AllocError;
 
@@ -22,22 +25,74 @@ fn jump_by(code: &mut Vec<Inst>, bytes: u32) -> Result<(), AllocError>
     code.extend_from_slice(&[Inst::Auipc(5, upper(bytes)), Inst::Jalr(0, 5, lower(bytes))])
 }
 
-/// A jump over so many words and so many more.
-#[tactic(auto, using(crate::proofs::Distances::jump_of))]
-pub fn jump_over(code: &mut Vec<Inst>, words: u64, more: u64) -> Result<(), AllocError>
-    ensures { OnOk result (code.new.items ≡ code.old.items ++ jump_over (words + more)) }
+/// The offset of a jump as JAL has it: the low 21 bits as a signed number.
+#[tactic(auto, unfolding(dae_blocks::specs::Blocks::near_offset))]
+fn near_offset(bytes: u32) -> i32
+    ensures { result ≡ near_offset bytes }
 {
-    let distance = (words % WORDS + more % WORDS + 2) % WORDS;
-    jump_by(code, 4 * distance as u32)
+    let low = (bytes % 2_097_152) as i32;
+    if low < 1_048_576 {
+        low
+    } else {
+        low - 2_097_152
+    }
+}
+
+fn jump_near(code: &mut Vec<Inst>, bytes: u32) -> Result<(), AllocError>
+    ensures { OnOk result (code.new.items ≡ code.old.items ++ Jal 0 (near_offset bytes) ∷ []) }
+{
+    code.extend_from_slice(&[Inst::Jal(0, near_offset(bytes))])
+}
+
+/// The words of a jump within a function.
+pub fn jump_words(short: bool) -> u8
+    ensures words { result ≡ jump_words short }
+    ensures few { result ≤ 2 }
+{
+    if short { 1 } else { 2 }
+}
+
+/// A jump over so many words and so many more.
+#[tactic(auto, using(crate::proofs::Distances::jump_of, crate::proofs::Distances::near_of))]
+pub fn jump_over(code: &mut Vec<Inst>, short: bool, words: u64, more: u64) -> Result<(), AllocError>
+    ensures { OnOk result (code.new.items ≡ code.old.items ++ jump_over short (words + more)) }
+{
+    let distance = words % WORDS + more % WORDS;
+    if short {
+        jump_near(code, 4 * ((distance + 1) % WORDS) as u32)
+    } else {
+        jump_by(code, 4 * ((distance + 2) % WORDS) as u32)
+    }
 }
 
 /// A jump back by so many words and so many more.
-#[tactic(auto, using(crate::proofs::Distances::jump_of))]
-pub fn jump_back(code: &mut Vec<Inst>, words: u64, more: u64) -> Result<(), AllocError>
-    ensures { OnOk result (code.new.items ≡ code.old.items ++ jump_back (words + more)) }
+#[tactic(auto, using(crate::proofs::Distances::jump_of, crate::proofs::Distances::near_of))]
+pub fn jump_back(code: &mut Vec<Inst>, short: bool, words: u64, more: u64) -> Result<(), AllocError>
+    ensures { OnOk result (code.new.items ≡ code.old.items ++ jump_back short (words + more)) }
 {
     let distance = (words % WORDS + more % WORDS) % WORDS;
-    jump_by(code, 4 * ((WORDS - distance) % WORDS) as u32)
+    let bytes = 4 * ((WORDS - distance) % WORDS) as u32;
+    if short {
+        jump_near(code, bytes)
+    } else {
+        jump_by(code, bytes)
+    }
+}
+
+/// What leads behind a second list, from the end of a first one, where neither is empty.
+pub fn past_code(
+    code: &mut Vec<Inst>,
+    short: bool,
+    none: bool,
+    words: u64,
+) -> Result<(), AllocError>
+    ensures { OnOk result (code.new.items ≡ code.old.items ++ past_code short none words) }
+{
+    if none {
+        Ok(())
+    } else {
+        jump_over(code, short, words, 0)
+    }
 }
 
 /// The way into a function that is entered at this word.
@@ -51,21 +106,99 @@ pub fn enter_code(code: &mut Vec<Inst>, word: u32) -> Result<(), AllocError>
     ])
 }
 
-/// The block of a branch: it leads over the two words behind it where its test holds, or where a number other than 0 is
-/// heard.
-pub fn branch_code(code: &mut Vec<Inst>, homes: &[Home], branch: Branch) -> Result<(), AllocError>
+fn branch_inst(relation: Comparison, first: u8, second: u8, offset: i32) -> Inst
+    ensures { result ≡ branch_inst relation first second offset }
+{
+    match relation {
+        Comparison::Equal => Inst::Beq(first, second, offset),
+        Comparison::NotEqual => Inst::Bne(first, second, offset),
+        Comparison::LessSigned => Inst::Blt(first, second, offset),
+        Comparison::AtLeastSigned => Inst::Bge(first, second, offset),
+        Comparison::LessUnsigned => Inst::Bltu(first, second, offset),
+        Comparison::AtLeastUnsigned => Inst::Bgeu(first, second, offset),
+    }
+}
+
+/// What holds just where the comparison doesn't.
+fn opposite(relation: Comparison) -> Comparison
+    ensures { result ≡ opposite relation }
+{
+    match relation {
+        Comparison::Equal => Comparison::NotEqual,
+        Comparison::NotEqual => Comparison::Equal,
+        Comparison::LessSigned => Comparison::AtLeastSigned,
+        Comparison::AtLeastSigned => Comparison::LessSigned,
+        Comparison::LessUnsigned => Comparison::AtLeastUnsigned,
+        Comparison::AtLeastUnsigned => Comparison::LessUnsigned,
+    }
+}
+
+fn one_way(way: bool, relation: Comparison) -> Comparison
+    ensures { result ≡ one_way way relation }
+{
+    if way { relation } else { opposite(relation) }
+}
+
+/// Where two registers compare so, on to what stands so many words ahead: by a branch where one reaches it, and else by a
+/// jump that the opposite branch leads over.
+fn goes_code(
+    code: &mut Vec<Inst>,
+    short: bool,
+    relation: Comparison,
+    first: u8,
+    second: u8,
+    words: u64,
+) -> Result<(), AllocError>
+    ensures { OnOk result (code.new.items ≡ code.old.items
+        ++ goes_code short relation first second words) }
+{
+    if words < 1000 {
+        let offset = 4 * (words as i32 + 1);
+        code.extend_from_slice(&[branch_inst(relation, first, second, offset)])
+    } else {
+        let offset = 4 * (i32::from(jump_words(short)) + 1);
+        code.push(branch_inst(opposite(relation), first, second, offset))?;
+        jump_over(code, short, words, 0)
+    }
+}
+
+/// The block of a branch: on to what stands so many words ahead of its end where its test holds, or where a number other than
+/// 0 is heard, or just where not.
+pub fn branch_code(
+    code: &mut Vec<Inst>,
+    homes: &[Home],
+    short: bool,
+    branch: Branch,
+    way: bool,
+    words: u64,
+) -> Result<(), AllocError>
     requires { AreNear homes.now }
-    ensures { OnOk result (code.new.items ≡ code.old.items ++ branch_code (home_in homes.now) branch) }
+    ensures { OnOk result (code.new.items ≡ code.old.items
+        ++ branch_code (home_in homes.now) short branch way words) }
 {
     match branch {
         Branch::Silent(test) => {
-            test_code(code, homes, 5, test)?;
-            code.extend_from_slice(&[Inst::Bne(5, 0, 12)])
+            fetch(code, homes, 5, test.left)?;
+            fetch(code, homes, 6, test.right)?;
+            let left = source(homes, 5, test.left);
+            let right = source(homes, 6, test.right);
+            goes_code(
+                code,
+                short,
+                one_way(way, test.comparison),
+                left,
+                right,
+                words,
+            )
         }
         Branch::Tells(test) => {
             test_code(code, homes, 5, test)?;
-            code.extend_from_slice(&[Inst::Addi(29, 5, 0), Inst::Bne(5, 0, 12)])
+            code.push(Inst::Addi(29, 5, 0))?;
+            goes_code(code, short, one_way(way, Comparison::NotEqual), 5, 0, words)
         }
-        Branch::Hears => code.extend_from_slice(&[Inst::Bne(29, 0, 12)]),
+        Branch::Hears => {
+            let relation = one_way(way, Comparison::NotEqual);
+            goes_code(code, short, relation, 29, 0, words)
+        }
     }
 }

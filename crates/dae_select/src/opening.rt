@@ -1,7 +1,8 @@
 // The code that a side begins with, and what main returns to.
 
-ghost use Rattle.std.specs.Prelude.{◌≡◌, ◌++◌, ◌∷◌, [], pos, if◌then◌else◌, IfOk, OnOk};
+ghost use Rattle.std.specs.Prelude.{◌≡◌, ◌-◌, ◌++◌, ◌∷◌, [], pos, if◌then◌else◌, IfOk, OnOk};
 ghost use Rattle.dae_encode.specs.declared.Inst.TheVariants.{Addi};
+ghost use Rattle.dae_blocks.specs.Blocks.{number_code};
 ghost use Rattle.dae_blocks.specs.Code.{start_code, finish_code};
 ghost use Rattle.dae_select.specs.Layouts.{is_a, plan_of, AreSmall};
 
@@ -12,12 +13,16 @@ use dae_base::Side;
 use dae_encode::Inst;
 use std::alloc::{AllocError, Global};
 
-/// On A main stands at depth 1.
-fn depth_code(code: &mut Vec<Inst>, side: Side) -> Result<(), AllocError>
-    ensures { OnOk result (code.new.items ≡ code.old.items ++ (if is_a side then Addi 10 0 (pos 1) ∷ [] else [])) }
+/// On A common memory has so many addresses, and main stands at depth 1.
+fn counts_code(code: &mut Vec<Inst>, side: Side, memory: u32) -> Result<(), AllocError>
+    ensures { OnOk result (code.new.items ≡ code.old.items
+        ++ (if is_a side then number_code 4 (memory - 16) ++ Addi 10 0 (pos 1) ∷ [] else [])) }
 {
     match side {
-        Side::A => code.extend_from_slice(&[Inst::Addi(10, 0, 1)]),
+        Side::A => {
+            number_code(code, 4, memory.saturating_sub(16))?;
+            code.extend_from_slice(&[Inst::Addi(10, 0, 1)])
+        }
         Side::E => Ok(()),
     }
 }
@@ -34,7 +39,7 @@ pub fn start_code(
 {
     let mut code = Vec::new(alloc);
     number_code(&mut code, 3, frames)?;
-    depth_code(&mut code, layouts.side)?;
+    counts_code(&mut code, layouts.side, layouts.memory)?;
     enter_code(&mut code, layouts.entry(main))?;
     Ok(code)
 }

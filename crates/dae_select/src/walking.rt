@@ -1,13 +1,14 @@
 // The code of structured actions, from the last to the first: what a transfer leads over is there before it.
 
-ghost use Rattle.std.specs.Prelude.{◌≡◌, ℕ, ◌+◌, ◌-◌, ◌++◌, [], ◌<◌, ◌^◌, List, Bool, length, not, ◌&&◌, IfOk, OnOk};
+ghost use Rattle.std.specs.Prelude.{◌≡◌, ℕ, ◌+◌, ◌-◌, ◌++◌, [], ◌<◌, ◌^◌, List, Bool, length, not, ◌&&◌, ◌||◌, if◌then◌else◌, IfOk, OnOk};
 ghost use Rattle.dae_encode.specs.declared.Inst.{Inst as AnInst};
 ghost use Rattle.dae_ir.specs.Classes.{VariableSet};
 ghost use Rattle.dae_ir.specs.Streams.{Actions, actions_of, step_onto};
 ghost use Rattle.dae_walks.specs.Live.{ways, is};
 ghost use Rattle.dae_live.specs.Members.{member};
-ghost use Rattle.dae_blocks.specs.Blocks.{take_code, own_code, jump_over, jump_back};
+ghost use Rattle.dae_blocks.specs.Blocks.{take_code, own_code, jump_words, jump_over, jump_back};
 ghost use Rattle.dae_blocks.specs.Code.{action_code, call_code, branch_code};
+ghost use Rattle.dae_blocks.specs.Code.{does_nothing, past_code};
 ghost use Rattle.dae_select.specs.Grown.{glue, acting, in_front};
 ghost use Rattle.dae_select.specs.Growing.{IsCodeOf, IsStepCode};
 ghost use Rattle.dae_select.specs.Layouts.{plan_of, variables_of, AreSmall};
@@ -15,14 +16,14 @@ ghost use Rattle.dae_walks.specs.Homes.{home_in};
 ghost use Rattle.dae_select.specs.Tables.{AreNear};
 
 use crate::accessing::{
-    address_code, call_number, hear_code, issue_code, push_code, stop_code, system_code, take_code,
+    address_code, call_number, hear_code, issue_code, stop_code, system_code, take_code,
 };
 use crate::assigning::set_code;
 use crate::calling::{Callee, call_code, leave_code};
 use crate::checking::check_code;
-use crate::fetching::home_of;
+use crate::fetching::{home_of, move_code};
 use crate::growing::GrowingCode;
-use crate::jumping::{branch_code, jump_back, jump_over};
+use crate::jumping::{branch_code, jump_back, jump_over, jump_words, past_code};
 use crate::layouts::Layouts;
 use dae_base::{LoadKind, Place};
 use dae_encode::Inst;
@@ -48,7 +49,8 @@ fn receive_code(
     variable: u32,
 ) -> Result<(), AllocError>
     requires { AreNear homes.now }
-    ensures { OnOk result (code.new.items ≡ code.old.items ++ take_code queue (home_in homes.now variable)) }
+    ensures { OnOk result (code.new.items ≡ code.old.items
+        ++ take_code queue (home_in homes.now variable)) }
 {
     take_code(code, queue, home_of(homes, variable))
 }
@@ -61,7 +63,8 @@ fn own_code(
     operand: Operand,
 ) -> Result<(), AllocError>
     requires { AreNear homes.now }
-    ensures { OnOk result (code.new.items ≡ code.old.items ++ own_code (home_in homes.now) variable kind operand) }
+    ensures { OnOk result (code.new.items ≡ code.old.items
+        ++ own_code (home_in homes.now) variable kind operand) }
 {
     issue_code(code, homes, kind, 31, operand)?;
     take_code(code, 31, home_of(homes, variable))
@@ -80,7 +83,10 @@ fn called_code(
     requires near { AreNear homes.now }
     requires homes { home_in homes.now ≡ (plan_of layouts.now).home function }
     requires small { AreSmall layouts.now }
-    ensures { OnOk result (code.new.items ≡ code.old.items ++ call_code (plan_of layouts.now) (variables_of layouts.now) function callee.result callee.function arguments.now (λ u. member live.now u && not (is callee.result u))) }
+    ensures { OnOk result (code.new.items ≡ code.old.items
+        ++ call_code (plan_of layouts.now)
+        (variables_of layouts.now) function callee.result callee.function arguments.now (λ u.
+        member live.now u && not (is callee.result u))) }
 {
     let mut kept = live.copy(alloc)?;
     kept.remove_known(callee.result);
@@ -97,6 +103,7 @@ fn action_code(
     layouts: &Layouts,
     function: u32,
     homes: &[Home],
+    short: bool,
     action: &Action,
     live: &LiveSet,
     ahead: u64,
@@ -105,7 +112,10 @@ fn action_code(
     requires near { AreNear homes.now }
     requires homes { home_in homes.now ≡ (plan_of layouts.now).home function }
     requires small { AreSmall layouts.now }
-    ensures { OnOk result (code.new.items ≡ code.old.items ++ action_code (plan_of layouts.now) (variables_of layouts.now) function action.now (member live.now) (ahead + exits.now.leaves) (ahead + exits.now.skips)) }
+    ensures { OnOk result (code.new.items ≡ code.old.items
+        ++ action_code (plan_of layouts.now) (variables_of layouts.now) function action.now
+        (member live.now) (jump_over short (ahead + exits.now.leaves)) (jump_over short
+        (ahead + exits.now.skips))) }
 {
     match action {
         Action::Set(variable, value) => set_code(code, homes, *variable, *value),
@@ -113,18 +123,18 @@ fn action_code(
         Action::Own(variable, kind, operand) => own_code(code, homes, *variable, *kind, *operand),
         Action::Receive(variable) => receive_code(code, homes, 30, *variable),
         Action::Address(width, operand) => address_code(code, homes, *width, *operand),
-        Action::Datum(operand) => push_code(code, homes, 30, *operand),
-        Action::Offer(variable) => push_code(code, homes, 28, Operand::Variable(*variable)),
+        Action::Datum(operand) => move_code(code, homes, 30, *operand),
+        Action::Offer(variable) => move_code(code, homes, 28, Operand::Variable(*variable)),
         Action::Accept(variable) => receive_code(code, homes, 28, *variable),
         Action::Emit(spelling, operand) => {
             system_code(code, homes, call_number(*spelling), *operand)
         }
         Action::Probe(check) => check_code(code, layouts, function, homes, *check),
-        Action::Tell(operand) => push_code(code, homes, 29, *operand),
+        Action::Tell(operand) => move_code(code, homes, 29, *operand),
         Action::Hear => hear_code(code, layouts.side),
         Action::Stop(status) => stop_code(code, layouts.side, homes, *status),
-        Action::Break => jump_over(code, ahead, exits.leaves),
-        Action::Continue => jump_over(code, ahead, exits.skips),
+        Action::Break => jump_over(code, short, ahead, exits.leaves),
+        Action::Continue => jump_over(code, short, ahead, exits.skips),
         Action::Call(result, callee, arguments) => {
             let callee = Callee {
                 result: *result,
@@ -145,47 +155,69 @@ fn action_code(
     }
 }
 
-/// A jump over the words in front of the last `behind` ones, and so many more.
-fn put_jump(
+/// What leads behind a second list that stands in front of the last `rest` words, where neither list is empty.
+fn put_past(
     alloc: Global,
     code: &mut GrowingCode,
-    behind: usize,
-    more: u64,
+    short: bool,
+    first_empty: bool,
+    second_empty: bool,
+    rest: usize,
 ) -> Result<(), AllocError>
-    ensures { OnOk result (code.new ≡ in_front (glue (jump_over (length code.old.code - behind + more))) code.old) }
+    ensures { OnOk result (code.new
+        ≡ in_front (glue (past_code short (first_empty || second_empty)
+        (length code.old.code - rest))) code.old) }
 {
     let mut block = Vec::new(alloc);
-    let words = code.len().saturating_sub(behind);
-    jump_over(&mut block, words as u64, more)?;
+    let words = code.len().saturating_sub(rest);
+    let none = first_empty || second_empty;
+    past_code(&mut block, short, none, words as u64)?;
     code.put_before(block.as_slice())
 }
 
 fn put_jump_back(
     alloc: Global,
     code: &mut GrowingCode,
+    short: bool,
     words: usize,
     more: usize,
 ) -> Result<(), AllocError>
-    ensures { OnOk result (code.new ≡ in_front (glue (jump_back (words + more))) code.old) }
+    ensures { OnOk result (code.new ≡ in_front (glue (jump_back short (words + more))) code.old) }
 {
     let mut block = Vec::new(alloc);
-    jump_back(&mut block, words as u64, more as u64)?;
+    jump_back(&mut block, short, words as u64, more as u64)?;
     code.put_before(block.as_slice())
 }
 
+/// The block of a branch: to the last `behind` words, over a first list. Where that is empty, to the last `rest` words, over
+/// the second one.
 fn put_branch(
     alloc: Global,
     code: &mut GrowingCode,
     homes: &[Home],
     place: Place,
+    short: bool,
     branch: Branch,
+    empty: bool,
+    rest: usize,
+    behind: usize,
 ) -> Result<(), AllocError>
     requires { AreNear homes.now }
-    ensures { OnOk result (code.new ≡ in_front (acting place (branch_code (home_in homes.now) branch)) code.old) }
+    ensures { OnOk result (code.new
+        ≡ in_front (acting place (branch_code (home_in homes.now) short branch empty
+        (length code.old.code - (if empty then rest else behind)))) code.old) }
 {
     let mut block = Vec::new(alloc);
-    branch_code(&mut block, homes, branch)?;
+    let end = if empty { rest } else { behind };
+    let words = code.len().saturating_sub(end);
+    branch_code(&mut block, homes, short, branch, empty, words as u64)?;
     code.put_action(place, block.as_slice())
+}
+
+fn does_nothing(steps: &[Step]) -> bool
+    ensures { result ≡ does_nothing (actions_of steps.now) }
+{
+    steps.is_empty()
 }
 
 fn put_action(
@@ -195,6 +227,7 @@ fn put_action(
     function: u32,
     homes: &[Home],
     place: Place,
+    short: bool,
     action: &Action,
     live: &LiveSet,
     exits: &Exits,
@@ -202,27 +235,36 @@ fn put_action(
     requires near { AreNear homes.now }
     requires homes { home_in homes.now ≡ (plan_of layouts.now).home function }
     requires small { AreSmall layouts.now }
-    ensures { OnOk result (code.new ≡ in_front (acting place (action_code (plan_of layouts.now) (variables_of layouts.now) function action.now (member live.now) (length code.old.code + exits.now.leaves) (length code.old.code + exits.now.skips))) code.old) }
+    ensures { OnOk result (code.new
+        ≡ in_front (acting place (action_code (plan_of layouts.now)
+        (variables_of layouts.now) function action.now (member live.now) (jump_over short
+        (length code.old.code + exits.now.leaves)) (jump_over short
+        (length code.old.code + exits.now.skips)))) code.old) }
 {
     let mut block = Vec::new(alloc);
     let ahead = code.len() as u64;
     action_code(
-        alloc, &mut block, layouts, function, homes, action, live, ahead, exits,
+        alloc, &mut block, layouts, function, homes, short, action, live, ahead, exits,
     )?;
     code.put_action(place, block.as_slice())
 }
 
 /// Where a loop's step leads: behind the loop and to the jump back.
-fn exits_of_step(alloc: Global, next: &LiveSet, turn: &LiveSet) -> Result<Exits, AllocError>
+fn exits_of_step(
+    alloc: Global,
+    short: bool,
+    next: &LiveSet,
+    turn: &LiveSet,
+) -> Result<Exits, AllocError>
     ensures leaves_live { IfOk result (λ exits. exits.leaves_live ≡ next.now) }
     ensures skips_live { IfOk result (λ exits. exits.skips_live ≡ turn.now) }
-    ensures leaves { IfOk result (λ exits. exits.leaves ≡ 2) }
+    ensures leaves { IfOk result (λ exits. exits.leaves ≡ jump_words short) }
     ensures skips { IfOk result (λ exits. exits.skips ≡ 0) }
 {
     Ok(Exits {
         leaves_live: next.copy(alloc)?,
         skips_live: turn.copy(alloc)?,
-        leaves: 2,
+        leaves: u64::from(jump_words(short)),
         skips: 0,
     })
 }
@@ -230,6 +272,7 @@ fn exits_of_step(alloc: Global, next: &LiveSet, turn: &LiveSet) -> Result<Exits,
 /// Where a loop's body leads: over the step and the jump back, and to the step.
 fn exits_of_body(
     alloc: Global,
+    short: bool,
     next: LiveSet,
     again: &LiveSet,
     words: usize,
@@ -237,13 +280,13 @@ fn exits_of_body(
     requires { words + 2 < 2 ^ 64 }
     ensures leaves_live { IfOk result (λ exits. exits.leaves_live ≡ next) }
     ensures skips_live { IfOk result (λ exits. exits.skips_live ≡ again.now) }
-    ensures leaves { IfOk result (λ exits. exits.leaves ≡ words + 2) }
+    ensures leaves { IfOk result (λ exits. exits.leaves ≡ words + jump_words short) }
     ensures skips { IfOk result (λ exits. exits.skips ≡ 0) }
 {
     Ok(Exits {
         leaves_live: next,
         skips_live: again.copy(alloc)?,
-        leaves: words as u64 + 2,
+        leaves: words as u64 + u64::from(jump_words(short)),
         skips: 0,
     })
 }
@@ -252,12 +295,15 @@ fn exits_of_body(
 fn put_loop(
     alloc: Global,
     code: &mut GrowingCode,
+    short: bool,
     body: GrowingCode,
     step: GrowingCode,
 ) -> Result<(), AllocError>
-    ensures { OnOk result (code.new ≡ in_front body (in_front step (in_front (glue (jump_back (length body.code + length step.code))) code.old))) }
+    ensures { OnOk result (code.new
+        ≡ in_front body (in_front step (in_front (glue (jump_back short
+        (length body.code + length step.code))) code.old))) }
 {
-    put_jump_back(alloc, code, body.len(), step.len())?;
+    put_jump_back(alloc, code, short, body.len(), step.len())?;
     code.put_code(step)?;
     code.put_code(body)
 }
@@ -269,6 +315,7 @@ fn step_code(
     layouts: &Layouts,
     function: u32,
     homes: &[Home],
+    short: bool,
     step: &Step,
     next: LiveSet,
     exits: &Exits,
@@ -276,12 +323,14 @@ fn step_code(
     requires near { AreNear homes.now }
     requires homes { home_in homes.now ≡ (plan_of layouts.now).home function }
     requires small { AreSmall layouts.now }
-    ensures { IfOk result (λ set. IsStepCode (plan_of layouts.now) (variables_of layouts.now) function exits.now step.now code.old next code.new set) }
+    ensures { IfOk result (λ set.
+        IsStepCode short (plan_of layouts.now)
+        (variables_of layouts.now) function exits.now step.now code.old next code.new set) }
 {
     match step {
         Step::Act(mark, action) => {
             put_action(
-                alloc, code, layouts, function, homes, mark.place, action, &next, exits,
+                alloc, code, layouts, function, homes, mark.place, short, action, &next, exits,
             )?;
             live_before_action(alloc, action, next, &exits.leaves_live, &exits.skips_live)
         }
@@ -293,20 +342,23 @@ fn step_code(
                 layouts,
                 function,
                 homes,
+                short,
                 q,
                 next.copy(alloc)?,
                 exits,
             )?;
-            put_jump(alloc, code, rest, 0)?;
             let behind = code.len();
-            let first = list_code(alloc, code, layouts, function, homes, p, next, exits)?;
-            put_jump(alloc, code, behind, 2)?;
-            put_branch(alloc, code, homes, mark.place, *branch)?;
+            let empty = does_nothing(p);
+            put_past(alloc, code, short, empty, does_nothing(q), rest)?;
+            let first = list_code(alloc, code, layouts, function, homes, short, p, next, exits)?;
+            put_branch(
+                alloc, code, homes, mark.place, short, *branch, empty, rest, behind,
+            )?;
             live_with_branch(*branch, first, &second)
         }
         Step::Loop(_, body, step) => {
             let turn = live_at_turn(alloc, body, step, &next)?;
-            let step_exits = exits_of_step(alloc, &next, &turn)?;
+            let step_exits = exits_of_step(alloc, short, &next, &turn)?;
             let mut again = GrowingCode::new(alloc);
             let step_live = list_code(
                 alloc,
@@ -314,12 +366,13 @@ fn step_code(
                 layouts,
                 function,
                 homes,
+                short,
                 step,
                 turn,
                 &step_exits,
             )?;
             let words = again.len();
-            let body_exits = exits_of_body(alloc, next, &step_live, words)?;
+            let body_exits = exits_of_body(alloc, short, next, &step_live, words)?;
             let mut turned = GrowingCode::new(alloc);
             let live = list_code(
                 alloc,
@@ -327,11 +380,12 @@ fn step_code(
                 layouts,
                 function,
                 homes,
+                short,
                 body,
                 step_live,
                 &body_exits,
             )?;
-            put_loop(alloc, code, turned, again)?;
+            put_loop(alloc, code, short, turned, again)?;
             Ok(live)
         }
     }
@@ -345,6 +399,7 @@ pub fn list_code(
     layouts: &Layouts,
     function: u32,
     homes: &[Home],
+    short: bool,
     steps: &[Step],
     next: LiveSet,
     exits: &Exits,
@@ -352,7 +407,11 @@ pub fn list_code(
     requires near { AreNear homes.now }
     requires homes { home_in homes.now ≡ (plan_of layouts.now).home function }
     requires small { AreSmall layouts.now }
-    ensures { IfOk result (λ set. IsCodeOf (plan_of layouts.now) (variables_of layouts.now) function code.old exits.now.leaves exits.now.skips (ways (member next) (member exits.now.leaves_live) (member exits.now.skips_live)) (actions_of steps.now) code.new set) }
+    ensures { IfOk result (λ set.
+        IsCodeOf short (plan_of layouts.now)
+        (variables_of layouts.now) function code.old exits.now.leaves exits.now.skips (ways
+        (member next) (member exits.now.leaves_live) (member exits.now.skips_live))
+        (actions_of steps.now) code.new set) }
 {
     let mut set = next;
     for index in (0..steps.len()).rev() {
@@ -362,6 +421,7 @@ pub fn list_code(
             layouts,
             function,
             homes,
+            short,
             &steps[index],
             set,
             exits,

@@ -1,6 +1,6 @@
 -- How long code is doesn't depend on the words at which functions are entered.
-use Rattle.std.proofs.Common.{◌≡◌, ℕ, suc, ◌+◌, List, [], ◌∷◌, ◌++◌, length, refl, ap, sym, ◌∙◌, length-append}
-use Rattle.std.specs.Prelude.{Option}
+use Rattle.std.proofs.Common.{◌≡◌, ℕ, ◌+◌, Bool, true, false, ◌||◌, List, [], ◌∷◌, ◌++◌, length, refl, ap, sym, ◌∙◌, length-append}
+use Rattle.std.specs.Prelude.{Option, if◌then◌else◌}
 use Rattle.dae_encode.specs.declared.Inst.{Inst}
 use Rattle.dae_ir.specs.Code.{Done, Do, If, Loop}
 use Rattle.dae_ir.specs.Classes.{VariableSet}
@@ -12,15 +12,21 @@ use Rattle.dae_ir.specs.declared.stream.Action.{Action}
 use Rattle.dae_ir.specs.declared.stream.Action.TheVariants.{Set as Compute, Issue, Own, Receive, Address, Datum, Offer, Accept, Emit, Probe, Tell, Hear, Stop, Break, Continue, Call, Return}
 use Rattle.dae_walks.specs.Live.{Ways, behind, live, nowhere, step_ways, body_ways}
 use Rattle.dae_walks.specs.Agrees.{Plan}
-use Rattle.dae_blocks.specs.Blocks.{arguments_code, argument_code, save_code, deeper_code, check_code, enter_code}
-use Rattle.dae_blocks.specs.Code.{registers_in, action_code, branch_code, call_code, code_of, function_code, entry_code}
+use Rattle.dae_blocks.specs.Blocks.{arguments_code, argument_code, save_code, deeper_code, check_code, enter_code, jump_words, jump_over, jump_back}
+use Rattle.dae_blocks.specs.Sizes.{is_short}
+use Rattle.dae_blocks.specs.Code.{registers_in, action_code, branch_code, does_nothing, past_code, call_code, code_of, function_code, entry_code}
 
 -- lists with parts that are as long are as long
 pub both_long : (xs xs' ys ys' : List Inst) → length xs ≡ length xs' → length ys ≡ length ys' → length (xs ++ ys) ≡ length (xs' ++ ys')
 both_long xs xs' ys ys' h k = length-append xs ys ∙ (ap (λ (n : ℕ). n + length ys) h ∙ ap (λ (n : ℕ). length xs' + n) k) ∙ sym (length-append xs' ys')
 
-two_more : {m n : ℕ} → m ≡ n → suc (suc m) ≡ suc (suc n)
-two_more e = ap (λ (n : ℕ). suc (suc n)) e
+over_long : (short : Bool) (m n : ℕ) → length (jump_over short m) ≡ length (jump_over short n)
+over_long true m n = refl
+over_long false m n = refl
+
+back_long : (short : Bool) (m n : ℕ) → length (jump_back short m) ≡ length (jump_back short n)
+back_long true m n = refl
+back_long false m n = refl
 
 -- the plan with the functions at other words
 abbrev pub at_words : Plan → (ℕ → ℕ) → (ℕ → ℕ) → ℕ → Plan
@@ -60,34 +66,57 @@ module _ (p : Plan) (entry start : ℕ → ℕ) (finish : ℕ) (variables : ℕ 
       (both_long (save_code (registers_in (p.home f) (variables f) k)) (save_code (registers_in (p.home f) (variables f) k)) _ _ refl
       (both_long (deeper_code q f) (deeper_code p f) _ _ refl (both_long (enter_code (entry g)) (enter_code (p.entry g)) _ _ refl refl)))
 
-  action_long : (a : Action) (k : VariableSet) (l s m t : ℕ) → length (action_code q variables f a k l s) ≡ length (action_code p variables f a k m t)
-  action_long (Compute v x) k l s m t = refl
-  action_long (Issue kind x) k l s m t = refl
-  action_long (Own v kind x) k l s m t = refl
-  action_long (Receive v) k l s m t = refl
-  action_long (Address width x) k l s m t = refl
-  action_long (Datum x) k l s m t = refl
-  action_long (Offer v) k l s m t = refl
-  action_long (Accept v) k l s m t = refl
-  action_long (Emit spelling x) k l s m t = refl
-  action_long (Probe check) k l s m t = ap length (check_same check)
-  action_long (Tell x) k l s m t = refl
-  action_long Hear k l s m t = refl
-  action_long (Stop x) k l s m t = refl
-  action_long Break k l s m t = refl
-  action_long Continue k l s m t = refl
-  action_long (Call v g xs) k l s m t = call_long v g xs _
-  action_long (Return x) k l s m t = refl
+  module _ (short : Bool) where
+    -- nor on how far jumps lead
+    action_long : (a : Action) (k : VariableSet) (l s m t : ℕ) → length (action_code q variables f a k (jump_over short l) (jump_over short s)) ≡ length (action_code p variables f a k (jump_over short m) (jump_over short t))
+    action_long (Compute v x) k l s m t = refl
+    action_long (Issue kind x) k l s m t = refl
+    action_long (Own v kind x) k l s m t = refl
+    action_long (Receive v) k l s m t = refl
+    action_long (Address width x) k l s m t = refl
+    action_long (Datum x) k l s m t = refl
+    action_long (Offer v) k l s m t = refl
+    action_long (Accept v) k l s m t = refl
+    action_long (Emit spelling x) k l s m t = refl
+    action_long (Probe check) k l s m t = ap length (check_same check)
+    action_long (Tell x) k l s m t = refl
+    action_long Hear k l s m t = refl
+    action_long (Stop x) k l s m t = refl
+    action_long Break k l s m t = over_long short l m
+    action_long Continue k l s m t = over_long short s t
+    action_long (Call v g xs) k l s m t = call_long v g xs _
+    action_long (Return x) k l s m t = refl
 
-  code_long : (code : Actions) (x : Ways) (l s m t : ℕ) → length (code_of q variables f code x l s) ≡ length (code_of p variables f code x m t)
-  code_long Done x l s m t = refl
-  code_long (Do mark a k) x l s m t = both_long _ _ _ _ (action_long a (live k x) _ _ _ _) (code_long k x l s m t)
-  code_long (If mark b y n k) x l s m t =
-      both_long (branch_code (p.home f) b) (branch_code (p.home f) b) _ _ refl
-      (two_more (both_long _ _ _ _ (code_long y (behind (live k x) x) _ _ _ _) (two_more (both_long _ _ _ _ (code_long n (behind (live k x) x) _ _ _ _) (code_long k x l s m t)))))
-  code_long (Loop mark body step k) x l s m t =
-      both_long _ _ _ _ (code_long body (body_ways body step (live k x)) _ _ _ _)
-      (both_long _ _ _ _ (code_long step (step_ways body step (live k x)) 2 0 2 0) (two_more (code_long k x l s m t)))
+    code_long : (code : Actions) (x : Ways) (l s m t : ℕ) → length (code_of short q variables f code x l s) ≡ length (code_of short p variables f code x m t)
+    code_long Done x l s m t = refl
+    code_long (Do mark a k) x l s m t = both_long _ _ _ _ (action_long a (live k x) _ _ _ _) (code_long k x l s m t)
+    code_long (If mark b y n k) x l s m t =
+        let none = does_nothing y in let none' = none || does_nothing n in
+        let rest = code_of short q variables f k x l s in let rest' = code_of short p variables f k x m t in
+        let second = code_of short q variables f n (behind (live k x) x) (length rest + l) (length rest + s) in
+        let second' = code_of short p variables f n (behind (live k x) x) (length rest' + m) (length rest' + t) in
+        let two : length second ≡ length second' = code_long n (behind (live k x) x) _ _ _ _ in
+        let past = past_code short none' (length second) in let past' = past_code short none' (length second') in
+        let over : length past ≡ length past' = ap (λ (w : ℕ). length (past_code short none' w)) two in
+        let far = length past + length second + length rest in let far' = length past' + length second' + length rest' in
+        let first = code_of short q variables f y (behind (live k x) x) (far + l) (far + s) in
+        let first' = code_of short p variables f y (behind (live k x) x) (far' + m) (far' + t) in
+        let one : length first ≡ length first' = code_long y (behind (live k x) x) _ _ _ _ in
+        let led : (if none then length second else length first + length past) ≡ (if none then length second' else length first' + length past') =
+        ap (λ (w : ℕ). if none then w else length first + length past) two ∙ ap (λ (w : ℕ). if none then length second' else w + length past) one ∙ ap (λ (w : ℕ). if none then length second' else length first' + w) over in
+        both_long (branch_code (p.home f) short b none (if none then length second else length first + length past)) (branch_code (p.home f) short b none (if none then length second' else length first' + length past')) _ _
+        (ap (λ (w : ℕ). length (branch_code (p.home f) short b none w)) led)
+        (both_long first first' _ _ one (both_long past past' _ _ over (both_long second second' _ _ two (code_long k x l s m t))))
+    code_long (Loop mark body step k) x l s m t =
+        let rest = code_of short q variables f k x l s in let rest' = code_of short p variables f k x m t in
+        let again = code_of short q variables f step (step_ways body step (live k x)) (jump_words short) 0 in
+        let again' = code_of short p variables f step (step_ways body step (live k x)) (jump_words short) 0 in
+        let turned = code_of short q variables f body (body_ways body step (live k x)) (length again + jump_words short) 0 in
+        let turned' = code_of short p variables f body (body_ways body step (live k x)) (length again' + jump_words short) 0 in
+        let back = jump_back short (length turned + length again) in let back' = jump_back short (length turned' + length again') in
+        both_long turned turned' (again ++ (back ++ rest)) (again' ++ (back' ++ rest')) (code_long body (body_ways body step (live k x)) (length again + jump_words short) 0 (length again' + jump_words short) 0)
+        (both_long again again' (back ++ rest) (back' ++ rest') (code_long step (step_ways body step (live k x)) (jump_words short) 0 (jump_words short) 0)
+        (both_long back back' rest rest' (back_long short (length turned + length again) (length turned' + length again')) (code_long k x l s m t)))
 
   pub function_long : (code : Actions) → length (function_code q variables f code) ≡ length (function_code p variables f code)
-  function_long code = both_long (entry_code p variables f (live code nowhere)) (entry_code p variables f (live code nowhere)) _ _ refl (both_long _ _ _ _ (code_long code nowhere 0 0 0 0) refl)
+  function_long code = both_long (entry_code p variables f (live code nowhere)) (entry_code p variables f (live code nowhere)) _ _ refl (both_long _ _ _ _ (code_long (is_short code) code nowhere 0 0 0 0) refl)

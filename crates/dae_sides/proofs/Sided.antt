@@ -1,5 +1,5 @@
 -- The code of a stream is a side of an image.
-use Rattle.std.proofs.Common.{◌≡◌, ℕ, ◌+◌, ◌≤◌, ◌<◌, ◌^◌, Bool, true, false, List, [], ◌∷◌, ◌++◌, length, map, refl, ap, sym, ◌∙◌, subst, arith, append_assoc, length-append}
+use Rattle.std.proofs.Common.{◌≡◌, ℕ, ◌+◌, ◌-◌, ◌≤◌, ◌<◌, ◌^◌, Bool, true, false, List, [], ◌∷◌, ◌++◌, length, map, refl, ap, sym, ◌∙◌, subst, arith, append_assoc, length-append}
 use Rattle.std.proofs.lemmas.List.{length-map, map-append}
 use Rattle.std.specs.Prelude.{Some, slice_get, if◌then◌else◌, pos}
 use Rattle.std.specs.List.{AllByRecursion}
@@ -23,10 +23,11 @@ use Rattle.dae_walks.specs.Agrees.{Plan}
 use Rattle.dae_walks.specs.declared.Home.{Home}
 use Rattle.dae_blocks.specs.Blocks.{leave_code, number_code, enter_code}
 use Rattle.dae_blocks.specs.Code.{entry_code, code_of, function_code, start_code, finish_code}
+use Rattle.dae_blocks.specs.Sizes.{is_short}
 use Rattle.dae_blocks.specs.Fits.{Fits}
 use Rattle.dae_blocks.specs.Wanted.{IsPlanOf, IsLinked}
 use Rattle.dae_blocks.specs.Laws.{opened_with}
-use Rattle.dae_blocks.proofs.LawsOfBlocks.{words_are_code, fit_append, function_fits, start_fits, finish_fits, code_take, code_drop, start_short}
+use Rattle.dae_blocks.proofs.LawsOfBlocks.{words_are_code, fit_append, function_fits, start_fits, finish_fits, code_take, code_drop, opening_short, finish_some}
 use Rattle.dae_select.specs.Tables.{IsNear}
 use Rattle.dae_select.specs.Layouts.{is_a, homes_at, variables_at, entry_at, start_at, frame_at, plan_of, variables_of, AreSmall}
 use Rattle.dae_select.specs.declared.layouts.FunctionLayout.{FunctionLayout}
@@ -82,13 +83,9 @@ module _ (stream : Stream) (old : Layouts) (unplaced : AreUnplaced stream old) w
 
   pub first_low : first ≤ 8
   first_low =
-      let s = start_short P stream.main stream.frames in
+      let s = opening_short P stream.main stream.frames in
       let l = length-append (start_code P stream.main stream.frames) (finish_code P.by_a) in
-      let f = finish_short P.by_a in omega arith
-    where
-      finish_short : (b : Bool) → length (finish_code b) ≤ 3
-      finish_short true = omega arith
-      finish_short false = omega arith
+      omega arith
 
   -- ---- the plan with the places
 
@@ -129,7 +126,7 @@ module _ (stream : Stream) (old : Layouts) (unplaced : AreUnplaced stream old) w
 
   start_same : length (start_code Q stream.main stream.frames) ≡ length (start_code P stream.main stream.frames)
   start_same =
-      let begins : List Inst = number_code 3 stream.frames ++ (if P.by_a then Addi 10 0 (pos 1) ∷ [] else []) in
+      let begins : List Inst = number_code 3 stream.frames ++ (if P.by_a then number_code 4 (P.memory - 16) ++ Addi 10 0 (pos 1) ∷ [] else []) in
       both_long begins begins (enter_code (Q.entry stream.main)) (enter_code (P.entry stream.main)) refl refl
 
   opening_same : length (opening_code Q stream.main stream.frames) ≡ first
@@ -172,10 +169,6 @@ module _ (stream : Stream) (old : Layouts) (unplaced : AreUnplaced stream old) w
       let l = length-append (start_code P stream.main stream.frames) (finish_code P.by_a) in
       let f = finish_some P.by_a in
       let c = code_long in omega arith
-    where
-      finish_some : (b : Bool) → 1 ≤ length (finish_code b)
-      finish_some true = omega arith
-      finish_some false = omega arith
 
   pub code_short : end_of stream old ≤ most_words stream
   code_short = let f = first_low in let c = functions_length P variables fs 0 in omega arith
@@ -238,7 +231,7 @@ module _ (stream : Stream) (old : Layouts) (unplaced : AreUnplaced stream old) w
       starts g lt = start_behind P variables fs old.functions first 0 g g long lt (omega arith)
 
       abbrev own_code : ℕ → List Inst
-      own_code g = code_of Q variables g (body g) nowhere 0 0 ++ leave_code (Q.home g) (Some (Number 0))
+      own_code g = code_of (is_short (body g)) Q variables g (body g) nowhere 0 0 ++ leave_code (Q.home g) (Some (Number 0))
 
       end_low : (g : ℕ) → g < length fs → Q.start g + length (own_code g) ≤ 2 ^ 25
       end_low g lt =
@@ -271,7 +264,7 @@ module _ (stream : Stream) (old : Layouts) (unplaced : AreUnplaced stream old) w
         near = (λ g lt. let e = end_low g (subst (λ (n : ℕ). g < n) long lt) in omega arith);
         reads = (λ g u h. reads_at (slice_get fs g) (slice_get old.functions g) (at g) u h);
         finish = finish_there;
-        low = (let s = start_short P stream.main stream.frames in omega arith);
+        low = (let s = opening_short P stream.main stream.frames in omega arith);
       }
 
       has_code : (f : ℕ) → f < Q.functions → HasCode (setting_of setup Q.by_a) Q variables f (body f)

@@ -1,13 +1,16 @@
 -- Blocks whose registers are plain: they use no queue.
-use Rattle.std.proofs.Common.{◌≡◌, ℕ, ◌+◌, ◌*◌, ◌%◌, ◌^◌, ◌<◌, Bool, true, false, ◌&&◌, List, [], ◌∷◌, ◌++◌, Option, Some, None, arith, pos}
-use Rattle.std.specs.Prelude.{nat_lt, if◌then◌else◌}
+use Rattle.std.proofs.Common.{◌≡◌, ℕ, ◌+◌, ◌-◌, ◌*◌, ◌%◌, ◌^◌, ◌<◌, Bool, true, false, ◌&&◌, List, [], ◌∷◌, ◌++◌, Option, Some, None, arith, pos, refl, sym, subst, ℤ}
+use Rattle.std.specs.Prelude.{nat_lt, if◌then◌else◌, nat_eq, ℤ}
 use Rattle.std.specs.List.{AllByRecursion}
 use Rattle.std.proofs.lemmas.Bool.Decides.{nat_tests}
+use Rattle.std.proofs.lemmas.Option.{same_Some}
+use Rattle.dae_base.specs.Words.{minus}
 use Rattle.dae_base.specs.declared.LoadKind.{LoadKind}
 use Rattle.dae_base.specs.declared.LoadKind.TheVariants.{I8, U8, I16, U16, I32}
 use Rattle.dae_encode.specs.Instructions.{effect, form_of}
+use Rattle.dae_encode.specs.declared.Form.TheVariants.{Computes}
 use Rattle.dae_encode.specs.declared.Inst.{Inst}
-use Rattle.dae_encode.specs.declared.Inst.TheVariants.{Addi}
+use Rattle.dae_encode.specs.declared.Inst.TheVariants.{Lui, Addi, Sltiu, Xori, Ori, Andi, Slli, Srli, Srai, Add, Sub, Sltu}
 use Rattle.dae_ir.specs.Classes.{VariableSet}
 use Rattle.dae_ir.specs.declared.form.Operand.{Operand}
 use Rattle.dae_ir.specs.declared.form.Operand.TheVariants.{Variable, Number}
@@ -23,8 +26,8 @@ use Rattle.dae_walks.specs.Homes.{IsHome, is_home_register, slot_at, kept_at}
 use Rattle.dae_walks.specs.Agrees.{Plan}
 use Rattle.dae_walks.specs.declared.Home.{Home}
 use Rattle.dae_walks.specs.declared.Home.TheVariants.{Register, Slot}
-use Rattle.dae_blocks.specs.Blocks.{number_code, load_code, store_code, register_or, source, fetch_home, fetch, keep, operation_code, extend_code, compare_code, test_code, value_code, system_code, stop_code, jump_by, enter_code, arguments_code, waits_at, is_register, save_code, restore_code, deeper_code, back_code, result_code, leave_code}
-use Rattle.dae_blocks.specs.Code.{some_below, filtered, home_registers, registers_in, call_code, entry_code, start_code, finish_code}
+use Rattle.dae_blocks.specs.Blocks.{upper, lower, is_immediate, more_code, less_code, number_code, load_code, store_code, register_or, source, fetch_home, fetch, move_code, keep, operation_code, exponent, power_code, immediate_code, commutes, exchanged_code, behind_or, combine_registers, binary_code, extend_code, compare_code, takes_number, compare_number_code, compare_registers, compare_operands, test_code, value_code, system_code, stop_code, jump_by, enter_code, arguments_code, waits_at, is_register, save_code, restore_code, deeper_code, back_code, result_code, leave_code, jump_words, jump_over, jump_back, branch_inst, opposite, goes_by, goes_code}
+use Rattle.dae_blocks.specs.Code.{some_below, filtered, home_registers, registers_in, call_code, entry_code, start_code, finish_code, past_code}
 use Rattle.dae_uses.proofs.Access.{IsPlain}
 
 abbrev pub AllPlain : List Inst → Type 0
@@ -39,7 +42,7 @@ plain_either true x y h k = h
 plain_either false x y h k = k
 
 pub number_plain : (r n : ℕ) → r < 28 → AllPlain (number_code r n)
-number_plain r n h = plain_either (nat_lt n 2048) _ _ ((h, omega arith, omega arith), tt) ((h, omega arith, omega arith), ((h, h, omega arith), tt))
+number_plain r n h = plain_either (is_immediate n) _ _ ((h, omega arith, omega arith), tt) (plain_either (nat_eq (n % 2 ^ 12) 0) _ _ ((h, omega arith, omega arith), tt) ((h, omega arith, omega arith), ((h, h, omega arith), tt)))
 
 load_plain : (r i : ℕ) → r < 28 → AllPlain (load_code r i)
 load_plain r i h = plain_either (nat_lt i 512) _ _ ((h, omega arith), tt) ((h, omega arith, omega arith), ((h, h, omega arith), ((h, h), tt)))
@@ -61,6 +64,36 @@ keep_plain (Slot i) = store_plain 5 (slot_at i) (omega arith)
 pub jump_plain : (bytes : ℕ) → AllPlain (jump_by bytes)
 jump_plain bytes = ((omega arith, omega arith, omega arith), ((omega arith, omega arith, omega arith), tt))
 
+pub over_plain : (short : Bool) (n : ℕ) → AllPlain (jump_over short n)
+over_plain true n = ((omega arith, omega arith, omega arith), tt)
+over_plain false n = jump_plain (4 * (n + 2))
+
+pub past_plain : (short none : Bool) (n : ℕ) → AllPlain (past_code short none n)
+past_plain short true n = tt
+past_plain short false n = over_plain short n
+
+pub back_jump_plain : (short : Bool) (n : ℕ) → AllPlain (jump_back short n)
+back_jump_plain true n = ((omega arith, omega arith, omega arith), tt)
+back_jump_plain false n = jump_plain ((2 ^ 32 - 4 * n % 2 ^ 32) % 2 ^ 32)
+
+pub branch_form : (relation : Comparison) (x y : ℕ) (offset : ℤ) → form_of (effect (branch_inst relation x y offset)) ≡ Computes 0 x y
+branch_form Equal x y offset = refl
+branch_form NotEqual x y offset = refl
+branch_form LessSigned x y offset = refl
+branch_form AtLeastSigned x y offset = refl
+branch_form LessUnsigned x y offset = refl
+branch_form AtLeastUnsigned x y offset = refl
+
+branch_plain : (relation : Comparison) (x y : ℕ) (offset : ℤ) → x < 28 → y < 28 → IsPlain (form_of (effect (branch_inst relation x y offset)))
+branch_plain relation x y offset h k = rw (branch_form relation x y offset) (omega arith, h, k)
+
+goes_by_plain : (t short : Bool) (relation : Comparison) (x y n : ℕ) → x < 28 → y < 28 → AllPlain (goes_by t short relation x y n)
+goes_by_plain true short relation x y n h k = (branch_plain relation x y (pos (4 * (n + 1))) h k, tt)
+goes_by_plain false short relation x y n h k = (branch_plain (opposite relation) x y (pos (4 * (jump_words short + 1))) h k, over_plain short n)
+
+pub goes_plain : (short : Bool) (relation : Comparison) (x y n : ℕ) → x < 28 → y < 28 → AllPlain (goes_code short relation x y n)
+goes_plain short relation x y n h k = goes_by_plain (nat_lt n 1000) short relation x y n h k
+
 enter_plain : (word : ℕ) → AllPlain (enter_code word)
 enter_plain word = ((omega arith, omega arith, omega arith), ((omega arith, omega arith, omega arith), tt))
 
@@ -79,6 +112,37 @@ operation_plain ShiftLeft t x y a b c = (a, b, c)
 operation_plain ShiftRightSigned t x y a b c = (a, b, c)
 operation_plain ShiftRightUnsigned t x y a b c = (a, b, c)
 
+-- what is chosen, and what isn't
+chosen_plain : (b : Bool) (j i : Inst) → IsPlain (form_of (effect j)) → (if b then Some j else None) ≡ Some i → IsPlain (form_of (effect i))
+chosen_plain true j i h e = subst (λ (k : Inst). IsPlain (form_of (effect k))) (same_Some j i e) h
+chosen_plain false j i h e = absurd (let none : None ≡ Some i = e in cc)
+
+power_plain : (o : Option ℕ) (t x : ℕ) (i : Inst) → t < 28 → x < 28 → power_code o t x ≡ Some i → IsPlain (form_of (effect i))
+power_plain None t x i a b e = absurd (let none : None ≡ Some i = e in cc)
+power_plain (Some k) t x i a b e = chosen_plain true (Slli t x (pos k)) i (a, b, omega arith) e
+
+immediate_plain : (o : Operator) (t x n : ℕ) (i : Inst) → t < 28 → x < 28 → immediate_code o t x n ≡ Some i → IsPlain (form_of (effect i))
+immediate_plain Plus t x n i a b e = chosen_plain (is_immediate n) (Addi t x (lower n)) i (a, b, omega arith) e
+immediate_plain Subtract t x n i a b e = chosen_plain (is_immediate (minus 0 n)) (Addi t x (lower (minus 0 n))) i (a, b, omega arith) e
+immediate_plain Multiply t x n i a b e = power_plain (exponent n) t x i a b e
+immediate_plain DivideSigned t x n i a b e = absurd (let none : None ≡ Some i = e in cc)
+immediate_plain DivideUnsigned t x n i a b e = absurd (let none : None ≡ Some i = e in cc)
+immediate_plain RemainderSigned t x n i a b e = absurd (let none : None ≡ Some i = e in cc)
+immediate_plain RemainderUnsigned t x n i a b e = absurd (let none : None ≡ Some i = e in cc)
+immediate_plain Both t x n i a b e = chosen_plain (is_immediate n) (Andi t x (lower n)) i (a, b, omega arith) e
+immediate_plain Either t x n i a b e = chosen_plain (is_immediate n) (Ori t x (lower n)) i (a, b, omega arith) e
+immediate_plain Differ t x n i a b e = chosen_plain (is_immediate n) (Xori t x (lower n)) i (a, b, omega arith) e
+immediate_plain ShiftLeft t x n i a b e = chosen_plain true (Slli t x (pos (n % 32))) i (a, b, omega arith) e
+immediate_plain ShiftRightSigned t x n i a b e = chosen_plain true (Srai t x (pos (n % 32))) i (a, b, omega arith) e
+immediate_plain ShiftRightUnsigned t x n i a b e = chosen_plain true (Srli t x (pos (n % 32))) i (a, b, omega arith) e
+
+exchanged_plain : (o : Operator) (t x n : ℕ) (i : Inst) → t < 28 → x < 28 → exchanged_code o t x n ≡ Some i → IsPlain (form_of (effect i))
+exchanged_plain o t x n i a b e = by (commutes o) e
+  where
+    by : (c : Bool) → (if c then immediate_code o t x n else None) ≡ Some i → IsPlain (form_of (effect i))
+    by true f = immediate_plain o t x n i a b f
+    by false f = absurd (let none : None ≡ Some i = f in cc)
+
 extend_plain : (kind : LoadKind) (t x : ℕ) → t < 28 → x < 28 → AllPlain (extend_code kind t x)
 extend_plain I8 t x a b = ((a, b, omega arith), ((a, a, omega arith), tt))
 extend_plain U8 t x a b = ((a, b, omega arith), tt)
@@ -94,10 +158,22 @@ compare_plain AtLeastSigned t x y a b c = ((a, b, c), ((a, a, omega arith), tt))
 compare_plain LessUnsigned t x y a b c = ((a, b, c), tt)
 compare_plain AtLeastUnsigned t x y a b c = ((a, b, c), ((a, a, omega arith), tt))
 
+compare_number_plain : (r : Comparison) (t x n : ℕ) → t < 28 → x < 28 → AllPlain (compare_number_code r t x n)
+compare_number_plain Equal t x n a b = plain_either (nat_eq n 0) (Sltiu t x (pos 1) ∷ []) (Addi t x (lower (minus 0 n)) ∷ (Sltiu t t (pos 1) ∷ [])) ((a, b, omega arith), tt) ((a, b, omega arith), ((a, a, omega arith), tt))
+compare_number_plain NotEqual t x n a b = plain_either (nat_eq n 0) (Sltu t 0 x ∷ []) (Addi t x (lower (minus 0 n)) ∷ (Sltu t 0 t ∷ [])) ((a, omega arith, b), tt) ((a, b, omega arith), ((a, omega arith, a), tt))
+compare_number_plain LessSigned t x n a b = ((a, b, omega arith), tt)
+compare_number_plain AtLeastSigned t x n a b = ((a, b, omega arith), ((a, a, omega arith), tt))
+compare_number_plain LessUnsigned t x n a b = ((a, b, omega arith), tt)
+compare_number_plain AtLeastUnsigned t x n a b = ((a, b, omega arith), ((a, a, omega arith), tt))
+
 module _ (n : ℕ) (home : ℕ → Home) (good : (v : ℕ) → IsHome n (home v)) where
   pub source_low : (r : ℕ) (x : Operand) → r < 28 → source home r x < 28
   source_low r (Variable v) h = register_low n r (home v) (good v) h
-  source_low r (Number k) h = h
+  source_low r (Number k) h = by (nat_eq k 0)
+    where
+      by : (b : Bool) → (if b then 0 else r) < 28
+      by true = omega arith
+      by false = h
 
   pub fetch_plain : (r : ℕ) (x : Operand) → r < 28 → AllPlain (fetch home r x)
   fetch_plain r (Variable v) h = by (home v)
@@ -105,23 +181,65 @@ module _ (n : ℕ) (home : ℕ → Home) (good : (v : ℕ) → IsHome n (home v)
       by : (g : Home) → AllPlain (fetch_home r g)
       by (Register q) = tt
       by (Slot i) = load_plain r (slot_at i) h
-  fetch_plain r (Number k) h = number_plain r k h
+  fetch_plain r (Number k) h = plain_either (nat_eq k 0) [] (number_code r k) tt (number_plain r k h)
+
+  -- an operand goes into a register in plain instructions and one that writes the register
+  pub move_is : (t : ℕ) (x : Operand) → (is : List Inst) × (r : ℕ) × (imm : ℤ) × AllPlain is × (r < 28) × (move_code home t x ≡ is ++ Addi t r imm ∷ [])
+  move_is t (Variable v) = (fetch home 5 (Variable v), register_or 5 (home v), pos 0, fetch_plain 5 (Variable v) (omega arith), source_low 5 (Variable v) (omega arith), refl)
+  move_is t (Number k) = by (is_immediate k)
+    where
+      by : (b : Bool) → (is : List Inst) × (r : ℕ) × (imm : ℤ) × AllPlain is × (r < 28) × ((if b then Addi t 0 (lower k) ∷ [] else Lui 5 (upper k) ∷ (Addi t 5 (lower k) ∷ [])) ≡ is ++ Addi t r imm ∷ [])
+      by true = ([], 0, lower k, tt, omega arith, refl)
+      by false = (Lui 5 (upper k) ∷ [], 5, lower k, ((omega arith, omega arith, omega arith), tt), omega arith, refl)
+
+  move_plain : (t : ℕ) (x : Operand) → t < 28 → AllPlain (move_code home t x)
+  move_plain t x h =
+      let m = move_is t x in
+      let all : AllPlain (m.0 ++ Addi t m.1 m.2 ∷ []) = plain_append m.0 (Addi t m.1 m.2 ∷ []) m.3 ((h, m.4, omega arith), tt) in
+      subst (λ (is : List Inst). AllPlain is) (sym m.5) all
 
   fetched : (r : ℕ) (x : Operand) (is : List Inst) → r < 28 → AllPlain is → AllPlain (fetch home r x ++ is)
   fetched r x is h k = plain_append (fetch home r x) is (fetch_plain r x h) k
 
+  registers_plain : (t : ℕ) (o : Operator) (x y : Operand) → t < 28 → AllPlain (combine_registers home t o x y)
+  registers_plain t o x y h = fetched 5 x _ (omega arith) (fetched 6 y _ (omega arith) (operation_plain o t (source home 5 x) (source home 6 y) h (source_low 5 x (omega arith)) (source_low 6 y (omega arith)), tt))
+
+  binary_plain : (t : ℕ) (o : Operator) (x y : Operand) → t < 28 → AllPlain (binary_code home t o x y)
+  binary_plain t o x (Number k) h = by (immediate_code o t (source home 5 x) k) refl
+    where
+      by : (i : Option Inst) → immediate_code o t (source home 5 x) k ≡ i → AllPlain (behind_or (fetch home 5 x) i (combine_registers home t o x (Number k)))
+      by (Some i) e = fetched 5 x (i ∷ []) (omega arith) (immediate_plain o t (source home 5 x) k i h (source_low 5 x (omega arith)) e, tt)
+      by None e = registers_plain t o x (Number k) h
+  binary_plain t o (Number k) (Variable v) h = by (exchanged_code o t (source home 5 (Variable v)) k) refl
+    where
+      by : (i : Option Inst) → exchanged_code o t (source home 5 (Variable v)) k ≡ i → AllPlain (behind_or (fetch home 5 (Variable v)) i (combine_registers home t o (Number k) (Variable v)))
+      by (Some i) e = fetched 5 (Variable v) (i ∷ []) (omega arith) (exchanged_plain o t (source home 5 (Variable v)) k i h (source_low 5 (Variable v) (omega arith)) e, tt)
+      by None e = registers_plain t o (Number k) (Variable v) h
+  binary_plain t o (Variable u) (Variable v) h = registers_plain t o (Variable u) (Variable v) h
+
+  compare_registers_plain : (t : ℕ) (r : Comparison) (x y : Operand) → t < 28 → AllPlain (compare_registers home t r x y)
+  compare_registers_plain t r x y h = fetched 5 x _ (omega arith) (fetched 6 y _ (omega arith) (compare_plain r t (source home 5 x) (source home 6 y) h (source_low 5 x (omega arith)) (source_low 6 y (omega arith))))
+
+  compare_operands_plain : (t : ℕ) (r : Comparison) (x y : Operand) → t < 28 → AllPlain (compare_operands home t r x y)
+  compare_operands_plain t r x (Variable v) h = compare_registers_plain t r x (Variable v) h
+  compare_operands_plain t r x (Number k) h =
+      plain_either (takes_number r k) (fetch home 5 x ++ compare_number_code r t (source home 5 x) k) (compare_registers home t r x (Number k))
+      (fetched 5 x _ (omega arith) (compare_number_plain r t (source home 5 x) k h (source_low 5 x (omega arith)))) (compare_registers_plain t r x (Number k) h)
+
   pub test_plain : (t : ℕ) (test : Test) → t < 28 → AllPlain (test_code home t test)
-  test_plain t test h = fetched 5 test.left _ (omega arith) (fetched 6 test.right _ (omega arith) (compare_plain test.comparison t (source home 5 test.left) (source home 6 test.right) h (source_low 5 test.left (omega arith)) (source_low 6 test.right (omega arith))))
+  test_plain t test h = compare_operands_plain t test.comparison test.left test.right h
 
   pub value_plain : (t : ℕ) (x : Value) → t < 28 → AllPlain (value_code home t x)
-  value_plain t (Same x) h = fetched 5 x _ (omega arith) ((h, source_low 5 x (omega arith), omega arith), tt)
+  value_plain t (Same x) h = move_plain t x h
   value_plain t (Extended kind x) h = fetched 5 x _ (omega arith) (extend_plain kind t (source home 5 x) h (source_low 5 x (omega arith)))
-  value_plain t (Binary o x y) h = fetched 5 x _ (omega arith) (fetched 6 y _ (omega arith) (operation_plain o t (source home 5 x) (source home 6 y) h (source_low 5 x (omega arith)) (source_low 6 y (omega arith)), tt))
+  value_plain t (Binary o x y) h = binary_plain t o x y h
   value_plain t (Holds test) h = test_plain t test h
-  value_plain t (FrameAddress offset) h = plain_append _ _ (number_plain 5 offset (omega arith)) ((h, omega arith, omega arith), tt)
+  value_plain t (FrameAddress offset) h =
+      plain_either (is_immediate offset) (Addi t 3 (lower offset) ∷ []) (number_code 5 offset ++ Add t 3 5 ∷ [])
+      ((h, omega arith, omega arith), tt) (plain_append _ _ (number_plain 5 offset (omega arith)) ((h, omega arith, omega arith), tt))
 
   pub system_plain : (k : ℕ) (x : Operand) → AllPlain (system_code home k x)
-  system_plain k x = fetched 5 x _ (omega arith) ((omega arith, source_low 5 x (omega arith), omega arith), ((omega arith, omega arith, omega arith), (tt, tt)))
+  system_plain k x = plain_append _ _ (move_plain 10 x (omega arith)) ((omega arith, omega arith, omega arith), (tt, tt))
 
   pub stop_plain : (b : Bool) (x : Option Operand) → AllPlain (stop_code b home x)
   stop_plain true x = (tt, tt)
@@ -130,7 +248,7 @@ module _ (n : ℕ) (home : ℕ → Home) (good : (v : ℕ) → IsHome n (home v)
 
   pub leave_plain : (y : Option Operand) → AllPlain (leave_code home y)
   leave_plain None = ((omega arith, omega arith), ((omega arith, omega arith, omega arith), tt))
-  leave_plain (Some x) = fetched 5 x _ (omega arith) ((omega arith, source_low 5 x (omega arith), omega arith), ((omega arith, omega arith), ((omega arith, omega arith, omega arith), tt)))
+  leave_plain (Some x) = plain_append _ _ (move_plain 6 x (omega arith)) ((omega arith, omega arith), ((omega arith, omega arith, omega arith), tt))
 
   result_plain : (v : Option ℕ) → AllPlain (result_code home v)
   result_plain None = tt
@@ -172,25 +290,25 @@ module _ (plan : Plan) (variables : ℕ → ℕ) (good : (f v : ℕ) → IsHome 
       plain_append _ _ (arguments_plain f g xs) (plain_append _ _ (fetch_plain (variables f) (plan.home f) (good f) 5 x.operand (omega arith))
       (store_plain (source (plan.home f) 5 x.operand) (plan.words f + waits_at (plan.home g x.parameter)) (source_low (variables f) (plan.home f) (good f) 5 x.operand (omega arith))))
 
+  more_plain : (r n : ℕ) → r < 28 → AllPlain (more_code r n)
+  more_plain r n h =
+      plain_either (nat_eq n 0) [] _ tt (plain_either (is_immediate n) _ (number_code 5 n ++ Add r r 5 ∷ []) ((h, h, omega arith), tt)
+      (plain_append (number_code 5 n) _ (number_plain 5 n (omega arith)) ((h, h, omega arith), tt)))
+
+  less_plain : (r n : ℕ) → r < 28 → AllPlain (less_code r n)
+  less_plain r n h =
+      plain_either (nat_eq n 0) [] _ tt (plain_either (is_immediate (minus 0 n)) _ (number_code 5 n ++ Sub r r 5 ∷ []) ((h, h, omega arith), tt)
+      (plain_append (number_code 5 n) _ (number_plain 5 n (omega arith)) ((h, h, omega arith), tt)))
+
   deeper_plain : (f : ℕ) → AllPlain (deeper_code plan f)
   deeper_plain f =
-      plain_append _ _ (number_plain 5 (plan.frame f % 2 ^ 32) (omega arith)) (
-        (omega arith, omega arith, omega arith),
-        plain_append _ _ (number_plain 5 (4 * plan.words f) (omega arith)) (
-          (omega arith, omega arith, omega arith),
-          plain_either plan.by_a _ _ ((omega arith, omega arith, omega arith), tt) tt,
-        ),
-      )
+      plain_append _ _ (more_plain 3 (plan.frame f % 2 ^ 32) (omega arith)) (plain_append _ _ (more_plain 2 (4 * plan.words f) (omega arith))
+      (plain_either plan.by_a _ _ ((omega arith, omega arith, omega arith), tt) tt))
 
   back_plain : (f : ℕ) → AllPlain (back_code plan f)
   back_plain f =
-      plain_append _ _ (number_plain 5 (plan.frame f % 2 ^ 32) (omega arith)) (
-        (omega arith, omega arith, omega arith),
-        plain_append _ _ (number_plain 5 (4 * plan.words f) (omega arith)) (
-          (omega arith, omega arith, omega arith),
-          plain_either plan.by_a _ _ ((omega arith, omega arith, omega arith), tt) tt,
-        ),
-      )
+      plain_append _ _ (less_plain 3 (plan.frame f % 2 ^ 32) (omega arith)) (plain_append _ _ (less_plain 2 (4 * plan.words f) (omega arith))
+      (plain_either plan.by_a _ _ ((omega arith, omega arith, omega arith), tt) tt))
 
   pub call_plain : (f : ℕ) (v : Option ℕ) (g : ℕ) (xs : List Argument) (live : VariableSet) → AllPlain (call_code plan variables f v g xs live)
   call_plain f v g xs live =
@@ -207,6 +325,8 @@ finish_plain false = ((omega arith, omega arith, omega arith), ((omega arith, om
 
 pub start_plain : (plan : Plan) (main frames : ℕ) → AllPlain (start_code plan main frames)
 start_plain plan main frames =
-    plain_append (number_code 3 frames ++ (if plan.by_a then Addi 10 0 (pos 1) ∷ [] else [])) (enter_code (plan.entry main))
-    (plain_append (number_code 3 frames) _ (number_plain 3 frames (omega arith)) (plain_either plan.by_a _ _ ((omega arith, omega arith, omega arith), tt) tt))
+    let addresses : List Inst = number_code 4 (plan.memory - 16) ++ Addi 10 0 (pos 1) ∷ [] in
+    let plain : AllPlain addresses = plain_append (number_code 4 (plan.memory - 16)) (Addi 10 0 (pos 1) ∷ []) (number_plain 4 (plan.memory - 16) (omega arith)) ((omega arith, omega arith, omega arith), tt) in
+    plain_append (number_code 3 frames ++ (if plan.by_a then addresses else [])) (enter_code (plan.entry main))
+    (plain_append (number_code 3 frames) _ (number_plain 3 frames (omega arith)) (plain_either plan.by_a addresses [] plain tt))
     (enter_plain (plan.entry main))

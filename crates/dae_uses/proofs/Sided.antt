@@ -1,6 +1,6 @@
 -- The code of an action uses the queue of the action and no other, and so does that of a function.
 use Rattle.std.proofs.Common.{◌≡◌, ◌≢◌, ◌↔◌, ◌⊎◌, inl, inr, ℕ, ◌+◌, ◌-◌, ◌<◌, ◌*◌, ◌%◌, ◌^◌, Bool, true, false, List, [], ◌∷◌, ◌++◌, length, Option, Some, None, refl, sym, subst, ◌∙◌, arith, pos, negsuc}
-use Rattle.std.specs.Prelude.{nat_lt, if◌then◌else◌, ℤ}
+use Rattle.std.specs.Prelude.{◌||◌, nat_lt, if◌then◌else◌, ℤ}
 use Rattle.std.specs.List.{AllByRecursion}
 use Rattle.dae_base.specs.Words.{word, size}
 use Rattle.dae_base.specs.declared.Queue.{Queue}
@@ -26,14 +26,17 @@ use Rattle.dae_ir.specs.declared.stream.Action.{Action}
 use Rattle.dae_ir.specs.declared.stream.Action.TheVariants.{Set as Compute, Issue, Own, Receive, Address, Datum, Offer, Accept, Emit, Probe, Tell, Hear, Stop, Break, Continue, Call, Return}
 use Rattle.dae_ir.specs.declared.stream.Branch.{Branch}
 use Rattle.dae_ir.specs.declared.stream.Branch.TheVariants.{Silent, Tells, Hears}
+use Rattle.dae_meaning.specs.declared.Comparison.{Comparison}
+use Rattle.dae_meaning.specs.declared.Comparison.TheVariants.{NotEqual}
 use Rattle.dae_walks.specs.Homes.{IsHome}
 use Rattle.dae_walks.specs.Live.{Ways, live, behind, body_ways, step_ways, nowhere}
 use Rattle.dae_walks.specs.Agrees.{Plan}
-use Rattle.dae_blocks.specs.Blocks.{number_code, register_or, source, fetch, keep, test_code, call_number, issue_code, address_code, take_code, fail_code, over, align_code, room_code, check_code, hear_code, jump_over, jump_back, leave_code}
-use Rattle.dae_blocks.specs.Code.{action_code, branch_code, code_of, entry_code, function_code, finish_code, start_code}
+use Rattle.dae_blocks.specs.Blocks.{number_code, register_or, source, fetch, move_code, keep, test_code, call_number, issue_code, address_code, take_code, fail_code, over, align_code, room_code, check_code, hear_code, jump_over, jump_back, leave_code, jump_words, branch_inst, opposite, one_way, goes_by, goes_code}
+use Rattle.dae_blocks.specs.Code.{action_code, branch_code, code_of, entry_code, function_code, finish_code, start_code, does_nothing, past_code}
 use Rattle.dae_uses.specs.Uses.{queue_in, action_queue, branch_queue, IsOfSide, AreOfSide, IsUntouched, LeavesAlone}
 use Rattle.dae_uses.proofs.Access.{IsPlain, plain, loads_for_e, loads_own, gives_address, pushes_datum, pushes_copy, pushes_message, takes_load, takes_own, takes_copy, takes_message}
-use Rattle.dae_uses.proofs.Quiet.{AllPlain, plain_append, number_plain, register_low, keep_plain, jump_plain, source_low, fetch_plain, test_plain, value_plain, system_plain, stop_plain, leave_plain, call_plain, entry_plain, finish_plain, start_plain}
+use Rattle.dae_uses.proofs.Quiet.{AllPlain, plain_append, number_plain, register_low, keep_plain, jump_plain, source_low, fetch_plain, move_is, test_plain, value_plain, system_plain, stop_plain, leave_plain, call_plain, entry_plain, finish_plain, start_plain, over_plain, past_plain, back_jump_plain, branch_form, goes_plain}
+use Rattle.dae_blocks.specs.Sizes.{is_short}
 
 no_some : (q : Queue) → None ≢ Some q
 no_some q e = absurd (let x : None ≡ Some q = e in cc)
@@ -159,17 +162,23 @@ module _ (plan : Plan) (variables : ℕ → ℕ) (good : (f v : ℕ) → IsHome 
     one_uses : (o : Option Queue) (x : Operand) (i : Inst) → queue_in (side by_a') i ≡ o → Uses by_a' o (fetch (plan.home f) 5 x ++ i ∷ [])
     one_uses o x i h = behind_plain by_a' o (fetch (plan.home f) 5 x) (i ∷ []) (fetches x) (first_uses by_a' o i [] h tt)
 
+    -- an operand goes into a register that stands for a queue
+    move_uses : (o : Option Queue) (t : ℕ) (x : Operand) → ((r : ℕ) (imm : ℤ) → r < 28 → queue_in (side by_a') (Addi t r imm) ≡ o) → Uses by_a' o (move_code (plan.home f) t x)
+    move_uses o t x h =
+        let m = move_is (variables f) (plan.home f) (good f) t x in
+        let all : Uses by_a' o (m.0 ++ Addi t m.1 m.2 ∷ []) = behind_plain by_a' o m.0 (Addi t m.1 m.2 ∷ []) m.3 (first_uses by_a' o (Addi t m.1 m.2) [] (h m.1 m.2 m.4) tt) in
+        subst (λ (is : List Inst). Uses by_a' o is) (sym m.5) all
+
     take_uses : (o : Option Queue) (q v : ℕ) → queue_in (side by_a') (Addi (register_or 5 (plan.home f v)) q (pos 0)) ≡ o → Uses by_a' o (take_code q (plan.home f v))
     take_uses o q v h = first_uses by_a' o (Addi (register_or 5 (plan.home f v)) q (pos 0)) (keep (plan.home f v)) h (quiet by_a' o (keep (plan.home f v)) (keep_plain (plan.home f v)))
 
     check_uses : (check : Check) → Uses by_a' (Some (told_on by_a')) (check_code plan f check)
     check_uses (Place width x) =
         let r : ℕ = source (plan.home f) 5 x in
-        let last : List Inst = number_code 7 (plan.memory - size width - 15) ++ Bltu 6 7 (pos 12) ∷ fail_code true 2 in
-        let ends : Uses by_a' (Some (told_on by_a')) last = behind_plain by_a' (Some (told_on by_a')) (number_code 7 (plan.memory - size width - 15)) (Bltu 6 7 (pos 12) ∷ fail_code true 2) (number_plain 7 (plan.memory - size width - 15) (omega arith))
-        (next_uses by_a' (Some (told_on by_a')) (Bltu 6 7 (pos 12)) (fail_code true 2) (omega arith, omega arith, omega arith) (fail_uses by_a' true 2)) in
-        behind_plain by_a' (Some (told_on by_a')) (fetch (plan.home f) 5 x) (align_code width r ++ Addi 6 r (negsuc 15) ∷ last) (fetches x)
-        (behind_only by_a' (Some (told_on by_a')) (align_code width r) (Addi 6 r (negsuc 15) ∷ last) (align_only by_a' width r (low x)) (next_uses by_a' (Some (told_on by_a')) (Addi 6 r (negsuc 15)) last (omega arith, low x, omega arith) ends))
+        let last : List Inst = Bltu 6 4 (pos 12) ∷ fail_code true 2 in
+        let ends : Uses by_a' (Some (told_on by_a')) last = next_uses by_a' (Some (told_on by_a')) (Bltu 6 4 (pos 12)) (fail_code true 2) (omega arith, omega arith, omega arith) (fail_uses by_a' true 2) in
+        behind_plain by_a' (Some (told_on by_a')) (fetch (plan.home f) 5 x) (align_code width r ++ Addi 6 r (negsuc (16 - size width)) ∷ last) (fetches x)
+        (behind_only by_a' (Some (told_on by_a')) (align_code width r) (Addi 6 r (negsuc (16 - size width)) ∷ last) (align_only by_a' width r (low x)) (next_uses by_a' (Some (told_on by_a')) (Addi 6 r (negsuc (16 - size width))) last (omega arith, low x, omega arith) ends))
     check_uses (Zero x) =
         behind_plain by_a' (Some (told_on by_a')) (fetch (plan.home f) 5 x) (Bne (source (plan.home f) 5 x) 0 (over by_a') ∷ fail_code by_a' 1) (fetches x)
         (next_uses by_a' (Some (told_on by_a')) (Bne (source (plan.home f) 5 x) 0 (over by_a')) (fail_code by_a' 1) (omega arith, low x, omega arith) (fail_uses by_a' by_a' 1))
@@ -180,44 +189,52 @@ module _ (plan : Plan) (variables : ℕ → ℕ) (good : (f v : ℕ) → IsHome 
     check_uses Frame = either_uses by_a' (Some (told_on by_a')) (nat_lt plan.memory (plan.frame f)) (fail_code true 4) (room_code (plan.memory - plan.frame f)) (fail_uses by_a' true 4) (room_uses by_a' (plan.memory - plan.frame f))
     check_uses Abort = fail_uses by_a' true 5
 
-    action_uses : (a : Action) (live : VariableSet) (leaves skips : ℕ) → IsOfSide by_a' a → Uses by_a' (action_queue by_a' a) (action_code plan variables f a live leaves skips)
-    action_uses (Compute v x) live leaves skips is = no_queue by_a' _ (plain_append _ _ (value_plain (variables f) (plan.home f) (good f) (register_or 5 (plan.home f v)) x (home_low v)) (keep_plain (plan.home f v)))
-    action_uses (Issue kind x) live leaves skips is =
+    action_uses : (short : Bool) (a : Action) (live : VariableSet) (leaves skips : ℕ) → IsOfSide by_a' a → Uses by_a' (action_queue by_a' a) (action_code plan variables f a live (jump_over short leaves) (jump_over short skips))
+    action_uses short (Compute v x) live leaves skips is = no_queue by_a' _ (plain_append _ _ (value_plain (variables f) (plan.home f) (good f) (register_or 5 (plan.home f v)) x (home_low v)) (keep_plain (plan.home f v)))
+    action_uses short (Issue kind x) live leaves skips is =
         let b = source (plan.home f) 5 x in
         one_uses (Some Ld) x (issue_code kind 30 b) (on_a (issue_code kind 30 b) (Some Ld) is (loads_for_e (issue_code kind 30 b) kind b (word (pos 0)) (issue_form kind 30 b) (low x)))
-    action_uses (Own v kind x) live leaves skips is =
+    action_uses short (Own v kind x) live leaves skips is =
         let b = source (plan.home f) 5 x in
         let t = register_or 5 (plan.home f v) in
         let i = issue_code kind 31 b in
         behind_plain by_a' (Some Al) (fetch (plan.home f) 5 x) (i ∷ take_code 31 (plan.home f v)) (fetches x)
         (first_uses by_a' (Some Al) i (take_code 31 (plan.home f v)) (on_a i (Some Al) is (loads_own i kind b (word (pos 0)) (issue_form kind 31 b) (low x)))
         (take_uses (Some Al) 31 v (on_a (Addi t 31 (pos 0)) (Some Al) is (takes_own (Addi t 31 (pos 0)) t refl (home_low v)))).only)
-    action_uses (Receive v) live leaves skips is = let t = register_or 5 (plan.home f v) in take_uses (Some Ld) 30 v (on_e (Addi t 30 (pos 0)) (Some Ld) is (takes_load (Addi t 30 (pos 0)) t refl (home_low v)))
-    action_uses (Address width x) live leaves skips is =
+    action_uses short (Receive v) live leaves skips is = let t = register_or 5 (plan.home f v) in take_uses (Some Ld) 30 v (on_e (Addi t 30 (pos 0)) (Some Ld) is (takes_load (Addi t 30 (pos 0)) t refl (home_low v)))
+    action_uses short (Address width x) live leaves skips is =
         let b = source (plan.home f) 5 x in
         one_uses (Some Sa) x (address_code width b) (on_a (address_code width b) (Some Sa) is (gives_address (address_code width b) width b (word (pos 0)) (address_form width b) (low x)))
-    action_uses (Datum x) live leaves skips is = let i = Addi 30 (source (plan.home f) 5 x) (pos 0) in one_uses (Some Sd) x i (on_e i (Some Sd) is (pushes_datum i (source (plan.home f) 5 x) refl (low x)))
-    action_uses (Offer v) live leaves skips is = let i = Addi 28 (source (plan.home f) 5 (Variable v)) (pos 0) in one_uses (Some Cq) (Variable v) i (on_a i (Some Cq) is (pushes_copy i (source (plan.home f) 5 (Variable v)) refl (low (Variable v))))
-    action_uses (Accept v) live leaves skips is = let t = register_or 5 (plan.home f v) in take_uses (Some Cq) 28 v (on_e (Addi t 28 (pos 0)) (Some Cq) is (takes_copy (Addi t 28 (pos 0)) t refl (home_low v)))
-    action_uses (Emit spelling x) live leaves skips is = no_queue by_a' _ (system_plain (variables f) (plan.home f) (good f) (call_number spelling) x)
-    action_uses (Probe check) live leaves skips is = check_uses check
-    action_uses (Tell x) live leaves skips is = let i = Addi 29 (source (plan.home f) 5 x) (pos 0) in one_uses (Some (told_on by_a')) x i (pushes_message by_a' i (source (plan.home f) 5 x) refl (low x))
-    action_uses Hear live leaves skips is = hear_uses by_a' by_a'
-    action_uses (Stop x) live leaves skips is = no_queue by_a' _ (stop_plain (variables f) (plan.home f) (good f) by_a' x)
-    action_uses Break live leaves skips is = no_queue by_a' _ (jump_plain (4 * (leaves + 2)))
-    action_uses Continue live leaves skips is = no_queue by_a' _ (jump_plain (4 * (skips + 2)))
-    action_uses (Call v g xs) live leaves skips is = no_queue by_a' _ (call_plain plan variables good f v g xs _)
-    action_uses (Return x) live leaves skips is = no_queue by_a' _ (leave_plain (variables f) (plan.home f) (good f) x)
+    action_uses short (Datum x) live leaves skips is = move_uses (Some Sd) 30 x (λ r imm l. on_e (Addi 30 r imm) (Some Sd) is (pushes_datum (Addi 30 r imm) r refl l))
+    action_uses short (Offer v) live leaves skips is = move_uses (Some Cq) 28 (Variable v) (λ r imm l. on_a (Addi 28 r imm) (Some Cq) is (pushes_copy (Addi 28 r imm) r refl l))
+    action_uses short (Accept v) live leaves skips is = let t = register_or 5 (plan.home f v) in take_uses (Some Cq) 28 v (on_e (Addi t 28 (pos 0)) (Some Cq) is (takes_copy (Addi t 28 (pos 0)) t refl (home_low v)))
+    action_uses short (Emit spelling x) live leaves skips is = no_queue by_a' _ (system_plain (variables f) (plan.home f) (good f) (call_number spelling) x)
+    action_uses short (Probe check) live leaves skips is = check_uses check
+    action_uses short (Tell x) live leaves skips is = move_uses (Some (told_on by_a')) 29 x (λ r imm l. pushes_message by_a' (Addi 29 r imm) r refl l)
+    action_uses short Hear live leaves skips is = hear_uses by_a' by_a'
+    action_uses short (Stop x) live leaves skips is = no_queue by_a' _ (stop_plain (variables f) (plan.home f) (good f) by_a' x)
+    action_uses short Break live leaves skips is = no_queue by_a' _ (over_plain short leaves)
+    action_uses short Continue live leaves skips is = no_queue by_a' _ (over_plain short skips)
+    action_uses short (Call v g xs) live leaves skips is = no_queue by_a' _ (call_plain plan variables good f v g xs _)
+    action_uses short (Return x) live leaves skips is = no_queue by_a' _ (leave_plain (variables f) (plan.home f) (good f) x)
 
-    branch_uses : (b : Branch) → Uses by_a' (branch_queue by_a' b) (branch_code (plan.home f) b)
-    branch_uses (Silent t) = no_queue by_a' _ (plain_append _ _ (test_plain (variables f) (plan.home f) (good f) 5 t (omega arith)) ((omega arith, omega arith, omega arith), tt))
-    branch_uses (Tells t) =
-        behind_plain by_a' (Some (told_on by_a')) (test_code (plan.home f) 5 t) (Addi 29 5 (pos 0) ∷ (Bne 5 0 (pos 12) ∷ [])) (test_plain (variables f) (plan.home f) (good f) 5 t (omega arith))
-        (tells by_a' 5 (Bne 5 0 (pos 12) ∷ []) (omega arith) (quiet by_a' _ (Bne 5 0 (pos 12) ∷ []) ((omega arith, omega arith, omega arith), tt)) (pos 0))
-    branch_uses Hears = first_uses by_a' (Some (heard_on by_a')) (Bne 29 0 (pos 12)) [] (rests by_a') tt
-      where
-        rests : (b : Bool) → queue_in (side b) (Bne 29 0 (pos 12)) ≡ Some (heard_on b)
-        rests b = takes_message b (Bne 29 0 (pos 12)) 0 refl (omega arith)
+    -- a branch on what is heard
+    hears : (t short : Bool) (relation : Comparison) (n : ℕ) → Uses by_a' (Some (heard_on by_a')) (goes_by t short relation 29 0 n)
+    hears true short relation n = first_uses by_a' (Some (heard_on by_a')) (branch_inst relation 29 0 (pos (4 * (n + 1)))) [] (takes_message by_a' (branch_inst relation 29 0 (pos (4 * (n + 1)))) 0 (branch_form relation 29 0 (pos (4 * (n + 1)))) (omega arith)) tt
+    hears false short relation n =
+        let far : ℤ = pos (4 * (jump_words short + 1)) in
+        first_uses by_a' (Some (heard_on by_a')) (branch_inst (opposite relation) 29 0 far) (jump_over short n) (takes_message by_a' (branch_inst (opposite relation) 29 0 far) 0 (branch_form (opposite relation) 29 0 far) (omega arith))
+        (quiet by_a' (Some (heard_on by_a')) (jump_over short n) (over_plain short n))
+
+    branch_uses : (short : Bool) (b : Branch) (way : Bool) (n : ℕ) → Uses by_a' (branch_queue by_a' b) (branch_code (plan.home f) short b way n)
+    branch_uses short (Silent t) way n =
+        no_queue by_a' _ (plain_append (fetch (plan.home f) 5 t.left) _ (fetch_plain (variables f) (plan.home f) (good f) 5 t.left (omega arith)) (plain_append (fetch (plan.home f) 6 t.right) _ (fetch_plain (variables f) (plan.home f) (good f) 6 t.right (omega arith))
+        (goes_plain short (one_way way t.comparison) (source (plan.home f) 5 t.left) (source (plan.home f) 6 t.right) n (source_low (variables f) (plan.home f) (good f) 5 t.left (omega arith)) (source_low (variables f) (plan.home f) (good f) 6 t.right (omega arith)))))
+    branch_uses short (Tells t) way n =
+        let last : List Inst = goes_code short (one_way way NotEqual) 5 0 n in
+        behind_plain by_a' (Some (told_on by_a')) (test_code (plan.home f) 5 t) (Addi 29 5 (pos 0) ∷ last) (test_plain (variables f) (plan.home f) (good f) 5 t (omega arith))
+        (tells by_a' 5 last (omega arith) (quiet by_a' _ last (goes_plain short (one_way way NotEqual) 5 0 n (omega arith) (omega arith))) (pos 0))
+    branch_uses short Hears way n = hears (nat_lt n 1000) short (one_way way NotEqual) n
 
     -- ---- structured code
 
@@ -228,48 +245,49 @@ module _ (plan : Plan) (variables : ℕ → ℕ) (good : (f v : ℕ) → IsHome 
       abbrev Both : Actions → List Inst → Type 0
       Both code is = (LeavesAlone by_a' q is → IsUntouched by_a' q code) × (IsUntouched by_a' q code → LeavesAlone by_a' q is)
 
-      code_both : (code : Actions) (x : Ways) (leaves skips : ℕ) → AreOfSide by_a' code → Both code (code_of plan variables f code x leaves skips)
-      code_both Done x leaves skips is = ((λ h. tt), (λ h. tt))
-      code_both (Do m a k) x leaves skips is =
-          let rest = code_of plan variables f k x leaves skips in
-          let here = action_code plan variables f a (live k x) (length rest + leaves) (length rest + skips) in
-          let uses = action_uses a (live k x) (length rest + leaves) (length rest + skips) is.0 in
-          let more = code_both k x leaves skips is.1 in (
+      code_both : (short : Bool) (code : Actions) (x : Ways) (leaves skips : ℕ) → AreOfSide by_a' code → Both code (code_of short plan variables f code x leaves skips)
+      code_both short Done x leaves skips is = ((λ h. tt), (λ h. tt))
+      code_both short (Do m a k) x leaves skips is =
+          let rest = code_of short plan variables f k x leaves skips in
+          let here = action_code plan variables f a (live k x) (jump_over short (length rest + leaves)) (jump_over short (length rest + skips)) in
+          let uses = action_uses short a (live k x) (length rest + leaves) (length rest + skips) is.0 in
+          let more = code_both short k x leaves skips is.1 in (
             (λ alone. let two = alone_split by_a' q here rest alone in ((λ e. uses.some q e two.0), more.0 two.1)),
             (λ free. alone_append by_a' q here rest (others_alone by_a' (action_queue by_a' a) q here uses.only free.0) (more.1 free.1)),
           )
-      code_both (If m b p r k) x leaves skips is =
-          let rest = code_of plan variables f k x leaves skips in
-          let second = code_of plan variables f r (behind (live k x) x) (length rest + leaves) (length rest + skips) in
-          let first = code_of plan variables f p (behind (live k x) x) (2 + length second + length rest + leaves) (2 + length second + length rest + skips) in
-          let decides = branch_code (plan.home f) b in
-          let uses = branch_uses b in
-          let one = code_both p (behind (live k x) x) (2 + length second + length rest + leaves) (2 + length second + length rest + skips) is.1 in
-          let two = code_both r (behind (live k x) x) (length rest + leaves) (length rest + skips) is.2 in
-          let more = code_both k x leaves skips is.3 in
-          let over_first = jump_over (length first + 2) in let over_second = jump_over (length second) in (
+      code_both short (If m b p r k) x leaves skips is =
+          let none = does_nothing p in
+          let rest = code_of short plan variables f k x leaves skips in
+          let second = code_of short plan variables f r (behind (live k x) x) (length rest + leaves) (length rest + skips) in
+          let past = past_code short (none || does_nothing r) (length second) in
+          let far = length past + length second + length rest in
+          let first = code_of short plan variables f p (behind (live k x) x) (far + leaves) (far + skips) in
+          let n = if none then length second else length first + length past in
+          let decides = branch_code (plan.home f) short b none n in
+          let uses = branch_uses short b none n in
+          let one = code_both short p (behind (live k x) x) (far + leaves) (far + skips) is.1 in
+          let two = code_both short r (behind (live k x) x) (length rest + leaves) (length rest + skips) is.2 in
+          let more = code_both short k x leaves skips is.3 in (
             (λ alone.
-                let a = alone_split by_a' q decides (over_first ++ (first ++ (over_second ++ (second ++ rest)))) alone in
-                let b = alone_split by_a' q over_first (first ++ (over_second ++ (second ++ rest))) a.1 in
-                let c = alone_split by_a' q first (over_second ++ (second ++ rest)) b.1 in
-                let d = alone_split by_a' q over_second (second ++ rest) c.1 in
-                let e = alone_split by_a' q second rest d.1 in
-                ((λ same. uses.some q same a.0), one.0 c.0, two.0 e.0, more.0 e.1)),
+                let a = alone_split by_a' q decides (first ++ (past ++ (second ++ rest))) alone in
+                let b = alone_split by_a' q first (past ++ (second ++ rest)) a.1 in
+                let c = alone_split by_a' q past (second ++ rest) b.1 in
+                let d = alone_split by_a' q second rest c.1 in
+                ((λ same. uses.some q same a.0), one.0 b.0, two.0 d.0, more.0 d.1)),
             (λ free.
-                alone_append by_a' q decides (over_first ++ (first ++ (over_second ++ (second ++ rest)))) (others_alone by_a' (branch_queue by_a' b) q decides uses.only free.0)
-                (alone_append by_a' q over_first (first ++ (over_second ++ (second ++ rest))) (silent over_first (jump_plain (4 * (length first + 2 + 2))))
-                (alone_append by_a' q first (over_second ++ (second ++ rest)) (one.1 free.1)
-                (alone_append by_a' q over_second (second ++ rest) (silent over_second (jump_plain (4 * (length second + 2))))
-                (alone_append by_a' q second rest (two.1 free.2) (more.1 free.3)))))),
+                alone_append by_a' q decides (first ++ (past ++ (second ++ rest))) (others_alone by_a' (branch_queue by_a' b) q decides uses.only free.0)
+                (alone_append by_a' q first (past ++ (second ++ rest)) (one.1 free.1)
+                (alone_append by_a' q past (second ++ rest) (silent past (past_plain short (none || does_nothing r) (length second)))
+                (alone_append by_a' q second rest (two.1 free.2) (more.1 free.3))))),
           )
-      code_both (Loop m body step k) x leaves skips is =
-          let rest = code_of plan variables f k x leaves skips in
-          let again = code_of plan variables f step (step_ways body step (live k x)) 2 0 in
-          let turned = code_of plan variables f body (body_ways body step (live k x)) (length again + 2) 0 in
-          let back = jump_back (length turned + length again) in
-          let one = code_both body (body_ways body step (live k x)) (length again + 2) 0 is.0 in
-          let two = code_both step (step_ways body step (live k x)) 2 0 is.1 in
-          let more = code_both k x leaves skips is.2 in (
+      code_both short (Loop m body step k) x leaves skips is =
+          let rest = code_of short plan variables f k x leaves skips in
+          let again = code_of short plan variables f step (step_ways body step (live k x)) (jump_words short) 0 in
+          let turned = code_of short plan variables f body (body_ways body step (live k x)) (length again + jump_words short) 0 in
+          let back = jump_back short (length turned + length again) in
+          let one = code_both short body (body_ways body step (live k x)) (length again + jump_words short) 0 is.0 in
+          let two = code_both short step (step_ways body step (live k x)) (jump_words short) 0 is.1 in
+          let more = code_both short k x leaves skips is.2 in (
             (λ alone.
                 let a = alone_split by_a' q turned (again ++ (back ++ rest)) alone in
                 let b = alone_split by_a' q again (back ++ rest) a.1 in
@@ -278,15 +296,15 @@ module _ (plan : Plan) (variables : ℕ → ℕ) (good : (f v : ℕ) → IsHome 
             (λ free.
                 alone_append by_a' q turned (again ++ (back ++ rest)) (one.1 free.0)
                 (alone_append by_a' q again (back ++ rest) (two.1 free.1)
-                (alone_append by_a' q back rest (silent back (jump_plain ((2 ^ 32 - 4 * (length turned + length again) % 2 ^ 32) % 2 ^ 32))) (more.1 free.2)))),
+                (alone_append by_a' q back rest (silent back (back_jump_plain short (length turned + length again))) (more.1 free.2)))),
           )
 
       function_both : (code : Actions) → AreOfSide by_a' code → Both code (function_code plan variables f code)
       function_both code is =
           let enters = entry_code plan variables f (live code nowhere) in
-          let does = code_of plan variables f code nowhere 0 0 in
+          let does = code_of (is_short code) plan variables f code nowhere 0 0 in
           let leaves = leave_code (plan.home f) (Some (Number 0)) in
-          let both = code_both code nowhere 0 0 is in (
+          let both = code_both (is_short code) code nowhere 0 0 is in (
             (λ alone. both.0 (alone_split by_a' q does leaves (alone_split by_a' q enters (does ++ leaves) alone).1).0),
             (λ free. alone_append by_a' q enters (does ++ leaves) (silent enters (entry_plain plan variables good f (live code nowhere)))
                 (alone_append by_a' q does leaves (both.1 free) (silent leaves (leave_plain (variables f) (plan.home f) (good f) (Some (Number 0)))))),

@@ -1,5 +1,6 @@
 -- What a processor holds at a moment of its stream: the variables that are live; where the frame in common memory and the
--- private frame begin; on A the depth; and for each waiting call its return address and what is live behind it.
+-- private frame begin; on A the depth and how many addresses common memory has; and for each waiting call its return address
+-- and what is live behind it.
 use Rattle.std.specs.Prelude.{◌≡◌, ℕ, ◌+◌, ◌-◌, ◌*◌, ◌^◌, ◌≤◌, ◌<◌, Bool, true, List, [], ◌∷◌, length, slice_index, None}
 use Rattle.dae_base.specs.Words.{loaded}
 use Rattle.dae_base.specs.declared.LoadKind.TheVariants.{I32}
@@ -72,6 +73,7 @@ pub record Agrees (plan : Plan) (live : VariableSet) (m : Moment) (c : Contents)
   pub pointer : c.register 2 ≡ 4 * base
   pub frame : c.register 3 ≡ m.frame
   pub depth : plan.by_a ≡ true → c.register 10 ≡ depth_of m
+  pub addresses : plan.by_a ≡ true → c.register 4 ≡ plan.memory - 16
   pub waiting : AreWaiting plan c base m.frame m.waiting
   pub room : base + (plan.limit + 1 - depth_of m) * plan.largest ≤ plan.private
   pub within : IsWithin plan m

@@ -1,5 +1,5 @@
 -- The code does a stream action by action.
-use Rattle.std.specs.Prelude.{◌≡◌, ℕ, ◌+◌, ◌*◌, ◌≤◌, ◌<◌, ◌^◌, nat_eq, Bool, true, false, not, ◌&&◌, List, [], ◌∷◌, length, Option, Some, None, if◌then◌else◌}
+use Rattle.std.specs.Prelude.{◌≡◌, ℕ, ◌+◌, ◌-◌, ◌*◌, ◌≤◌, ◌<◌, ◌^◌, nat_eq, Bool, true, false, not, ◌&&◌, List, [], ◌∷◌, length, Option, Some, None, if◌then◌else◌}
 use Rattle.dae_encode.specs.declared.QueueUse.TheVariants.{Nothing, Take as Takes}
 use Rattle.dae_encode.specs.Processor.{Processor}
 use Rattle.dae_ir.specs.Code.{Done, Do, If, Loop}
@@ -74,6 +74,7 @@ pub record Lands (plan : Plan) (w : Waiting) (ws : List Waiting) (result : Optio
   pub begins : contents.register 3 ≡ frame
   pub low : frame ≤ plan.memory
   pub depth : plan.by_a ≡ true → contents.register 10 ≡ length ws + 2
+  pub addresses : plan.by_a ≡ true → contents.register 4 ≡ plan.memory - 16
   pub waiting : AreWaiting plan contents base frame (w ∷ ws)
   pub given : (x : ℕ) → result ≡ Some x → contents.register 6 ≡ x
 

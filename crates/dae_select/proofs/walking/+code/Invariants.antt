@@ -8,4 +8,4 @@ use Rattle.dae_select.proofs.walking.+code.Given as goal
 
 abbrev pub invariant-list_code-loop-index : goal.invariant-list_code-loop-index
 invariant-list_code-loop-index l =
-    IsCodeOf (plan_of l.layouts) (variables_of l.layouts) l.function l.fn.code l.exits.leaves l.exits.skips (ways (member l.fn.next) (member l.exits.leaves_live) (member l.exits.skips_live)) (actions_of (drop l.index l.steps)) l.code l.set
+    IsCodeOf l.short (plan_of l.layouts) (variables_of l.layouts) l.function l.fn.code l.exits.leaves l.exits.skips (ways (member l.fn.next) (member l.exits.leaves_live) (member l.exits.skips_live)) (actions_of (drop l.index l.steps)) l.code l.set

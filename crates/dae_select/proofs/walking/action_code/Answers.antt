@@ -2,7 +2,7 @@ use Rattle.std.proofs.Common.{ℕ, ◌++◌, ap, ◌∙◌}
 use Rattle.std.proofs.lemmas.Result.{on_ok_weaker}
 use Rattle.dae_ir.specs.declared.form.Operand.TheVariants.{Variable}
 use Rattle.dae_walks.specs.declared.Home.{Home}
-use Rattle.dae_blocks.specs.Blocks.{value_code, register_or, keep, own_code, take_code, push_code}
+use Rattle.dae_blocks.specs.Blocks.{value_code, register_or, keep, own_code, take_code, move_code}
 use Rattle.dae_select.proofs.walking.action_code.Goals as goal
 
 pub returns-in-Set : goal.returns-in-Set
@@ -28,4 +28,4 @@ returns-in-Accept c =
 pub returns-in-Offer : goal.returns-in-Offer
 returns-in-Offer c =
     let i = c.in-Offer in
-    on_ok_weaker c.push_code-in-Offer.result (λ e. rw i.is (e ∙ ap (λ (home : ℕ → Home). c.args.code.now.items ++ push_code home 28 (Variable i.variable)) c.requires.homes)) c.push_code-in-Offer.ensures
+    on_ok_weaker c.move_code-in-Offer.result (λ e. rw i.is (e ∙ ap (λ (home : ℕ → Home). c.args.code.now.items ++ move_code home 28 (Variable i.variable)) c.requires.homes)) c.move_code-in-Offer.ensures

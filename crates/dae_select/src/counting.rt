@@ -1,0 +1,63 @@
+// Whether the code of actions is short, told by what bounds its length.
+
+ghost use Rattle.std.specs.Prelude.{◌≡◌, ◌+◌, ◌*◌, ◌≤◌, ◌^◌};
+ghost use Rattle.dae_ir.specs.Code.{Done};
+ghost use Rattle.dae_ir.specs.Sizes.{action_weight};
+ghost use Rattle.dae_ir.specs.Streams.{actions_of, step_onto};
+ghost use Rattle.dae_blocks.specs.Sizes.{one_call, most_words_in, is_short};
+ghost use Rattle.dae_select.specs.Counting.{capped};
+
+use dae_ir::{Action, Step};
+
+/// Code that may have so many words is no longer short.
+const LONG: u64 = 131_072;
+
+fn capped(words: u64) -> u64
+    ensures words { result ≡ capped words }
+    ensures few { result ≤ 2 ^ 17 }
+{
+    if words < LONG { words } else { LONG }
+}
+
+/// The most words that an action has, as far as they are counted.
+fn action_words(action: &Action) -> u64
+    ensures words { result ≡ capped (14 * action_weight action.now + 42 * one_call action.now) }
+    ensures few { result ≤ 2 ^ 17 }
+{
+    match action {
+        Action::Call(_, _, arguments) => capped(56 + 14 * capped(arguments.len() as u64)),
+        _ => 14,
+    }
+}
+
+#[cycle(words)]
+fn step_words(step: &Step) -> u64
+    ensures words { result ≡ capped (most_words_in (step_onto step.now Done)) }
+    ensures few { result ≤ 2 ^ 17 }
+{
+    match step {
+        Step::Act(_, action) => action_words(action),
+        Step::If(_, _, p, q) => capped(14 + list_words(p) + list_words(q)),
+        Step::Loop(_, body, step) => capped(14 + list_words(body) + list_words(step)),
+    }
+}
+
+/// The most words that the code of a list of actions has, as far as they are counted.
+#[cycle(words)]
+fn list_words(steps: &[Step]) -> u64
+    ensures words { result ≡ capped (most_words_in (actions_of steps.now)) }
+    ensures few { result ≤ 2 ^ 17 }
+{
+    let mut words = 0;
+    for index in (0..steps.len()).rev() {
+        words = capped(step_words(&steps[index]) + words);
+    }
+    words
+}
+
+/// Whether jumps in the code of a function are short.
+pub fn is_short(body: &[Step]) -> bool
+    ensures { result ≡ is_short (actions_of body.now) }
+{
+    list_words(body) < LONG
+}
