@@ -153,7 +153,8 @@ impl Depths {
     }
 
     fn last_below(&self, budget: &Depths) -> Option<Queue>
-        ensures { result ≡ find (is_below self.now budget.now) (Queue.Ab ∷ Queue.Eb ∷ Queue.Cq ∷ []) }
+        ensures { result
+            ≡ find (is_below self.now budget.now) (Queue.Ab ∷ Queue.Eb ∷ Queue.Cq ∷ []) }
     {
         if self.ab < budget.ab {
             Some(Queue::Ab)

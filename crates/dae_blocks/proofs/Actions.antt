@@ -37,7 +37,7 @@ use Rattle.dae_blocks.proofs.Runs.{Runs, runs_nothing, runs_push, runs_take, run
 use Rattle.dae_blocks.proofs.Agreement.{Ready, ready_gets, ready_like}
 use Rattle.dae_blocks.proofs.Operands.{runs_keep, runs_move}
 use Rattle.dae_blocks.specs.Wanted.{IsNumber, AreNumbers}
-use Rattle.dae_blocks.proofs.Computing.{plus_zero, register_plain, register_low, source_plain, is_scratch, runs_one, runs_value}
+use Rattle.dae_blocks.proofs.Computing.{plus_zero, register_plain, source_plain, is_scratch, runs_one, runs_value}
 use Rattle.dae_blocks.proofs.Uses.{takes_load, takes_own, takes_copy, pushes_datum, pushes_copy, pushes_message, issues, issues_own, gives_address}
 
 issue_is : (kind : LoadKind) (queue base : ℕ) → effect (issue_code kind queue base) ≡ DoesLoad kind queue base (word (pos 0))
@@ -96,7 +96,7 @@ module _ (s : Setting) (plan : Plan) (variables : ℕ → ℕ) (fine : Fits s pl
       Does' (value_code (plan.home m.function) (register_or 5 (plan.home m.function v)) x ++ keep (plan.home m.function v)) c (Went (form.put true v (computed x m.frame m.env) m.env))
   set_done v x h reads number apart =
       let home = plan.home m.function v in let good = fine.homes m.function v in
-      runs_value s plan variables fine To (register_or 5 home) x (keep home) (register_low s plan variables fine To (variables m.function) 5 home good (omega arith)) (register_plain s plan variables fine To (variables m.function) 5 home good (omega arith)) h reads number
+      runs_value s plan variables fine To (register_or 5 home) x (keep home) (register_plain s plan variables fine To (variables m.function) 5 home good (omega arith)) h reads number
       (λ c1 h1 fits. kept v (computed x m.frame m.env) h1 apart fits)
 
   -- Receive, Accept, and the end of Own: the front of a queue goes home

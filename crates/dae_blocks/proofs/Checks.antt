@@ -28,7 +28,7 @@ use Rattle.dae_walks.specs.Walks.{Setting}
 use Rattle.dae_walks.specs.Homes.{Contents}
 use Rattle.dae_walks.specs.Agrees.{Plan, Moment, depth_of, top_of}
 use Rattle.dae_walks.proofs.LawsOfWalks.{put, step_prints, step_ends, step_stops}
-use Rattle.dae_blocks.specs.Blocks.{check_code, source, fetch, number_code, fail_code, over, align_code, room_code, call_number, system_code, hear_code}
+use Rattle.dae_blocks.specs.Blocks.{check_code, source, fetch, number_code, fail_code, over, align_code, room_code, frames_room_code, call_number, system_code, hear_code}
 use Rattle.dae_blocks.specs.Fits.{Fits}
 use Rattle.dae_blocks.proofs.Plain.{computes, takes, pushes, put_other, branch_taken, branch_passed}
 use Rattle.dae_blocks.proofs.Frames.{plus_small, runs_number}
@@ -290,15 +290,21 @@ module _ (s : Setting) (plan : Plan) (variables : ℕ → ℕ) (fine : Fits s pl
             runs_number s plan.private t 6 plan.limit (Bltu 10 6 (pos 12) ∷ fail_code true 4) h1.zero (omega arith) (omega arith) (omega arith) (
             tested 4 (Bltu 10 6 (pos 12)) 10 6 (λ x y. nat_lt x y) (nat_lt plan.limit (depth_of m + 1) || nat_lt plan.memory (top_of plan m + plan.frame g)) refl (omega arith) (omega arith) same (omega arith) h2 stays)
 
-        by : (big : Bool) → nat_lt plan.memory (plan.frame m.function + plan.frame g) ≡ big →
-            Does' s plan variables fine live live' m (if big then fail_code true 4 else room_code (plan.memory - (plan.frame m.function + plan.frame g)) ++ (number_code 6 plan.limit ++ Bltu 10 6 (pos 12) ∷ fail_code true 4)) c (probed true (passed (nat_lt plan.limit (depth_of m + 1) || nat_lt plan.memory (top_of plan m + plan.frame g))) m.env)
-        by true e =
-            let trap : (nat_lt plan.limit (depth_of m + 1) || nat_lt plan.memory (top_of plan m + plan.frame g)) ≡ true = grind (arith, nat_tests) in
-            rw trap (rw append-nil at (fails true 4 [] by_a (omega arith) h))
-        by false e =
+        -- a frame begins in common memory: where both frames are empty there is room for them
+        roomy : (none : Bool) → nat_eq (plan.frame m.function + plan.frame g) 0 ≡ none → nat_lt plan.memory (plan.frame m.function + plan.frame g) ≡ false →
+            Does' s plan variables fine live live' m ((if none then [] else room_code left) ++ (number_code 6 plan.limit ++ Bltu 10 6 (pos 12) ∷ fail_code true 4)) c (probed true (passed (nat_lt plan.limit (depth_of m + 1) || nat_lt plan.memory (top_of plan m + plan.frame g))) m.env)
+        roomy true none e = let inside = h.agrees.within.frame in deep c (grind (arith, nat_tests)) e h
+        roomy false some e =
             let most = fine.common in
             room_done left (number_code 6 plan.limit ++ Bltu 10 6 (pos 12) ∷ fail_code true 4) (nat_lt left m.frame) (omega arith) refl h (λ low c1 h1. deep c1 low e h1)
             (λ high. (let trap : (nat_lt plan.limit (depth_of m + 1) || nat_lt plan.memory (top_of plan m + plan.frame g)) ≡ true = grind (arith, nat_tests) in rw trap refl))
+
+        by : (big : Bool) → nat_lt plan.memory (plan.frame m.function + plan.frame g) ≡ big →
+            Does' s plan variables fine live live' m (if big then fail_code true 4 else frames_room_code plan.memory (plan.frame m.function + plan.frame g) ++ (number_code 6 plan.limit ++ Bltu 10 6 (pos 12) ∷ fail_code true 4)) c (probed true (passed (nat_lt plan.limit (depth_of m + 1) || nat_lt plan.memory (top_of plan m + plan.frame g))) m.env)
+        by true e =
+            let trap : (nat_lt plan.limit (depth_of m + 1) || nat_lt plan.memory (top_of plan m + plan.frame g)) ≡ true = grind (arith, nat_tests) in
+            rw trap (rw append-nil at (fails true 4 [] by_a (omega arith) h))
+        by false e = roomy (nat_eq (plan.frame m.function + plan.frame g) 0) refl e
 
     -- Probe(Frame)
     pub frame_done : {c : Contents} → Ready plan live m c → Stays s plan variables fine live live' m →

@@ -28,9 +28,9 @@ use Rattle.dae_ir.specs.declared.stream.Branch.{Branch}
 use Rattle.dae_ir.specs.declared.stream.Branch.TheVariants.{Silent, Tells, Hears}
 use Rattle.dae_walks.specs.declared.Home.{Home}
 use Rattle.dae_walks.specs.Homes.{IsHome}
-use Rattle.dae_blocks.specs.Blocks.{lower, is_immediate, number_code, register_or, source, fetch, move_code, operation_code, exponent, power_code, immediate_code, commutes, exchanged_code, behind_or, combine_registers, binary_code, extend_code, compare_code, takes_number, compare_number_code, compare_registers, compare_operands, test_code, frame_code, value_code, issue_code, address_code, take_code, fail_code, over, align_code, room_code, check_code, system_code, hear_code, stop_code, leave_code, result_code, branch_inst, opposite, one_way, goes_by, goes_code}
-use Rattle.dae_blocks.specs.Code.{branch_code}
-use Rattle.dae_blocks.proofs.Ranges.{AllFit, fit_append, fit_either, lower_fits, addi_fits, addi_small, lw_small, add_fits, number_fits, register_fits, fetch_fits, move_fits, keep_fits, over_fits}
+use Rattle.dae_blocks.specs.Blocks.{lower, is_immediate, number_code, register_or, source, fetch, move_code, operation_code, exponent, power_code, immediate_code, commutes, exchanged_code, behind_or, combine_registers, binary_code, extend_code, compare_code, takes_number, compare_number_code, compare_registers, compare_operands, test_code, frame_code, value_code, issue_code, address_code, take_code, fail_code, over, align_code, room_code, check_code, system_code, hear_code, stop_code, leave_code, result_code, branch_inst, opposite, one_way, goes_by, goes_code, frames_room_code, tell_number_code, against_zero, immediate_of}
+use Rattle.dae_blocks.specs.Code.{branch_code, told_code}
+use Rattle.dae_blocks.proofs.Ranges.{move_fit, AllFit, fit_append, fit_either, lower_fits, addi_fits, addi_small, lw_small, add_fits, number_fits, register_fits, fetch_fits, move_fits, keep_fits, over_fits}
 use Rattle.dae_blocks.proofs.Values.{power_of_two, is_some_where}
 
 three_fit : (o : Operator) (t x y : ℕ) → t < 32 → x < 32 → y < 32 → InRange (operation_code o t x y)
@@ -82,31 +82,40 @@ exchanged_fits o t x n i a b e = by (commutes o) e
 
 extends_fit : (kind : LoadKind) (t x : ℕ) → t < 32 → x < 32 → AllFit (extend_code kind t x)
 unfolding InRange layout
-extends_fit I8 t x a b = ((a, b, (omega (arith, ints), omega (arith, ints))), ((a, a, (omega (arith, ints), omega (arith, ints))), tt))
+extends_fit I8 t x a b = (((omega arith), b, (omega (arith, ints), omega (arith, ints))), ((a, (omega arith), (omega (arith, ints), omega (arith, ints))), tt))
 extends_fit U8 t x a b = ((a, b, (omega (arith, ints), omega (arith, ints))), tt)
-extends_fit I16 t x a b = ((a, b, (omega (arith, ints), omega (arith, ints))), ((a, a, (omega (arith, ints), omega (arith, ints))), tt))
-extends_fit U16 t x a b = ((a, b, (omega (arith, ints), omega (arith, ints))), ((a, a, (omega (arith, ints), omega (arith, ints))), tt))
+extends_fit I16 t x a b = (((omega arith), b, (omega (arith, ints), omega (arith, ints))), ((a, (omega arith), (omega (arith, ints), omega (arith, ints))), tt))
+extends_fit U16 t x a b = (((omega arith), b, (omega (arith, ints), omega (arith, ints))), ((a, (omega arith), (omega (arith, ints), omega (arith, ints))), tt))
 extends_fit I32 t x a b = ((a, b, (omega (arith, ints), omega (arith, ints))), tt)
 
 compares_fit : (r : Comparison) (t x y : ℕ) → t < 32 → x < 32 → y < 32 → AllFit (compare_code r t x y)
 unfolding InRange layout
-compares_fit Equal t x y a b c = ((a, b, c), ((a, a, (omega (arith, ints), omega (arith, ints))), tt))
-compares_fit NotEqual t x y a b c = ((a, b, c), ((a, (omega arith), a), tt))
+compares_fit Equal t x y a b c = (((omega arith), b, c), ((a, (omega arith), (omega (arith, ints), omega (arith, ints))), tt))
+compares_fit NotEqual t x y a b c = (((omega arith), b, c), ((a, (omega arith), (omega arith)), tt))
 compares_fit LessSigned t x y a b c = ((a, b, c), tt)
-compares_fit AtLeastSigned t x y a b c = ((a, b, c), ((a, a, (omega (arith, ints), omega (arith, ints))), tt))
+compares_fit AtLeastSigned t x y a b c = (((omega arith), b, c), ((a, (omega arith), (omega (arith, ints), omega (arith, ints))), tt))
 compares_fit LessUnsigned t x y a b c = ((a, b, c), tt)
-compares_fit AtLeastUnsigned t x y a b c = ((a, b, c), ((a, a, (omega (arith, ints), omega (arith, ints))), tt))
+compares_fit AtLeastUnsigned t x y a b c = (((omega arith), b, c), ((a, (omega arith), (omega (arith, ints), omega (arith, ints))), tt))
 
 compares_number_fit : (r : Comparison) (t x n : ℕ) → t < 32 → x < 32 → AllFit (compare_number_code r t x n)
 unfolding InRange layout
 compares_number_fit Equal t x n a b =
-    fit_either (nat_eq n 0) (Sltiu t x (pos 1) ∷ []) (Addi t x (lower (minus 0 n)) ∷ (Sltiu t t (pos 1) ∷ [])) (λ e. ((a, b, (omega (arith, ints), omega (arith, ints))), tt)) (λ e. ((a, b, lower_fits (minus 0 n)), ((a, a, (omega (arith, ints), omega (arith, ints))), tt)))
+    fit_either (nat_eq n 0) (Sltiu t x (pos 1) ∷ []) (Addi 7 x (lower (minus 0 n)) ∷ (Sltiu t 7 (pos 1) ∷ [])) (λ e. ((a, b, (omega (arith, ints), omega (arith, ints))), tt)) (λ e. (((omega arith), b, lower_fits (minus 0 n)), ((a, (omega arith), (omega (arith, ints), omega (arith, ints))), tt)))
 compares_number_fit NotEqual t x n a b =
-    fit_either (nat_eq n 0) (Sltu t 0 x ∷ []) (Addi t x (lower (minus 0 n)) ∷ (Sltu t 0 t ∷ [])) (λ e. ((a, (omega arith), b), tt)) (λ e. ((a, b, lower_fits (minus 0 n)), ((a, (omega arith), a), tt)))
+    fit_either (nat_eq n 0) (Sltu t 0 x ∷ []) (Addi 7 x (lower (minus 0 n)) ∷ (Sltu t 0 7 ∷ [])) (λ e. ((a, (omega arith), b), tt)) (λ e. (((omega arith), b, lower_fits (minus 0 n)), ((a, (omega arith), (omega arith)), tt)))
 compares_number_fit LessSigned t x n a b = ((a, b, lower_fits n), tt)
-compares_number_fit AtLeastSigned t x n a b = ((a, b, lower_fits n), ((a, a, (omega (arith, ints), omega (arith, ints))), tt))
+compares_number_fit AtLeastSigned t x n a b = (((omega arith), b, lower_fits n), ((a, (omega arith), (omega (arith, ints), omega (arith, ints))), tt))
 compares_number_fit LessUnsigned t x n a b = ((a, b, lower_fits n), tt)
-compares_number_fit AtLeastUnsigned t x n a b = ((a, b, lower_fits n), ((a, a, (omega (arith, ints), omega (arith, ints))), tt))
+compares_number_fit AtLeastUnsigned t x n a b = (((omega arith), b, lower_fits n), ((a, (omega arith), (omega (arith, ints), omega (arith, ints))), tt))
+
+tells_number_fit : (r : Comparison) (x n : ℕ) → x < 32 → AllFit (tell_number_code r x n)
+unfolding InRange layout
+tells_number_fit Equal x n b = compares_number_fit Equal 29 x n (omega arith) b
+tells_number_fit NotEqual x n b = compares_number_fit NotEqual 29 x n (omega arith) b
+tells_number_fit LessSigned x n b = (((omega arith), b, lower_fits n), (((omega arith), (omega arith), (omega (arith, ints), omega (arith, ints))), tt))
+tells_number_fit AtLeastSigned x n b = compares_number_fit AtLeastSigned 29 x n (omega arith) b
+tells_number_fit LessUnsigned x n b = (((omega arith), b, lower_fits n), (((omega arith), (omega arith), (omega (arith, ints), omega (arith, ints))), tt))
+tells_number_fit AtLeastUnsigned x n b = compares_number_fit AtLeastUnsigned 29 x n (omega arith) b
 
 pub ecall_fits : InRange Ecall
 unfolding InRange layout
@@ -168,61 +177,85 @@ address_fits B1 b k = (k, (omega arith), (omega (arith, ints), omega (arith, int
 address_fits B2 b k = (k, (omega arith), (omega (arith, ints), omega (arith, ints)))
 address_fits B4 b k = (k, (omega arith), (omega (arith, ints), omega (arith, ints)))
 
-module _ (n : ℕ) (home : ℕ → Home) (good : (v : ℕ) → IsHome n (home v)) where
-  pub source_fits : (r : ℕ) (x : Operand) → r < 32 → source home r x < 32
-  source_fits r (Variable v) h = register_fits n r (home v) (good v) h
-  source_fits r (Number k) h = by (nat_eq k 0)
+-- where each home is a register of the machine, or a slot
+module _ (home : ℕ → Home) (low : (r v : ℕ) → r < 32 → register_or r (home v) < 32) where
+  source_fit : (r : ℕ) (x : Operand) → r < 32 → source home r x < 32
+  source_fit r (Variable v) h = low r v h
+  source_fit r (Number k) h = by (nat_eq k 0)
     where
       by : (b : Bool) → (if b then 0 else r) < 32
       by true = omega arith
       by false = h
 
-  fetched_fit : (r : ℕ) (x : Operand) (is : List Inst) → r < 32 → AllFit is → AllFit (fetch home r x ++ is)
-  fetched_fit r x is h k = fit_append (fetch home r x) is (fetch_fits n home r x h) k
+  fetched_in : (r : ℕ) (x : Operand) (is : List Inst) → r < 32 → AllFit is → AllFit (fetch home r x ++ is)
+  fetched_in r x is h k = fit_append (fetch home r x) is (fetch_fits 0 home r x h) k
 
   registers_fit : (t : ℕ) (o : Operator) (x y : Operand) → t < 32 → AllFit (combine_registers home t o x y)
-  registers_fit t o x y h = fetched_fit 5 x _ (omega arith) (fetched_fit 6 y _ (omega arith) (three_fit o t (source home 5 x) (source home 6 y) h (source_fits 5 x (omega arith)) (source_fits 6 y (omega arith)), tt))
+  registers_fit t o x y h = fetched_in 5 x _ (omega arith) (fetched_in 6 y _ (omega arith) (three_fit o t (source home 5 x) (source home 6 y) h (source_fit 5 x (omega arith)) (source_fit 6 y (omega arith)), tt))
 
   binary_fits : (t : ℕ) (o : Operator) (x y : Operand) → t < 32 → AllFit (binary_code home t o x y)
   binary_fits t o x (Number k) h = by (immediate_code o t (source home 5 x) k) refl
     where
       by : (i : Option Inst) → immediate_code o t (source home 5 x) k ≡ i → AllFit (behind_or (fetch home 5 x) i (combine_registers home t o x (Number k)))
-      by (Some i) e = fetched_fit 5 x (i ∷ []) (omega arith) (immediate_fits o t (source home 5 x) k i h (source_fits 5 x (omega arith)) e, tt)
+      by (Some i) e = fetched_in 5 x (i ∷ []) (omega arith) (immediate_fits o t (source home 5 x) k i h (source_fit 5 x (omega arith)) e, tt)
       by None e = registers_fit t o x (Number k) h
   binary_fits t o (Number k) (Variable v) h = by (exchanged_code o t (source home 5 (Variable v)) k) refl
     where
       by : (i : Option Inst) → exchanged_code o t (source home 5 (Variable v)) k ≡ i → AllFit (behind_or (fetch home 5 (Variable v)) i (combine_registers home t o (Number k) (Variable v)))
-      by (Some i) e = fetched_fit 5 (Variable v) (i ∷ []) (omega arith) (exchanged_fits o t (source home 5 (Variable v)) k i h (source_fits 5 (Variable v) (omega arith)) e, tt)
+      by (Some i) e = fetched_in 5 (Variable v) (i ∷ []) (omega arith) (exchanged_fits o t (source home 5 (Variable v)) k i h (source_fit 5 (Variable v) (omega arith)) e, tt)
       by None e = registers_fit t o (Number k) (Variable v) h
   binary_fits t o (Variable u) (Variable v) h = registers_fit t o (Variable u) (Variable v) h
 
   compares_registers_fit : (t : ℕ) (r : Comparison) (x y : Operand) → t < 32 → AllFit (compare_registers home t r x y)
-  compares_registers_fit t r x y h = fetched_fit 5 x _ (omega arith) (fetched_fit 6 y _ (omega arith) (compares_fit r t (source home 5 x) (source home 6 y) h (source_fits 5 x (omega arith)) (source_fits 6 y (omega arith))))
+  compares_registers_fit t r x y h = fetched_in 5 x _ (omega arith) (fetched_in 6 y _ (omega arith) (compares_fit r t (source home 5 x) (source home 6 y) h (source_fit 5 x (omega arith)) (source_fit 6 y (omega arith))))
 
   compares_operands_fit : (t : ℕ) (r : Comparison) (x y : Operand) → t < 32 → AllFit (compare_operands home t r x y)
   compares_operands_fit t r x (Variable v) h = compares_registers_fit t r x (Variable v) h
   compares_operands_fit t r x (Number k) h =
       fit_either (takes_number r k) (fetch home 5 x ++ compare_number_code r t (source home 5 x) k) (compare_registers home t r x (Number k))
-      (λ e. fetched_fit 5 x _ (omega arith) (compares_number_fit r t (source home 5 x) k h (source_fits 5 x (omega arith)))) (λ e. compares_registers_fit t r x (Number k) h)
+      (λ e. fetched_in 5 x _ (omega arith) (compares_number_fit r t (source home 5 x) k h (source_fit 5 x (omega arith)))) (λ e. compares_registers_fit t r x (Number k) h)
 
-  pub test_fits : (t : ℕ) (test : Test) → t < 32 → AllFit (test_code home t test)
-  test_fits t test h = compares_operands_fit t test.comparison test.left test.right h
+  test_fit : (t : ℕ) (test : Test) → t < 32 → AllFit (test_code home t test)
+  test_fit t test h = compares_operands_fit t test.comparison test.left test.right h
 
-  pub value_fits : (t : ℕ) (x : Value) → t < 32 → AllFit (value_code home t x)
-  value_fits t (Same x) h = move_fits n home good t x h
-  value_fits t (Extended kind x) h = fetched_fit 5 x _ (omega arith) (extends_fit kind t (source home 5 x) h (source_fits 5 x (omega arith)))
-  value_fits t (Binary o x y) h = binary_fits t o x y h
-  value_fits t (Holds test) h = test_fits t test h
-  value_fits t (FrameAddress offset) h =
+  pub value_fit : (t : ℕ) (x : Value) → t < 32 → AllFit (value_code home t x)
+  value_fit t (Same x) h = move_fit home low t x h
+  value_fit t (Extended kind x) h = fetched_in 5 x _ (omega arith) (extends_fit kind t (source home 5 x) h (source_fit 5 x (omega arith)))
+  value_fit t (Binary o x y) h = binary_fits t o x y h
+  value_fit t (Holds test) h = test_fit t test h
+  value_fit t (FrameAddress offset) h =
       fit_either (is_immediate offset) (Addi t 3 (lower offset) ∷ []) (number_code 5 offset ++ Add t 3 5 ∷ [])
       (λ e. (addi_fits t 3 offset h (omega arith), tt)) (λ e. fit_append _ _ (number_fits 5 offset (omega arith)) (add_fits t 3 5 h (omega arith) (omega arith), tt))
+
+module _ (n : ℕ) (home : ℕ → Home) (good : (v : ℕ) → IsHome n (home v)) where
+  low' : (r v : ℕ) → r < 32 → register_or r (home v) < 32
+  low' r v h = register_fits n r (home v) (good v) h
+
+  pub source_fits : (r : ℕ) (x : Operand) → r < 32 → source home r x < 32
+  source_fits r x h = source_fit home low' r x h
+
+  fetched_fit : (r : ℕ) (x : Operand) (is : List Inst) → r < 32 → AllFit is → AllFit (fetch home r x ++ is)
+  fetched_fit r x is h k = fetched_in home low' r x is h k
+
+  pub test_fits : (t : ℕ) (test : Test) → t < 32 → AllFit (test_code home t test)
+  test_fits t test h = test_fit home low' t test h
+
+  pub value_fits : (t : ℕ) (x : Value) → t < 32 → AllFit (value_code home t x)
+  value_fits t x h = value_fit home low' t x h
 
   pub take_fits : (q v : ℕ) → q < 32 → AllFit (take_code q (home v))
   take_fits q v h = (addi_small (register_or 5 (home v)) q 0 (register_fits n 5 (home v) (good v) (omega arith)) h (omega arith), keep_fits (home v))
 
+  told_fits : (o : Option ℕ) (short : Bool) (t : Test) (way : Bool) (n : ℕ) → AllFit (told_code o home short t way n)
+  told_fits None short t way n =
+      fit_append (test_code home 29 t) _ (test_fits 29 t (omega arith)) (goes_fits short (one_way way t.comparison) (source home 5 t.left) (source home 6 t.right) n (source_fits 5 t.left (omega arith)) (source_fits 6 t.right (omega arith)))
+  told_fits (Some j) short t way n =
+      fetched_fit 5 t.left _ (omega arith) (fit_append (tell_number_code t.comparison (source home 5 t.left) j) _ (tells_number_fit t.comparison (source home 5 t.left) j (source_fits 5 t.left (omega arith)))
+      (goes_fits short (one_way way (against_zero t.comparison)) 7 0 n (omega arith) (omega arith)))
+
   pub branch_fits : (short : Bool) (b : Branch) (way : Bool) (n : ℕ) → AllFit (branch_code home short b way n)
   branch_fits short (Silent t) way n = fetched_fit 5 t.left _ (omega arith) (fetched_fit 6 t.right _ (omega arith) (goes_fits short (one_way way t.comparison) (source home 5 t.left) (source home 6 t.right) n (source_fits 5 t.left (omega arith)) (source_fits 6 t.right (omega arith))))
-  branch_fits short (Tells t) way n = fit_append _ _ (test_fits 5 t (omega arith)) (addi_small 29 5 0 (omega arith) (omega arith) (omega arith), goes_fits short (one_way way NotEqual) 5 0 n (omega arith) (omega arith))
+  branch_fits short (Tells t) way n = told_fits (immediate_of t.comparison t.right) short t way n
   branch_fits short Hears way n = goes_fits short (one_way way NotEqual) 29 0 n (omega arith) (omega arith)
 
   pub system_fits : (k : ℕ) (x : Operand) → k < 2 ^ 11 → AllFit (system_code home k x)
@@ -257,6 +290,9 @@ align_fits B4 x h = (andi_fits 6 x 3 (omega arith) h (omega arith), (beq_fits 6 
 room_fits : (k : ℕ) → AllFit (room_code k)
 room_fits k = fit_append _ _ (number_fits 6 k (omega arith)) (bgeu_fits 6 3 12 (omega arith) (omega arith) (omega arith) refl, fail_fits true 4 (omega arith))
 
+frames_fit : (memory k : ℕ) → AllFit (frames_room_code memory k)
+frames_fit memory k = fit_either (nat_eq k 0) [] (room_code (memory - k)) (λ e. tt) (λ e. room_fits (memory - k))
+
 leads_fit : (b : Bool) (x : ℕ) → x < 32 → InRange (Bne x 0 (over b))
 leads_fit true x h = bne_fits x 0 12 h (omega arith) (omega arith) refl
 leads_fit false x h = bne_fits x 0 20 h (omega arith) (omega arith) refl
@@ -271,7 +307,8 @@ check_fits plan n f (Place width x) good =
     fetched_fit n (plan.home f) good 5 x (align_code width r ++ Addi 6 r (negsuc (16 - size width)) ∷ last) (omega arith) (fit_append (align_code width r) (Addi 6 r (negsuc (16 - size width)) ∷ last) (align_fits width r low) rest)
 check_fits plan n f (Zero x) good = fetched_fit n (plan.home f) good 5 x _ (omega arith) (leads_fit plan.by_a (source (plan.home f) 5 x) (source_fits n (plan.home f) good 5 x (omega arith)), fail_fits plan.by_a 1 (omega arith))
 check_fits plan n f (Room g) good =
-    fit_either (nat_lt plan.memory (plan.frame f + plan.frame g)) (fail_code true 4) (room_code (plan.memory - (plan.frame f + plan.frame g)) ++ (number_code 6 plan.limit ++ Bltu 10 6 (pos 12) ∷ fail_code true 4)) (λ e. fail_fits true 4 (omega arith))
-    (λ e. fit_append _ _ (room_fits (plan.memory - (plan.frame f + plan.frame g))) (fit_append (number_code 6 plan.limit) (Bltu 10 6 (pos 12) ∷ fail_code true 4) (number_fits 6 plan.limit (omega arith)) (bltu_fits 10 6 12 (omega arith) (omega arith) (omega arith) refl, fail_fits true 4 (omega arith))))
+    let frames : List Inst = frames_room_code plan.memory (plan.frame f + plan.frame g) in
+    fit_either (nat_lt plan.memory (plan.frame f + plan.frame g)) (fail_code true 4) (frames ++ (number_code 6 plan.limit ++ Bltu 10 6 (pos 12) ∷ fail_code true 4)) (λ e. fail_fits true 4 (omega arith))
+    (λ e. fit_append frames _ (frames_fit plan.memory (plan.frame f + plan.frame g)) (fit_append (number_code 6 plan.limit) (Bltu 10 6 (pos 12) ∷ fail_code true 4) (number_fits 6 plan.limit (omega arith)) (bltu_fits 10 6 12 (omega arith) (omega arith) (omega arith) refl, fail_fits true 4 (omega arith))))
 check_fits plan n f Frame good = fit_either (nat_lt plan.memory (plan.frame f)) (fail_code true 4) (room_code (plan.memory - plan.frame f)) (λ e. fail_fits true 4 (omega arith)) (λ e. room_fits _)
 check_fits plan n f Abort good = fail_fits true 5 (omega arith)

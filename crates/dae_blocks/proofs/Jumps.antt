@@ -1,12 +1,13 @@
 -- Jumps and branches: the processor goes on elsewhere, and agrees with the same moment.
 use Rattle.std.proofs.Common.{◌≡◌, ℕ, ◌+◌, ◌-◌, ◌*◌, ◌/◌, ◌%◌, ◌^◌, ◌<◌, ◌≤◌, Bool, true, false, not, List, [], ◌∷◌, ◌++◌, length, refl, sym, ap, ◌∙◌, subst, arith, append-nil, append_assoc, length-append}
-use Rattle.std.specs.Prelude.{nat_eq, nat_lt, int_lt, if◌then◌else◌, slice_get, Some, ℤ, pos}
+use Rattle.std.specs.Prelude.{nat_eq, nat_lt, int_lt, if◌then◌else◌, slice_get, Option, Some, None, ℤ, pos}
 use Rattle.std.proofs.lemmas.Bool.Decides.{nat_tests}
 use Rattle.dae_base.specs.Words.{plus, word, signed}
+use Rattle.dae_base.specs.declared.Queue.{Queue}
 use Rattle.dae_encode.specs.declared.QueueUse.{QueueUse}
 use Rattle.dae_encode.specs.declared.QueueUse.TheVariants.{Nothing, Take as Takes}
 use Rattle.dae_encode.specs.declared.Inst.{Inst}
-use Rattle.dae_encode.specs.declared.Inst.TheVariants.{Auipc, Jal, Jalr, Addi}
+use Rattle.dae_encode.specs.declared.Inst.TheVariants.{Auipc, Jal, Jalr}
 use Rattle.dae_encode.specs.declared.Form.TheVariants.{Computes}
 use Rattle.dae_encode.specs.Instructions.{flag, effect, branch}
 use Rattle.dae_encode.specs.Spelling.{decode}
@@ -19,29 +20,29 @@ use Rattle.dae_meaning.specs.declared.Comparison.{Comparison}
 use Rattle.dae_meaning.specs.declared.Comparison.TheVariants.{Equal, NotEqual, LessSigned, AtLeastSigned, LessUnsigned, AtLeastUnsigned}
 use Rattle.dae_ir.specs.Form.{value, holds}
 use Rattle.dae_ir.specs.Deeds.{Went, Push, told_on, heard_on}
+use Rattle.dae_ir.specs.declared.form.Operand.{Operand}
 use Rattle.dae_ir.specs.declared.form.Test.{Test}
-use Rattle.dae_walks.specs.Walks.{Setting, Comes, Acts}
+use Rattle.dae_walks.specs.Walks.{Setting, Comes, Nears, Acts}
 use Rattle.dae_walks.specs.Does.{Does, event}
 use Rattle.dae_walks.specs.Live.{in_test}
 use Rattle.dae_walks.specs.Homes.{Contents}
 use Rattle.dae_walks.specs.Agrees.{Plan, Moment, Shows, Stands}
-use Rattle.dae_walks.proofs.LawsOfWalks.{comes_here, nears_here, nears_map, comes_nears, comes_map, comes_more, comes_then, acts_map}
+use Rattle.dae_walks.proofs.LawsOfWalks.{comes_here, nears_map, comes_map, comes_more, comes_then, acts_map}
 use Rattle.dae_walks.specs.Layout.{CodeAt}
 use Rattle.dae_walks.proofs.LawsOfWalks.{put, read, step}
-use Rattle.dae_blocks.specs.Blocks.{upper, lower, source, fetch, near_offset, jump_by, jump_words, jump_over, jump_back, branch_inst, opposite, one_way, goes_by, goes_code, test_code}
-use Rattle.dae_blocks.specs.Code.{branch_code}
-use Rattle.dae_blocks.proofs.Runs.{runs_nothing, code_take, code_drop}
-use Rattle.dae_ir.specs.declared.form.Value.TheVariants.{Holds}
+use Rattle.dae_blocks.specs.Blocks.{upper, lower, source, fetch, near_offset, jump_by, jump_words, jump_over, jump_back, branch_inst, opposite, one_way, goes_by, goes_code, test_code, tell_number_code, against_zero, immediate_of}
+use Rattle.dae_blocks.specs.Code.{told_code, branch_code}
+use Rattle.dae_blocks.proofs.Runs.{runs_nothing, runs_push, code_take, code_drop}
 use Rattle.dae_ir.specs.declared.stream.Branch.TheVariants.{Silent, Tells, Hears}
 use Rattle.dae_blocks.specs.Fits.{Fits}
 use Rattle.dae_blocks.proofs.Halves.{halves_to, near_ahead, near_back}
-use Rattle.dae_blocks.proofs.Plain.{plain_computes, plain_read, put_nowhere, pushes}
+use Rattle.dae_blocks.proofs.Plain.{plain_computes, plain_read, put_nowhere, Computed, pushes_word}
 use Rattle.dae_blocks.proofs.Frames.{plus_small}
 use Rattle.dae_blocks.proofs.Agreement.{Ready, ready_like}
 use Rattle.dae_blocks.proofs.Operands.{like_put}
 use Rattle.dae_blocks.specs.Wanted.{IsNumber}
-use Rattle.dae_blocks.proofs.Computing.{is_scratch, source_plain, runs_two, runs_value, plus_zero, flag_small}
-use Rattle.dae_blocks.proofs.Uses.{pushes_message, hears_message}
+use Rattle.dae_blocks.proofs.Computing.{is_scratch, source_plain, runs_two, immediate_is, runs_compare_operands, runs_told_number, flag_small}
+use Rattle.dae_blocks.proofs.Uses.{pushes_flag, hears_message}
 
 -- whether a branch goes ahead, which does so where its condition holds, or where it doesn't
 abbrev pub goes_if : Bool → Bool → Bool
@@ -78,11 +79,6 @@ differs : (x y : ℕ) → compared NotEqual x y ≡ not (nat_eq x y)
 unfolding compared
 differs x y = refl
 
-flag_differs : (b : Bool) → compared NotEqual (flag b) 0 ≡ b
-unfolding compared
-flag_differs true = refl
-flag_differs false = refl
-
 -- ---- lengths
 
 pub jump_long : (short : Bool) (n : ℕ) → length (jump_over short n) ≡ jump_words short
@@ -106,6 +102,10 @@ goes_some short relation x y n = by_some (nat_lt n 1000) short relation x y n
 
 pub hears_some : (short way : Bool) (n : ℕ) → 1 ≤ length (goes_code short (one_way way NotEqual) 29 0 n)
 hears_some short way n = goes_some short (one_way way NotEqual) 29 0 n
+
+-- with so many instructions more behind it
+nears_more : (s : Setting) {n : ℕ} {p : Processor} {Q R : ℕ → Processor → Type 0} (k : ℕ) → ((l : ℕ) (q : Processor) → Q l q → R (l + k) q) → Nears s n p Q → Nears s (n + k) p R
+nears_more s k f h = let short = h.short in record { last = h.last; steps = h.steps; quiet = h.quiet; left = h.left + k; short = (omega arith); holds = f h.left h.last h.holds }
 
 module _ (s : Setting) (plan : Plan) (variables : ℕ → ℕ) (fine : Fits s plan variables) where
   abbrev pub ready : {live : VariableSet} {m : Moment} {k : ℕ} {p : Processor} (h : Stands plan live m k p) → Ready plan live m h.contents
@@ -177,13 +177,6 @@ module _ (s : Setting) (plan : Plan) (variables : ℕ → ℕ) (fine : Fits s pl
   pub moved : {live : VariableSet} {m : Moment} {a b a' b' : ℕ} {p : Processor} (t : Bool) → a ≡ a' → b ≡ b' → Stands plan live m (if t then a else b) p → Stands plan live m (if t then a' else b') p
   moved t e f h = rw (← e, ← f) h
 
-  -- it is decided in x5
-  pub record Decided (live : VariableSet) (m : Moment) (b : Bool) (k : ℕ) (p : Processor) : Type 0 where
-    pub contents : Contents
-    pub shows : Shows plan.private contents k p
-    pub ready : Ready plan live m contents
-    pub flag : contents.register 5 ≡ flag b
-
   -- ---- the branch of two registers, where the second may also be the front of a queue: n words ahead of its code where
   -- b holds, and else behind its code
 
@@ -223,20 +216,6 @@ module _ (s : Setting) (plan : Plan) (variables : ℕ → ℕ) (fine : Fits s pl
       by_goes (nat_lt n 1000) short (one_way way relation) x y given n u (goes_if way b) (λ e. grind (arith, nat_tests)) small reach legal h (one_way_compared way relation (read h.contents given x) (read h.contents given y) ∙ ap (goes_if way) is) at
 
   -- ---- the three branches: n words ahead of the code, or behind its end
-
-  -- the test's code leaves 1 or 0 in x5
-  decides : {live : VariableSet} {m : Moment} {k : ℕ} {p : Processor} (t : Test) → k + length (test_code (plan.home m.function) 5 t) < 2 ^ 29 → CodeAt s.code k (test_code (plan.home m.function) 5 t) → ((u : ℕ) → in_test t u ≡ true → live u ≡ true) → IsNumber t.left → IsNumber t.right →
-      Stands plan live m k p → Comes s (length (test_code (plan.home m.function) 5 t)) p (Decided live m (holds t m.env) (k + length (test_code (plan.home m.function) 5 t)))
-  decides {live} {m} {k} {p} t small at reads left right h =
-      let to : ℕ → Env → Processor → Type 0 = λ k env q. Decided live m (holds t m.env) k q in
-      let run = runs_value s plan variables fine to {d = Went m.env} 5 (Holds t) [] (omega arith) (omega arith) (ready h) reads (left, right) (λ c1 h1 fits.
-      runs_nothing s plan.private to (λ j q shows. record {
-        contents = put 5 (flag (holds t m.env)) c1;
-        shows = shows;
-        ready = ready_like s plan variables fine 5 (is_scratch plan 5 (omega arith) (omega arith)) (like_put 5 (flag (holds t m.env)) c1 fits h1.fits) h1;
-        flag = refl;
-      })) in
-      (rw append-nil at run).from k small at p h.shows
 
   -- the operands of a test are in their registers
   record Fetched (live : VariableSet) (m : Moment) (t : Test) (k : ℕ) (p : Processor) : Type 0 where
@@ -279,26 +258,86 @@ module _ (s : Setting) (plan : Plan) (variables : ℕ → ℕ) (fine : Fits s pl
       comes_more s a.goes a.holds) in
       comes_map s (length (branch_code (plan.home m.function) short (Silent t) way n) + 2) (omega arith) (λ q g. moved (goes_if way (holds t m.env)) (omega arith) (omega arith) g) all
 
+  -- a test is told, and two registers compare so where it holds
+  record Told (live : VariableSet) (m : Moment) (relation : Comparison) (x y : ℕ) (b : Bool) (k : ℕ) (p : Processor) : Type 0 where
+    pub contents : Contents
+    pub shows : Shows plan.private contents k p
+    pub ready : Ready plan live m contents
+    pub decides : compared relation (contents.register x) (contents.register y) ≡ b
+
+  -- behind what tells it, a branch on these registers
+  told_goes : {live : VariableSet} {m : Moment} {p : Processor} {queue : Queue} {v : ℕ} (k : ℕ) (first : List Inst) (short way : Bool) (relation : Comparison) (x y n : ℕ) (b : Bool) → x < 28 → y < 28 → k + length (first ++ goes_code short (one_way way relation) x y n) + n < 2 ^ 29 → (short ≡ true → n + 1 < 2 ^ 18) →
+      CodeAt s.code k (first ++ goes_code short (one_way way relation) x y n) → Does s (length first) (Push queue v (Went m.env)) (λ env. Told live m relation x y b (k + length first)) p →
+      Does s (length (first ++ goes_code short (one_way way relation) x y n) + 2) (Push queue v (Went m.env)) (λ env. Stands plan live m (if goes_if way b then k + length (first ++ goes_code short (one_way way relation) x y n) + n else k + length (first ++ goes_code short (one_way way relation) x y n))) p
+  told_goes {live} {m} k first short way relation x y n b low low' small reach at told =
+      let last : List Inst = goes_code short (one_way way relation) x y n in
+      let some = goes_some short (one_way way relation) x y n in
+      let long = length-append first last in
+      let there = code_drop s.code k first last at in (
+        told.0,
+        nears_map s {n = length first + 3} (omega arith) (λ l q h. h) (nears_more s 3 (λ l q a. acts_map s (λ r c. comes_then s c (λ o d.
+            let is : compared relation (read d.contents 0 x) (read d.contents 0 y) ≡ b = rw (plain_read d.contents 0 x low, plain_read d.contents 0 y low') (d.decides) in
+            let g = goes short way relation x y 0 n Nothing b (omega arith) reach (plain_computes s.copies s.side 0 x y (omega arith) low low') (record { contents = d.contents; shows = d.shows; agrees = d.ready.agrees }) is there in
+            comes_map s 3 (omega arith) (λ e f. moved (goes_if way b) (omega arith) (omega arith) f) (comes_more s g.goes g.holds))) a) told.1),
+      )
+
+  -- its operands are still in their registers
+  tells : {live : VariableSet} {m : Moment} {k : ℕ} {p : Processor} (t : Test) → immediate_of t.comparison t.right ≡ None → k + length (test_code (plan.home m.function) 29 t) < 2 ^ 29 → CodeAt s.code k (test_code (plan.home m.function) 29 t) → ((u : ℕ) → in_test t u ≡ true → live u ≡ true) → IsNumber t.left → IsNumber t.right →
+      Stands plan live m k p →
+      Does s (length (test_code (plan.home m.function) 29 t)) (Push (told_on plan.by_a) (flag (holds t m.env)) (Went m.env)) (λ env. Told live m t.comparison (source (plan.home m.function) 5 t.left) (source (plan.home m.function) 6 t.right) (holds t m.env) (k + length (test_code (plan.home m.function) 29 t))) p
+  tells {live} {m} {k} {p} t again small at reads left right h =
+      let to : ℕ → Env → Processor → Type 0 = λ k env q. Told live m t.comparison (source (plan.home m.function) 5 t.left) (source (plan.home m.function) 6 t.right) (holds t m.env) k q in
+      let b : ℕ = flag (holds t m.env) in let fits = flag_small (holds t m.env) in
+      let run = runs_compare_operands s plan variables fine to {d = Push (told_on plan.by_a) b (Went m.env)} 29 t.comparison t.left t.right [] (ready h) (λ u e. reads u (grind (arith, nat_tests))) (λ u e. reads u (grind (arith, nat_tests))) left right (λ c1 i c.
+      let legal = pushes_flag s.copies plan.by_a c.last.first c.last.second c.last.low c.last.low' in
+      runs_push s plan.private to (pushes_word s plan.private to i 29 b (told_on plan.by_a) c.last refl (rw fine.side legal) fits) fits
+      (runs_nothing s plan.private to (λ j q shows. record { contents = c1; shows = shows; ready = c.ready; decides = rw (c.left, c.right again) refl }))) in
+      (rw append-nil at run).from k small at p h.shows
+
+  -- its right operand is an immediate, and x7 is compared with 0
+  abbrev tell_immediate : ℕ → Test → ℕ → List Inst
+  tell_immediate f t j = fetch (plan.home f) 5 t.left ++ tell_number_code t.comparison (source (plan.home f) 5 t.left) j
+
+  tells_immediate : {live : VariableSet} {m : Moment} {k : ℕ} {p : Processor} (t : Test) (j : ℕ) → immediate_of t.comparison t.right ≡ Some j → k + length (tell_immediate m.function t j) < 2 ^ 29 → CodeAt s.code k (tell_immediate m.function t j) → ((u : ℕ) → in_test t u ≡ true → live u ≡ true) → IsNumber t.left → IsNumber t.right →
+      Stands plan live m k p → Does s (length (tell_immediate m.function t j)) (Push (told_on plan.by_a) (flag (holds t m.env)) (Went m.env)) (λ env. Told live m (against_zero t.comparison) 7 0 (holds t m.env) (k + length (tell_immediate m.function t j))) p
+  tells_immediate {live} {m} {k} {p} t j e small at reads left right h =
+      let to : ℕ → Env → Processor → Type 0 = λ k env q. Told live m (against_zero t.comparison) 7 0 (holds t m.env) k q in
+      let b : ℕ = flag (holds t m.env) in let fits = flag_small (holds t m.env) in
+      let is = immediate_is t.comparison t.right j e in
+      let word' : j < 2 ^ 32 = subst IsNumber is.0 right in
+      let same : compared t.comparison (value t.left m.env) j ≡ holds t m.env = ap (λ (y : Operand). compared t.comparison (value t.left m.env) (value y m.env)) (sym is.0) in
+      let run = runs_told_number s plan variables fine to {d = Push (told_on plan.by_a) b (Went m.env)} t.comparison t.left j [] (ready h) (λ u e. reads u (grind (arith, nat_tests))) left word' is.1 is.2 (λ c1 i r last left.
+      let last' : Computed i 29 b c1 = subst (λ (c : Bool). Computed i 29 (flag c) c1) same last in
+      let legal = pushes_flag s.copies plan.by_a last'.first last'.second last'.low last'.low' in
+      runs_push s plan.private to (pushes_word s plan.private to i 29 b (told_on plan.by_a) last' refl (rw fine.side legal) fits) fits
+      (runs_nothing s plan.private to (λ j q shows. record { contents = c1; shows = shows; ready = r; decides = rw (r.zero) (left ∙ same) }))) in
+      (rw append-nil at run).from k small at p h.shows
+
   pub tells_done : {live : VariableSet} {m : Moment} {k : ℕ} {p : Processor} (short way : Bool) (t : Test) (n : ℕ) → k + length (branch_code (plan.home m.function) short (Tells t) way n) + n < 2 ^ 29 → (short ≡ true → n + 1 < 2 ^ 18) →
       CodeAt s.code k (branch_code (plan.home m.function) short (Tells t) way n) → ((u : ℕ) → in_test t u ≡ true → live u ≡ true) → IsNumber t.left → IsNumber t.right → Stands plan live m k p →
       Does s (length (branch_code (plan.home m.function) short (Tells t) way n) + 2) (Push (told_on plan.by_a) (flag (holds t m.env)) (Went m.env)) (λ env. Stands plan live m (if goes_if way (holds t m.env) then k + length (branch_code (plan.home m.function) short (Tells t) way n) + n else k + length (branch_code (plan.home m.function) short (Tells t) way n))) p
-  tells_done {live} {m} {k} {p} short way t n small reach at reads left right h =
-      let test : List Inst = test_code (plan.home m.function) 5 t in
-      let last : List Inst = goes_code short (one_way way NotEqual) 5 0 n in
-      let some = goes_some short (one_way way NotEqual) 5 0 n in
-      let long = length-append test (Addi 29 5 (pos 0) ∷ last) in
-      let here = code_take s.code k test (Addi 29 5 (pos 0) ∷ last) at in
-      let there = code_drop s.code k test (Addi 29 5 (pos 0) ∷ last) at in
-      let to : ℕ → Env → Processor → Type 0 = λ k env q. Unit {0} in
-      let legal = pushes_message s.copies plan.by_a 5 (omega arith) in (
-        flag_small (holds t m.env),
-        nears_map s {n = length test + 4} (omega arith) (λ l q h. h) (comes_nears s {k = 4} (decides t (omega arith) here reads left right h)
-            (λ q d. nears_here s 3 (omega arith) (acts_map s (λ r shows.
-            let is : compared NotEqual (read d.contents 0 5) (read d.contents 0 0) ≡ holds t m.env = rw (d.flag, d.ready.zero) (flag_differs (holds t m.env)) in
-            let a = goes short way NotEqual 5 0 0 n Nothing (holds t m.env) (omega arith) reach (plain_computes s.copies s.side 0 5 0 (omega arith) (omega arith) (omega arith)) (record { contents = d.contents; shows = shows; agrees = d.ready.agrees }) is there.3 in
-            comes_map s 3 (omega arith) (λ o g. moved (goes_if way (holds t m.env)) (omega arith) (omega arith) g) (comes_more s a.goes a.holds))
-            (pushes s plan.private to 29 5 (pos 0) (told_on plan.by_a) (flag (holds t m.env)) (omega arith) refl (rw fine.side legal) (rw d.flag (plus_zero (flag (holds t m.env)) (flag_small (holds t m.env)))) (k + length test) there.0 (omega arith) there.1 there.2 q d.shows)))),
-      )
+  tells_done {live} {m} {k} {p} short way t n small reach at reads left right h = by (immediate_of t.comparison t.right) refl small at
+    where
+      Done' : List Inst → Type 0
+      Done' is = Does s (length is + 2) (Push (told_on plan.by_a) (flag (holds t m.env)) (Went m.env)) (λ env. Stands plan live m (if goes_if way (holds t m.env) then k + length is + n else k + length is)) p
+
+      by : (o : Option ℕ) → immediate_of t.comparison t.right ≡ o → k + length (told_code o (plan.home m.function) short t way n) + n < 2 ^ 29 → CodeAt s.code k (told_code o (plan.home m.function) short t way n) → Done' (told_code o (plan.home m.function) short t way n)
+      by None e small at =
+          let x : ℕ = source (plan.home m.function) 5 t.left in let y : ℕ = source (plan.home m.function) 6 t.right in
+          let to : ℕ → Env → Processor → Type 0 = λ k env q. Unit {0} in
+          let first : List Inst = test_code (plan.home m.function) 29 t in
+          let last : List Inst = goes_code short (one_way way t.comparison) x y n in
+          let long = length-append first last in
+          told_goes k first short way t.comparison x y n (holds t m.env) (source_plain s plan variables fine to m.function 5 t.left (omega arith)) (source_plain s plan variables fine to m.function 6 t.right (omega arith)) small reach at
+          (tells t e (omega arith) (code_take s.code k first last at) reads left right h)
+      by (Some j) e small at =
+          let first : List Inst = tell_immediate m.function t j in
+          let last : List Inst = goes_code short (one_way way (against_zero t.comparison)) 7 0 n in
+          let whole : first ++ last ≡ told_code (Some j) (plan.home m.function) short t way n = append_assoc (fetch (plan.home m.function) 5 t.left) (tell_number_code t.comparison (source (plan.home m.function) 5 t.left) j) last in
+          let long = length-append first last in let same = ap length whole in
+          let at' : CodeAt s.code k (first ++ last) = subst (λ (is : List Inst). CodeAt s.code k is) (sym whole) at in
+          subst Done' whole (told_goes k first short way (against_zero t.comparison) 7 0 n (holds t m.env) (omega arith) (omega arith) (omega arith) reach at'
+          (tells_immediate t j e (omega arith) (code_take s.code k first last at') reads left right h))
 
   pub hears_done : {live : VariableSet} {m : Moment} {k : ℕ} {p : Processor} (short way : Bool) (n : ℕ) → k + length (branch_code (plan.home m.function) short Hears way n) + n < 2 ^ 29 → (short ≡ true → n + 1 < 2 ^ 18) →
       CodeAt s.code k (branch_code (plan.home m.function) short Hears way n) → Stands plan live m k p → (x : ℕ) →

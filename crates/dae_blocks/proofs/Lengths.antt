@@ -29,8 +29,8 @@ use Rattle.dae_walks.specs.declared.Home.{Home}
 use Rattle.dae_walks.specs.declared.Home.TheVariants.{Register, Slot}
 use Rattle.dae_walks.specs.Homes.{slot_at, kept_at}
 use Rattle.dae_walks.specs.Agrees.{Plan}
-use Rattle.dae_blocks.specs.Blocks.{operation_code, issue_code, address_code, call_number, over, is_register, number_code, load_code, store_code, register_or, source, fetch_home, fetch, keep, compare_code, test_code, extend_code, value_code, fail_code, align_code, room_code, check_code, take_code, hear_code, stop_code, arguments_code, save_code, restore_code, deeper_code, back_code, result_code, leave_code, waits_at, enter_code, more_code, less_code, is_immediate, move_code, immediate_code, exchanged_code, behind_or, combine_registers, binary_code, takes_number, compare_number_code, compare_registers, compare_operands, frame_code, system_code, one_way, jump_over, jump_back, goes_by, goes_code}
-use Rattle.dae_blocks.specs.Code.{some_below, filtered, home_registers, registers_in, action_code, branch_code, entry_code, start_code, finish_code, past_code}
+use Rattle.dae_blocks.specs.Blocks.{operation_code, issue_code, address_code, call_number, over, is_register, number_code, load_code, store_code, register_or, source, fetch_home, fetch, keep, compare_code, test_code, extend_code, value_code, fail_code, align_code, room_code, check_code, take_code, hear_code, stop_code, arguments_code, save_code, restore_code, deeper_code, back_code, result_code, leave_code, waits_at, enter_code, more_code, less_code, is_immediate, move_code, immediate_code, exchanged_code, behind_or, combine_registers, binary_code, takes_number, compare_number_code, compare_registers, compare_operands, frame_code, system_code, one_way, jump_over, jump_back, goes_by, goes_code, frames_room_code, tell_number_code, against_zero, immediate_of}
+use Rattle.dae_blocks.specs.Code.{some_below, filtered, home_registers, registers_in, with_home, early_code, action_code, branch_code, entry_code, start_code, finish_code, past_code, told_code}
 use Rattle.dae_blocks.proofs.Simple.{IsSimple}
 
 either_short : (b : Bool) (x y : List Inst) (n : ℕ) → length x ≤ n → length y ≤ n → length (if b then x else y) ≤ n
@@ -117,7 +117,7 @@ compare_operands_short home t r x (Number n) =
 test_short : (home : ℕ → Home) (t : ℕ) (test : Test) → length (test_code home t test) ≤ 8
 test_short home t test = compare_operands_short home t test.comparison test.left test.right
 
-value_short : (home : ℕ → Home) (t : ℕ) (x : Value) → length (value_code home t x) ≤ 8
+pub value_short : (home : ℕ → Home) (t : ℕ) (x : Value) → length (value_code home t x) ≤ 8
 value_short home t (Same x) = let l = move_short home t x in omega arith
 value_short home t (Extended kind x) = let l = behind_short home 5 2 x (extend_code kind t (source home 5 x)) (extend_short kind t (source home 5 x)) in omega arith
 value_short home t (Binary o x y) = binary_short home t o x y
@@ -150,8 +150,10 @@ check_short plan f (Room g) =
     let n : ℕ = plan.memory - (plan.frame f + plan.frame g) in
     let l1 = room_short n in let l2 = number_short 6 plan.limit in
     let b1 = length-append (number_code 6 plan.limit) (Bltu 10 6 (pos 12) ∷ fail_code true 4) in
-    let b2 = length-append (room_code n) (number_code 6 plan.limit ++ Bltu 10 6 (pos 12) ∷ fail_code true 4) in
-    either_short (nat_lt plan.memory (plan.frame f + plan.frame g)) (fail_code true 4) (room_code n ++ (number_code 6 plan.limit ++ Bltu 10 6 (pos 12) ∷ fail_code true 4)) 13 (omega arith) (omega arith)
+    let room = either_short (nat_eq (plan.frame f + plan.frame g) 0) [] (room_code n) 5 (omega arith) (omega arith) in
+    let frames : List Inst = frames_room_code plan.memory (plan.frame f + plan.frame g) in
+    let b2 = length-append frames (number_code 6 plan.limit ++ Bltu 10 6 (pos 12) ∷ fail_code true 4) in
+    either_short (nat_lt plan.memory (plan.frame f + plan.frame g)) (fail_code true 4) (frames ++ (number_code 6 plan.limit ++ Bltu 10 6 (pos 12) ∷ fail_code true 4)) 13 (omega arith) (omega arith)
 check_short plan f Frame = let l = room_short (plan.memory - plan.frame f) in either_short (nat_lt plan.memory (plan.frame f)) (fail_code true 4) (room_code (plan.memory - plan.frame f)) 13 (omega arith) (omega arith)
 check_short plan f Abort = omega arith
 
@@ -186,6 +188,13 @@ simple_short plan variables f Continue live leaves skips is = elim is [ ]
 simple_short plan variables f (Call v g xs) live leaves skips is = elim is [ ]
 simple_short plan variables f (Return x) live leaves skips is = elim is [ ]
 
+-- and that of a pair which takes a word
+pub early_short : (home : ℕ → Home) (q v d : ℕ) (y : Value) → length (early_code home q v d y) ≤ 13
+early_short home q v d y =
+    let value = value_code (with_home v (Register q) home) (register_or 5 (home d)) y in
+    let l = value_short (with_home v (Register q) home) (register_or 5 (home d)) y in let k = keep_short (home d) in
+    let both = length-append value (keep (home d)) in omega arith
+
 -- ---- jumps and branches
 
 pub over_short : (short : Bool) (n : ℕ) → length (jump_over short n) ≤ 2
@@ -207,14 +216,31 @@ by_short false short relation x y n = let l = over_short short n in omega arith
 goes_short : (short : Bool) (relation : Comparison) (x y n : ℕ) → length (goes_code short relation x y n) ≤ 3
 goes_short short relation x y n = by_short (nat_lt n 1000) short relation x y n
 
+tell_number_short : (r : Comparison) (x n : ℕ) → length (tell_number_code r x n) ≤ 2
+tell_number_short Equal x n = compare_number_short Equal 29 x n
+tell_number_short NotEqual x n = compare_number_short NotEqual 29 x n
+tell_number_short LessSigned x n = omega arith
+tell_number_short AtLeastSigned x n = omega arith
+tell_number_short LessUnsigned x n = omega arith
+tell_number_short AtLeastUnsigned x n = omega arith
+
+told_short : (o : Option ℕ) (home : ℕ → Home) (short : Bool) (t : Test) (way : Bool) (n : ℕ) → length (told_code o home short t way n) ≤ 12
+told_short None home short t way n =
+    let last : List Inst = goes_code short (one_way way t.comparison) (source home 5 t.left) (source home 6 t.right) n in
+    let k = goes_short short (one_way way t.comparison) (source home 5 t.left) (source home 6 t.right) n in
+    let l = test_short home 29 t in let both = length-append (test_code home 29 t) last in omega arith
+told_short (Some j) home short t way n =
+    let last : List Inst = goes_code short (one_way way (against_zero t.comparison)) 7 0 n in
+    let k = goes_short short (one_way way (against_zero t.comparison)) 7 0 n in
+    let tell : List Inst = tell_number_code t.comparison (source home 5 t.left) j in
+    let l = tell_number_short t.comparison (source home 5 t.left) j in let both = length-append tell last in
+    let all = behind_short home 5 5 t.left (tell ++ last) (omega arith) in omega arith
+
 pub branch_short : (home : ℕ → Home) (short : Bool) (b : Branch) (way : Bool) (n : ℕ) → length (branch_code home short b way n) ≤ 12
 branch_short home short (Silent t) way n =
     let last : List Inst = goes_code short (one_way way t.comparison) (source home 5 t.left) (source home 6 t.right) n in
     let l = behind_short home 5 6 t.left (fetch home 6 t.right ++ last) (behind_short home 6 3 t.right last (goes_short short (one_way way t.comparison) (source home 5 t.left) (source home 6 t.right) n)) in omega arith
-branch_short home short (Tells t) way n =
-    let last : List Inst = goes_code short (one_way way NotEqual) 5 0 n in
-    let k = goes_short short (one_way way NotEqual) 5 0 n in
-    let l = test_short home 5 t in let both = length-append (test_code home 5 t) (Addi 29 5 (pos 0) ∷ last) in omega arith
+branch_short home short (Tells t) way n = told_short (immediate_of t.comparison t.right) home short t way n
 branch_short home short Hears way n = let l = goes_short short (one_way way NotEqual) 29 0 n in omega arith
 
 -- ---- calls

@@ -11,6 +11,9 @@ mod Actions
 mod Checks
 mod Jumps
 mod Simple
+mod Sent
+mod Early
+mod Pairs
 mod Whole
 mod Calls
 mod Deeper

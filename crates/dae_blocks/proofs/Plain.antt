@@ -1,5 +1,5 @@
 -- Plain instructions, and what they change.
-use Rattle.std.proofs.Common.{◌≡◌, ◌≢◌, ℕ, ◌+◌, ◌*◌, ◌^◌, ◌<◌, Bool, true, false, ◌&&◌, [], refl, ap, arith}
+use Rattle.std.proofs.Common.{◌≡◌, ◌≢◌, ℕ, ◌+◌, ◌*◌, ◌^◌, ◌<◌, Bool, true, false, ◌&&◌, [], refl, ap, subst, arith}
 use Rattle.std.specs.Prelude.{nat_lt, nat_eq, if◌then◌else◌, Some, ℤ, pos}
 use Rattle.std.proofs.lemmas.Bool.Decides.{nat_tests}
 use Rattle.dae_base.specs.Words.{plus, word}
@@ -128,4 +128,28 @@ module _ (s : Setting) (private : ℕ) (to : ℕ → Env → Processor → Type 
       let value : plus (read c 0 x) (word imm) ≡ v = rw ex same in
       let fits : plus (read c 0 x) (word imm) < 2 ^ 32 = omega arith in
       let one = step s private (Addi q x imm) q x 0 0 (k + 1) w (λ pc x y. plus x (word imm)) (λ pc x y. plus pc 4) (Push queue) h here is refl legal fits (omega arith) in
+      rw (value, put_nowhere q v c high) at one
+
+-- ---- an instruction that computes a word from plain registers, into a plain register or one that stands for a queue
+
+pub record Computed (i : Inst) (t v : ℕ) (c : Contents) : Type 0 where
+  pub first : ℕ
+  pub second : ℕ
+  pub function : ℕ → ℕ → ℕ
+  pub does : effect i ≡ on_two t first second function
+  pub low : first < 28
+  pub low' : second < 28
+  pub same : function (c.register first) (c.register second) ≡ v
+
+module _ (s : Setting) (private : ℕ) (to : ℕ → Env → Processor → Type 0) where
+  pub computes_word : {c : Contents} (i : Inst) (t v : ℕ) → Computed i t v c → t < 28 → v < 2 ^ 32 → Quiet s private to i c (put t v c)
+  computes_word {c} i t v w high fits =
+      subst (λ (n : ℕ). Quiet s private to i c (put t n c)) w.same (computes s private to {c = c} i t w.first w.second w.function w.does high w.low w.low' (rw (w.same) fits))
+
+  pub pushes_word : {c : Contents} (i : Inst) (q v : ℕ) (queue : Queue) (w : Computed i q v c) → (nat_lt 0 q && nat_lt q 28) ≡ false → queue_use s.copies s.side (Computes q w.first w.second) ≡ Some (Push queue) → v < 2 ^ 32 →
+      Here s private to i c (λ k p. Acts s p (event (Push queue) v 0 []) (Shows private c (k + 1)))
+  pushes_word {c} i q v queue w high legal fits = λ k n small here is p h.
+      let ex = plain_read c 0 w.first w.low in let ey = plain_read c 0 w.second w.low' in
+      let value : w.function (read c 0 w.first) (read c 0 w.second) ≡ v = rw (ex, ey) w.same in
+      let one = step s private i q w.first w.second 0 (k + 1) n (λ pc x y. w.function x y) (λ pc x y. plus pc 4) (Push queue) h here is w.does legal (rw value fits) (omega arith) in
       rw (value, put_nowhere q v c high) at one

@@ -151,11 +151,14 @@ fetch_fits n home r (Variable v) h = by (home v)
     by (Slot i) = load_fits r (slot_at i) h
 fetch_fits n home r (Number k) h = fit_either (nat_eq k 0) [] (number_code r k) (λ e. tt) (λ e. number_fits r k h)
 
-pub move_fits : (n : ℕ) (home : ℕ → Home) → ((v : ℕ) → IsHome n (home v)) → (t : ℕ) (x : Operand) → t < 32 → AllFit (move_code home t x)
-move_fits n home good t (Variable v) h = fit_append _ _ (fetch_fits n home 5 (Variable v) (omega arith)) (addi_small t (register_or 5 (home v)) 0 h (register_fits n 5 (home v) (good v) (omega arith)) (omega arith), tt)
-move_fits n home good t (Number k) h =
+pub move_fit : (home : ℕ → Home) → ((r v : ℕ) → r < 32 → register_or r (home v) < 32) → (t : ℕ) (x : Operand) → t < 32 → AllFit (move_code home t x)
+move_fit home low t (Variable v) h = fit_append _ _ (fetch_fits 0 home 5 (Variable v) (omega arith)) (addi_small t (register_or 5 (home v)) 0 h (low 5 v (omega arith)) (omega arith), tt)
+move_fit home low t (Number k) h =
     fit_either (is_immediate k) (Addi t 0 (lower k) ∷ []) (Lui 5 (upper k) ∷ (Addi t 5 (lower k) ∷ []))
     (λ e. (addi_fits t 0 k h (omega arith), tt)) (λ e. (lui_fits 5 k (omega arith), (addi_fits t 5 k h (omega arith), tt)))
+
+pub move_fits : (n : ℕ) (home : ℕ → Home) → ((v : ℕ) → IsHome n (home v)) → (t : ℕ) (x : Operand) → t < 32 → AllFit (move_code home t x)
+move_fits n home good t x h = move_fit home (λ r v l. register_fits n r (home v) (good v) l) t x h
 
 pub keep_fits : (h : Home) → AllFit (keep h)
 keep_fits (Register g) = tt

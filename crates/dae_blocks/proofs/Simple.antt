@@ -1,11 +1,12 @@
 -- The blocks of actions that go on to the next do them, wherever they stand.
-use Rattle.std.proofs.Common.{◌≡◌, ◌≢◌, ℕ, ◌+◌, Bool, true, false, ◌||◌, List, [], Option, Some, None, refl, sym, ap, ◌∙◌, subst, arith}
+use Rattle.std.proofs.Common.{◌≡◌, ◌≢◌, ℕ, ◌+◌, ◌^◌, ◌<◌, ◌≤◌, Bool, true, false, not, ◌&&◌, ◌||◌, List, [], Option, Some, None, length, refl, sym, ap, ◌∙◌, subst, arith}
 use Rattle.std.specs.Prelude.{nat_lt}
 use Rattle.std.proofs.lemmas.Bool.Decides.{nat_tests}
 use Rattle.dae_base.specs.declared.Side.TheVariants.{A, E}
 use Rattle.dae_encode.specs.declared.Inst.{Inst}
 use Rattle.dae_ir.specs.Classes.{VariableSet}
 use Rattle.dae_meaning.specs.Worlds.{World}
+use Rattle.dae_encode.specs.Processor.{Processor}
 use Rattle.dae_ir.specs.Form.{Program, value}
 use Rattle.dae_ir.specs.Programs.{side}
 use Rattle.dae_ir.specs.Deeds.{Halts, deed, probed, stopped}
@@ -14,18 +15,22 @@ use Rattle.dae_ir.specs.declared.form.Check.TheVariants.{Place, Zero, Room, Fram
 use Rattle.dae_ir.specs.declared.stream.Action.{Action}
 use Rattle.dae_ir.specs.declared.stream.Action.TheVariants.{Set as Compute, Issue, Own, Receive, Address, Datum, Offer, Accept, Emit, Probe, Tell, Hear, Stop, Break, Continue, Call, Return}
 use Rattle.dae_walks.specs.Walks.{Setting}
-use Rattle.dae_walks.specs.Live.{reads, sets, in_option}
+use Rattle.dae_walks.specs.Does.{Does}
+use Rattle.dae_walks.specs.Live.{Ways, with_all, reads, sets, in_option, after, before}
+use Rattle.dae_walks.specs.Layout.{CodeAt}
 use Rattle.dae_walks.specs.declared.Home.{Home}
-use Rattle.dae_walks.specs.Homes.{Contents}
-use Rattle.dae_walks.specs.Agrees.{Plan, Moment, depth_of, top_of}
+use Rattle.dae_walks.specs.Homes.{Contents, AreApart}
+use Rattle.dae_walks.specs.Agrees.{Plan, Moment, Stands, depth_of, top_of}
+use Rattle.dae_walks.proofs.LawsOfWalks.{does_map}
 use Rattle.dae_meaning.specs.Operations.{misplaced, passed}
-use Rattle.dae_walks.specs.Compiled.{IsWorldOf}
+use Rattle.dae_walks.specs.Compiled.{exit, with_env, IsWorldOf, At}
 use Rattle.dae_blocks.specs.Code.{action_code}
 use Rattle.dae_blocks.specs.Blocks.{stop_code}
 use Rattle.dae_blocks.specs.Fits.{Fits}
 use Rattle.dae_blocks.specs.Wanted.{IsWanted, IsPlanOf, IsWantedStop}
 use Rattle.dae_blocks.proofs.Runs.{Runs}
 use Rattle.dae_blocks.proofs.Agreement.{Ready}
+use Rattle.dae_blocks.proofs.Jumps.{ready}
 use Rattle.dae_blocks.proofs.Actions.{To, Does', set_done, issue_done, own_done, receive_done, address_done, datum_done, offer_done, accept_done, tell_done}
 use Rattle.dae_blocks.proofs.Checks.{emit_done, stop_a_done, stop_e_done, zero_done, place_done, check_room_done, frame_done, abort_done, hear_done}
 
@@ -43,11 +48,32 @@ pub record Around (home : ℕ → Home) (a : Action) (live live' : VariableSet) 
   pub stays : (u : ℕ) → live' u ≡ true → sets a u ≡ false → live u ≡ true
   pub apart : (u v : ℕ) → sets a v ≡ true → live' u ≡ true → u ≢ v → home u ≢ home v
 
+-- what is live round an action of a list
+pub around : (home : ℕ → Home) (a : Action) (k : VariableSet) (x : Ways) → ((u : ℕ) → after a k x u ≡ k u) → AreApart home (with_all (before a k x) (sets a)) → Around home a (before a k x) k
+around home a k x goes_on apart = record {
+  reads = λ u e. rw e refl;
+  stays = λ u l e. (let same = goes_on u in rw (same, l, e) (either (reads a u)));
+  apart = λ u v e l ne. (let same = goes_on u in apart u v (rw (same, l) (kept (reads a u) (sets a u))) (last (before a k x v) (sets a v) e) ne);
+}
+  where
+    either : (b : Bool) → (b || (true && true)) ≡ true
+    either true = refl
+    either false = refl
+
+    last : (b c : Bool) → c ≡ true → (b || c) ≡ true
+    last true c e = refl
+    last false c e = e
+
+    kept : (b c : Bool) → ((b || (true && not c)) || c) ≡ true
+    kept true c = refl
+    kept false true = refl
+    kept false false = refl
+
 module _ (s : Setting) (plan : Plan) (variables : ℕ → ℕ) (fine : Fits s plan variables) (program : Program) (is_plan : IsPlanOf program plan) (entries : ℕ → VariableSet) where
   a_side : plan.by_a ≡ true → s.side ≡ A
   a_side e = fine.side ∙ ap side e
 
-  e_side : plan.by_a ≡ false → s.side ≡ E
+  pub e_side : plan.by_a ≡ false → s.side ≡ E
   e_side e = fine.side ∙ ap side e
 
   module _ (live live' : VariableSet) (m : Moment) (w : World) (world : IsWorldOf plan m w) where
@@ -91,3 +117,19 @@ module _ (s : Setting) (plan : Plan) (variables : ℕ → ℕ) (fine : Fits s pl
     simple_runs Continue leaves skips is wanted round h = elim is [ ]
     simple_runs (Call v g xs) leaves skips is wanted round h = elim is [ ]
     simple_runs (Return x) leaves skips is wanted round h = elim is [ ]
+
+module _ (s : Setting) (plan : Plan) (variables : ℕ → ℕ) (fine : Fits s plan variables) (program : Program) (is_plan : IsPlanOf program plan) (entries : ℕ → VariableSet) (most widest : ℕ) where
+  -- an action that goes on to the next
+  pub simple_done : (f : ℕ) (a : Action) (live live' : VariableSet) (leaves skips : List Inst) (k : ℕ) → IsSimple a → IsWanted plan s.copies entries a → Around (plan.home f) a live live' →
+      CodeAt s.code k (action_code plan variables f a live' leaves skips) → k + length (action_code plan variables f a live' leaves skips) < 2 ^ 29 → length (action_code plan variables f a live' leaves skips) ≤ most →
+      (m : Moment) (w : World) (p : Processor) → At s plan program entries most widest f (exit k live) m p → IsWorldOf plan m w →
+      Does s most (deed program plan.by_a a w m.env) (λ env. At s plan program entries most widest f (exit (k + length (action_code plan variables f a live' leaves skips)) live') (with_env env m)) p
+  simple_done f a live live' leaves skips k simple wanted round at small few m w p h world =
+      subst (λ (g : ℕ). Around (plan.home g) a live live' → CodeAt s.code k (action_code plan variables g a live' leaves skips) → k + length (action_code plan variables g a live' leaves skips) < 2 ^ 29 → length (action_code plan variables g a live' leaves skips) ≤ most →
+      Does s most (deed program plan.by_a a w m.env) (λ env q. (m.function ≡ g) × Stands plan live' (with_env env m) (k + length (action_code plan variables g a live' leaves skips)) q) p) h.0
+      (λ round at small few.
+      let run = simple_runs s plan variables fine program is_plan entries live live' m w world a leaves skips simple wanted round (ready s plan variables fine h.1) in
+      does_map s (To s plan variables fine live live' m (k + length (action_code plan variables m.function a live' leaves skips))) (λ env q. (m.function ≡ m.function) × Stands plan live' (with_env env m) (k + length (action_code plan variables m.function a live' leaves skips)) q)
+      (length (action_code plan variables m.function a live' leaves skips)) most few (λ env q t. (refl, t)) (deed program plan.by_a a w m.env) p
+      (run.from k small at p h.1.shows))
+      round at small few

@@ -44,10 +44,14 @@ pub pushes_copy : (x : ℕ) → x < 28 → queue_use true A (Computes 28 x 0) �
 unfolding queue_use
 pushes_copy x h = rw (low x h) refl
 
-pub pushes_message : (copies by_a : Bool) (x : ℕ) → x < 28 → queue_use copies (side by_a) (Computes 29 x 0) ≡ Some (Push (told_on by_a))
+-- an instruction on two plain registers
+pub pushes_flag : (copies by_a : Bool) (x y : ℕ) → x < 28 → y < 28 → queue_use copies (side by_a) (Computes 29 x y) ≡ Some (Push (told_on by_a))
 unfolding queue_use
-pushes_message copies true x h = rw (low x h) refl
-pushes_message copies false x h = rw (low x h) refl
+pushes_flag copies true x y h k = rw (low x h, low y k) refl
+pushes_flag copies false x y h k = rw (low x h, low y k) refl
+
+pub pushes_message : (copies by_a : Bool) (x : ℕ) → x < 28 → queue_use copies (side by_a) (Computes 29 x 0) ≡ Some (Push (told_on by_a))
+pushes_message copies by_a x h = pushes_flag copies by_a x 0 h (omega arith)
 
 pub issues : (copies : Bool) (kind : LoadKind) (base offset : ℕ) → base < 28 → queue_use copies A (Loads kind 30 base offset) ≡ Some (Load Ld kind)
 unfolding queue_use
@@ -60,3 +64,25 @@ issues_own copies kind base offset h = rw (low base h) refl
 pub gives_address : (copies : Bool) (width : Width) (base offset : ℕ) → base < 28 → queue_use copies A (Stores width base 30 offset) ≡ Some (StoreAddress width)
 unfolding queue_use
 gives_address copies width base offset h = rw (low base h) refl
+
+-- an instruction with two sources, one of which takes a word
+pub takes_load_left : (copies : Bool) (t r : ℕ) → t < 28 → r < 28 → queue_use copies E (Computes t 30 r) ≡ Some (Take Ld)
+unfolding queue_use
+takes_load_left copies t r h k = rw (low t h, low r k) refl
+
+pub takes_load_right : (copies : Bool) (t r : ℕ) → t < 28 → r < 28 → queue_use copies E (Computes t r 30) ≡ Some (Take Ld)
+unfolding queue_use
+takes_load_right copies t r h k = rw (low t h, low r k) refl
+
+pub takes_copy_left : (t r : ℕ) → t < 28 → r < 28 → queue_use true E (Computes t 28 r) ≡ Some (Take Cq)
+unfolding queue_use
+takes_copy_left t r h k = rw (low t h, low r k) refl
+
+pub takes_copy_right : (t r : ℕ) → t < 28 → r < 28 → queue_use true E (Computes t r 28) ≡ Some (Take Cq)
+unfolding queue_use
+takes_copy_right t r h k = rw (low t h, low r k) refl
+
+-- and one whose target is the queue of store data
+pub pushes_datum_of : (copies : Bool) (x y : ℕ) → x < 28 → y < 28 → queue_use copies E (Computes 30 x y) ≡ Some (Push Sd)
+unfolding queue_use
+pushes_datum_of copies x y h k = rw (low x h, low y k) refl

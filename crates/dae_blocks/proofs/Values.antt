@@ -186,6 +186,9 @@ exchanged_does o t x n i h e = by (commutes o) refl e
 pub equal_flag : (x y : ℕ) → x < 2 ^ 32 → y < 2 ^ 32 → flag (nat_lt (minus x y) 1) ≡ flag (nat_eq x y)
 equal_flag x y a b = grind (arith, nat_tests)
 
+pub equal_left : (x y : ℕ) → x < 2 ^ 32 → y < 2 ^ 32 → nat_eq (minus x y) 0 ≡ nat_eq x y
+equal_left x y a b = grind (arith, nat_tests)
+
 pub different_flag : (x y : ℕ) → x < 2 ^ 32 → y < 2 ^ 32 → flag (nat_lt 0 (minus x y)) ≡ flag (not (nat_eq x y))
 different_flag x y a b = grind (arith, nat_tests)
 

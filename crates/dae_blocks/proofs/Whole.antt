@@ -3,6 +3,7 @@
 use Rattle.std.proofs.Common.{◌≡◌, ℕ, ◌+◌, ◌^◌, ◌<◌, ◌≤◌, Bool, true, false, not, ◌&&◌, ◌||◌, List, [], ◌∷◌, ◌++◌, Option, length, refl, sym, ap, subst, arith, length-append}
 use Rattle.std.specs.Prelude.{nat_eq, if◌then◌else◌}
 use Rattle.std.specs.List.{AllByRecursion}
+use Rattle.dae_base.specs.declared.Queue.TheVariants.{Ld, Cq}
 use Rattle.dae_encode.specs.declared.Inst.{Inst}
 use Rattle.dae_encode.specs.Processor.{Processor}
 use Rattle.dae_ir.specs.Code.{Done, Do, If, Loop, Each}
@@ -13,6 +14,10 @@ use Rattle.dae_ir.specs.Streams.{Actions}
 use Rattle.dae_ir.specs.Deeds.{deed, Push, Went, told_on}
 use Rattle.dae_ir.specs.declared.stream.Argument.{Argument}
 use Rattle.dae_ir.specs.declared.form.Operand.{Operand}
+use Rattle.dae_ir.specs.declared.form.Operand.TheVariants.{Variable}
+use Rattle.dae_ir.specs.declared.form.Value.{Value}
+use Rattle.dae_ir.specs.declared.form.Value.TheVariants.{Same}
+use Rattle.dae_ir.specs.declared.stream.Mark.{Mark}
 use Rattle.dae_ir.specs.declared.stream.Action.{Action}
 use Rattle.dae_ir.specs.declared.stream.Action.TheVariants.{Set as Compute, Issue, Own, Receive, Address, Datum, Offer, Accept, Emit, Probe, Tell, Hear, Stop, Break, Continue, Call, Return}
 use Rattle.dae_ir.specs.declared.stream.Branch.{Branch}
@@ -23,16 +28,20 @@ use Rattle.dae_walks.specs.Live.{Ways, behind, reads, sets, after, before, decid
 use Rattle.dae_walks.specs.declared.Home.{Home}
 use Rattle.dae_walks.specs.Homes.{AreApart}
 use Rattle.dae_walks.specs.Agrees.{Plan, Moment, Stands}
+use Rattle.dae_walks.specs.declared.Standing.{Standing}
+use Rattle.dae_walks.specs.declared.Standing.TheVariants.{Settled, Early, Late}
 use Rattle.dae_walks.specs.Compiled.{Exit, Exits, exit, exits, ways_of, with_env, IsWorldOf, At, Leads, Turns, ActionDone, BranchDone, CodeDone, bit}
-use Rattle.dae_walks.proofs.LawsOfWalks.{comes_here, nears_here, comes_map, does_map, acts_map}
+use Rattle.dae_walks.proofs.LawsOfWalks.{comes_here, nears_here, comes_map, does_map, acts_map, turn_again}
 use Rattle.dae_walks.specs.Layout.{CodeAt}
-use Rattle.dae_blocks.specs.Blocks.{jump_words, jump_over, jump_back}
-use Rattle.dae_blocks.specs.Code.{action_code, branch_code, does_nothing, past_code, code_of}
+use Rattle.dae_blocks.specs.Blocks.{value_code, jump_words, jump_over, jump_back}
+use Rattle.dae_blocks.specs.Code.{written_last, action_code, branch_code, does_nothing, past_code, standing_behind, early_code, block_code, code_of}
 use Rattle.dae_blocks.specs.Fits.{Fits}
-use Rattle.dae_blocks.specs.Wanted.{IsWanted, IsWantedBranch, IsPlanOf, IsRight}
+use Rattle.dae_blocks.specs.Wanted.{AreNumbers, IsWanted, IsWantedBranch, IsPlanOf, IsRight}
 use Rattle.dae_blocks.proofs.Runs.{code_take, code_drop}
 use Rattle.dae_blocks.proofs.Actions.{To}
-use Rattle.dae_blocks.proofs.Simple.{IsSimple, Around, simple_runs}
+use Rattle.dae_blocks.proofs.Uses.{takes_load_left, takes_load_right, takes_copy_left, takes_copy_right}
+use Rattle.dae_blocks.proofs.Simple.{IsSimple, around, e_side, simple_done}
+use Rattle.dae_blocks.proofs.Pairs.{passed_on, by_pairs, entered_at, Suits, suits_behind, AreLateNumbers, late_first, late_second, late_sent, early_first, early_second}
 use Rattle.dae_blocks.proofs.Jumps.{goes_if, jump_long, back_long, hears_some, ready, leads_over, turns_over, turns_back, stands_less, silent_done, tells_done, hears_done}
 
 -- parts of a list of places
@@ -53,43 +62,7 @@ last true c = refl
 last false true = refl
 last false false = refl
 
--- what is live round an action of a list
-around : (home : ℕ → Home) (a : Action) (k : VariableSet) (x : Ways) → ((u : ℕ) → after a k x u ≡ k u) → AreApart home (with_all (before a k x) (sets a)) → Around home a (before a k x) k
-around home a k x goes_on apart = record {
-  reads = λ u e. rw e refl;
-  stays = λ u l e. (let same = goes_on u in rw (same, l, e) (either (reads a u)));
-  apart = λ u v e l ne. (let same = goes_on u in apart u v (rw (same, l) (kept (reads a u) (sets a u))) (last (before a k x v) (sets a v) e) ne);
-}
-  where
-    either : (b : Bool) → (b || (true && true)) ≡ true
-    either true = refl
-    either false = refl
-
-    last : (b c : Bool) → c ≡ true → (b || c) ≡ true
-    last true c e = refl
-    last false c e = e
-
-    kept : (b c : Bool) → ((b || (true && not c)) || c) ≡ true
-    kept true c = refl
-    kept false true = refl
-    kept false false = refl
-
 module _ (s : Setting) (plan : Plan) (variables : ℕ → ℕ) (fine : Fits s plan variables) (program : Program) (is_plan : IsPlanOf program plan) (entries : ℕ → VariableSet) (most widest : ℕ) (short : Bool) where
-  -- an action that goes on to the next
-  pub simple_done : (f : ℕ) (a : Action) (live live' : VariableSet) (leaves skips : List Inst) (k : ℕ) → IsSimple a → IsWanted plan s.copies entries a → Around (plan.home f) a live live' →
-      CodeAt s.code k (action_code plan variables f a live' leaves skips) → k + length (action_code plan variables f a live' leaves skips) < 2 ^ 29 → length (action_code plan variables f a live' leaves skips) ≤ most →
-      (m : Moment) (w : World) (p : Processor) → At s plan program entries most widest f (exit k live) m p → IsWorldOf plan m w →
-      Does s most (deed program plan.by_a a w m.env) (λ env. At s plan program entries most widest f (exit (k + length (action_code plan variables f a live' leaves skips)) live') (with_env env m)) p
-  simple_done f a live live' leaves skips k simple wanted round at small few m w p h world =
-      subst (λ (g : ℕ). Around (plan.home g) a live live' → CodeAt s.code k (action_code plan variables g a live' leaves skips) → k + length (action_code plan variables g a live' leaves skips) < 2 ^ 29 → length (action_code plan variables g a live' leaves skips) ≤ most →
-      Does s most (deed program plan.by_a a w m.env) (λ env q. (m.function ≡ g) × Stands plan live' (with_env env m) (k + length (action_code plan variables g a live' leaves skips)) q) p) h.0
-      (λ round at small few.
-      let run = simple_runs s plan variables fine program is_plan entries live live' m w world a leaves skips simple wanted round (ready s plan variables fine h.1) in
-      does_map s (To s plan variables fine live live' m (k + length (action_code plan variables m.function a live' leaves skips))) (λ env q. (m.function ≡ m.function) × Stands plan live' (with_env env m) (k + length (action_code plan variables m.function a live' leaves skips)) q)
-      (length (action_code plan variables m.function a live' leaves skips)) most few (λ env q t. (refl, t)) (deed program plan.by_a a w m.env) p
-      (run.from k small at p h.1.shows))
-      round at small few
-
   -- the block of an action, from whose end it is so many words to where a Break goes, and a Continue
   abbrev pub block_of : ℕ → Action → VariableSet → ℕ → ℕ → List Inst
   block_of f a live leaves skips = action_code plan variables f a live (jump_over short leaves) (jump_over short skips)
@@ -101,11 +74,18 @@ module _ (s : Setting) (plan : Plan) (variables : ℕ → ℕ) (fine : Fits s pl
     pub stands : CodeAt s.code k (block_of f a behind leaves skips)
     pub small : k + length (block_of f a behind leaves skips) < 2 ^ 29
 
+  -- where a Break goes, and a Continue, the processor holds the variables of the moment
+  pub record AreSettled (x : Exits) : Type 0 where
+    pub leaves : x.leaves.standing ≡ Settled
+    pub skips : x.skips.standing ≡ Settled
+
   abbrev pub Done' : ℕ → Action → VariableSet → Exits → ℕ → ℕ → ℕ → Type 0
   Done' f a k x leaves skips here =
       ActionDone s plan program entries most widest f a (exit here (before a k (ways_of x))) (exit (here + length (block_of f a k leaves skips)) k) x
 
   module _ (blocks : (f : ℕ) (a : Action) (live : VariableSet) (leaves skips : List Inst) → IsSimple a → length (action_code plan variables f a live leaves skips) ≤ most)
+      (pairs : (f q v d : ℕ) (y : Value) → length (early_code (plan.home f) q v d y) ≤ most)
+      (sends : (f : ℕ) (y : Value) → length (value_code (plan.home f) 30 y) ≤ most)
       (branches : (f : ℕ) (b : Branch) (way : Bool) (n : ℕ) → length (branch_code (plan.home f) short b way n) + 2 ≤ most)
       (calls : (f g : ℕ) (v : Option ℕ) (xs : List Argument) (k : VariableSet) (x : Exits) (leaves skips here : ℕ) → Stood f (Call v g xs) k (ways_of x) leaves skips here → Done' f (Call v g xs) k x leaves skips here)
       (returns : (f : ℕ) (y : Option Operand) (k : VariableSet) (x : Exits) (leaves skips here : ℕ) → Stood f (Return y) k (ways_of x) leaves skips here → Done' f (Return y) k x leaves skips here)
@@ -115,17 +95,17 @@ module _ (s : Setting) (plan : Plan) (variables : ℕ → ℕ) (fine : Fits s pl
         Does s most (deed program plan.by_a a w m.env) (λ env. At s plan program entries most widest f (exit (here + length (block_of f a k leaves skips)) k) (with_env env m)) p
     simply f a k x leaves skips here simple goes_on t =
         let small = t.small in
-        simple_done f a (before a k (ways_of x)) k (jump_over short leaves) (jump_over short skips) here simple t.wanted (around (plan.home f) a k (ways_of x) goes_on t.right.apart) t.stands (omega arith) (blocks f a k (jump_over short leaves) (jump_over short skips) simple)
+        simple_done s plan variables fine program is_plan entries most widest f a (before a k (ways_of x)) k (jump_over short leaves) (jump_over short skips) here simple t.wanted (around (plan.home f) a k (ways_of x) goes_on t.right.apart) t.stands (omega arith) (blocks f a k (jump_over short leaves) (jump_over short skips) simple)
 
     -- a jump leads over what is behind it, up to where the loop goes on
-    jumped : (f here n word : ℕ) (live live' : VariableSet) → lo ≤ here → word ≤ hi → CodeAt s.code here (jump_over short n) → here + jump_words short + n ≡ word → ((u : ℕ) → live' u ≡ true → live u ≡ true) → Leads s plan program entries most widest f (exit here live) (exit word live')
-    jumped f here n word live live' low near at there less m p h =
-        comes_map s 2 (omega arith) (λ q g. (h.0, stands_less s plan variables fine less (subst (λ (j : ℕ). Stands plan live m j q) there g))) (leads_over s plan variables fine short n (omega arith) (λ e. (let r = reach e in omega arith)) at h.1)
+    jumped : (f here n : ℕ) (live : VariableSet) (there : Exit) → there.standing ≡ Settled → lo ≤ here → there.word ≤ hi → CodeAt s.code here (jump_over short n) → here + jump_words short + n ≡ there.word → ((u : ℕ) → there.live u ≡ true → live u ≡ true) → Leads s plan program entries most widest f (exit here live) there
+    jumped f here n live there settled low near at lands less m p h =
+        comes_map s 2 (omega arith) (λ q g. (h.0, rw settled (stands_less s plan variables fine less (subst (λ (j : ℕ). Stands plan live m j q) lands g)))) (leads_over s plan variables fine short n (omega arith) (λ e. (let r = reach e in omega arith)) at h.1)
 
-    turned : (f here n word : ℕ) (live live' : VariableSet) → lo ≤ here → word ≤ hi → CodeAt s.code here (jump_over short n) → here + jump_words short + n ≡ word → ((u : ℕ) → live' u ≡ true → live u ≡ true) → Turns s plan program entries most widest f (exit here live) (exit word live')
-    turned f here n word live live' low near at there less m p h =
+    turned : (f here n : ℕ) (live : VariableSet) (there : Exit) → there.standing ≡ Settled → lo ≤ here → there.word ≤ hi → CodeAt s.code here (jump_over short n) → here + jump_words short + n ≡ there.word → ((u : ℕ) → there.live u ≡ true → live u ≡ true) → Turns s plan program entries most widest f (exit here live) there
+    turned f here n live there settled low near at lands less m p h =
         let a = turns_over s plan variables fine short n (omega arith) (λ e. (let r = reach e in omega arith)) at h.1 in
-        (a.0, acts_map s (λ r c. comes_map s 1 (omega arith) (λ q g. (h.0, stands_less s plan variables fine less (subst (λ (j : ℕ). Stands plan live m j q) there g))) c) a.1)
+        (a.0, acts_map s (λ r c. comes_map s 1 (omega arith) (λ q g. (h.0, rw settled (stands_less s plan variables fine less (subst (λ (j : ℕ). Stands plan live m j q) lands g)))) c) a.1)
 
     -- over a second list, which may be empty
     passed : (f here n word : ℕ) (behind : VariableSet) (none : Bool) → (none ≡ true → n ≡ 0) → lo ≤ here → word ≤ hi → CodeAt s.code here (past_code short none n) → here + length (past_code short none n) + n ≡ word →
@@ -134,60 +114,123 @@ module _ (s : Setting) (plan : Plan) (variables : ℕ → ℕ) (fine : Fits s pl
         let no_words = empty refl in
         let same : here ≡ word = omega arith in
         λ m p h. comes_here s (subst (λ (j : ℕ). At s plan program entries most widest f (exit j k) m p) same h)
-    passed f here n word k false empty low near at there = let long = jump_long short n in jumped f here n word k k low near at (omega arith) (λ u e. e)
+    passed f here n word k false empty low near at there = let long = jump_long short n in jumped f here n k (exit word k) refl low near at (omega arith) (λ u e. e)
 
-    action_done : (f : ℕ) (a : Action) (k : VariableSet) (x : Exits) (leaves skips here : ℕ) → here + length (block_of f a k leaves skips) + leaves ≡ x.leaves.word → here + length (block_of f a k leaves skips) + skips ≡ x.skips.word → lo ≤ here → x.leaves.word ≤ hi → x.skips.word ≤ hi →
+    action_done : (f : ℕ) (a : Action) (k : VariableSet) (x : Exits) (leaves skips here : ℕ) → AreSettled x → here + length (block_of f a k leaves skips) + leaves ≡ x.leaves.word → here + length (block_of f a k leaves skips) + skips ≡ x.skips.word → lo ≤ here → x.leaves.word ≤ hi → x.skips.word ≤ hi →
         Stood f a k (ways_of x) leaves skips here → Done' f a k x leaves skips here
-    action_done f Break k x leaves skips here to_leave to_skip low near close t =
+    action_done f Break k x leaves skips here settled to_leave to_skip low near close t =
         let long = jump_long short leaves in
-        jumped f here leaves x.leaves.word (before Break k (ways_of x)) x.leaves.live low near t.stands (omega arith) (λ u e. rw e refl)
-    action_done f Continue k x leaves skips here to_leave to_skip low near close t =
+        jumped f here leaves (before Break k (ways_of x)) x.leaves settled.leaves low near t.stands (omega arith) (λ u e. rw e refl)
+    action_done f Continue k x leaves skips here settled to_leave to_skip low near close t =
         let long = jump_long short skips in
-        turned f here skips x.skips.word (before Continue k (ways_of x)) x.skips.live low close t.stands (omega arith) (λ u e. rw e refl)
-    action_done f (Call v g xs) k x leaves skips here to_leave to_skip low near close t = calls f g v xs k x leaves skips here t
-    action_done f (Return y) k x leaves skips here to_leave to_skip low near close t = returns f y k x leaves skips here t
-    action_done f (Stop y) k x leaves skips here to_leave to_skip low near close t =
+        turned f here skips (before Continue k (ways_of x)) x.skips settled.skips low close t.stands (omega arith) (λ u e. rw e refl)
+    action_done f (Call v g xs) k x leaves skips here settled to_leave to_skip low near close t = calls f g v xs k x leaves skips here t
+    action_done f (Return y) k x leaves skips here settled to_leave to_skip low near close t = returns f y k x leaves skips here t
+    action_done f (Stop y) k x leaves skips here settled to_leave to_skip low near close t =
         let small = t.small in
-        simple_done f (Stop y) (before (Stop y) k (ways_of x)) none (jump_over short leaves) (jump_over short skips) here tt t.wanted (around (plan.home f) (Stop y) none (ways_of x) (λ u. refl) t.right.apart) t.stands (omega arith) (blocks f (Stop y) k (jump_over short leaves) (jump_over short skips) tt)
-    action_done f (Compute v y) k x leaves skips here to_leave to_skip low near close t = simply f (Compute v y) k x leaves skips here tt (λ u. refl) t
-    action_done f (Issue kind y) k x leaves skips here to_leave to_skip low near close t = simply f (Issue kind y) k x leaves skips here tt (λ u. refl) t
-    action_done f (Own v kind y) k x leaves skips here to_leave to_skip low near close t = simply f (Own v kind y) k x leaves skips here tt (λ u. refl) t
-    action_done f (Receive v) k x leaves skips here to_leave to_skip low near close t = simply f (Receive v) k x leaves skips here tt (λ u. refl) t
-    action_done f (Address width y) k x leaves skips here to_leave to_skip low near close t = simply f (Address width y) k x leaves skips here tt (λ u. refl) t
-    action_done f (Datum y) k x leaves skips here to_leave to_skip low near close t = simply f (Datum y) k x leaves skips here tt (λ u. refl) t
-    action_done f (Offer v) k x leaves skips here to_leave to_skip low near close t = simply f (Offer v) k x leaves skips here tt (λ u. refl) t
-    action_done f (Accept v) k x leaves skips here to_leave to_skip low near close t = simply f (Accept v) k x leaves skips here tt (λ u. refl) t
-    action_done f (Emit spelling y) k x leaves skips here to_leave to_skip low near close t = simply f (Emit spelling y) k x leaves skips here tt (λ u. refl) t
-    action_done f (Probe check) k x leaves skips here to_leave to_skip low near close t = simply f (Probe check) k x leaves skips here tt (λ u. refl) t
-    action_done f (Tell y) k x leaves skips here to_leave to_skip low near close t = simply f (Tell y) k x leaves skips here tt (λ u. refl) t
-    action_done f Hear k x leaves skips here to_leave to_skip low near close t = simply f Hear k x leaves skips here tt (λ u. refl) t
+        simple_done s plan variables fine program is_plan entries most widest f (Stop y) (before (Stop y) k (ways_of x)) none (jump_over short leaves) (jump_over short skips) here tt t.wanted (around (plan.home f) (Stop y) none (ways_of x) (λ u. refl) t.right.apart) t.stands (omega arith) (blocks f (Stop y) k (jump_over short leaves) (jump_over short skips) tt)
+    action_done f (Compute v y) k x leaves skips here settled to_leave to_skip low near close t = simply f (Compute v y) k x leaves skips here tt (λ u. refl) t
+    action_done f (Issue kind y) k x leaves skips here settled to_leave to_skip low near close t = simply f (Issue kind y) k x leaves skips here tt (λ u. refl) t
+    action_done f (Own v kind y) k x leaves skips here settled to_leave to_skip low near close t = simply f (Own v kind y) k x leaves skips here tt (λ u. refl) t
+    action_done f (Receive v) k x leaves skips here settled to_leave to_skip low near close t = simply f (Receive v) k x leaves skips here tt (λ u. refl) t
+    action_done f (Address width y) k x leaves skips here settled to_leave to_skip low near close t = simply f (Address width y) k x leaves skips here tt (λ u. refl) t
+    action_done f (Datum y) k x leaves skips here settled to_leave to_skip low near close t = simply f (Datum y) k x leaves skips here tt (λ u. refl) t
+    action_done f (Offer v) k x leaves skips here settled to_leave to_skip low near close t = simply f (Offer v) k x leaves skips here tt (λ u. refl) t
+    action_done f (Accept v) k x leaves skips here settled to_leave to_skip low near close t = simply f (Accept v) k x leaves skips here tt (λ u. refl) t
+    action_done f (Emit spelling y) k x leaves skips here settled to_leave to_skip low near close t = simply f (Emit spelling y) k x leaves skips here tt (λ u. refl) t
+    action_done f (Probe check) k x leaves skips here settled to_leave to_skip low near close t = simply f (Probe check) k x leaves skips here tt (λ u. refl) t
+    action_done f (Tell y) k x leaves skips here settled to_leave to_skip low near close t = simply f (Tell y) k x leaves skips here tt (λ u. refl) t
+    action_done f Hear k x leaves skips here settled to_leave to_skip low near close t = simply f Hear k x leaves skips here tt (λ u. refl) t
+
+    -- ---- actions in their lists, alone or in pairs
+
+    -- the block of an action, where things stand so before it and so behind it, does it
+    abbrev Step : ℕ → Standing → Mark → Exits → ℕ → ℕ → ℕ → Action → Actions → Standing → Type 0
+    Step f standing mark x leaves skips here a k standing' =
+        Suits standing (Do mark a k) (ways_of x) → AreLateNumbers standing → AreSettled x → IsWanted plan s.copies entries a → Each (IsWanted plan s.copies entries) IsWantedBranch k →
+        IsRight (plan.home f) (variables f) (with_all (before a (live k (ways_of x)) (ways_of x)) (sets a)) → AllByRecursion (IsRight (plan.home f) (variables f)) (lives k (ways_of x)) →
+        CodeAt s.code here (block_code plan variables f standing a standing' (live k (ways_of x)) (jump_over short leaves) (jump_over short skips)) → lo ≤ here →
+        here + length (block_code plan variables f standing a standing' (live k (ways_of x)) (jump_over short leaves) (jump_over short skips)) < 2 ^ 29 →
+        here + length (block_code plan variables f standing a standing' (live k (ways_of x)) (jump_over short leaves) (jump_over short skips)) + leaves ≡ x.leaves.word →
+        here + length (block_code plan variables f standing a standing' (live k (ways_of x)) (jump_over short leaves) (jump_over short skips)) + skips ≡ x.skips.word → x.leaves.word ≤ hi → x.skips.word ≤ hi →
+        ActionDone s plan program entries most widest f a (entered_at standing (Do mark a k) (ways_of x) here)
+        (entered_at standing' k (ways_of x) (here + length (block_code plan variables f standing a standing' (live k (ways_of x)) (jump_over short leaves) (jump_over short skips)))) x
+        × AreLateNumbers standing'
+
+    late_step : (f t : ℕ) (y : Value) (d : ℕ) (mark : Mark) (k : Actions) (x : Exits) (leaves skips here : ℕ) → live k (ways_of x) t ≡ false → Step f (Late t y) mark x leaves skips here (Compute d (Same (Variable t))) k Settled
+    late_step f t y d mark k x leaves skips here dead suits numbers settled wanted more right rights at low small to_leave to_skip near close = (
+      late_second s plan variables fine program is_plan entries most widest f t d y (live k (ways_of x)) (ways_of x) x here dead numbers right.apart at small (blocks f (Compute d y) (live k (ways_of x)) [] [] tt),
+      tt,
+    )
+
+    sent_step : (f t : ℕ) (y : Value) (mark : Mark) (k : Actions) (x : Exits) (leaves skips here : ℕ) → live k (ways_of x) t ≡ false → written_last y ≡ true → Step f (Late t y) mark x leaves skips here (Datum (Variable t)) k Settled
+    sent_step f t y mark k x leaves skips here dead last suits numbers settled wanted more right rights at low small to_leave to_skip near close = (
+      late_sent s plan variables fine program is_plan entries most widest f t y (live k (ways_of x)) (ways_of x) x here (e_side s plan variables fine program is_plan entries wanted.0) last dead numbers at small (sends f y),
+      tt,
+    )
+
+    early_step : (f v : ℕ) (y : Value) (mark : Mark) (k : Actions) (x : Exits) (leaves skips here : ℕ) → Step f (Early v y) mark x leaves skips here (Compute v y) k Settled
+    early_step f v y mark k x leaves skips here suits numbers settled wanted more right rights at low small to_leave to_skip near close = (early_second s plan variables fine program is_plan entries most widest f v y (live k (ways_of x)) x here, tt)
+
+    step_done : (f : ℕ) (standing : Standing) (mark : Mark) (a : Action) (k : Actions) (x : Exits) (leaves skips here : ℕ) → Step f standing mark x leaves skips here a k (standing_behind a k (ways_of x))
+    step_done f Settled mark a k x leaves skips here =
+        by_pairs (Step f Settled mark x leaves skips here) (ways_of x)
+        (λ a k suits numbers settled wanted more right rights at low small to_leave to_skip near close. (
+          action_done f a (live k (ways_of x)) x leaves skips here settled to_leave to_skip low near close (record { wanted = wanted; right = right; stands = at; small = small }),
+          tt,
+        ))
+        (λ t y m b k e passes dead suits numbers settled wanted more right rights at low small to_leave to_skip near close. (
+          late_first s plan variables fine program is_plan entries most widest f t y (live (Do mark (Compute t y) (Do m b k)) (ways_of x)) x here,
+          wanted,
+        ))
+        (λ v m d y k e once dead suits numbers settled wanted more right rights at low small to_leave to_skip near close. (
+          (λ n w p h world.
+              (let by_e = e_side s plan variables fine program is_plan entries wanted in
+              early_first s plan variables fine program is_plan entries most widest 30 Ld refl (λ t r a b. rw by_e (takes_load_left s.copies t r a b)) (λ t r a b. rw by_e (takes_load_right s.copies t r a b))
+              f v d y (live k (ways_of x)) (ways_of x) here once dead more.0 rights.0.apart at small (pairs f 30 v d y) n p h)),
+          tt,
+        ))
+        (λ v m d y k e once dead suits numbers settled wanted more right rights at low small to_leave to_skip near close. (
+          (λ n w p h world.
+              (let by_e = e_side s plan variables fine program is_plan entries wanted.0 in let copies = wanted.1 in
+              early_first s plan variables fine program is_plan entries most widest 28 Cq refl (λ t r a b. rw (by_e, copies) (takes_copy_left t r a b)) (λ t r a b. rw (by_e, copies) (takes_copy_right t r a b))
+              f v d y (live k (ways_of x)) (ways_of x) here once dead more.0 rights.0.apart at small (pairs f 28 v d y) n p h)),
+          tt,
+        ))
+        a k
+    step_done f (Late t y) mark a k x leaves skips here = λ suits.
+        subst (λ (standing : Standing). Step f (Late t y) mark x leaves skips here a k standing) (sym suits.1)
+        (passed_on (λ (b : Action). Step f (Late t y) mark x leaves skips here b k Settled) t y a suits.0 (λ d. late_step f t y d mark k x leaves skips here suits.2) (λ last. sent_step f t y mark k x leaves skips here suits.2 last)) suits
+    step_done f (Early v y) mark a k x leaves skips here = λ suits.
+        subst (λ (standing : Standing). Step f (Early v y) mark x leaves skips here a k standing) (sym suits.1)
+        (subst (λ (b : Action). Step f (Early v y) mark x leaves skips here b k Settled) (sym suits.0) (early_step f v y mark k x leaves skips here)) suits
 
     -- ---- branches
 
     abbrev Chooses : ℕ → Branch → VariableSet → Exit → Exit → ℕ → Type 0
     Chooses f b live first second here = BranchDone s plan program entries most widest f b (exit here live) first second
 
-    chosen : (f : ℕ) (m : Moment) (live : VariableSet) (first second : Exit) (way b : Bool) (end n : ℕ) (q : Processor) → m.function ≡ f → first.word ≡ (if way then end + n else end) → second.word ≡ (if way then end else end + n) →
+    chosen : (f : ℕ) (m : Moment) (live : VariableSet) (first second : Exit) (way b : Bool) (end n : ℕ) (q : Processor) → m.function ≡ f → first.standing ≡ Settled → second.standing ≡ Settled → first.word ≡ (if way then end + n else end) → second.word ≡ (if way then end else end + n) →
         ((u : ℕ) → first.live u ≡ true → live u ≡ true) → ((u : ℕ) → second.live u ≡ true → live u ≡ true) →
         Stands plan live m (if goes_if way b then end + n else end) q → At s plan program entries most widest f (if b then first else second) m q
-    chosen f m live first second true true end n q e to to' yes' no' h = (e, stands_less s plan variables fine yes' (rw to h))
-    chosen f m live first second true false end n q e to to' yes' no' h = (e, stands_less s plan variables fine no' (rw to' h))
-    chosen f m live first second false true end n q e to to' yes' no' h = (e, stands_less s plan variables fine yes' (rw to h))
-    chosen f m live first second false false end n q e to to' yes' no' h = (e, stands_less s plan variables fine no' (rw to' h))
+    chosen f m live first second true true end n q e e1 e2 to to' yes' no' h = (e, rw e1 (stands_less s plan variables fine yes' (rw to h)))
+    chosen f m live first second true false end n q e e1 e2 to to' yes' no' h = (e, rw e2 (stands_less s plan variables fine no' (rw to' h)))
+    chosen f m live first second false true end n q e e1 e2 to to' yes' no' h = (e, rw e1 (stands_less s plan variables fine yes' (rw to h)))
+    chosen f m live first second false false end n q e e1 e2 to to' yes' no' h = (e, rw e2 (stands_less s plan variables fine no' (rw to' h)))
 
     -- the code of a branch leads n words ahead of its end, or behind it
-    branch_done : (f : ℕ) (b : Branch) (way : Bool) (live : VariableSet) (first second : Exit) (here n : ℕ) → IsWantedBranch b → ((u : ℕ) → decided b u ≡ true → live u ≡ true) → ((u : ℕ) → first.live u ≡ true → live u ≡ true) → ((u : ℕ) → second.live u ≡ true → live u ≡ true) →
+    branch_done : (f : ℕ) (b : Branch) (way : Bool) (live : VariableSet) (first second : Exit) (here n : ℕ) → first.standing ≡ Settled → second.standing ≡ Settled → IsWantedBranch b → ((u : ℕ) → decided b u ≡ true → live u ≡ true) → ((u : ℕ) → first.live u ≡ true → live u ≡ true) → ((u : ℕ) → second.live u ≡ true → live u ≡ true) →
         lo ≤ here → here + length (branch_code (plan.home f) short b way n) + n ≤ hi → CodeAt s.code here (branch_code (plan.home f) short b way n) →
         first.word ≡ (if way then here + length (branch_code (plan.home f) short b way n) + n else here + length (branch_code (plan.home f) short b way n)) →
         second.word ≡ (if way then here + length (branch_code (plan.home f) short b way n) else here + length (branch_code (plan.home f) short b way n) + n) → Chooses f b live first second here
-    branch_done f (Silent t) way live first second here n wanted reads yes' no' low near at to to' = λ m r h.
+    branch_done f (Silent t) way live first second here n e1 e2 wanted reads yes' no' low near at to to' = λ m r h.
         subst (λ (g : ℕ). here + length (branch_code (plan.home g) short (Silent t) way n) + n ≤ hi → CodeAt s.code here (branch_code (plan.home g) short (Silent t) way n) → length (branch_code (plan.home g) short (Silent t) way n) + 2 ≤ most →
         first.word ≡ (if way then here + length (branch_code (plan.home g) short (Silent t) way n) + n else here + length (branch_code (plan.home g) short (Silent t) way n)) →
         second.word ≡ (if way then here + length (branch_code (plan.home g) short (Silent t) way n) else here + length (branch_code (plan.home g) short (Silent t) way n) + n) →
         Comes s most r (At s plan program entries most widest g (if holds t m.env then first else second) m)) h.0
-        (λ near at few to to'. comes_map s most few (λ o g. chosen m.function m live first second way (holds t m.env) (here + length (branch_code (plan.home m.function) short (Silent t) way n)) n o refl to to' yes' no' g)
+        (λ near at few to to'. comes_map s most few (λ o g. chosen m.function m live first second way (holds t m.env) (here + length (branch_code (plan.home m.function) short (Silent t) way n)) n o refl e1 e2 to to' yes' no' g)
         (silent_done s plan variables fine short way t n (omega arith) (λ e. (let r = reach e in omega arith)) at reads wanted.0 wanted.1 h.1)) near at (branches f (Silent t) way n) to to'
-    branch_done f (Tells t) way live first second here n wanted reads yes' no' low near at to to' = λ m r h.
+    branch_done f (Tells t) way live first second here n e1 e2 wanted reads yes' no' low near at to to' = λ m r h.
         subst (λ (g : ℕ). here + length (branch_code (plan.home g) short (Tells t) way n) + n ≤ hi → CodeAt s.code here (branch_code (plan.home g) short (Tells t) way n) → length (branch_code (plan.home g) short (Tells t) way n) + 2 ≤ most →
         first.word ≡ (if way then here + length (branch_code (plan.home g) short (Tells t) way n) + n else here + length (branch_code (plan.home g) short (Tells t) way n)) →
         second.word ≡ (if way then here + length (branch_code (plan.home g) short (Tells t) way n) else here + length (branch_code (plan.home g) short (Tells t) way n) + n) →
@@ -195,37 +238,37 @@ module _ (s : Setting) (plan : Plan) (variables : ℕ → ℕ) (fine : Fits s pl
         (λ near at few to to'.
         let end : ℕ = here + length (branch_code (plan.home m.function) short (Tells t) way n) in
         does_map s (λ env. Stands plan live m (if goes_if way (holds t m.env) then end + n else end)) (λ env. At s plan program entries most widest m.function (if holds t m.env then first else second) m)
-        (length (branch_code (plan.home m.function) short (Tells t) way n) + 2) most few (λ env o g. chosen m.function m live first second way (holds t m.env) end n o refl to to' yes' no' g)
+        (length (branch_code (plan.home m.function) short (Tells t) way n) + 2) most few (λ env o g. chosen m.function m live first second way (holds t m.env) end n o refl e1 e2 to to' yes' no' g)
         (Push (told_on plan.by_a) (bit (holds t m.env)) (Went m.env)) r
         (tells_done s plan variables fine short way t n (omega arith) (λ e. (let r = reach e in omega arith)) at reads wanted.0 wanted.1 h.1)) near at (branches f (Tells t) way n) to to'
-    branch_done f Hears way live first second here n wanted reads yes' no' low near at to to' = λ m r h.
+    branch_done f Hears way live first second here n e1 e2 wanted reads yes' no' low near at to to' = λ m r h.
         let end : ℕ = here + length (branch_code (plan.home f) short Hears way n) in
         let few = branches f Hears way n in let some' = hears_some short way n in
         nears_here s 2 (omega arith) (λ x fits. (
           0,
-          acts_map s (λ o c. comes_map s 2 (omega arith) (λ z g. chosen f m live first second way (not (nat_eq x 0)) end n z h.0 to to' yes' no' g) c)
+          acts_map s (λ o c. comes_map s 2 (omega arith) (λ z g. chosen f m live first second way (not (nat_eq x 0)) end n z h.0 e1 e2 to to' yes' no' g) c)
               (hears_done s plan variables fine short way n (omega arith) (λ e. (let r = reach e in omega arith)) at h.1 x),
         ))
 
     -- ---- structured code
 
     -- a list that is empty leads where code goes on
-    nothing_done : (f : ℕ) (code : Actions) (x : Exits) (here : ℕ) → does_nothing code ≡ true → Leads s plan program entries most widest f (exit here x.next.live) x.next → CodeDone s plan program entries most widest f code here x
+    nothing_done : (f : ℕ) (code : Actions) (x : Exits) (here : ℕ) → does_nothing code ≡ true → Leads s plan program entries most widest f (exit here x.next.live) x.next → CodeDone s plan program entries most widest f code (exit here (live code (ways_of x))) x
     nothing_done f Done x here is ends = ends
     nothing_done f (Do mark a k) x here is ends = absurd cc
     nothing_done f (If mark b p q k) x here is ends = absurd cc
     nothing_done f (Loop mark body step k) x here is ends = absurd cc
 
-    nothing_short : (f : ℕ) (code : Actions) (x : Ways) (leaves skips : ℕ) → does_nothing code ≡ true → length (code_of short plan variables f code x leaves skips) ≡ 0
+    nothing_short : (f : ℕ) (code : Actions) (x : Ways) (leaves skips : ℕ) → does_nothing code ≡ true → length (code_of short plan variables f Settled code x leaves skips) ≡ 0
     nothing_short f Done x leaves skips is = refl
     nothing_short f (Do mark a k) x leaves skips is = absurd cc
     nothing_short f (If mark b p q k) x leaves skips is = absurd cc
     nothing_short f (Loop mark body step k) x leaves skips is = absurd cc
 
-    nothing_long : (f : ℕ) (p q : Actions) (x : Ways) (leaves skips n : ℕ) → does_nothing p ≡ true → length (code_of short plan variables f p x leaves skips) + length (past_code short (does_nothing p || does_nothing q) n) ≡ 0
+    nothing_long : (f : ℕ) (p q : Actions) (x : Ways) (leaves skips n : ℕ) → does_nothing p ≡ true → length (code_of short plan variables f Settled p x leaves skips) + length (past_code short (does_nothing p || does_nothing q) n) ≡ 0
     nothing_long f p q x leaves skips n is = (let a = nothing_short f p x leaves skips is in let b : length (past_code short (does_nothing p || does_nothing q) n) ≡ 0 = rw is refl in omega arith)
 
-    either_done : (f : ℕ) (code : Actions) (x : Exits) (none : Bool) (there here : ℕ) → (none ≡ true → CodeDone s plan program entries most widest f code there x) → (none ≡ false → CodeDone s plan program entries most widest f code here x) → CodeDone s plan program entries most widest f code (if none then there else here) x
+    either_done : (f : ℕ) (code : Actions) (x : Exits) (none : Bool) (there here : ℕ) → (none ≡ true → CodeDone s plan program entries most widest f code (exit there (live code (ways_of x))) x) → (none ≡ false → CodeDone s plan program entries most widest f code (exit here (live code (ways_of x))) x) → CodeDone s plan program entries most widest f code (exit (if none then there else here) (live code (ways_of x))) x
     either_done f code x true there here h k = h refl
     either_done f code x false there here h k = k refl
 
@@ -242,32 +285,35 @@ module _ (s : Setting) (plan : Plan) (variables : ℕ → ℕ) (fine : Fits s pl
     ahead true n first past second is = omega arith
     ahead false n first past second is = omega arith
 
-    pub code_done : (f : ℕ) (code : Actions) (x : Exits) (leaves skips here : ℕ) → Each (IsWanted plan s.copies entries) IsWantedBranch code → AllByRecursion (IsRight (plan.home f) (variables f)) (lives code (ways_of x)) →
-        CodeAt s.code here (code_of short plan variables f code (ways_of x) leaves skips) → lo ≤ here → here + length (code_of short plan variables f code (ways_of x) leaves skips) ≤ hi →
-        here + length (code_of short plan variables f code (ways_of x) leaves skips) + leaves ≡ x.leaves.word → here + length (code_of short plan variables f code (ways_of x) leaves skips) + skips ≡ x.skips.word → x.leaves.word ≤ hi → x.skips.word ≤ hi →
-        Leads s plan program entries most widest f (exit (here + length (code_of short plan variables f code (ways_of x) leaves skips)) x.next.live) x.next → CodeDone s plan program entries most widest f code here x
-    code_done f Done x leaves skips here wanted apart at low small to_leave to_skip near close ends =
+    pub code_done : (f : ℕ) (standing : Standing) (code : Actions) (x : Exits) (leaves skips here : ℕ) → Suits standing code (ways_of x) → AreLateNumbers standing → AreSettled x → Each (IsWanted plan s.copies entries) IsWantedBranch code → AllByRecursion (IsRight (plan.home f) (variables f)) (lives code (ways_of x)) →
+        CodeAt s.code here (code_of short plan variables f standing code (ways_of x) leaves skips) → lo ≤ here → here + length (code_of short plan variables f standing code (ways_of x) leaves skips) ≤ hi →
+        here + length (code_of short plan variables f standing code (ways_of x) leaves skips) + leaves ≡ x.leaves.word → here + length (code_of short plan variables f standing code (ways_of x) leaves skips) + skips ≡ x.skips.word → x.leaves.word ≤ hi → x.skips.word ≤ hi →
+        Leads s plan program entries most widest f (exit (here + length (code_of short plan variables f standing code (ways_of x) leaves skips)) x.next.live) x.next → CodeDone s plan program entries most widest f code (entered_at standing code (ways_of x) here) x
+    code_done f Settled Done x leaves skips here suits numbers settled wanted apart at low small to_leave to_skip near close ends =
         let same : here + 0 ≡ here = omega arith in
         subst (λ (j : ℕ). Leads s plan program entries most widest f (exit j x.next.live) x.next) same ends
-    code_done f (Do mark a k) x leaves skips here wanted apart at low small to_leave to_skip near close ends =
-        let rest : List Inst = code_of short plan variables f k (ways_of x) leaves skips in
-        let block : List Inst = block_of f a (live k (ways_of x)) (length rest + leaves) (length rest + skips) in
+    code_done f (Early v y) Done x leaves skips here suits numbers settled wanted apart at low small to_leave to_skip near close ends = absurd suits
+    code_done f (Late t y) Done x leaves skips here suits numbers settled wanted apart at low small to_leave to_skip near close ends = absurd suits
+    code_done f standing (Do mark a k) x leaves skips here suits numbers settled wanted apart at low small to_leave to_skip near close ends =
+        let standing' : Standing = standing_behind a k (ways_of x) in
+        let rest : List Inst = code_of short plan variables f standing' k (ways_of x) leaves skips in
+        let block : List Inst = block_code plan variables f standing a standing' (live k (ways_of x)) (jump_over short (length rest + leaves)) (jump_over short (length rest + skips)) in
         let both = length-append block rest in
-        let place : here + length block + length rest ≡ here + length (block ++ rest) = omega arith in (
-          here + length block,
-          action_done f a (live k (ways_of x)) x (length rest + leaves) (length rest + skips) here (omega arith) (omega arith) low near close
-              (record { wanted = wanted.0; right = apart.0; stands = code_take s.code here block rest at; small = (omega arith) }),
-          code_done f k x leaves skips (here + length block) wanted.1 apart.1 (code_drop s.code here block rest at) (omega arith) (omega arith) (omega arith) (omega arith) near close
+        let place : here + length block + length rest ≡ here + length (block ++ rest) = omega arith in
+        let step = step_done f standing mark a k x (length rest + leaves) (length rest + skips) here suits numbers settled wanted.0 wanted.1 apart.0 apart.1 (code_take s.code here block rest at) low (omega arith) (omega arith) (omega arith) near close in (
+          entered_at standing' k (ways_of x) (here + length block),
+          step.0,
+          code_done f standing' k x leaves skips (here + length block) (suits_behind a k (ways_of x)) step.1 settled wanted.1 apart.1 (code_drop s.code here block rest at) (omega arith) (omega arith) (omega arith) (omega arith) near close
               (subst (λ (j : ℕ). Leads s plan program entries most widest f (exit j x.next.live) x.next) (sym place) ends),
         )
-    code_done f (If mark b p q k) x leaves skips here wanted apart at low small to_leave to_skip near close ends =
+    code_done f Settled (If mark b p q k) x leaves skips here suits numbers settled wanted apart at low small to_leave to_skip near close ends =
         let ways' : Ways = behind (live k (ways_of x)) (ways_of x) in
         let none : Bool = does_nothing p in
-        let rest : List Inst = code_of short plan variables f k (ways_of x) leaves skips in
-        let second : List Inst = code_of short plan variables f q ways' (length rest + leaves) (length rest + skips) in
+        let rest : List Inst = code_of short plan variables f Settled k (ways_of x) leaves skips in
+        let second : List Inst = code_of short plan variables f Settled q ways' (length rest + leaves) (length rest + skips) in
         let past : List Inst = past_code short (none || does_nothing q) (length second) in
         let far : ℕ = length past + length second + length rest in
-        let first : List Inst = code_of short plan variables f p ways' (far + leaves) (far + skips) in
+        let first : List Inst = code_of short plan variables f Settled p ways' (far + leaves) (far + skips) in
         let n : ℕ = if none then length second else length first + length past in
         let test : List Inst = branch_code (plan.home f) short b none n in
         let l1 = length-append test (first ++ (past ++ (second ++ rest))) in
@@ -286,27 +332,29 @@ module _ (s : Setting) (plan : Plan) (variables : ℕ → ℕ) (fine : Fits s pl
         let done : a3 + length rest ≡ here + length (test ++ (first ++ (past ++ (second ++ rest)))) = omega arith in
         let x' : Exits = record x { next = exit a3 (live k (ways_of x)) } in
         let behind_first = all_right (IsRight (plan.home f) (variables f)) (lives p ways') (lives q ways' ++ lives k (ways_of x)) apart.1 in (
-          (if none then a3 else a1),
-          a2,
-          a3,
-          branch_done f b none (live (If mark b p q k) (ways_of x)) (exit (if none then a3 else a1) (live p ways')) (exit a2 (live q ways')) here n wanted.0 (λ u e. rw e refl) (λ u e. rw e (any (decided b u) (live q ways' u))) (λ u e. rw e (last (decided b u) (live p ways' u)))
+          exit (if none then a3 else a1) (live p ways'),
+          exit a2 (live q ways'),
+          exit a3 (live k (ways_of x)),
+          branch_done f b none (live (If mark b p q k) (ways_of x)) (exit (if none then a3 else a1) (live p ways')) (exit a2 (live q ways')) here n refl refl wanted.0 (λ u e. rw e refl) (λ u e. rw e (any (decided b u) (live q ways' u))) (λ u e. rw e (last (decided b u) (live p ways' u)))
               low (omega arith) (code_take s.code here test (first ++ (past ++ (second ++ rest))) at) (to_first none a1 n (length first) (length past) (length second) refl empty) (to_second none a1 n (length first) (length past) (length second) refl empty),
           either_done f p x' none a3 a1 (λ e. nothing_done f p x' a3 e (λ m r h. comes_here s h))
-              (λ e. code_done f p x' (far + leaves) (far + skips) a1 wanted.1 (all_left (IsRight (plan.home f) (variables f)) (lives p ways') (lives q ways' ++ lives k (ways_of x)) apart.1) (code_take s.code a1 first (past ++ (second ++ rest)) d1) (omega arith) (omega arith) (omega arith) (omega arith) near close
+              (λ e. code_done f Settled p x' (far + leaves) (far + skips) a1 tt tt (record { leaves = settled.leaves; skips = settled.skips }) wanted.1 (all_left (IsRight (plan.home f) (variables f)) (lives p ways') (lives q ways' ++ lives k (ways_of x)) apart.1) (code_take s.code a1 first (past ++ (second ++ rest)) d1) (omega arith) (omega arith) (omega arith) (omega arith) near close
               (let same : past_code short (none || does_nothing q) (length second) ≡ past_code short (does_nothing q) (length second) = rw e refl in
               let past_at : CodeAt s.code (a1 + length first) (past_code short (does_nothing q) (length second)) = subst (λ (is : List Inst). CodeAt s.code (a1 + length first) is) same (code_take s.code (a1 + length first) past (second ++ rest) d2) in
               let long = ap length same in
               passed f (a1 + length first) (length second) a3 (live k (ways_of x)) (does_nothing q) (λ e'. nothing_short f q ways' (length rest + leaves) (length rest + skips) e') (omega arith) (omega arith) past_at (omega arith))),
-          code_done f q x' (length rest + leaves) (length rest + skips) a2 wanted.2 (all_left (IsRight (plan.home f) (variables f)) (lives q ways') (lives k (ways_of x)) behind_first) (code_take s.code a2 second rest d3) (omega arith) (omega arith) (omega arith) (omega arith) near close
+          code_done f Settled q x' (length rest + leaves) (length rest + skips) a2 tt tt (record { leaves = settled.leaves; skips = settled.skips }) wanted.2 (all_left (IsRight (plan.home f) (variables f)) (lives q ways') (lives k (ways_of x)) behind_first) (code_take s.code a2 second rest d3) (omega arith) (omega arith) (omega arith) (omega arith) near close
               (λ m r h. comes_here s h),
-          code_done f k x leaves skips a3 wanted.3 (all_right (IsRight (plan.home f) (variables f)) (lives q ways') (lives k (ways_of x)) behind_first) d4 (omega arith) (omega arith) (omega arith) (omega arith) near close
+          code_done f Settled k x leaves skips a3 tt tt settled wanted.3 (all_right (IsRight (plan.home f) (variables f)) (lives q ways') (lives k (ways_of x)) behind_first) d4 (omega arith) (omega arith) (omega arith) (omega arith) near close
               (subst (λ (j : ℕ). Leads s plan program entries most widest f (exit j x.next.live) x.next) (sym done) ends),
         )
-    code_done f (Loop mark body step k) x leaves skips here wanted apart at low small to_leave to_skip near close ends =
+    code_done f (Early v y) (If mark b p q k) x leaves skips here suits numbers settled wanted apart at low small to_leave to_skip near close ends = absurd suits
+    code_done f (Late t y) (If mark b p q k) x leaves skips here suits numbers settled wanted apart at low small to_leave to_skip near close ends = absurd suits
+    code_done f Settled (Loop mark body step k) x leaves skips here suits numbers settled wanted apart at low small to_leave to_skip near close ends =
         let after' : VariableSet = live k (ways_of x) in
-        let rest : List Inst = code_of short plan variables f k (ways_of x) leaves skips in
-        let again_code : List Inst = code_of short plan variables f step (step_ways body step after') (jump_words short) 0 in
-        let turn_code : List Inst = code_of short plan variables f body (body_ways body step after') (length again_code + jump_words short) 0 in
+        let rest : List Inst = code_of short plan variables f Settled k (ways_of x) leaves skips in
+        let again_code : List Inst = code_of short plan variables f Settled step (step_ways body step after') (jump_words short) 0 in
+        let turn_code : List Inst = code_of short plan variables f Settled body (body_ways body step after') (length again_code + jump_words short) 0 in
         let n : ℕ = length turn_code + length again_code in
         let back : List Inst = jump_back short n in
         let l1 = length-append turn_code (again_code ++ (back ++ rest)) in
@@ -321,16 +369,21 @@ module _ (s : Setting) (plan : Plan) (variables : ℕ → ℕ) (fine : Fits s pl
         let d3 = code_drop s.code end back rest d2 in
         let done : next + length rest ≡ here + length (turn_code ++ (again_code ++ (back ++ rest))) = omega arith in
         let lasts = all_right (IsRight (plan.home f) (variables f)) (lives body (body_ways body step after')) (lives step (step_ways body step after') ++ lives k (ways_of x)) apart.1 in (
-          again,
-          end,
-          next,
-          code_done f body (exits (exit again (live step (step_ways body step after'))) (exit next after') (exit again (live step (step_ways body step after')))) (length again_code + jump_words short) 0 here wanted.0 (all_left (IsRight (plan.home f) (variables f)) (lives body (body_ways body step after')) (lives step (step_ways body step after') ++ lives k (ways_of x)) apart.1) (code_take s.code here turn_code (again_code ++ (back ++ rest)) at) low (omega arith) (omega arith) (omega arith) (omega arith) (omega arith)
-              (λ m r h. comes_here s h),
-          code_done f step (exits (exit end (turn body step after')) (exit next after') (exit end (turn body step after'))) (jump_words short) 0 again wanted.1 (all_left (IsRight (plan.home f) (variables f)) (lives step (step_ways body step after')) (lives k (ways_of x)) lasts) (code_take s.code again again_code (back ++ rest) d1) (omega arith) (omega arith) (omega arith) (omega arith) (omega arith) (omega arith)
+          exit here (turn body step after'),
+          exit again (live step (step_ways body step after')),
+          exit end (turn body step after'),
+          exit next after',
+          (λ m r h. comes_here s h),
+          subst (λ (v : VariableSet). CodeDone s plan program entries most widest f body (exit here v) (exits (exit again (live step (step_ways body step after'))) (exit next after') (exit again (live step (step_ways body step after'))))) (turn_again body step after')
+              (code_done f Settled body (exits (exit again (live step (step_ways body step after'))) (exit next after') (exit again (live step (step_ways body step after')))) (length again_code + jump_words short) 0 here tt tt (record { leaves = refl; skips = refl }) wanted.0 (all_left (IsRight (plan.home f) (variables f)) (lives body (body_ways body step after')) (lives step (step_ways body step after') ++ lives k (ways_of x)) apart.1) (code_take s.code here turn_code (again_code ++ (back ++ rest)) at) low (omega arith) (omega arith) (omega arith) (omega arith) (omega arith)
+              (λ m r h. comes_here s h)),
+          code_done f Settled step (exits (exit end (turn body step after')) (exit next after') (exit end (turn body step after'))) (jump_words short) 0 again tt tt (record { leaves = refl; skips = refl }) wanted.1 (all_left (IsRight (plan.home f) (variables f)) (lives step (step_ways body step after')) (lives k (ways_of x)) lasts) (code_take s.code again again_code (back ++ rest) d1) (omega arith) (omega arith) (omega arith) (omega arith) (omega arith) (omega arith)
               (λ m r h. comes_here s h),
           (λ m r h.
               (let a = turns_back s plan variables fine short here n (omega arith) (λ e. (let r = reach e in omega arith)) (subst (λ (j : ℕ). CodeAt s.code j back) (omega arith) (code_take s.code end back rest d2)) (subst (λ (j : ℕ). Stands plan (turn body step after') m j r) (omega arith) h.1) in
               (a.0, acts_map s (λ r c. comes_map s 1 (omega arith) (λ q g. (h.0, g)) c) a.1))),
-          code_done f k x leaves skips next wanted.2 (all_right (IsRight (plan.home f) (variables f)) (lives step (step_ways body step after')) (lives k (ways_of x)) lasts) d3 (omega arith) (omega arith) (omega arith) (omega arith) near close
+          code_done f Settled k x leaves skips next tt tt settled wanted.2 (all_right (IsRight (plan.home f) (variables f)) (lives step (step_ways body step after')) (lives k (ways_of x)) lasts) d3 (omega arith) (omega arith) (omega arith) (omega arith) near close
               (subst (λ (j : ℕ). Leads s plan program entries most widest f (exit j x.next.live) x.next) (sym done) ends),
         )
+    code_done f (Early v y) (Loop mark body step k) x leaves skips here suits numbers settled wanted apart at low small to_leave to_skip near close ends = absurd suits
+    code_done f (Late t y) (Loop mark body step k) x leaves skips here suits numbers settled wanted apart at low small to_leave to_skip near close ends = absurd suits

@@ -1,7 +1,7 @@
 -- The block of each action. Registers: x1 the address to return to, x2 where the private frame begins, x3 where the frame
 -- in common memory does, x5, x6 and x7 for the work of one block, x6 also for a call's result. On A x4 is how many addresses
 -- common memory has, and x10 the depth. On E x10 and x17 are for the environment call.
-use Rattle.std.specs.Prelude.{ℕ, ◌+◌, ◌-◌, ◌*◌, ◌/◌, ◌%◌, ◌^◌, ℤ, pos, negsuc, Bool, true, false, nat_lt, nat_eq, if◌then◌else◌, List, [], ◌∷◌, ◌++◌, Option, Some, None, zero, suc}
+use Rattle.std.specs.Prelude.{ℕ, ◌+◌, ◌-◌, ◌*◌, ◌/◌, ◌%◌, ◌^◌, ℤ, pos, negsuc, Bool, true, false, not, ◌&&◌, nat_lt, nat_eq, if◌then◌else◌, List, [], ◌∷◌, ◌++◌, Option, Some, None, zero, suc}
 use Rattle.dae_base.specs.Words.{signed, size, minus}
 use Rattle.dae_base.specs.declared.Width.{Width}
 use Rattle.dae_base.specs.declared.Width.TheVariants.{B1, B2, B4}
@@ -160,21 +160,22 @@ binary_code home t operator (Number n) (Variable v) =
     behind_or (fetch_home 5 (home v)) (exchanged_code operator t (register_or 5 (home v)) n) (combine_registers home t operator (Number n) (Variable v))
 binary_code home t operator (Variable u) (Variable v) = combine_registers home t operator (Variable u) (Variable v)
 
+-- what a load of this kind gets from a word, by x7
 abbrev pub extend_code : LoadKind → ℕ → ℕ → List Inst
-extend_code I8 t x = Slli t x (pos 24) ∷ (Srai t t (pos 24) ∷ [])
+extend_code I8 t x = Slli 7 x (pos 24) ∷ (Srai t 7 (pos 24) ∷ [])
 extend_code U8 t x = Andi t x (pos 255) ∷ []
-extend_code I16 t x = Slli t x (pos 16) ∷ (Srai t t (pos 16) ∷ [])
-extend_code U16 t x = Slli t x (pos 16) ∷ (Srli t t (pos 16) ∷ [])
+extend_code I16 t x = Slli 7 x (pos 16) ∷ (Srai t 7 (pos 16) ∷ [])
+extend_code U16 t x = Slli 7 x (pos 16) ∷ (Srli t 7 (pos 16) ∷ [])
 extend_code I32 t x = Addi t x (pos 0) ∷ []
 
--- 1 where the comparison holds, and else 0
+-- 1 where the comparison holds, and else 0, by x7. Only the last instruction writes t, which may stand for a queue
 abbrev pub compare_code : Comparison → ℕ → ℕ → ℕ → List Inst
-compare_code Equal t x y = Sub t x y ∷ (Sltiu t t (pos 1) ∷ [])
-compare_code NotEqual t x y = Sub t x y ∷ (Sltu t 0 t ∷ [])
+compare_code Equal t x y = Sub 7 x y ∷ (Sltiu t 7 (pos 1) ∷ [])
+compare_code NotEqual t x y = Sub 7 x y ∷ (Sltu t 0 7 ∷ [])
 compare_code LessSigned t x y = Slt t x y ∷ []
-compare_code AtLeastSigned t x y = Slt t x y ∷ (Xori t t (pos 1) ∷ [])
+compare_code AtLeastSigned t x y = Slt 7 x y ∷ (Xori t 7 (pos 1) ∷ [])
 compare_code LessUnsigned t x y = Sltu t x y ∷ []
-compare_code AtLeastUnsigned t x y = Sltu t x y ∷ (Xori t t (pos 1) ∷ [])
+compare_code AtLeastUnsigned t x y = Sltu 7 x y ∷ (Xori t 7 (pos 1) ∷ [])
 
 -- whether the right operand of a comparison can be an immediate. For equality it is subtracted, and the difference compared with 0
 abbrev pub takes_number : Comparison → ℕ → Bool
@@ -185,14 +186,29 @@ takes_number AtLeastSigned n = is_immediate n
 takes_number LessUnsigned n = is_immediate n
 takes_number AtLeastUnsigned n = is_immediate n
 
--- the comparison of a register with such a number
+-- the comparison of a register with such a number, by x7
 abbrev pub compare_number_code : Comparison → ℕ → ℕ → ℕ → List Inst
-compare_number_code Equal t x n = if nat_eq n 0 then Sltiu t x (pos 1) ∷ [] else Addi t x (lower (minus 0 n)) ∷ (Sltiu t t (pos 1) ∷ [])
-compare_number_code NotEqual t x n = if nat_eq n 0 then Sltu t 0 x ∷ [] else Addi t x (lower (minus 0 n)) ∷ (Sltu t 0 t ∷ [])
+compare_number_code Equal t x n = if nat_eq n 0 then Sltiu t x (pos 1) ∷ [] else Addi 7 x (lower (minus 0 n)) ∷ (Sltiu t 7 (pos 1) ∷ [])
+compare_number_code NotEqual t x n = if nat_eq n 0 then Sltu t 0 x ∷ [] else Addi 7 x (lower (minus 0 n)) ∷ (Sltu t 0 7 ∷ [])
 compare_number_code LessSigned t x n = Slti t x (lower n) ∷ []
-compare_number_code AtLeastSigned t x n = Slti t x (lower n) ∷ (Xori t t (pos 1) ∷ [])
+compare_number_code AtLeastSigned t x n = Slti 7 x (lower n) ∷ (Xori t 7 (pos 1) ∷ [])
 compare_number_code LessUnsigned t x n = Sltiu t x (lower n) ∷ []
-compare_number_code AtLeastUnsigned t x n = Sltiu t x (lower n) ∷ (Xori t t (pos 1) ∷ [])
+compare_number_code AtLeastUnsigned t x n = Sltiu 7 x (lower n) ∷ (Xori t 7 (pos 1) ∷ [])
+
+-- the same where the number is not 0 and the flag is told, which goes by x7 in any case
+abbrev pub tell_number_code : Comparison → ℕ → ℕ → List Inst
+tell_number_code LessSigned x n = Slti 7 x (lower n) ∷ (Addi 29 7 (pos 0) ∷ [])
+tell_number_code LessUnsigned x n = Sltiu 7 x (lower n) ∷ (Addi 29 7 (pos 0) ∷ [])
+tell_number_code relation x n = compare_number_code relation 29 x n
+
+-- how x7 then compares with 0, where the comparison holds
+abbrev pub against_zero : Comparison → Comparison
+against_zero Equal = Equal
+against_zero NotEqual = NotEqual
+against_zero LessSigned = NotEqual
+against_zero AtLeastSigned = Equal
+against_zero LessUnsigned = NotEqual
+against_zero AtLeastUnsigned = Equal
 
 -- a comparison of two registers
 abbrev pub compare_registers : (ℕ → Home) → ℕ → Comparison → Operand → Operand → List Inst
@@ -207,6 +223,11 @@ compare_operands home t comparison x (Number n) =
 
 abbrev pub test_code : (ℕ → Home) → ℕ → Test → List Inst
 test_code home t test = compare_operands home t test.comparison test.left test.right
+
+-- a right operand that is in no register behind a test: an immediate other than 0
+abbrev pub immediate_of : Comparison → Operand → Option ℕ
+immediate_of comparison (Variable v) = None
+immediate_of comparison (Number n) = if takes_number comparison n && not (nat_eq n 0) then Some n else None
 
 -- the address that is so many bytes behind where the frame in common memory begins
 abbrev pub frame_code : ℕ → ℕ → List Inst
@@ -255,10 +276,14 @@ zero_code by_a home x = fetch home 5 x ++ Bne (source home 5 x) 0 (over by_a) �
 abbrev pub depth_code : ℕ → List Inst
 depth_code limit = number_code 6 limit ++ Bltu 10 6 (pos 12) ∷ fail_code true 4
 
--- a call from a frame of so many bytes to one of so many, where the frames fit into the memory at all
+-- frames of so many bytes, which fit into the memory at all. x3 is never behind its end, so that none need no room
+abbrev pub frames_room_code : ℕ → ℕ → List Inst
+frames_room_code memory n = if nat_eq n 0 then [] else room_code (memory - n)
+
+-- a call from a frame of so many bytes to one of so many
 abbrev pub call_room_code : ℕ → ℕ → ℕ → ℕ → List Inst
 call_room_code memory limit own next =
-    if nat_lt memory (own + next) then fail_code true 4 else room_code (memory - (own + next)) ++ depth_code limit
+    if nat_lt memory (own + next) then fail_code true 4 else frames_room_code memory (own + next) ++ depth_code limit
 
 abbrev pub frame_room_code : ℕ → ℕ → List Inst
 frame_room_code memory own = if nat_lt memory own then fail_code true 4 else room_code (memory - own)

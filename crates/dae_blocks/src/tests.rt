@@ -1,7 +1,7 @@
 // The words of instructions that blocks are made of, as binutils and LLVM assemble them; behind each its disassembly.
 use dae_encode::{Inst, decode};
 
-const WORDS: [(u32, Inst); 111] = [
+const WORDS: [(u32, Inst); 115] = [
     (0x123452b7, Inst::Lui(5, 305_418_240)), // lui t0,0x12345
     (0xfffff437, Inst::Lui(8, -4096)), // lui s0,0xfffff
     (0x00001297, Inst::Auipc(5, 4096)), // auipc t0,0x1
@@ -43,6 +43,10 @@ const WORDS: [(u32, Inst); 111] = [
     (0x00144413, Inst::Xori(8, 8, 1)), // xori s0,s0,1
     (0x00803433, Inst::Sltu(8, 0, 8)), // sltu s0,zero,s0
     (0x00b4a433, Inst::Slt(8, 9, 11)), // slt s0,s1,a1
+    (0x00b4aeb3, Inst::Slt(29, 9, 11)), // slt t4,s1,a1
+    (0x0013be93, Inst::Sltiu(29, 7, 1)), // sltiu t4,t2,1
+    (0x00703eb3, Inst::Sltu(29, 0, 7)), // sltu t4,zero,t2
+    (0x0013ce93, Inst::Xori(29, 7, 1)), // xori t4,t2,1
     (0x005181b3, Inst::Add(3, 3, 5)), // add gp,gp,t0
     (0x405181b3, Inst::Sub(3, 3, 5)), // sub gp,gp,t0
     (0x00510133, Inst::Add(2, 2, 5)), // add sp,sp,t0

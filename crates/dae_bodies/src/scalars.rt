@@ -122,7 +122,8 @@ pub fn initialise_scalar(
     number: usize,
     x: Value,
 ) -> Result<Vec<Statement>, CheckError>
-    ensures { GivesStatements checker.new result (scalar_value_at place of_value number (one x)) checker.old }
+    ensures { GivesStatements checker.new result
+        (scalar_value_at place of_value number (one x)) checker.old }
 {
     let type_id = type_of_local(checker, number);
     if !fits(checker, &x, type_id) {
@@ -199,7 +200,8 @@ pub fn initialise_aggregate(
     number: usize,
     content: Content,
 ) -> Result<Vec<Statement>, CheckError>
-    ensures { GivesStatements checker.new result (initialised_at place number (pure (view_content content))) checker.old }
+    ensures { GivesStatements checker.new result
+        (initialised_at place number (pure (view_content content))) checker.old }
 {
     let offset = offset_of_local(checker, number);
     let size = checker.layout_at(content.type_id).size;

@@ -63,7 +63,8 @@ fn push_both(
     done: Arm,
     label: Option<u32>,
 ) -> Result<Vec<Arm>, CheckError>
-    ensures { Gives (λ v. armed v.items) result (Ok (armed arms.items ++ view_armed done ∷ arm_of label ∷ [])) }
+    ensures { Gives (λ v. armed v.items) result
+        (Ok (armed arms.items ++ view_armed done ∷ arm_of label ∷ [])) }
 {
     arms.push(done)?;
     push_arm(alloc, arms, label)
@@ -94,7 +95,8 @@ pub fn add_statements(
     mut arms: Vec<Arm>,
     mut statements: Vec<Statement>,
 ) -> Result<Vec<Arm>, CheckError>
-    ensures { Gives (λ v. armed v.items) result (Ok (with_statement (as_statements statements) (armed arms.items))) }
+    ensures { Gives (λ v. armed v.items) result
+        (Ok (with_statement (as_statements statements) (armed arms.items))) }
 {
     let Some(last) = arms.pop() else {
         let labels = Vec::new(alloc);
@@ -130,7 +132,8 @@ pub fn add_case(
     arming: Arming,
     word: u32,
 ) -> Result<Arming, CheckError>
-    ensures { FollowsBy view_arming checker.now result (case_at place (view_arming arming) (pure word)) checker.now }
+    ensures { FollowsBy view_arming checker.now result
+        (case_at place (view_arming arming) (pure word)) checker.now }
 {
     if is_seen(Some(word), &arming.seen) {
         return Err(broken(Rule::CaseDuplicate, place));
@@ -146,7 +149,8 @@ pub fn add_default(
     place: Place,
     arming: Arming,
 ) -> Result<Arming, CheckError>
-    ensures { FollowsBy view_arming checker.now result (default_at place (view_arming arming)) checker.now }
+    ensures { FollowsBy view_arming checker.now result
+        (default_at place (view_arming arming)) checker.now }
 {
     if is_seen(None, &arming.seen) {
         return Err(broken(Rule::DefaultTwice, place));

@@ -15,8 +15,6 @@ mod memory;
 mod ports;
 mod processor;
 mod queues;
-#[cfg(test)]
-mod tests;
 
 /// What came of a step: it was done and printed this piece, which may be empty, or the processor waits for a queue, was
 /// halted before, or has a fault. In the last three cases nothing changed.

@@ -172,8 +172,15 @@ impl Core {
     /// The next instruction, or the fault of its counter or of its word.
     fn fetch(&self) -> Result<Legal, Fault>
         requires { self.now.processor.halt ≡ None }
-        ensures ok { IfOk result (λ l. (l.form ≡ form l.inst) × ((memory : ℕ) → request self.now.copies self.now.side self.now.code memory self.now.processor ≡ asked self.now.side memory self.now.processor l)) }
-        ensures err { IfErr result (λ fault. (memory : ℕ) → request self.now.copies self.now.side self.now.code memory self.now.processor ≡ Faulty fault) }
+        ensures ok { IfOk result
+            (λ l. (l.form ≡ form l.inst)
+            × ((memory : ℕ)
+            → request self.now.copies self.now.side self.now.code memory self.now.processor
+            ≡ asked self.now.side memory self.now.processor l)) }
+        ensures err { IfErr result
+            (λ fault. (memory : ℕ)
+            → request self.now.copies self.now.side self.now.code memory self.now.processor
+            ≡ Faulty fault) }
     {
         if self.counter % 4 != 0 {
             return Err(Fault::BadPc);
@@ -186,7 +193,8 @@ impl Core {
     }
 
     fn entry(&self, at: usize) -> Option<Option<Legal>>
-        ensures { result ≡ option_map (legal_word self.now.copies self.now.side) (slice_get self.now.code at) }
+        ensures { result
+            ≡ option_map (legal_word self.now.copies self.now.side) (slice_get self.now.code at) }
     {
         self.code.get(at).copied()
     }
@@ -233,7 +241,9 @@ impl Core {
     /// The environment call, whose selector was found good.
     fn call(&mut self) -> Piece
         ensures held { IsSame self.old self.new }
-        ensures came { Some (self.new.processor, result) ≡ called self.old.side self.old.processor (slice_index self.old.processor.registers 17) (slice_index self.old.processor.registers 10) }
+        ensures came { Some (self.new.processor, result)
+            ≡ called self.old.side self.old.processor (slice_index self.old.processor.registers 17)
+            (slice_index self.old.processor.registers 10) }
     {
         let word = self.registers[10];
         if let Side::A = self.side {
@@ -255,8 +265,10 @@ impl Core {
     fn finish(&mut self, access: QueueUse, inst: &Inst, form: &Form, given: u32) -> Option<u32>
         requires { form.now ≢ Calls }
         ensures held { IsSame self.old self.new }
-        ensures came { finish self.old.side self.old.processor access inst.now form.now given ≡ came_to self.new.processor (said_nothing (is_some result)) }
-        ensures word { given ≡ 0 → IfSome result (λ word. word ≡ put_word self.old.processor access inst.now form.now) }
+        ensures came { finish self.old.side self.old.processor access inst.now form.now given
+            ≡ came_to self.new.processor (said_nothing (is_some result)) }
+        ensures word { given ≡ 0
+            → IfSome result (λ word. word ≡ put_word self.old.processor access inst.now form.now) }
         ensures none { result ≡ None → self.new ≡ self.old }
     {
         match *form {
@@ -283,8 +295,17 @@ impl Core {
 
     fn finish_load(&mut self, access: QueueUse, kind: LoadKind, rd: u8, addr: u32) -> Option<u32>
         ensures held { IsSame self.old self.new }
-        ensures came { came_to self.new.processor (said_nothing (is_some result)) ≡ (if is_shared access then goes_on self.old.processor 0 0 (plus self.old.processor.counter 4) else (if is_good_private self.old.processor (width_of kind) addr then goes_on self.old.processor rd (loaded kind addr self.old.processor.private) (plus self.old.processor.counter 4) else None)) }
-        ensures word { result ≡ (if is_shared access then Some addr else (if is_good_private self.old.processor (width_of kind) addr then Some (loaded kind addr self.old.processor.private) else None)) }
+        ensures came { came_to self.new.processor (said_nothing (is_some result))
+            ≡ (if is_shared access then goes_on self.old.processor 0 0
+            (plus self.old.processor.counter 4) else
+            (if is_good_private self.old.processor
+            (width_of kind) addr then goes_on self.old.processor rd
+            (loaded kind addr self.old.processor.private)
+            (plus self.old.processor.counter 4) else None)) }
+        ensures word { result
+            ≡ (if is_shared access then Some addr else
+            (if is_good_private self.old.processor (width_of kind) addr then Some
+            (loaded kind addr self.old.processor.private) else None)) }
         ensures none { result ≡ None → self.new ≡ self.old }
     {
         let past = self.counter.wrapping_add(4);
@@ -321,7 +342,8 @@ impl Core {
     /// Whether an instruction whose access gives this word has a good private address, or none.
     #[tactic(auto, unfolding(dae_encode::specs::Processor::finish))]
     fn can_finish(&self, access: QueueUse, inst: &Inst, form: &Form, given: u32) -> bool
-        ensures { result ≡ is_some (finish self.now.side self.now.processor access inst.now form.now given) }
+        ensures { result
+            ≡ is_some (finish self.now.side self.now.processor access inst.now form.now given) }
     {
         match *form {
             Form::Loads(kind, _, base, offset) => {
@@ -339,7 +361,9 @@ impl Core {
     pub fn step<P: Ports>(&mut self, memory: u32, ports: &mut P) -> CoreAnswer
         requires { P.can_count ports.old }
         ensures held { IsSame self.old self.new }
-        ensures answer { result ≡ answered_by P.is_ready P.front self.old.side self.old.processor ports.old (request self.old.copies self.old.side self.old.code memory self.old.processor) }
+        ensures answer { result
+            ≡ answered_by P.is_ready P.front self.old.side self.old.processor ports.old
+            (request self.old.copies self.old.side self.old.code memory self.old.processor) }
         ensures told { Tells result (granted_by P.is_ready P.front P.after self.old.side self.old.processor ports.old (request self.old.copies self.old.side self.old.code memory self.old.processor)) self.old.processor ports.old self.new.processor ports.new }
     {
         if self.is_halted() {
@@ -356,7 +380,9 @@ impl Core {
         requires count { P.can_count ports.old }
         requires form { legal.now.form ≡ form legal.now.inst }
         ensures held { IsSame self.old self.new }
-        ensures answer { result ≡ answered_by P.is_ready P.front self.old.side self.old.processor ports.old (asked self.old.side memory self.old.processor legal.now) }
+        ensures answer { result
+            ≡ answered_by P.is_ready P.front self.old.side self.old.processor ports.old
+            (asked self.old.side memory self.old.processor legal.now) }
         ensures told { Tells result (granted_by P.is_ready P.front P.after self.old.side self.old.processor ports.old (asked self.old.side memory self.old.processor legal.now)) self.old.processor ports.old self.new.processor ports.new }
     {
         let access = legal.access;
@@ -382,7 +408,10 @@ impl Core {
 
     /// What a step would answer now, with an empty piece in place of what it would print.
     pub fn look<P: Ports>(&self, memory: u32, ports: &P) -> CoreAnswer
-        ensures { result ≡ unprinted (answered_by P.is_ready P.front self.now.side self.now.processor ports.now (request self.now.copies self.now.side self.now.code memory self.now.processor)) }
+        ensures { result
+            ≡ unprinted
+            (answered_by P.is_ready P.front self.now.side self.now.processor ports.now
+            (request self.now.copies self.now.side self.now.code memory self.now.processor)) }
     {
         if self.is_halted() {
             return CoreAnswer::Halted;
@@ -395,7 +424,10 @@ impl Core {
 
     fn look_legal<P: Ports>(&self, memory: u32, legal: &Legal, ports: &P) -> CoreAnswer
         requires form { legal.now.form ≡ form legal.now.inst }
-        ensures { result ≡ unprinted (answered_by P.is_ready P.front self.now.side self.now.processor ports.now (asked self.now.side memory self.now.processor legal.now)) }
+        ensures { result
+            ≡ unprinted
+            (answered_by P.is_ready P.front self.now.side self.now.processor ports.now
+            (asked self.now.side memory self.now.processor legal.now)) }
     {
         let access = legal.access;
         if let Some(fault) = self.early_fault(memory, access, &legal.form) {

@@ -113,7 +113,8 @@ impl Queues {
     fn reserve(&mut self, queue: Queue, kind: LoadKind, addr: u32)
         requires count { CanCount self.old.queues }
         requires room { nat_lt (count queue self.old.queues) (depth queue self.old.depths) ≡ true }
-        ensures { self.new ≡ record self.old { queues = reserved_in queue kind addr self.old.queues } }
+        ensures { self.new
+            ≡ record self.old { queues = reserved_in queue kind addr self.old.queues } }
     {
         let stamp = self.stores.issued();
         match queue {
@@ -181,7 +182,9 @@ impl Queues {
     /// The word that a fill of the slot of this number for a side would put from this memory, or None where it may not be
     /// filled: the slot waits, and no older waiting store has a byte of it.
     pub fn filling(&self, side: Side, number: u64, memory: &[u8]) -> Option<u32>
-        ensures { result ≡ filling_of self.now.queues.stores.sa number (loads_of side self.now.queues).slots memory.now }
+        ensures { result
+            ≡ filling_of self.now.queues.stores.sa number
+            (loads_of side self.now.queues).slots memory.now }
     {
         let slot = self.loads(side).waiting(number)?;
         if self.stores.blocks(&slot) {
@@ -194,8 +197,12 @@ impl Queues {
     /// The word that a fill of the slot of this number for a side puts, where that fill is possible. No store is looked at.
     #[tactic(auto, using(crate::proofs::Fillings::filling_where))]
     pub fn fill_word(&self, side: Side, number: u64, memory: &[u8]) -> Option<u32>
-        requires some { IsSome (filling_of self.now.queues.stores.sa number (loads_of side self.now.queues).slots memory.now) }
-        ensures { result ≡ filling_of self.now.queues.stores.sa number (loads_of side self.now.queues).slots memory.now }
+        requires some { IsSome
+            (filling_of self.now.queues.stores.sa number
+            (loads_of side self.now.queues).slots memory.now) }
+        ensures { result
+            ≡ filling_of self.now.queues.stores.sa number
+            (loads_of side self.now.queues).slots memory.now }
     {
         let slot = self.loads(side).waiting(number)?;
         Some(load(memory, slot.kind, slot.addr))
@@ -203,7 +210,11 @@ impl Queues {
 
     /// Gives the waiting slot of this number for a side its value.
     pub fn fill(&mut self, side: Side, number: u64, word: u32)
-        ensures { self.new ≡ record self.old { queues = with_loads_of side (with_value number word (loads_of side self.old.queues).slots) self.old.queues } }
+        ensures { self.new
+            ≡ record self.old {
+              queues = with_loads_of side
+                  (with_value number word (loads_of side self.old.queues).slots) self.old.queues;
+            } }
     {
         let _ = match side {
             Side::A => self.al.fill(number, word),
@@ -213,14 +224,20 @@ impl Queues {
 
     /// How many slots may be filled for a side.
     pub fn fillable(&self, side: Side) -> u16
-        ensures { result ≡ length (filter (can_be_filled self.now.queues.stores.sa) (loads_of side self.now.queues).slots) }
+        ensures { result
+            ≡ length
+            (filter (can_be_filled self.now.queues.stores.sa)
+            (loads_of side self.now.queues).slots) }
     {
         self.loads(side).fillable(&self.stores)
     }
 
     /// The slot at this place, counted from 0, of those that may be filled for a side, or None past the last.
     pub fn nth_fillable(&self, side: Side, n: u16) -> Option<Slot>
-        ensures { result ≡ slice_get (filter (can_be_filled self.now.queues.stores.sa) (loads_of side self.now.queues).slots) n }
+        ensures { result
+            ≡ slice_get
+            (filter (can_be_filled self.now.queues.stores.sa)
+            (loads_of side self.now.queues).slots) n }
     {
         self.loads(side).nth_fillable(&self.stores, n)
     }
@@ -228,7 +245,8 @@ impl Queues {
     /// The store that may be drained, with its datum: the oldest one, where its datum is there and no older waiting load
     /// has a byte of it.
     pub fn draining(&self) -> Option<(StoreAt, u32)>
-        ensures { result ≡ draining_of self.now.queues.stores self.now.queues.ld.slots self.now.queues.al.slots }
+        ensures { result
+            ≡ draining_of self.now.queues.stores self.now.queues.ld.slots self.now.queues.al.slots }
     {
         let (at, word) = self.stores.front()?;
         if self.ld.holds(&at) || self.al.holds(&at) {

@@ -8,11 +8,7 @@ pub use program::{Decoupled, decouple};
 pub use scope::is_scoped;
 
 mod ends;
-#[cfg(test)]
-mod forms;
 mod loops;
 mod names;
 mod program;
 mod scope;
-#[cfg(test)]
-mod tests;

@@ -76,7 +76,9 @@ fn takes(functions: &[Function], callee: u32, count: usize) -> bool
 }
 
 fn call_in(functions: &[Function], variables: u32, callee: u32, arguments: &[Operand]) -> bool
-    ensures { IsTrue result ↔ (TakesArguments (slice_get functions.now callee) (length arguments.now) × AllByRecursion (IsIn variables) arguments.now) }
+    ensures { IsTrue result
+        ↔ (TakesArguments (slice_get functions.now callee) (length arguments.now)
+        × AllByRecursion (IsIn variables) arguments.now) }
 {
     takes(functions, callee, arguments.len()) && all_in(variables, arguments)
 }
@@ -102,7 +104,8 @@ fn item_in(functions: &[Function], variables: u32, item: &Item) -> bool
 
 #[cycle(names)]
 fn statement_in(functions: &[Function], variables: u32, statement: &Statement) -> bool
-    ensures { IsTrue result ↔ Each (ItemIn functions.now variables) (TestIn variables) (before statement.now Done) }
+    ensures { IsTrue result
+        ↔ Each (ItemIn functions.now variables) (TestIn variables) (before statement.now Done) }
 {
     match statement {
         Statement::Simple(_, item) => item_in(functions, variables, item),
@@ -120,7 +123,8 @@ fn statement_in(functions: &[Function], variables: u32, statement: &Statement) -
 /// function is there, and each call gives as many arguments as its function has parameters.
 #[cycle(names)]
 pub fn names_in(functions: &[Function], variables: u32, statements: &[Statement]) -> bool
-    ensures { IsTrue result ↔ Each (ItemIn functions.now variables) (TestIn variables) (form_of statements.now) }
+    ensures { IsTrue result
+        ↔ Each (ItemIn functions.now variables) (TestIn variables) (form_of statements.now) }
 {
     for statement in statements {
         if !statement_in(functions, variables, statement) {

@@ -135,6 +135,3 @@ pub enum Request {
     /// It makes this access, with this word where one goes in.
     Asks(QueueUse, u32, Inst),
 }
-
-#[cfg(test)]
-mod tests;

@@ -25,7 +25,8 @@ use std::alloc::Global;
 /// Asks that each parameter of a definition has a name (C90 6.7.1). The place is that of the declared name.
 #[tactic(auto, unfolding(dae_rules::specs::Plan::ask_all))]
 fn check_names(checker: &Checker, place: Place, parameters: &[Parameter]) -> Result<(), CheckError>
-    ensures { Follows checker.now result (named_at place (views_parameters parameters.now)) checker.now }
+    ensures { Follows checker.now result
+        (named_at place (views_parameters parameters.now)) checker.now }
 {
     for parameter in parameters {
         if parameter.declarator.name().is_none() {
@@ -65,7 +66,8 @@ fn body_statements(
     around: Surrounding,
     body: &Block,
 ) -> Result<Vec<Statement>, CheckError>
-    ensures { GivesStatements checker.new result (in_body (plan_statements_of around body.now)) checker.old }
+    ensures { GivesStatements checker.new result
+        (in_body (plan_statements_of around body.now)) checker.old }
 {
     let outer = checker.reopen()?;
     let statements = block(alloc, checker, around, &body.declarations, &body.statements)?;
@@ -81,7 +83,8 @@ fn look_at_body(
     around: Surrounding,
     body: &Block,
 ) -> Result<(), CheckError>
-    ensures { Follows checker.new result (first_time parameters (plan_statements_of around body.now)) checker.old }
+    ensures { Follows checker.new result
+        (first_time parameters (plan_statements_of around body.now)) checker.old }
 {
     let outer = checker.reopen()?;
     block(alloc, checker, around, &body.declarations, &body.statements)?;
@@ -97,7 +100,8 @@ fn write_body(
     around: Surrounding,
     body: &Block,
 ) -> Result<Vec<Product>, CheckError>
-    ensures { GivesProducts checker.new result (second_time place function (plan_statements_of around body.now)) checker.old }
+    ensures { GivesProducts checker.new result
+        (second_time place function (plan_statements_of around body.now)) checker.old }
 {
     let statements = body_statements(alloc, checker, around, body)?;
     match function {
@@ -116,7 +120,8 @@ fn body_twice(
     around: Surrounding,
     body: &Block,
 ) -> Result<Vec<Product>, CheckError>
-    ensures { GivesProducts checker.new result (twice place parameters function (plan_statements_of around body.now)) checker.old }
+    ensures { GivesProducts checker.new result
+        (twice place parameters function (plan_statements_of around body.now)) checker.old }
 {
     let kept = copy_kept(checker)?;
     let uses = checker.copy_uses()?;
@@ -139,7 +144,9 @@ pub fn function_body(
     type_id: usize,
     function: Option<usize>,
 ) -> Result<Vec<Product>, CheckError>
-    ensures { GivesProducts checker.new result (plan_body_in place name (views_parameters parameters.now) body.now type_id function) checker.old }
+    ensures { GivesProducts checker.new result
+        (plan_body_in place name
+        (views_parameters parameters.now) body.now type_id function) checker.old }
 {
     check_names(checker, place, parameters)?;
     let around = surrounding(checker, is_main_name(checker, name), type_id);

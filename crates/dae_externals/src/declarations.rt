@@ -31,7 +31,8 @@ pub fn base(
     alone: bool,
     list: &[Specifier],
 ) -> Result<usize, CheckError>
-    ensures { Follows checker.new result (plan_file_base alone (views_specifiers list.now)) checker.old }
+    ensures { Follows checker.new result
+        (plan_file_base alone (views_specifiers list.now)) checker.old }
 {
     let whole = specifiers(alloc, checker, Context::File, alone, list)?;
     Ok(base_type(Seen::of_specifiers(list), whole))
@@ -83,7 +84,8 @@ fn object_data(
     initialiser: &Initialiser,
     object: usize,
 ) -> Result<Vec<Product>, CheckError>
-    ensures { GivesProducts checker.new result (plan_object_data place (view_initialiser initialiser.now) object) checker.old }
+    ensures { GivesProducts checker.new result
+        (plan_object_data place (view_initialiser initialiser.now) object) checker.old }
 {
     let type_id = type_of_object(checker, object);
     let content = content(alloc, checker, place, 0, type_id, initialiser)?;
@@ -101,7 +103,8 @@ pub fn data(
     given: &Option<(Place, Initialiser)>,
     object: Option<usize>,
 ) -> Result<Vec<Product>, CheckError>
-    ensures { GivesProducts checker.new result (plan_data place (view_value given.now) object) checker.old }
+    ensures { GivesProducts checker.new result
+        (plan_data place (view_value given.now) object) checker.old }
 {
     match given {
         Some((_, initialiser)) => match object {
@@ -124,7 +127,8 @@ fn function_item(
     item: &Item,
     type_id: usize,
 ) -> Result<Vec<Product>, CheckError>
-    ensures { GivesProducts checker.new result (plan_function place word (view_item item.now) type_id) checker.old }
+    ensures { GivesProducts checker.new result
+        (plan_function place word (view_item item.now) type_id) checker.old }
 {
     let given = item.initialiser.is_some();
     let name = item.declarator.name();
@@ -141,7 +145,8 @@ fn object_item(
     item: &Item,
     type_id: usize,
 ) -> Result<Vec<Product>, CheckError>
-    ensures { GivesProducts checker.new result (plan_object place word (view_item item.now) type_id) checker.old }
+    ensures { GivesProducts checker.new result
+        (plan_object place word (view_item item.now) type_id) checker.old }
 {
     let given = item.initialiser.is_some();
     let name = item.declarator.name();
@@ -161,7 +166,8 @@ fn typed_item(
     item: &Item,
     type_id: usize,
 ) -> Result<Vec<Product>, CheckError>
-    ensures { GivesProducts checker.new result (plan_typed place word (view_item item.now) (Some type_id)) checker.old }
+    ensures { GivesProducts checker.new result
+        (plan_typed place word (view_item item.now) (Some type_id)) checker.old }
 {
     if is_function(checker.shape_of(type_id)) {
         function_item(alloc, checker, place, word, item, type_id)
@@ -179,7 +185,8 @@ fn declared_type(
     base: usize,
     part: &Declarator,
 ) -> Result<usize, CheckError>
-    ensures { FollowsBy (λ t. Some t) checker.new result (plan_type_of place base (view_declarator part.now)) checker.old }
+    ensures { FollowsBy (λ t. Some t) checker.new result
+        (plan_type_of place base (view_declarator part.now)) checker.old }
 {
     let declared = declarator(alloc, checker, place, false, base, part)?;
     Ok(declared.type_id)
@@ -194,7 +201,8 @@ fn name_type(
     base: usize,
     item: &Item,
 ) -> Result<Vec<Product>, CheckError>
-    ensures { GivesProducts checker.new result (plan_item_at true place word base (view_item item.now)) checker.old }
+    ensures { GivesProducts checker.new result
+        (plan_item_at true place word base (view_item item.now)) checker.old }
 {
     let declared = declarator(alloc, checker, place, false, base, &item.declarator)?;
     let given = item.initialiser.is_some();
@@ -213,7 +221,8 @@ fn item(
     base: usize,
     item: &Item,
 ) -> Result<Vec<Product>, CheckError>
-    ensures { GivesProducts checker.new result (plan_item_at is_typedef place word base (view_item item.now)) checker.old }
+    ensures { GivesProducts checker.new result
+        (plan_item_at is_typedef place word base (view_item item.now)) checker.old }
 {
     if is_typedef {
         return name_type(alloc, checker, place, word, base, item);
@@ -233,7 +242,9 @@ fn add_items(
     mut done: Vec<Product>,
     items: &[Item],
 ) -> Result<Vec<Product>, CheckError>
-    ensures { GivesProducts checker.new result (plan_items is_typedef place word base (as_products done) (view_items items.now)) checker.old }
+    ensures { GivesProducts checker.new result
+        (plan_items is_typedef place word base (as_products done)
+        (view_items items.now)) checker.old }
 {
     for one in items {
         let at = declared_place(&one.declarator, place);
@@ -250,7 +261,8 @@ pub fn add_declaration(
     done: Vec<Product>,
     declaration: &Declaration,
 ) -> Result<Vec<Product>, CheckError>
-    ensures { GivesProducts checker.new result (plan_declared (as_products done) (view_declaration declaration.now)) checker.old }
+    ensures { GivesProducts checker.new result
+        (plan_declared (as_products done) (view_declaration declaration.now)) checker.old }
 {
     let list = declaration.specifiers.as_slice();
     let items = declaration.items.as_slice();

@@ -60,7 +60,8 @@ fn parameters_of(part: &Declarator) -> &[Parameter]
 
 /// The parameters of a definition.
 fn parameters_in(part: &Declarator) -> &[Parameter]
-    ensures { views_parameters result.now ≡ parameters_in (function_part (view_declarator part.now)) }
+    ensures { views_parameters result.now
+        ≡ parameters_in (function_part (view_declarator part.now)) }
 {
     match part.function_part() {
         Some(function) => parameters_of(function),
@@ -78,7 +79,9 @@ fn type_of_definition(
     base: usize,
     part: &Declarator,
 ) -> Result<usize, CheckError>
-    ensures { FollowsBy (λ t. Some t) checker.new result (plan_type_of_definition place (views_specifiers list.now) base (view_declarator part.now)) checker.old }
+    ensures { FollowsBy (λ t. Some t) checker.new result
+        (plan_type_of_definition place (views_specifiers list.now) base
+        (view_declarator part.now)) checker.old }
 {
     let declared = declarator(alloc, checker, place, false, base, part)?;
     definition_type(checker, place, has_typedef(list), is_direct(part), declared)
@@ -109,7 +112,9 @@ fn definition(
     body: &Block,
     type_id: usize,
 ) -> Result<Vec<Product>, CheckError>
-    ensures { GivesProducts checker.new result (plan_definition place word name (views_parameters parameters.now) body.now type_id) checker.old }
+    ensures { GivesProducts checker.new result
+        (plan_definition place word name
+        (views_parameters parameters.now) body.now type_id) checker.old }
 {
     let function = enter_definition(checker, place, word, name, type_id)?;
     let declared = declares_function(alloc, place, Role::Definition, function)?;
@@ -129,7 +134,8 @@ fn definition_by(
     body: &Block,
     type_id: usize,
 ) -> Result<Vec<Product>, CheckError>
-    ensures { GivesProducts checker.new result (plan_defining place word (view_declarator part.now) body.now type_id) checker.old }
+    ensures { GivesProducts checker.new result
+        (plan_defining place word (view_declarator part.now) body.now type_id) checker.old }
 {
     let parameters = parameters_in(part);
     let name = part.name();
@@ -144,7 +150,8 @@ fn whole_definition(
     part: &Declarator,
     body: &Block,
 ) -> Result<Vec<Product>, CheckError>
-    ensures { GivesProducts checker.new result (plan_begun (views_specifiers list.now) (view_declarator part.now) body.now) checker.old }
+    ensures { GivesProducts checker.new result
+        (plan_begun (views_specifiers list.now) (view_declarator part.now) body.now) checker.old }
 {
     let place = declared_place(part, place_of_specifiers(list, body.place));
     start(alloc, checker);
@@ -170,7 +177,10 @@ pub fn add_definition(
     part: &Declarator,
     body: &Block,
 ) -> Result<Vec<Product>, CheckError>
-    ensures { GivesProducts checker.new result (plan_defined (as_products done) (views_specifiers list.now) (view_declarator part.now) body.now.place (view_declarations body.now.declarations.items) (views_statements body.now.statements.items)) checker.old }
+    ensures { GivesProducts checker.new result
+        (plan_defined (as_products done) (views_specifiers list.now)
+        (view_declarator part.now) body.now.place (view_declarations body.now.declarations.items)
+        (views_statements body.now.statements.items)) checker.old }
 {
     let more = whole_definition(alloc, checker, list, part, body)?;
     append(done, more)

@@ -22,7 +22,8 @@ fn add_external(
     done: Vec<Product>,
     external: &External,
 ) -> Result<Vec<Product>, CheckError>
-    ensures { GivesProducts checker.new result (plan_external (as_products done) (view_external external.now)) checker.old }
+    ensures { GivesProducts checker.new result
+        (plan_external (as_products done) (view_external external.now)) checker.old }
 {
     match external {
         External::Declaration(declaration) => { add_declaration(alloc, checker, done, declaration) }
@@ -38,7 +39,8 @@ fn externals(
     checker: &mut Checker,
     list: &[External],
 ) -> Result<Vec<Product>, CheckError>
-    ensures { GivesProducts checker.new result (plan_externals [] (view_externals list.now)) checker.old }
+    ensures { GivesProducts checker.new result
+        (plan_externals [] (view_externals list.now)) checker.old }
 {
     let mut done = Vec::new(alloc);
     for external in list {

@@ -59,7 +59,9 @@ fn add_zero(
     storage: Storage,
     mut done: Vec<Statement>,
 ) -> Result<Vec<Statement>, CheckError>
-    ensures { (k : Statements) → Gives (λ v. before v.items k) result (Ok (before done.items (zero_if place (tables checker.now) local storage k))) }
+    ensures { (k : Statements)
+        → Gives (λ v. before v.items k) result
+        (Ok (before done.items (zero_if place (tables checker.now) local storage k))) }
 {
     if local.begins_zero {
         let zero = assign_zero(alloc, checker, place, local, storage)?;
@@ -70,7 +72,10 @@ fn add_zero(
 
 /// The statements that a body begins with.
 fn zeros(alloc: Global, checker: &Checker, place: Place) -> Result<Vec<Statement>, CheckError>
-    ensures { (k : Statements) → Gives (λ v. before v.items k) result (Ok (begun_with place (tables checker.now) (tables checker.now).locals (tables checker.now).storages k)) }
+    ensures { (k : Statements)
+        → Gives (λ v. before v.items k) result
+        (Ok (begun_with place (tables checker.now) (tables checker.now).locals
+        (tables checker.now).storages k)) }
 {
     let mut done = Vec::new(alloc);
     let mut rest = storages(checker);
@@ -92,7 +97,9 @@ fn begin_body(
     place: Place,
     mut body: Vec<Statement>,
 ) -> Result<Vec<Statement>, CheckError>
-    ensures { MakesStatements result (begun_with place (tables checker.now) (tables checker.now).locals (tables checker.now).storages (as_statements body)) }
+    ensures { MakesStatements result
+        (begun_with place (tables checker.now) (tables checker.now).locals
+        (tables checker.now).storages (as_statements body)) }
 {
     let mut done = zeros(alloc, checker, place)?;
     done.append(&mut body)?;
@@ -107,7 +114,8 @@ pub fn body_product(
     function: usize,
     body: Vec<Statement>,
 ) -> Result<Vec<Product>, CheckError>
-    ensures { MakesProducts result (body_product place function (tables checker.now) (as_statements body)) }
+    ensures { MakesProducts result
+        (body_product place function (tables checker.now) (as_statements body)) }
 {
     let mut locals = Vec::new(alloc);
     locals.extend_from_slice(checker.locals())?;

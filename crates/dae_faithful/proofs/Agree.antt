@@ -1,4 +1,4 @@
--- Where a processor stands when its side stands at a spot: at a word from which the code of the list is done, and behind it
+-- Where a processor stands when its side stands at a spot: at a place from which the code of the list is done, and behind it
 -- the code of all that follows; and each call that waits is resumed, and then stands so.
 use Rattle.std.proofs.Common.{◌≡◌, ℕ, ◌+◌, ◌*◌, Bool, true, List, [], ◌∷◌, length}
 use Rattle.std.specs.Prelude.{Option, Some, is_some}
@@ -11,9 +11,9 @@ use Rattle.dae_ir.specs.Classes.{VariableSet}
 use Rattle.dae_ir.specs.Streams.{Actions}
 use Rattle.dae_rounds.specs.Spots.{Behind, Ends, After, Body, Turn, Spot, Waiting}
 use Rattle.dae_walks.specs.Walks.{Setting, Comes}
-use Rattle.dae_walks.specs.Live.{live, nowhere, turn, step_ways}
-use Rattle.dae_walks.specs.Agrees.{Plan, Moment, Waiting as Waiting', IsWithin, Stands}
-use Rattle.dae_walks.specs.Compiled.{Exit, Exits, exit, exits, ways_of, with_result, IsAnswered, Lands, CodeDone, Turns}
+use Rattle.dae_walks.specs.Live.{live, nowhere}
+use Rattle.dae_walks.specs.Agrees.{Plan, Moment, Waiting as Waiting', IsWithin}
+use Rattle.dae_walks.specs.Compiled.{Exit, Exits, exits, with_result, IsAnswered, Lands, At as At', CodeDone, Turns}
 use Rattle.dae_faithful.specs.Made.{IsFit, AnyBranch, IsTight, IsClosed, setting_of}
 
 -- the same of a list with what comes behind it
@@ -40,19 +40,18 @@ Holds (Do m a k) b landed stands = stands
 Holds (If m c x y k) b landed stands = stands
 Holds (Loop m x y k) b landed stands = stands
 
--- the words of a loop
+-- the places of a loop: where a turn begins, where its step begins, behind the step, and behind the loop
 pub record Around : Type 0 where
-  pub here : ℕ
-  pub again : ℕ
-  pub end : ℕ
-  pub next : ℕ
+  pub begin : Exit
+  pub again : Exit
+  pub end : Exit
+  pub next : Exit
 
-abbrev pub body_exits : Actions → Actions → Actions → Around → Exits → Exits
-body_exits x y k l z =
-    exits (exit l.again (live y (step_ways x y (live k (ways_of z))))) (exit l.next (live k (ways_of z))) (exit l.again (live y (step_ways x y (live k (ways_of z)))))
+abbrev pub body_exits : Around → Exits
+body_exits l = exits l.again l.next l.again
 
-abbrev pub step_exits : Actions → Actions → Actions → Around → Exits → Exits
-step_exits x y k l z = exits (exit l.end (turn x y (live k (ways_of z)))) (exit l.next (live k (ways_of z))) (exit l.end (turn x y (live k (ways_of z))))
+abbrev pub step_exits : Around → Exits
+step_exits l = exits l.end l.next l.end
 
 module _ (setup : Setup) (plan : Plan) (p : Program) (body : ℕ → Actions) (most widest functions : ℕ) (answered : ℕ → Bool) where
   abbrev pub s : Setting
@@ -61,7 +60,11 @@ module _ (setup : Setup) (plan : Plan) (p : Program) (body : ℕ → Actions) (m
   abbrev pub entries : ℕ → VariableSet
   entries f = live (body f) nowhere
 
-  abbrev pub CodeAt : ℕ → Actions → ℕ → Exits → Type 0
+  -- the function f runs at this moment, and the processor goes on at this place
+  abbrev pub GoesOn : ℕ → Exit → Moment → Processor → Type 0
+  GoesOn f x m q = At' s plan p entries most widest f x m q
+
+  abbrev pub CodeAt : ℕ → Actions → Exit → Exits → Type 0
   CodeAt f code here x = CodeDone s plan p entries most widest f code here x
 
   abbrev pub TurnsAt : ℕ → Exit → Exit → Type 0
@@ -77,20 +80,20 @@ module _ (setup : Setup) (plan : Plan) (p : Program) (body : ℕ → Actions) (m
   FitsBehind f (Turn x y k b) = FitsCode f x × FitsCode f y × FitsCode f k × FitsBehind f b
 
   pub record LoopDone (f : ℕ) (x y k : Actions) (l : Around) (z : Exits) : Type 0 where
-    pub in_body : CodeAt f x l.here (body_exits x y k l z)
-    pub in_step : CodeAt f y l.again (step_exits x y k l z)
-    pub back : TurnsAt f (exit l.end (turn x y (live k (ways_of z)))) (exit l.here (turn x y (live k (ways_of z))))
+    pub in_body : CodeAt f x l.begin (body_exits l)
+    pub in_step : CodeAt f y l.again (step_exits l)
+    pub back : TurnsAt f l.end l.begin
     pub rest : CodeAt f k l.next z
 
   -- what comes behind a list is done from where the list goes on
   abbrev pub BehindDone : ℕ → Behind → Exits → Type 0
   BehindDone f Ends x = Unit {0}
-  BehindDone f (After k b) x = (next : ℕ) × (z : Exits) × (x ≡ exits (exit next (live k (ways_of z))) z.leaves z.skips) × CodeAt f k next z × BehindDone f b z
-  BehindDone f (Body x y k b) e = (l : Around) × (z : Exits) × (e ≡ body_exits x y k l z) × LoopDone f x y k l z × BehindDone f b z
-  BehindDone f (Turn x y k b) e = (l : Around) × (z : Exits) × (e ≡ step_exits x y k l z) × LoopDone f x y k l z × BehindDone f b z
+  BehindDone f (After k b) x = (next : Exit) × (z : Exits) × (x ≡ exits next z.leaves z.skips) × CodeAt f k next z × BehindDone f b z
+  BehindDone f (Body x y k b) e = (l : Around) × (z : Exits) × (e ≡ body_exits l) × LoopDone f x y k l z × BehindDone f b z
+  BehindDone f (Turn x y k b) e = (l : Around) × (z : Exits) × (e ≡ step_exits l) × LoopDone f x y k l z × BehindDone f b z
 
-  -- a point of the function f that goes on at a word
-  pub record Placed (f : ℕ) (code : Actions) (behind : Behind) (here : ℕ) (x : Exits) : Type 0 where
+  -- a point of the function f that goes on at a place
+  pub record Placed (f : ℕ) (code : Actions) (behind : Behind) (here : Exit) (x : Exits) : Type 0 where
     pub done : CodeAt f code here x
     pub next : BehindDone f behind x
     pub fits : FitsCode f code
@@ -103,7 +106,7 @@ module _ (setup : Setup) (plan : Plan) (p : Program) (body : ℕ → Actions) (m
 
   -- a call of the function f waits
   pub record Waits (f : ℕ) (c : Waiting) (w : Waiting') (ws : List Waiting') : Type 0 where
-    pub here : ℕ
+    pub here : Exit
     pub exits' : Exits
     pub placed : Placed w.function c.point.code c.point.behind here exits'
     pub env : w.env ≡ c.env
@@ -113,7 +116,7 @@ module _ (setup : Setup) (plan : Plan) (p : Program) (body : ℕ → Actions) (m
     pub within : IsWithin plan (moment w.function w.env w.frame ws)
     pub answer : is_some c.result ≡ true → answered f ≡ true
     pub resume : (result : Option ℕ) (q : Processor) → IsAnswered c.result result → Lands plan w ws result q
-        → Comes s (3 * most) q (Stands plan (live c.point.code (ways_of exits')) (moment w.function (with_result c.result result w.env) w.frame ws) here)
+        → Comes s (3 * most) q (GoesOn w.function here (moment w.function (with_result c.result result w.env) w.frame ws))
 
   abbrev pub AreCalls : ℕ → List Waiting → List Waiting' → Type 0
   AreCalls f [] [] = Unit {0}
@@ -124,10 +127,10 @@ module _ (setup : Setup) (plan : Plan) (p : Program) (body : ℕ → Actions) (m
   pub record StandsAt (at' : Spot) (q : Processor) : Type 0 where
     pub function : ℕ
     pub waiting : List Waiting'
-    pub here : ℕ
+    pub here : Exit
     pub exits' : Exits
     pub placed : Placed function at'.point.code at'.point.behind here exits'
-    pub stands : Stands plan (live at'.point.code (ways_of exits')) (moment function at'.env at'.frame waiting) here q
+    pub stands : GoesOn function here (moment function at'.env at'.frame waiting) q
     pub top : at'.top ≡ at'.frame + plan.frame function
     pub depth : at'.depth ≡ length waiting + 1
     pub calls : AreCalls function at'.calls waiting

@@ -71,10 +71,10 @@ module _ (by_a : Bool) (p : Program) (body : ℕ → Actions) (parameters : ℕ 
       agrees_at setup c.plan p body 14 46 c.plan.functions answered (body main) Ends (λ _. 0) w.top (w.top + p.frame main) (w.depth + 1) [] q (record {
         function = main;
         waiting = [];
-        here = c.plan.start main;
+        here = exit (c.plan.start main) (live (body main) nowhere);
         exits' = exits (exit d.0 none) (exit d.0 none) (exit d.0 none);
         placed = record { done = d.1; next = tt; fits = whole.fits main there; fits_next = tt; tight = whole.tight main there; closed = whole.closed main there };
-        stands = subst (λ (t : ℕ). Stands c.plan (live (body main) nowhere) (record { function = main; env = (λ _. 0); frame = t; waiting = [] }) (c.plan.start main) q) (sym top) g;
+        stands = (refl, subst (λ (t : ℕ). Stands c.plan (live (body main) nowhere) (record { function = main; env = (λ _. 0); frame = t; waiting = [] }) (c.plan.start main) q) (sym top) g);
         top = (omega arith);
         depth = (omega arith);
         calls = tt;

@@ -27,15 +27,16 @@ use Rattle.dae_rounds.specs.Spots.{Behind, Ends, After, Body, Turn, Point, point
 use Rattle.dae_rounds.specs.Sides.{Walked, Agrees, Implements}
 use Rattle.dae_walks.specs.Walks.{Comes}
 use Rattle.dae_walks.specs.Does.{Does}
-use Rattle.dae_walks.specs.Live.{none, live, ways}
-use Rattle.dae_walks.specs.Agrees.{Plan, Moment, Waiting as Waiting', IsWithin, top_of, Stands}
-use Rattle.dae_walks.specs.Compiled.{Exit, Exits, exit, exits, ways_of, with_env, with_result as with_result', result_of, given as given', waiting_of, called, IsAnswered, Lands, IsWorldOf}
-use Rattle.dae_walks.specs.Compiled.{At as At'}
+use Rattle.dae_walks.specs.Live.{none}
+use Rattle.dae_walks.specs.Agrees.{Plan, Moment, Waiting as Waiting', IsWithin, top_of}
+use Rattle.dae_walks.specs.declared.Standing.{Standing}
+use Rattle.dae_walks.specs.declared.Standing.TheVariants.{Settled, Early, Late}
+use Rattle.dae_walks.specs.Compiled.{HoldsAt, Exit, Exits, exit, exits, with_env, with_result as with_result', result_of, given as given', waiting_of, called, IsAnswered, Lands, IsWorldOf}
 use Rattle.dae_blocks.specs.Wanted.{IsPlanOf}
 use Rattle.dae_faithful.specs.Made.{IsTight, IsClosed, AreWhole}
 use Rattle.dae_faithful.proofs.Walked.{Walks_to, Ended, comes_walks, nears_walks, here_walks, walks_more, just_comes, use_walks, acts_walks, does_walks}
-use Rattle.dae_faithful.proofs.Agree.{Around, body_exits, step_exits, TightAt, ClosedAt, s, entries, CodeAt, FitsCode, FitsBehind, LoopDone, BehindDone, moment, StandsAt, AreCalls, HasReturned, Landed, At}
-use Rattle.dae_faithful.proofs.Ways.{tight_map, closed_map, agrees_at, Leads_to, left_leads, skipped_leads, turn_begins}
+use Rattle.dae_faithful.proofs.Agree.{Around, body_exits, step_exits, TightAt, ClosedAt, s, entries, GoesOn, CodeAt, FitsCode, FitsBehind, LoopDone, BehindDone, moment, StandsAt, AreCalls, HasReturned, Landed, At}
+use Rattle.dae_faithful.proofs.Ways.{tight_map, closed_map, agrees_at, Leads_to, left_leads, skipped_leads}
 
 -- ---- small facts
 
@@ -52,6 +53,12 @@ same_given : (xs : List Argument) (env : Env) → given' xs env ≡ given xs env
 same_given [] env = refl
 same_given (x ∷ xs) env = ap (λ (e : Env). put true x.parameter (value x.operand env) e) (same_given xs env)
 
+-- however what it holds stands to the moment, the moment is within the limits
+at_within : (plan : Plan) (standing : Standing) (live : VariableSet) (m : Moment) (word : ℕ) (q : Processor) → HoldsAt plan standing live m word q → IsWithin plan m
+at_within plan Settled live m word q h = h.agrees.within
+at_within plan (Early v x) live m word q h = (let w = h.agrees.within in record { depth = w.depth; frame = w.frame })
+at_within plan (Late v x) live m word q h = (let w = h.2.agrees.within in record { depth = w.depth; frame = w.frame })
+
 abbrev is_leaving : Outcome → Bool
 is_leaving (Leaves env) = true
 is_leaving (Quits quit) = false
@@ -63,6 +70,9 @@ module _ (setup : Setup) (plan : Plan) (p : Program) (body : ℕ → Actions) (n
   abbrev pub A : Spot → Processor → Type 0
   A at' q = At setup plan p body n widest functions answered at' q
 
+  abbrev On : ℕ → Exit → Moment → Processor → Type 0
+  On f x m q = GoesOn setup plan p body n widest functions answered f x m q
+
   abbrev To : ℕ → ℕ → Processor → List Use → (Processor → Type 0) → Type 0
   To least most q uses Q = Walks_to setup plan.by_a least most q uses Q
 
@@ -70,11 +80,11 @@ module _ (setup : Setup) (plan : Plan) (p : Program) (body : ℕ → Actions) (n
   pub record IsDone : Type 0 where
     pub memory : setup.memory ≡ plan.memory
     pub is_plan : IsPlanOf p plan
-    pub bodies : (f : ℕ) → f < functions → (end : ℕ) × CodeAt setup plan p body n widest functions answered f (body f) (plan.start f) (exits (exit end none) (exit end none) (exit end none))
+    pub bodies : (f : ℕ) → f < functions → (end : ℕ) × CodeAt setup plan p body n widest functions answered f (body f) (exit (plan.start f) (entries setup plan p body n widest functions answered f)) (exits (exit end none) (exit end none) (exit end none))
     pub whole : AreWhole functions answered body
 
-  stands_as : {live' : VariableSet} {m m' : Moment} {here : ℕ} {q : Processor} → m ≡ m' → Stands plan live' m here q → Stands plan live' m' here q
-  stands_as {live'} {m} {m'} {here} {q} e h = subst (λ (z : Moment). Stands plan live' z here q) e h
+  stands_as : {f : ℕ} {m m' : Moment} (x : Exit) (q : Processor) → m ≡ m' → On f x m q → On f x m' q
+  stands_as {f} {m} {m'} x q e h = subst (λ (z : Moment). On f x z q) e h
 
   -- ---- calls
 
@@ -92,11 +102,11 @@ module _ (setup : Setup) (plan : Plan) (p : Program) (body : ℕ → Actions) (n
       let x : Exits = h.exits' in
       let done = h.placed.done in
       let fits = h.placed.fits in
-      let first : Waiting' = waiting_of v (live k (ways_of x)) done.1.0 M in
+      let first : Waiting' = waiting_of v done.0.live done.1.0 M in
       let within = call_within h.function f env w h.waiting first xs d size room h.top h.depth in
       let known = d.is_plan.frame f in
-      let enters = done.1.1 M q (refl, h.stands) within in
-      let own : IsWithin plan M = h.stands.agrees.within in
+      let enters = done.1.1 M q h.stands within in
+      let own : IsWithin plan M = at_within plan h.here.standing h.here.live M h.here.word q h.stands.1 in
       let body_done = d.bodies f fits.0.0 in
       let same : called plan f xs first M ≡ moment setup plan p body n widest functions answered f (given xs env) w.top (first ∷ h.waiting) =
       ap (λ (e : Env). record { function = f; env = e; frame = top_of plan M; waiting = first ∷ h.waiting }) (same_given xs env) ∙ ap (λ (t : ℕ). record { function = f; env = given xs env; frame = t; waiting = first ∷ h.waiting }) (sym h.top) in
@@ -105,10 +115,10 @@ module _ (setup : Setup) (plan : Plan) (p : Program) (body : ℕ → Actions) (n
       agrees_at setup plan p body n widest functions answered (body f) Ends (given xs env) w.top (w.top + p.frame f) (w.depth + 1) (waits v (point k b) env w ∷ calls) r (record {
         function = f;
         waiting = first ∷ h.waiting;
-        here = plan.start f;
+        here = exit (plan.start f) (entries setup plan p body n widest functions answered f);
         exits' = exits (exit body_done.0 none) (exit body_done.0 none) (exit body_done.0 none);
         placed = record { done = body_done.1; next = tt; fits = d.whole.fits f fits.0.0; fits_next = tt; tight = d.whole.tight f fits.0.0; closed = d.whole.closed f fits.0.0 };
-        stands = stands_as same g.1;
+        stands = stands_as (exit (plan.start f) (entries setup plan p body n widest functions answered f)) r same g;
         top = (omega arith);
         depth = (omega arith);
         calls = (
@@ -122,7 +132,7 @@ module _ (setup : Setup) (plan : Plan) (p : Program) (body : ℕ → Actions) (n
             depth = h.depth;
             within = own;
             answer = fits.0.1;
-            resume = λ result t ok lands. (let c = done.1.2 M result t refl own ok lands in record { last = c.last; steps = c.steps; quiet = c.quiet; short = c.short; holds = c.holds.1 });
+            resume = λ result t ok lands. done.1.2 M result t refl own ok lands;
           },
           h.calls,
         );
@@ -145,7 +155,7 @@ module _ (setup : Setup) (plan : Plan) (p : Program) (body : ℕ → Actions) (n
   return_moved : (q : Processor) {m : Mark} {y : Option Operand} {k : Actions} {b : Behind} {env : Env} {calls : List Waiting} (w : World) → S (spot (point (Do m (Return y) k) b) env w calls) q → To 0 n q [] (A (spot (point Done Ends) (with_result y env) w calls))
   return_moved q {m} {y} {k} {b} {env} {calls} w h =
       let M : Moment = moment setup plan p body n widest functions answered h.function env w.frame h.waiting in
-      returned q h.function y env calls h.waiting h.calls h.placed.fits.0 (h.placed.done.1 M q (refl, h.stands)).1
+      returned q h.function y env calls h.waiting h.calls h.placed.fits.0 (h.placed.done.1 M q h.stands).1
 
   -- ---- back behind a call
 
@@ -172,7 +182,7 @@ module _ (setup : Setup) (plan : Plan) (p : Program) (body : ℕ → Actions) (n
         here = w.here;
         exits' = w.exits';
         placed = w.placed;
-        stands = stands_as same g;
+        stands = stands_as w.here r same g;
         top = (omega arith);
         depth = w.depth;
         calls = h.calls;
@@ -180,16 +190,16 @@ module _ (setup : Setup) (plan : Plan) (p : Program) (body : ℕ → Actions) (n
 
   -- ---- branches and loops
 
-  chosen : {f : ℕ} (x y k : Actions) (b : Behind) (env : Env) (calls : List Waiting) (w : World) (ws : List Waiting') (first second next : ℕ) (z : Exits) (t : Bool) (q : Processor)
-      → CodeAt setup plan p body n widest functions answered f x first (record z { next = exit next (live k (ways_of z)) }) → CodeAt setup plan p body n widest functions answered f y second (record z { next = exit next (live k (ways_of z)) }) → CodeAt setup plan p body n widest functions answered f k next z → BehindDone setup plan p body n widest functions answered f b z
+  chosen : {f : ℕ} (x y k : Actions) (b : Behind) (env : Env) (calls : List Waiting) (w : World) (ws : List Waiting') (first second next : Exit) (z : Exits) (t : Bool) (q : Processor)
+      → CodeAt setup plan p body n widest functions answered f x first (record z { next = next }) → CodeAt setup plan p body n widest functions answered f y second (record z { next = next }) → CodeAt setup plan p body n widest functions answered f k next z → BehindDone setup plan p body n widest functions answered f b z
       → FitsCode setup plan p body n widest functions answered f x → FitsCode setup plan p body n widest functions answered f y → FitsCode setup plan p body n widest functions answered f k → FitsBehind setup plan p body n widest functions answered f b → TightAt x b → TightAt y b → TightAt k b → ClosedAt k b
       → w.top ≡ w.frame + plan.frame f → w.depth ≡ length ws + 1 → AreCalls setup plan p body n widest functions answered f calls ws
-      → At' (s setup plan p body n widest functions answered) plan p (entries setup plan p body n widest functions answered) n widest f (if t then exit first (live x (ways (live k (ways_of z)) z.leaves.live z.skips.live)) else exit second (live y (ways (live k (ways_of z)) z.leaves.live z.skips.live))) (moment setup plan p body n widest functions answered f env w.frame ws) q
+      → On f (if t then first else second) (moment setup plan p body n widest functions answered f env w.frame ws) q
       → A (spot (point (if t then x else y) (After k b)) env w calls) q
   chosen {f} x y k b env calls w ws first second next z true q dx dy dk db fx fy fk fb tx ty tk ck top depth ac g =
-      agrees_at setup plan p body n widest functions answered x (After k b) env w.frame w.top w.depth calls q (record { function = f; waiting = ws; here = first; exits' = record z { next = exit next (live k (ways_of z)) }; placed = record { done = dx; next = (next, z, refl, dk, db); fits = fx; fits_next = (fk, fb); tight = (tx, tk); closed = ck }; stands = g.1; top = top; depth = depth; calls = ac })
+      agrees_at setup plan p body n widest functions answered x (After k b) env w.frame w.top w.depth calls q (record { function = f; waiting = ws; here = first; exits' = record z { next = next }; placed = record { done = dx; next = (next, z, refl, dk, db); fits = fx; fits_next = (fk, fb); tight = (tx, tk); closed = ck }; stands = g; top = top; depth = depth; calls = ac })
   chosen {f} x y k b env calls w ws first second next z false q dx dy dk db fx fy fk fb tx ty tk ck top depth ac g =
-      agrees_at setup plan p body n widest functions answered y (After k b) env w.frame w.top w.depth calls q (record { function = f; waiting = ws; here = second; exits' = record z { next = exit next (live k (ways_of z)) }; placed = record { done = dy; next = (next, z, refl, dk, db); fits = fy; fits_next = (fk, fb); tight = (ty, tk); closed = ck }; stands = g.1; top = top; depth = depth; calls = ac })
+      agrees_at setup plan p body n widest functions answered y (After k b) env w.frame w.top w.depth calls q (record { function = f; waiting = ws; here = second; exits' = record z { next = next }; placed = record { done = dy; next = (next, z, refl, dk, db); fits = fy; fits_next = (fk, fb); tight = (ty, tk); closed = ck }; stands = g; top = top; depth = depth; calls = ac })
 
   silent_moved : (q : Processor) {m : Mark} {t : Test} {x y k : Actions} {b : Behind} {env : Env} {calls : List Waiting} (w : World) → S (spot (point (If m (Silent t) x y k) b) env w calls) q → To 0 n q [] (A (spot (point (if holds t env then x else y) (After k b)) env w calls))
   silent_moved q {m} {t} {x} {y} {k} {b} {env} {calls} w h =
@@ -199,7 +209,7 @@ module _ (setup : Setup) (plan : Plan) (p : Program) (body : ℕ → Actions) (n
       let ty = tight_map (If m (Silent t) x y k) y b (λ u. u.1) h.placed.tight in
       let tk = tight_map (If m (Silent t) x y k) k b (λ u. u.2) h.placed.tight in
       let ck = closed_map (If m (Silent t) x y k) k b (λ u. u) h.placed.closed in
-      just_comes setup plan.by_a (d.3 M q (refl, h.stands)) (λ r g. chosen x y k b env calls w h.waiting d.0 d.1 d.2 z (holds t env) r d.4 d.5 d.6 h.placed.next fits.1 fits.2 fits.3 h.placed.fits_next tx ty tk ck h.top h.depth h.calls g) (omega arith)
+      just_comes setup plan.by_a (d.3 M q h.stands) (λ r g. chosen x y k b env calls w h.waiting d.0 d.1 d.2 z (holds t env) r d.4 d.5 d.6 h.placed.next fits.1 fits.2 fits.3 h.placed.fits_next tx ty tk ck h.top h.depth h.calls g) (omega arith)
 
   tells_moved : (q : Processor) {m : Mark} {t : Test} {x y k : Actions} {b : Behind} {env : Env} {calls : List Waiting} (w : World) → S (spot (point (If m (Tells t) x y k) b) env w calls) q → To 0 n q (Pushes (told_on plan.by_a) (if holds t env then 1 else 0) ∷ []) (A (spot (point (if holds t env then x else y) (After k b)) env w calls))
   tells_moved q {m} {t} {x} {y} {k} {b} {env} {calls} w h =
@@ -209,7 +219,7 @@ module _ (setup : Setup) (plan : Plan) (p : Program) (body : ℕ → Actions) (n
       let ty = tight_map (If m (Tells t) x y k) y b (λ u. u.1) h.placed.tight in
       let tk = tight_map (If m (Tells t) x y k) k b (λ u. u.2) h.placed.tight in
       let ck = closed_map (If m (Tells t) x y k) k b (λ u. u) h.placed.closed in
-      let does = d.3 M q (refl, h.stands) in
+      let does = d.3 M q h.stands in
       nears_walks setup plan.by_a does.1 (λ l r a. use_walks setup plan.by_a {k = l} (Pushes (told_on plan.by_a) (if holds t env then 1 else 0)) (if holds t env then 1 else 0) refl does.0 a (λ o c. just_comes setup plan.by_a c (λ e g. chosen x y k b env calls w h.waiting d.0 d.1 d.2 z (holds t env) e d.4 d.5 d.6 h.placed.next fits.1 fits.2 fits.3 h.placed.fits_next tx ty tk ck h.top h.depth h.calls g) (omega arith)) (omega arith)) (omega arith)
 
   hears_moved : (q : Processor) {m : Mark} {x y k : Actions} {b : Behind} {env : Env} {calls : List Waiting} (w : World) (told : Bool) → S (spot (point (If m Hears x y k) b) env w calls) q → To 0 n q (Takes (heard_on plan.by_a) (if told then 1 else 0) ∷ []) (A (spot (point (if told then x else y) (After k b)) env w calls))
@@ -221,42 +231,42 @@ module _ (setup : Setup) (plan : Plan) (p : Program) (body : ℕ → Actions) (n
       let tk = tight_map (If m Hears x y k) k b (λ u. u.2) h.placed.tight in
       let ck = closed_map (If m Hears x y k) k b (λ u. u) h.placed.closed in
       let word : ℕ = if told then 1 else 0 in
-      nears_walks setup plan.by_a (d.3 M q (refl, h.stands)) (λ l r a. let g = a word (bit_small told) in use_walks setup plan.by_a {k = l} (Takes (heard_on plan.by_a) word) g.0 tt tt g.1 (λ o c. just_comes setup plan.by_a c (λ e g. chosen x y k b env calls w h.waiting d.0 d.1 d.2 z told e d.4 d.5 d.6 h.placed.next fits.1 fits.2 fits.3 h.placed.fits_next tx ty tk ck h.top h.depth h.calls (heard _ _ _ _ _ told g)) (omega arith)) (omega arith)) (omega arith)
+      nears_walks setup plan.by_a (d.3 M q h.stands) (λ l r a. let g = a word (bit_small told) in use_walks setup plan.by_a {k = l} (Takes (heard_on plan.by_a) word) g.0 tt tt g.1 (λ o c. just_comes setup plan.by_a c (λ e g. chosen x y k b env calls w h.waiting d.0 d.1 d.2 z told e d.4 d.5 d.6 h.placed.next fits.1 fits.2 fits.3 h.placed.fits_next tx ty tk ck h.top h.depth h.calls (heard _ _ _ _ _ told g)) (omega arith)) (omega arith)) (omega arith)
     where
       bit_small : (t : Bool) → (if t then 1 else 0) < 2 ^ 32
       bit_small true = omega arith
       bit_small false = omega arith
 
-      heard : (f : ℕ) (i j : Exit) (M : Moment) (e : Processor) (t : Bool) → At' (s setup plan p body n widest functions answered) plan p (entries setup plan p body n widest functions answered) n widest f (if not (nat_eq (if t then 1 else 0) 0) then i else j) M e → At' (s setup plan p body n widest functions answered) plan p (entries setup plan p body n widest functions answered) n widest f (if t then i else j) M e
+      heard : (f : ℕ) (i j : Exit) (M : Moment) (e : Processor) (t : Bool) → On f (if not (nat_eq (if t then 1 else 0) 0) then i else j) M e → On f (if t then i else j) M e
       heard f i j M e true g = g
       heard f i j M e false g = g
 
-  enters_moved : (q : Processor) {m : Mark} {x y k : Actions} {b : Behind} {env : Env} {calls : List Waiting} (w : World) → S (spot (point (Loop m x y k) b) env w calls) q → To 0 0 q [] (A (spot (point x (Body x y k b)) env w calls))
+  enters_moved : (q : Processor) {m : Mark} {x y k : Actions} {b : Behind} {env : Env} {calls : List Waiting} (w : World) → S (spot (point (Loop m x y k) b) env w calls) q → To 0 2 q [] (A (spot (point x (Body x y k b)) env w calls))
   enters_moved q {m} {x} {y} {k} {b} {env} {calls} w h =
       let d = h.placed.done in let z : Exits = h.exits' in let fits = h.placed.fits in
       let M : Moment = moment setup plan p body n widest functions answered h.function env w.frame h.waiting in
-      let l : Around = record { here = h.here; again = d.0; end = d.1; next = d.2 } in
-      let loop : LoopDone setup plan p body n widest functions answered h.function x y k l z = record { in_body = d.3; in_step = d.4; back = d.5; rest = d.6 } in
-      let stands : Stands plan (live x (ways_of (body_exits x y k l z))) M h.here q = subst (λ (e : Exit). Stands plan e.live M e.word q) (turn_begins setup plan p body n widest functions answered h.function x y k l z) h.stands in
-      here_walks setup plan.by_a (agrees_at setup plan p body n widest functions answered x (Body x y k b) env w.frame w.top w.depth calls q (record {
+      let l : Around = record { begin = d.0; again = d.1; end = d.2; next = d.3 } in
+      let loop : LoopDone setup plan p body n widest functions answered h.function x y k l z = record { in_body = d.5; in_step = d.6; back = d.7; rest = d.8 } in
+      just_comes setup plan.by_a (d.4 M q h.stands) (λ r c.
+      agrees_at setup plan p body n widest functions answered x (Body x y k b) env w.frame w.top w.depth calls r (record {
         function = h.function;
         waiting = h.waiting;
-        here = h.here;
-        exits' = body_exits x y k l z;
-        placed = record { done = d.3; next = (l, z, refl, loop, h.placed.next); fits = fits.0; fits_next = (fits.0, fits.1, fits.2, h.placed.fits_next); tight = tight_map (Loop m x y k) k b (λ u. u) h.placed.tight; closed = closed_map (Loop m x y k) k b (λ u. u) h.placed.closed };
-        stands = stands;
+        here = l.begin;
+        exits' = body_exits l;
+        placed = record { done = d.5; next = (l, z, refl, loop, h.placed.next); fits = fits.0; fits_next = (fits.0, fits.1, fits.2, h.placed.fits_next); tight = tight_map (Loop m x y k) k b (λ u. u) h.placed.tight; closed = closed_map (Loop m x y k) k b (λ u. u) h.placed.closed };
+        stands = c;
         top = h.top;
         depth = h.depth;
         calls = h.calls;
-      }))
+      })) (omega arith)
 
   -- ---- ends of lists, and jumps
 
   -- where it goes on, it agrees
   led : {f : ℕ} {from : Exit} (at' : Point) (env : Env) (w : World) (calls : List Waiting) (ws : List Waiting') (l : Leads_to setup plan p body n widest functions answered f from at') → w.top ≡ w.frame + plan.frame f → w.depth ≡ length ws + 1 → AreCalls setup plan p body n widest functions answered f calls ws
-      → (q : Processor) → Stands plan from.live (moment setup plan p body n widest functions answered f env w.frame ws) from.word q → To 0 2 q [] (A (spot at' env w calls))
+      → (q : Processor) → On f from (moment setup plan p body n widest functions answered f env w.frame ws) q → To 0 2 q [] (A (spot at' env w calls))
   led {f} at' env w calls ws l top depth ac q h =
-      just_comes setup plan.by_a (l.walks (moment setup plan p body n widest functions answered f env w.frame ws) q refl h) (λ r g.
+      just_comes setup plan.by_a (l.walks (moment setup plan p body n widest functions answered f env w.frame ws) q h) (λ r g.
       agrees_at setup plan p body n widest functions answered at'.code at'.behind env w.frame w.top w.depth calls r (record { function = f; waiting = ws; here = l.here; exits' = l.exits'; placed = l.placed; stands = g; top = top; depth = depth; calls = ac })) (omega arith)
 
   behind_moved : (q : Processor) {k : Actions} {b : Behind} {env : Env} {calls : List Waiting} (w : World) → S (spot (point Done (After k b)) env w calls) q → To 0 2 q [] (A (spot (point k b) env w calls))
@@ -265,16 +275,16 @@ module _ (setup : Setup) (plan : Plan) (p : Program) (body : ℕ → Actions) (n
       let x : Exits = h.exits' in
       let g = h.placed.next in
       let fits = h.placed.fits_next in
-      just_comes setup plan.by_a (h.placed.done M q (refl, h.stands)) (λ r c.
-      agrees_at setup plan p body n widest functions answered k b env w.frame w.top w.depth calls r (record { function = h.function; waiting = h.waiting; here = g.0; exits' = g.1; placed = record { done = g.3; next = g.4; fits = fits.0; fits_next = fits.1; tight = h.placed.tight.1; closed = h.placed.closed }; stands = subst (λ (e : Exits). Stands plan e.next.live M e.next.word r) g.2 c.1; top = h.top; depth = h.depth; calls = h.calls })) (omega arith)
+      just_comes setup plan.by_a (h.placed.done M q h.stands) (λ r c.
+      agrees_at setup plan p body n widest functions answered k b env w.frame w.top w.depth calls r (record { function = h.function; waiting = h.waiting; here = g.0; exits' = g.1; placed = record { done = g.3; next = g.4; fits = fits.0; fits_next = fits.1; tight = h.placed.tight.1; closed = h.placed.closed }; stands = subst (λ (e : Exits). On h.function e.next M r) g.2 c; top = h.top; depth = h.depth; calls = h.calls })) (omega arith)
 
   body_moved : (q : Processor) {x y k : Actions} {b : Behind} {env : Env} {calls : List Waiting} (w : World) → S (spot (point Done (Body x y k b)) env w calls) q → To 0 2 q [] (A (spot (point y (Turn x y k b)) env w calls))
   body_moved q {x} {y} {k} {b} {env} {calls} w h =
       let M : Moment = moment setup plan p body n widest functions answered h.function env w.frame h.waiting in
       let g = h.placed.next in
       let fits = h.placed.fits_next in
-      just_comes setup plan.by_a (h.placed.done M q (refl, h.stands)) (λ r c.
-      agrees_at setup plan p body n widest functions answered y (Turn x y k b) env w.frame w.top w.depth calls r (record { function = h.function; waiting = h.waiting; here = g.0.again; exits' = step_exits x y k g.0 g.1; placed = record { done = g.3.in_step; next = (g.0, g.1, refl, g.3, g.4); fits = fits.1; fits_next = fits; tight = h.placed.tight; closed = h.placed.closed }; stands = subst (λ (e : Exits). Stands plan e.next.live M e.next.word r) g.2 c.1; top = h.top; depth = h.depth; calls = h.calls })) (omega arith)
+      just_comes setup plan.by_a (h.placed.done M q h.stands) (λ r c.
+      agrees_at setup plan p body n widest functions answered y (Turn x y k b) env w.frame w.top w.depth calls r (record { function = h.function; waiting = h.waiting; here = g.0.again; exits' = step_exits g.0; placed = record { done = g.3.in_step; next = (g.0, g.1, refl, g.3, g.4); fits = fits.1; fits_next = fits; tight = h.placed.tight; closed = h.placed.closed }; stands = subst (λ (e : Exits). On h.function e.next M r) g.2 c; top = h.top; depth = h.depth; calls = h.calls })) (omega arith)
 
   step_moved : (q : Processor) {x y k : Actions} {b : Behind} {env : Env} {calls : List Waiting} (w : World) → S (spot (point Done (Turn x y k b)) env w calls) q → To 1 4 q [] (A (spot (point x (Body x y k b)) env w calls))
   step_moved q {x} {y} {k} {b} {env} {calls} w h =
@@ -282,16 +292,16 @@ module _ (setup : Setup) (plan : Plan) (p : Program) (body : ℕ → Actions) (n
       let g = h.placed.next in
       let fits = h.placed.fits_next in
       let l : Around = g.0 in let z : Exits = g.1 in
-      comes_walks setup plan.by_a {k = 2} (h.placed.done M q (refl, h.stands)) (λ r c.
-      let a = g.3.back M r (refl, subst (λ (e : Exits). Stands plan e.next.live M e.next.word r) g.2 c.1) in
+      comes_walks setup plan.by_a {k = 2} (h.placed.done M q h.stands) (λ r c.
+      let a = g.3.back M r (subst (λ (e : Exits). On h.function e.next M r) g.2 c) in
       acts_walks setup plan.by_a {k = 1} a.1 (λ o c. just_comes setup plan.by_a c (λ e i.
       agrees_at setup plan p body n widest functions answered x (Body x y k b) env w.frame w.top w.depth calls e (record {
         function = h.function;
         waiting = h.waiting;
-        here = l.here;
-        exits' = body_exits x y k l z;
+        here = l.begin;
+        exits' = body_exits l;
         placed = record { done = g.3.in_body; next = (l, z, refl, g.3, g.4); fits = fits.0; fits_next = fits; tight = h.placed.tight; closed = h.placed.closed };
-        stands = subst (λ (v : Exit). Stands plan v.live M v.word e) (turn_begins setup plan p body n widest functions answered h.function x y k l z) i.1;
+        stands = i;
         top = h.top;
         depth = h.depth;
         calls = h.calls;
@@ -301,31 +311,31 @@ module _ (setup : Setup) (plan : Plan) (p : Program) (body : ℕ → Actions) (n
   break_moved q {m} {k} {b} {env} {calls} w h =
       let M : Moment = moment setup plan p body n widest functions answered h.function env w.frame h.waiting in
       let l = left_leads setup plan p body n widest functions answered h.function b h.exits' (Do m Break k) (Do m Break k) (λ u. u) h.placed.tight h.placed.closed h.placed.next h.placed.fits_next in
-      comes_walks setup plan.by_a {k = 2} (h.placed.done.1 M q (refl, h.stands)) (λ r c. led (left b) env w calls h.waiting l h.top h.depth h.calls r c.1) (omega arith)
+      comes_walks setup plan.by_a {k = 2} (h.placed.done.1 M q h.stands) (λ r c. led (left b) env w calls h.waiting l h.top h.depth h.calls r c) (omega arith)
 
   continue_moved : (q : Processor) {m : Mark} {k : Actions} {b : Behind} {env : Env} {calls : List Waiting} (w : World) → S (spot (point (Do m Continue k) b) env w calls) q → To 1 4 q [] (A (spot (skipped b) env w calls))
   continue_moved q {m} {k} {b} {env} {calls} w h =
       let M : Moment = moment setup plan p body n widest functions answered h.function env w.frame h.waiting in
       let l = skipped_leads setup plan p body n widest functions answered h.function b h.exits' (Do m Continue k) (Do m Continue k) (λ u. u) h.placed.tight h.placed.closed h.placed.next h.placed.fits_next in
-      let a = h.placed.done.1 M q (refl, h.stands) in
-      acts_walks setup plan.by_a {k = 3} a.1 (λ r c. comes_walks setup plan.by_a {k = 2} c (λ o g. led (skipped b) env w calls h.waiting l h.top h.depth h.calls o g.1) (omega arith)) (omega arith)
+      let a = h.placed.done.1 M q h.stands in
+      acts_walks setup plan.by_a {k = 3} a.1 (λ r c. comes_walks setup plan.by_a {k = 2} c (λ o g. led (skipped b) env w calls h.waiting l h.top h.depth h.calls o g) (omega arith)) (omega arith)
 
   -- ---- actions
 
   acted : (q : Processor) {m : Mark} (x : Action) {k : Actions} {b : Behind} {env : Env} {calls : List Waiting} {uses : List Use} {o : Outcome} (w : World) → IsDone → length w.memory ≡ setup.memory → Follows (deed p plan.by_a x w env) uses o → AllByRecursion (IsFitUse setup.memory) uses
       → (h : S (spot (point (Do m x k) b) env w calls) q)
-      → ((M : Moment) (w : World) (r : Processor) → At' (s setup plan p body n widest functions answered) plan p (entries setup plan p body n widest functions answered) n widest h.function (exit h.here (live (Do m x k) (ways_of h.exits'))) M r → IsWorldOf plan M w → Does (s setup plan p body n widest functions answered) n (deed p plan.by_a x w M.env) (λ e. At' (s setup plan p body n widest functions answered) plan p (entries setup plan p body n widest functions answered) n widest h.function (exit h.placed.done.0 (live k (ways_of h.exits'))) (with_env e M)) r)
+      → ((M : Moment) (w : World) (r : Processor) → On h.function h.here M r → IsWorldOf plan M w → Does (s setup plan p body n widest functions answered) n (deed p plan.by_a x w M.env) (λ e. On h.function h.placed.done.0 (with_env e M)) r)
       → (is_leaving o ≡ true → (IsTight (Do m x k) → IsTight k) × (IsClosed (Do m x k) → IsClosed k))
       → To 0 n q uses (Agrees A (came o (λ (e : Env). spot (point k b) e w calls)))
   acted q {m} x {k} {b} {env} {calls} {uses} {o} w d size follows fit h done ways =
       let M : Moment = moment setup plan p body n widest functions answered h.function env w.frame h.waiting in
       let top = h.top in let depth = h.depth in let memory = d.memory in
       let world : IsWorldOf plan M w = record { frame = refl; top = h.top; depth = h.depth; memory = (omega arith) } in
-      let to : Env → Processor → Type 0 = λ e. At' (s setup plan p body n widest functions answered) plan p (entries setup plan p body n widest functions answered) n widest h.function (exit h.placed.done.0 (live k (ways_of h.exits'))) (with_env e M) in
-      let r = does_walks setup plan.by_a n to (deed p plan.by_a x w env) q (done M w q (refl, h.stands) world) follows fit in
+      let to : Env → Processor → Type 0 = λ e. On h.function h.placed.done.0 (with_env e M) in
+      let r = does_walks setup plan.by_a n to (deed p plan.by_a x w env) q (done M w q h.stands world) follows fit in
       record { after = r.after; steps = r.steps; walks = r.walks; holds = by o r.after ways r.holds; some = omega arith; few = r.few; words = r.words }
     where
-      by : (o : Outcome) (r : Processor) → (is_leaving o ≡ true → (IsTight (Do m x k) → IsTight k) × (IsClosed (Do m x k) → IsClosed k)) → Ended setup plan.by_a o (λ e. At' (s setup plan p body n widest functions answered) plan p (entries setup plan p body n widest functions answered) n widest h.function (exit h.placed.done.0 (live k (ways_of h.exits'))) (with_env e (moment setup plan p body n widest functions answered h.function env w.frame h.waiting))) r
+      by : (o : Outcome) (r : Processor) → (is_leaving o ≡ true → (IsTight (Do m x k) → IsTight k) × (IsClosed (Do m x k) → IsClosed k)) → Ended setup plan.by_a o (λ e. On h.function h.placed.done.0 (with_env e (moment setup plan p body n widest functions answered h.function env w.frame h.waiting))) r
           → Agrees A (came o (λ (e : Env). spot (point k b) e w calls)) r
       by (Leaves e) r f g =
           let fit = f refl in
@@ -335,7 +345,7 @@ module _ (setup : Setup) (plan : Plan) (p : Program) (body : ℕ → Actions) (n
             here = h.placed.done.0;
             exits' = h.exits';
             placed = record { done = h.placed.done.2; next = h.placed.next; fits = h.placed.fits.1; fits_next = h.placed.fits_next; tight = tight_map (Do m x k) k b fit.0 h.placed.tight; closed = closed_map (Do m x k) k b fit.1 h.placed.closed };
-            stands = g.1;
+            stands = g;
             top = h.top;
             depth = h.depth;
             calls = h.calls;

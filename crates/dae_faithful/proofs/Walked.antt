@@ -1,16 +1,13 @@
 -- Walks of the single actions are walks of a side: what comes quietly has no use, and a deed has the uses that follow it.
-use Rattle.std.proofs.Common.{◌≡◌, ℕ, suc, ◌+◌, ◌%◌, ◌≤◌, Bool, true, false, ◌||◌, List, [], ◌∷◌, length, refl, ap, ◌∙◌, subst, arith}
+use Rattle.std.proofs.Common.{◌≡◌, ℕ, suc, ◌+◌, ◌%◌, ◌≤◌, Bool, true, false, ◌||◌, List, [], ◌∷◌, refl, ap, ◌∙◌, subst, arith}
 use Rattle.std.specs.Prelude.{Option, Some, None, not, nat_eq, nat_lt, if◌then◌else◌}
 use Rattle.std.specs.List.{AllByRecursion}
 use Rattle.std.proofs.lemmas.Bool.Decides.{nat_tests}
 use Rattle.dae_base.specs.Words.{width_of, size}
 use Rattle.dae_base.specs.declared.Width.{Width}
-use Rattle.dae_encode.specs.declared.QueueUse.{QueueUse}
 use Rattle.dae_encode.specs.declared.QueueUse.TheVariants.{Nothing}
-use Rattle.dae_encode.specs.declared.Request.TheVariants.{Asks}
-use Rattle.dae_encode.specs.Instructions.{form}
-use Rattle.dae_encode.specs.Processor.{Processor, request, finish, is_within}
-use Rattle.dae_machine.specs.Machine.{Setup, code}
+use Rattle.dae_encode.specs.Processor.{Processor, is_within}
+use Rattle.dae_machine.specs.Machine.{Setup}
 use Rattle.dae_meaning.specs.Variables.{Env}
 use Rattle.dae_meaning.specs.Operations.{misplaced}
 use Rattle.dae_ir.specs.Programs.{side}

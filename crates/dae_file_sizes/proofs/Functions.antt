@@ -28,8 +28,8 @@ use Rattle.dae_typed.specs.declared.files.FileParts.{FileParts}
 use Rattle.dae_typed.specs.declared.files.TypedFunction.{TypedFunction}
 use Rattle.dae_formed.specs.Sizes.{most_made_in}
 use Rattle.dae_tree_sizes.specs.Sizes.{priced, TokensPay}
-use Rattle.dae_typed_sizes.specs.Bodies.{Defined, bodies_in, IsPaidBy, ArePaidBy, BodiesPaid}
-use Rattle.dae_typed_sizes.specs.Paid.{for_each, literal_bytes, price}
+use Rattle.dae_typed_sizes.specs.Bodies.{PlannedBody, bodies_in, IsPaidBy, ArePaidBy, BodiesPaid}
+use Rattle.dae_typed_sizes.specs.Paid.{for_each, bytes_of_literal, price}
 use Rattle.dae_code_sizes.specs.Code.{most_code_in}
 use Rattle.dae_file_sizes.specs.From.{AreFrom}
 use Rattle.dae_file_sizes.specs.Small.{HasFew, HasLittle, HasParameters, VariablesAreFew, CodeIsLittle}
@@ -59,7 +59,7 @@ types_same s t e r f =
 -- ---- functions with their bodies
 
 -- a function in memory has what the body of one has
-record IsBodyOf (t : Tables) (d : Defined) (f : TypedFunction) : Type 0 where
+record IsBodyOf (t : Tables) (d : PlannedBody) (f : TypedFunction) : Type 0 where
   pub routine : f.routine ≡ d.routine
   pub parameters : f.parameters ≡ slots_of t (length (parameter_types t d.routine)) d.locals d.storages
   pub variables : f.variables ≡ variables_of (length (parameter_types t d.routine)) d.storages
@@ -111,24 +111,24 @@ no_price (b ∷ bs) = let h = no_price bs in omega (arith, h)
 
 nothing_priced : (ls : List (List ℕ)) (ns : List ℕ) → priced (price 0 ls) ns ≡ 0
 nothing_priced ls [] = refl
-nothing_priced ls (n ∷ ns) = let h = no_price (literal_bytes ls n) in let g = nothing_priced ls ns in omega (arith, h, g)
+nothing_priced ls (n ∷ ns) = let h = no_price (bytes_of_literal ls n) in let g = nothing_priced ls ns in omega (arith, h, g)
 
 one_price : (bs : List ℕ) → for_each 1 bs ≡ length bs
 one_price [] = refl
 one_price (b ∷ bs) = let h = one_price bs in omega (arith, h)
 
-twice_priced : (ls : List (List ℕ)) (ns : List ℕ) → priced (price 1 ls) ns ≡ 2 * priced (λ n. length (literal_bytes ls n)) ns
+twice_priced : (ls : List (List ℕ)) (ns : List ℕ) → priced (price 1 ls) ns ≡ 2 * priced (λ n. length (bytes_of_literal ls n)) ns
 twice_priced ls [] = refl
-twice_priced ls (n ∷ ns) = let h = one_price (literal_bytes ls n) in let g = twice_priced ls ns in omega (arith, h, g)
+twice_priced ls (n ∷ ns) = let h = one_price (bytes_of_literal ls n) in let g = twice_priced ls ns in omega (arith, h, g)
 
 -- ---- the laws
 
 -- the parameters are no more than the locals, and than the storages
-record AreWithin (t : Tables) (d : Defined) (f : TypedFunction) : Type 0 where
+record AreWithin (t : Tables) (d : PlannedBody) (f : TypedFunction) : Type 0 where
   pub locals : length f.parameters ≤ length d.locals
   pub variables : f.variables ≤ 1 + length d.storages
 
-within : (t : Tables) (file : FileParts) (d : Defined) (f : TypedFunction) → file.shapes ≡ t.shapes → file.routines ≡ t.routines → IsBodyOf t d f → HasParameters file f → AreWithin t d f
+within : (t : Tables) (file : FileParts) (d : PlannedBody) (f : TypedFunction) → file.shapes ≡ t.shapes → file.routines ≡ t.routines → IsBodyOf t d f → HasParameters file f → AreWithin t d f
 within t file d f es er b h =
     let n = length (parameter_types t d.routine) in
     let types : parameter_types (tables_of file) f.routine ≡ parameter_types t d.routine = types_same (tables_of file) t es er f.routine ∙ ap (parameter_types t) b.routine in
@@ -139,7 +139,7 @@ within t file d f es er b h =
     let k = variables_storages n d.storages (omega (arith, same, slots, j)) in
     record { locals = omega (arith, slots, g); variables = rw b.variables k }
 
-few : (pay : TokensPay) (ls : List (List ℕ)) (t : Tables) (x : External) (d : Defined) (f : TypedFunction) → IsPaidBy 0 ls x d → IsBodyOf t d f → AreWithin t d f → HasFew x f.variables f.parameters (view_statements f.body)
+few : (pay : TokensPay) (ls : List (List ℕ)) (t : Tables) (x : External) (d : PlannedBody) (f : TypedFunction) → IsPaidBy 0 ls x d → IsBodyOf t d f → AreWithin t d f → HasFew x f.variables f.parameters (view_statements f.body)
 few pay ls t x d f p b w =
     let body = ap most_made_in (b.body ∙ p.begun) in
     let begun = begun_made p.place p.tables d.locals d.storages p.block in
@@ -149,7 +149,7 @@ few pay ls t x d f p b w =
     let free = nothing_priced ls (literal_numbers (spell_external x [])) in
     (p.definition, omega (arith, body, begun, block, slots, paid, free, p.locals, p.storages, p.weight, w.locals, w.variables))
 
-little : (pay : TokensPay) (ls : List (List ℕ)) (t : Tables) (x : External) (d : Defined) (f : TypedFunction) → IsPaidBy 1 ls x d → IsBodyOf t d f → AreWithin t d f → HasLittle ls x f.parameters (view_statements f.body)
+little : (pay : TokensPay) (ls : List (List ℕ)) (t : Tables) (x : External) (d : PlannedBody) (f : TypedFunction) → IsPaidBy 1 ls x d → IsBodyOf t d f → AreWithin t d f → HasLittle ls x f.parameters (view_statements f.body)
 little pay ls t x d f p b w =
     let body = ap most_code_in (b.body ∙ p.begun) in
     let begun = begun_code p.place p.tables d.locals d.storages p.block in
@@ -169,7 +169,7 @@ paid_by bodies checked c xs s t products low h = by (check_of (plan_file xs) s) 
   by (Ok y) e k = subst (λ (ps : List Product). ArePaidBy c s.literals xs (bodies_in ps)) (some_same products y.1 products (sym k.0.1 ∙ h.0.1)) (bodies c xs s y.0 y.1 low e)
   by (Err f) e k = absurd (h.1 f.rule f.place k)
 
-from_paid : (c : ℕ) (ls : List (List ℕ)) (xs : List External) (ds : List Defined) → ArePaidBy c ls xs ds → AreFrom (IsPaidBy c ls) xs ds
+from_paid : (c : ℕ) (ls : List (List ℕ)) (xs : List External) (ds : List PlannedBody) → ArePaidBy c ls xs ds → AreFrom (IsPaidBy c ls) xs ds
 from_paid c ls xs [] h = tt
 from_paid c ls [] (d ∷ ds) h = absurd h
 from_paid c ls (x ∷ xs) (d ∷ ds) (inl h) = inl (h.0, from_paid c ls xs ds h.1)

@@ -17,7 +17,7 @@ use Rattle.dae_typed.specs.declared.files.FileParts.{FileParts}
 use Rattle.dae_typed.specs.declared.files.TypedFunction.{TypedFunction}
 use Rattle.dae_formed.specs.Sizes.{most_made_of_slots, most_made_in}
 use Rattle.dae_tree_sizes.specs.Sizes.{priced, IsDefinition}
-use Rattle.dae_typed_sizes.specs.Paid.{literal_bytes}
+use Rattle.dae_typed_sizes.specs.Paid.{bytes_of_literal}
 use Rattle.dae_code_sizes.specs.Code.{most_code_of_slots, most_code_in}
 use Rattle.dae_file_sizes.specs.From.{AreFrom}
 
@@ -26,7 +26,7 @@ abbrev pub tokens : External → ℕ
 tokens x = length (spell_external x [])
 
 abbrev pub text : List (List ℕ) → External → ℕ
-text literals x = priced (λ n. length (literal_bytes literals n)) (literal_numbers (spell_external x []))
+text literals x = priced (λ n. length (bytes_of_literal literals n)) (literal_numbers (spell_external x []))
 
 -- a function of this definition: its own variables and those that are made of it are at least 7 fewer than 4 for each token
 abbrev pub HasFew : (x : External) (variables : ℕ) (slots : List (Option Slot)) (body : Statements) → Type 0
@@ -41,7 +41,7 @@ abbrev pub HasParameters : FileParts → TypedFunction → Type 0
 HasParameters file f = length f.parameters ≡ length (parameter_types (tables_of file) f.routine)
 
 -- in a file where no rule is broken, whatever was declared before
-pub record IsFileOf (xs : List External) (s : Tables) (file : FileParts) : Type 0 where
+pub record IsPlanned (xs : List External) (s : Tables) (file : FileParts) : Type 0 where
   pub tables : Tables
   pub products : List Product
   pub spellings : List (List ℕ)
@@ -50,12 +50,12 @@ pub record IsFileOf (xs : List External) (s : Tables) (file : FileParts) : Type 
 
 abbrev pub VariablesAreFew : Type 0
 VariablesAreFew =
-    (xs : List External) (s : Tables) (file : FileParts) → IsFileOf xs s file → AllByRecursion (HasParameters file) file.functions →
+    (xs : List External) (s : Tables) (file : FileParts) → IsPlanned xs s file → AllByRecursion (HasParameters file) file.functions →
     AreFrom (λ x (f : TypedFunction). HasFew x f.variables f.parameters (view_statements f.body)) xs file.functions
 
 abbrev pub CodeIsLittle : Type 0
 CodeIsLittle =
-    (xs : List External) (s : Tables) (file : FileParts) → IsFileOf xs s file → AllByRecursion (HasParameters file) file.functions →
+    (xs : List External) (s : Tables) (file : FileParts) → IsPlanned xs s file → AllByRecursion (HasParameters file) file.functions →
     AreFrom (λ x (f : TypedFunction). HasLittle s.literals x f.parameters (view_statements f.body)) xs file.functions
 
 -- where the objects that a sound file uses have room, each function has the parameters of its type

@@ -58,7 +58,8 @@ pub fn land(
     filling: Filling,
     x: &Value,
 ) -> Result<Landing, CheckError>
-    ensures { FollowsBy view_landing checker.now result (landing_at place literal (view_filling filling) (view_value x.now)) checker.now }
+    ensures { FollowsBy view_landing checker.now result
+        (landing_at place literal (view_filling filling) (view_value x.now)) checker.now }
 {
     let Some(slot) = next_slot(checker, filling.rest)? else {
         if !filling.over {

@@ -78,7 +78,9 @@ fn within(spot: Spot, part: Part) -> Spot
 
 /// The spot behind a conversion, with its piece.
 fn convert(spot: Spot, piece: Option<Piece>) -> Result<Option<(Spot, Option<Piece>)>, CheckError>
-    ensures { (bs : List ℕ) → Gives (λ r. read_on r bs) result (Ok (converted_with piece (pieces_from InText (suc spot.argument) bs))) }
+    ensures { (bs : List ℕ)
+        → Gives (λ r. read_on r bs) result
+        (Ok (converted_with piece (pieces_from InText (suc spot.argument) bs))) }
 {
     let Some(argument) = spot.argument.checked_add(1) else {
         return Err(CheckError::Memory);

@@ -95,7 +95,8 @@ fn constant_setting(offset: u32, shape: Shape, known: Known) -> Setting
 /// Adds an item.
 #[tactic(auto, using(crate::proofs::Settings::settings_push))]
 fn push_setting(items: &mut Vec<Setting>, item: Setting) -> Result<(), CheckError>
-    ensures { Gives (λ x. view_settings items.new.items) result (Ok (view_settings items.old.items ++ view_setting item ∷ [])) }
+    ensures { Gives (λ x. view_settings items.new.items) result
+        (Ok (view_settings items.old.items ++ view_setting item ∷ [])) }
 {
     items.push(item)?;
     Ok(())
@@ -108,7 +109,8 @@ fn push_bytes(
     kind: LoadKind,
     bytes: &[u8],
 ) -> Result<(), CheckError>
-    ensures { Gives (λ x. view_settings items.new.items) result (Ok (view_settings items.old.items ++ byte_settings offset kind bytes.now)) }
+    ensures { Gives (λ x. view_settings items.new.items) result
+        (Ok (view_settings items.old.items ++ byte_settings offset kind bytes.now)) }
 {
     let mut next = offset;
     for byte in bytes {
@@ -132,7 +134,8 @@ fn fill_text(
     count: Option<u32>,
     filling: Filling,
 ) -> Result<Filling, CheckError>
-    ensures { FollowsBy view_filling checker.now result (text_item place literal offset element count (view_filling filling)) checker.now }
+    ensures { FollowsBy view_filling checker.now result
+        (text_item place literal offset element count (view_filling filling)) checker.now }
 {
     let bytes = literal_bytes(checker, literal);
     if is_longer(bytes.len(), count) {
@@ -164,7 +167,8 @@ fn fill_structure(
     type_id: usize,
     filling: Filling,
 ) -> Result<Filling, CheckError>
-    ensures { FollowsBy view_filling checker.now result (structure_item place (view_value x.now) type_id (view_filling filling)) checker.now }
+    ensures { FollowsBy view_filling checker.now result
+        (structure_item place (view_value x.now) type_id (view_filling filling)) checker.now }
 {
     let is_value = is_structure(checker.shape_of(x.type_id));
     let is_for_structure = is_structure(checker.shape_of(type_id));
@@ -184,7 +188,9 @@ fn fill_scalar(
     shape: Shape,
     filling: Filling,
 ) -> Result<Filling, CheckError>
-    ensures { FollowsBy view_filling checker.now result (scalar_item place (view_value x.now) destination.offset destination.type_id shape (view_filling filling)) checker.now }
+    ensures { FollowsBy view_filling checker.now result
+        (scalar_item place (view_value x.now) destination.offset destination.type_id shape
+        (view_filling filling)) checker.now }
 {
     if !fits(checker, x, destination.type_id) {
         return Err(broken(Rule::BadAssign, place));
@@ -222,7 +228,8 @@ pub fn fill_item(
     x: &Value,
     landing: Landing,
 ) -> Result<Filling, CheckError>
-    ensures { FollowsBy view_filling checker.now result (item_at place literal (view_value x.now) (view_landing landing)) checker.now }
+    ensures { FollowsBy view_filling checker.now result
+        (item_at place literal (view_value x.now) (view_landing landing)) checker.now }
 {
     let Some(destination) = landing.destination else {
         return Ok(landing.filling);

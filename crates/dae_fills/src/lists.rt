@@ -74,7 +74,8 @@ fn only(
     items: Vec<Setting>,
     count: u32,
 ) -> Result<Filling, CheckError>
-    ensures { Gives view_filling result (Ok (filling_of (view_rest part ∷ []) (view_settings items.items) count over)) }
+    ensures { Gives view_filling result
+        (Ok (filling_of (view_rest part ∷ []) (view_settings items.items) count over)) }
 {
     let mut rest = Vec::new(alloc);
     rest.push(part)?;
@@ -95,7 +96,8 @@ pub fn open_list(
     filling: Filling,
     list: &[Initialiser],
 ) -> Result<Opening, CheckError>
-    ensures { FollowsBy view_opening checker.now result (opening_at place (view_filling filling) (views_initialisers list.now)) checker.now }
+    ensures { FollowsBy view_opening checker.now result
+        (opening_at place (view_filling filling) (views_initialisers list.now)) checker.now }
 {
     let Some(slot) = next_slot(checker, filling.rest)? else {
         if !filling.over {
@@ -165,7 +167,8 @@ pub fn close_list(over: bool, behind: Vec<Rest>, inside: Filling) -> Filling
 
 /// The type of an object with so many elements, where it is an array of unknown size.
 fn filled_type(checker: &mut Checker, type_id: usize, count: u32) -> Result<usize, CheckError>
-    ensures { LeavesAnd checker.new result (filled_type (tables checker.old) type_id count (shape_of (tables checker.old) type_id)) }
+    ensures { LeavesAnd checker.new result
+        (filled_type (tables checker.old) type_id count (shape_of (tables checker.old) type_id)) }
 {
     match checker.shape_of(type_id) {
         Shape::Array(element, None) => checker.make(Shape::Array(element, Some(count))),
@@ -181,7 +184,8 @@ pub fn finish_content(
     type_id: usize,
     filling: Filling,
 ) -> Result<Content, CheckError>
-    ensures { FollowsBy view_content checker.new result (content_at place type_id (pure (view_filling filling))) checker.old }
+    ensures { FollowsBy view_content checker.new result
+        (content_at place type_id (pure (view_filling filling))) checker.old }
 {
     let type_id = filled_type(checker, type_id, filling.count)?;
     if checker.layout_at(type_id).size > MOST_BYTES {
@@ -200,7 +204,8 @@ pub fn check_scalar_list(
     place: Place,
     list: &[Initialiser],
 ) -> Result<(), CheckError>
-    ensures { Follows checker.now result (scalar_list_at place (views_initialisers list.now)) checker.now }
+    ensures { Follows checker.now result
+        (scalar_list_at place (views_initialisers list.now)) checker.now }
 {
     if is_one(list) {
         return Ok(());
@@ -210,7 +215,8 @@ pub fn check_scalar_list(
 
 /// Whether an initialiser is a value for a whole aggregate of this type.
 pub fn is_value_for(checker: &Checker, type_id: usize, initialiser: &Initialiser) -> bool
-    ensures { result ≡ is_value_for (tables checker.now) type_id (view_initialiser initialiser.now) }
+    ensures { result
+        ≡ is_value_for (tables checker.now) type_id (view_initialiser initialiser.now) }
 {
     let shape = checker.shape_of(type_id);
     match initialiser {
@@ -229,7 +235,8 @@ pub fn refuse_value(
     type_id: usize,
     x: &Value,
 ) -> Result<Filling, CheckError>
-    ensures { FollowsBy view_filling checker.now result (aggregate_at place type_id (pure (view_value x.now))) checker.now }
+    ensures { FollowsBy view_filling checker.now result
+        (aggregate_at place type_id (pure (view_value x.now))) checker.now }
 {
     let is_value = is_structure(checker.shape_of(x.type_id));
     if is_structure(checker.shape_of(type_id)) && is_value {

@@ -69,7 +69,8 @@ pub fn read_format(
     literal: Option<u32>,
     given: usize,
 ) -> Result<Vec<Piece>, CheckError>
-    ensures { FollowsBy (λ v. v.items) checker.now result (format_at place literal given) checker.now }
+    ensures { FollowsBy (λ v. v.items) checker.now result
+        (format_at place literal given) checker.now }
 {
     let Some(pieces) = format_of(alloc, checker, literal)? else {
         return Err(broken(Rule::BadFormat, place));
@@ -100,7 +101,8 @@ pub fn add_printed(
     mut done: Vec<Expression>,
     x: Value,
 ) -> Result<Vec<Expression>, CheckError>
-    ensures { FollowsBy views checker.now result (printed_at place text (views done) (one x)) checker.now }
+    ensures { FollowsBy views checker.now result
+        (printed_at place text (views done) (one x)) checker.now }
 {
     let shape = checker.shape_of(x.type_id);
     if text == Some(true) && !is_text(checker, pointee(shape)) {

@@ -39,7 +39,8 @@ struct Start {
 /// The next object that is to be filled, if there is one.
 #[tactic(auto, using(crate::proofs::Stacks::stack_push))]
 pub fn next_slot(checker: &Checker, mut rest: Vec<Rest>) -> Result<Option<Slot>, CheckError>
-    ensures { Gives (seen view_slot) result (Ok (next_slot (tables checker.now) (view_stack rest.items))) }
+    ensures { Gives (seen view_slot) result
+        (Ok (next_slot (tables checker.now) (view_stack rest.items))) }
 {
     let Some(part) = rest.pop() else {
         return Ok(None);
@@ -61,7 +62,9 @@ pub fn next_slot(checker: &Checker, mut rest: Vec<Rest>) -> Result<Option<Slot>,
 
 /// The first object of a part, unless nothing of it is left.
 fn start_of(checker: &Checker, part: Rest) -> Result<Option<Start>, CheckError>
-    ensures { (rest : List PlainRest) → Gives (λ r. slot_or r rest (next_slot (tables checker.now) rest)) result (Ok (next_slot (tables checker.now) (view_rest part ∷ rest))) }
+    ensures { (rest : List PlainRest)
+        → Gives (λ r. slot_or r rest (next_slot (tables checker.now) rest)) result
+        (Ok (next_slot (tables checker.now) (view_rest part ∷ rest))) }
 {
     match part {
         Rest::Once(offset, type_id) => Ok(Some(Start {
@@ -86,7 +89,9 @@ fn first_element(
     begun: u32,
     count: Option<u32>,
 ) -> Result<Option<Start>, CheckError>
-    ensures { (rest : List PlainRest) (behind : Option PlainSlot) → Gives (λ r. slot_or r rest behind) result (Ok (element_slot (tables checker.now) offset element begun count rest behind)) }
+    ensures { (rest : List PlainRest) (behind : Option PlainSlot)
+        → Gives (λ r. slot_or r rest behind) result
+        (Ok (element_slot (tables checker.now) offset element begun count rest behind)) }
 {
     if !is_before(begun, count) {
         return Ok(None);
@@ -123,7 +128,10 @@ fn first_member(
     structure: usize,
     begun: usize,
 ) -> Result<Option<Start>, CheckError>
-    ensures { (rest : List PlainRest) (behind : Option PlainSlot) → Gives (λ r. slot_or r rest behind) result (Ok (member_slot offset structure begun (slice_get (components_of (tables checker.now) structure) begun) rest behind)) }
+    ensures { (rest : List PlainRest) (behind : Option PlainSlot)
+        → Gives (λ r. slot_or r rest behind) result
+        (Ok (member_slot offset structure begun
+        (slice_get (components_of (tables checker.now) structure) begun) rest behind)) }
 {
     let Some(member) = component(checker, structure, begun) else {
         return Ok(None);
@@ -185,7 +193,8 @@ pub fn descend(
     depth: usize,
     slot: Slot,
 ) -> Result<Slot, CheckError>
-    ensures { Gives view_slot result (Ok (descend depth (tables checker.now) literal structure (view_slot slot))) }
+    ensures { Gives view_slot result
+        (Ok (descend depth (tables checker.now) literal structure (view_slot slot))) }
 {
     if depth == 0 {
         return Ok(slot);
@@ -208,7 +217,9 @@ fn first_part(
     slot: &Slot,
     shape: Shape,
 ) -> Result<Option<Slot>, CheckError>
-    ensures { Gives (seen view_slot) result (Ok (next_slot (tables checker.now) (parts_of slot.now.offset slot.now.type_id shape ∷ view_stack slot.now.rest.items))) }
+    ensures { Gives (seen view_slot) result
+        (Ok (next_slot (tables checker.now)
+        (parts_of slot.now.offset slot.now.type_id shape ∷ view_stack slot.now.rest.items))) }
 {
     let part = parts_of(slot.offset, slot.type_id, shape);
     let rest = with_part(alloc, &slot.rest, part)?;

@@ -182,7 +182,8 @@ pub fn operated(
     x: Value,
     y: Value,
 ) -> Result<Value, CheckError>
-    ensures { MakesValue result (operated place (view_deed deed) type_id (view_value x) (view_value y)) }
+    ensures { MakesValue result
+        (operated place (view_deed deed) type_id (view_value x) (view_value y)) }
 {
     let known = known_by(deed, x.known, y.known);
     let tree = tree_by(alloc, place, deed, x.tree, y.tree)?;

@@ -151,7 +151,8 @@ pub fn lines<'a>(
     header: &Header,
     bytes: &'a [u8],
 ) -> Result<(Items<LineMark>, &'a [u8]), ImageError>
-    ensures { Gives (λ x. (x.0, x.1.now)) result (lines_at whole header.now None header.now.lines bytes.now) }
+    ensures { Gives (λ x. (x.0, x.1.now)) result
+        (lines_at whole header.now None header.now.lines bytes.now) }
 {
     let mut lines = Vec::new(alloc);
     let mut last = None;
@@ -184,7 +185,8 @@ fn name(alloc: Global, whole: u32, bytes: &[u8]) -> Result<(Text, &[u8]), ImageE
 
 /// The bytes as a text, where they are UTF-8.
 fn text_of(bytes: &[u8]) -> Option<&str>
-    ensures { MatchOption result (is_utf8 bytes.now ≡ false) (λ t. (is_utf8 bytes.now ≡ true) × (t.now ≡ bytes.now)) }
+    ensures { MatchOption result (is_utf8 bytes.now ≡ false)
+        (λ t. (is_utf8 bytes.now ≡ true) × (t.now ≡ bytes.now)) }
 {
     match str::from_utf8(bytes) {
         Ok(text) => Some(text),

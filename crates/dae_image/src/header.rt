@@ -138,7 +138,8 @@ pub fn budget(whole: u32, version: u32, bytes: &[u8]) -> Result<(Depths, &[u8]),
 /// How many words a code has, which holds the word at its entry.
 fn words(whole: u32, name: Field, entry: u32, bytes: &[u8]) -> Result<(u32, &[u8]), ImageError>
     requires { entry ≤ 134217724 }
-    ensures gives { Gives (λ x. (x.0, x.1.now)) result (field_at whole name (words_range entry) bytes.now) }
+    ensures gives { Gives (λ x. (x.0, x.1.now)) result
+        (field_at whole name (words_range entry) bytes.now) }
     ensures memory { IfErr result (λ e. e ≢ ImageError.Memory) }
 {
     let range = Range {
@@ -152,7 +153,8 @@ fn words(whole: u32, name: Field, entry: u32, bytes: &[u8]) -> Result<(u32, &[u8
 /// How many bytes of data there are, which begin at address 16 of the memory.
 fn content(whole: u32, memory: u32, bytes: &[u8]) -> Result<(u32, &[u8]), ImageError>
     requires { 16 ≤ memory }
-    ensures gives { Gives (λ x. (x.0, x.1.now)) result (field_at whole DataLength (content_range memory) bytes.now) }
+    ensures gives { Gives (λ x. (x.0, x.1.now)) result
+        (field_at whole DataLength (content_range memory) bytes.now) }
     ensures memory { IfErr result (λ e. e ≢ ImageError.Memory) }
 {
     let range = Range {
@@ -200,7 +202,8 @@ pub fn header_of(whole: u32, bytes: &[u8]) -> Result<(Header, &[u8]), ImageError
 }
 
 fn calls(whole: u32, bytes: &[u8]) -> Result<(u16, &[u8]), ImageError>
-    ensures gives { Gives (λ x. (x.0, x.1.now)) result (field_at whole Calls calls_range bytes.now) }
+    ensures gives { Gives (λ x. (x.0, x.1.now)) result
+        (field_at whole Calls calls_range bytes.now) }
     ensures memory { IfErr result (λ e. e ≢ ImageError.Memory) }
 {
     let (number, rest) = field(whole, Field::Calls, CALLS, bytes)?;

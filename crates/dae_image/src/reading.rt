@@ -81,8 +81,10 @@ pub fn read(alloc: Global, bytes: &[u8]) -> Result<Image, ImageError>
 
     // A fault of too few bytes tells their number, and one of too many where an image ends.
     ensures short { (n : ℕ) → result ≡ Err (ImageError.Short n) → n ≡ length bytes.now }
-    ensures trailing { (n : ℕ) → result ≡ Err (ImageError.Trailing n) → IsSpelledBefore n bytes.now }
-    ensures only_trailing { (n : ℕ) → IsSpelledBefore n bytes.now → Gives contents result (Err (ImageError.Trailing n)) }
+    ensures trailing { (n : ℕ) → result ≡ Err (ImageError.Trailing n)
+        → IsSpelledBefore n bytes.now }
+    ensures only_trailing { (n : ℕ) → IsSpelledBefore n bytes.now
+        → Gives contents result (Err (ImageError.Trailing n)) }
 {
     all(alloc, bytes)
 }

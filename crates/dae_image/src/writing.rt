@@ -21,7 +21,8 @@ fn put_numbers(out: &mut Vec<u8>, words: &[u32]) -> Result<(), AllocError>
 }
 
 fn put_head(out: &mut Vec<u8>, image: &Image) -> Result<(), AllocError>
-    ensures { OnOk result (out.new.items ≡ out.old.items ++ numbers (head_2 (header (contents image.now)))) }
+    ensures { OnOk result
+        (out.new.items ≡ out.old.items ++ numbers (head_2 (header (contents image.now)))) }
 {
     put_numbers(
         out,

@@ -1,4 +1,4 @@
 mod Held
 mod NoFields
-mod Growth
+pub mod Growth
 pub mod Laws

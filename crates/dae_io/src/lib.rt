@@ -25,6 +25,4 @@ mod prefix;
 mod shelf;
 mod sink;
 mod standard;
-#[cfg(test)]
-mod tests;
 mod transfer;

@@ -16,7 +16,8 @@ pub fn going_takes_turns()
 
 /// Which loads are counted changes nothing but their number.
 pub fn fewer_loads()
-    ensures { (p : Program) (counted : Counting) (more : Counting) → IsWithinLoads counted more → FewerLoads p counted more }
+    ensures { (p : Program) (counted : Counting) (more : Counting) → IsWithinLoads counted more
+        → FewerLoads p counted more }
 {}
 
 /// However a form ends, memory is as long as before, and holds bytes where it did.

@@ -148,7 +148,8 @@ fn call_begins(pieces: &[Piece<'_>]) -> bool
 
 /// The header that these pieces name, and what stands behind it.
 fn read_header<'p, 'j>(pieces: &'p [Piece<'j>]) -> Option<(Header, &'p [Piece<'j>])>
-    ensures { option_map (λ f. (f.0, map cut_of f.1.now)) result ≡ header_in (map cut_of pieces.now) }
+    ensures { option_map (λ f. (f.0, map cut_of f.1.now)) result
+        ≡ header_in (map cut_of pieces.now) }
 {
     let [open, name, dot, letter, close, rest @ ..] = pieces else {
         return None;
@@ -230,7 +231,8 @@ fn same_body(a: &[Piece<'_>], b: &[Piece<'_>]) -> bool
 
 /// For a name that has a definition, whether it is another than this.
 fn redefined<'j>(macros: &Macros<'j>, name: &'j [u8], body: &[Piece<'j>]) -> Option<bool>
-    ensures { result ≡ known_as macros.now (record { name = name.now; body = map cut_of body.now }) }
+    ensures { result
+        ≡ known_as macros.now (record { name = name.now; body = map cut_of body.now }) }
 {
     match macros.find(name) {
         Some(old) => Some(!same_body(old, body)),
@@ -247,7 +249,10 @@ fn define<'j>(
 ) -> Result<(), LexError>
     ensures settles { (s : State) → Settles s result
         (settle s (conflict_items (known_as macros.old (record { name = name.entry.now; body = map cut_of body.entry.items })) hash)) }
-    ensures macros { OnOk result (macros.new ≡ with_definition macros.old (record { name = name.entry.now; body = map cut_of body.entry.items })) }
+    ensures macros { OnOk result
+        (macros.new
+        ≡ with_definition macros.old
+        (record { name = name.entry.now; body = map cut_of body.entry.items })) }
 {
     match redefined(macros, name, &body) {
         Some(true) => Err(LexError::Refused(Construct::MacroRedefined, hash)),
@@ -258,7 +263,8 @@ fn define<'j>(
 
 /// A number as the whole replacement of a macro.
 fn number_body<'j>(alloc: Global, hash: Place, digits: &'j [u8]) -> Result<Vec<Piece<'j>>, LexError>
-    ensures ok { IfOk result (λ body. map cut_of body.items ≡ number_piece hash digits.entry.now ∷ []) }
+    ensures ok { IfOk result
+        (λ body. map cut_of body.items ≡ number_piece hash digits.entry.now ∷ []) }
     ensures err { IfErr result (λ e. e ≡ Memory) }
 {
     let mut body = Vec::new(alloc);
@@ -282,7 +288,8 @@ fn define_numbers<'j>(
 ) -> Result<(), LexError>
     ensures settles { (s : State) → Settles s result
         (settle s (definition_items hash macros.old (map (number_macro hash) (rows_of rows.now)))) }
-    ensures macros { OnOk result (macros.new ≡ with_definitions macros.old (map (number_macro hash) (rows_of rows.now))) }
+    ensures macros { OnOk result
+        (macros.new ≡ with_definitions macros.old (map (number_macro hash) (rows_of rows.now))) }
 {
     for (name, digits) in rows {
         let body = number_body(alloc, hash, digits)?;
@@ -303,7 +310,8 @@ fn include<'j>(
 ) -> Result<(), LexError>
     ensures settles { (s : State) → Settles s result
         (settle s (definition_items hash macros.old (header_definitions hash header))) }
-    ensures macros { OnOk result (macros.new ≡ with_definitions macros.old (header_definitions hash header)) }
+    ensures macros { OnOk result
+        (macros.new ≡ with_definitions macros.old (header_definitions hash header)) }
 {
     match header {
         Header::Stdio => define_numbers(alloc, macros, hash, &STDIO_MACROS),
@@ -321,7 +329,10 @@ fn define_pieces<'j>(
 ) -> Result<(), LexError>
     ensures settles { (s : State) → Settles s result
         (settle s (definition_items hash macros.old (record { name = name.entry.spelling.now; body = marks_of (map cut_of rest.now) } ∷ []))) }
-    ensures macros { OnOk result (macros.new ≡ with_definition macros.old (record { name = name.entry.spelling.now; body = marks_of (map cut_of rest.now) })) }
+    ensures macros { OnOk result
+        (macros.new
+        ≡ with_definition macros.old
+        (record { name = name.entry.spelling.now; body = marks_of (map cut_of rest.now) })) }
 {
     let body = marks(alloc, rest)?;
     define(macros, hash, name.spelling, body)
@@ -356,9 +367,11 @@ fn take_line<'j>(
 ) -> Result<Option<Header>, LexError>
     ensures settles { (n : ℕ) → out.old.room.replacements ≤ n →
         Settles (state_of out.new) result (settle (state_of out.old) (line_items n macros.old (line_of (map cut_of pieces.now)))) }
-    ensures macros { OnOk result (macros.new ≡ macros_after macros.old (line_of (map cut_of pieces.now))) }
+    ensures macros { OnOk result
+        (macros.new ≡ macros_after macros.old (line_of (map cut_of pieces.now))) }
     ensures left { OnOk result (out.new.room.replacements ≤ out.old.room.replacements) }
-    ensures header { IfOk result (λ header. header ≡ inclusion_of (line_of (map cut_of pieces.now))) }
+    ensures header { IfOk result
+        (λ header. header ≡ inclusion_of (line_of (map cut_of pieces.now))) }
 {
     match read_line(pieces) {
         ReadLine::Text => {
@@ -393,7 +406,12 @@ fn line_length(pieces: &[Piece<'_>]) -> usize
 
 /// The headers that are included once a line is read.
 fn with_header(seen: Includes, found: Option<Header>) -> Includes
-    ensures { result ≡ record { stdio = seen.stdio || is_of Stdio found; stdlib = seen.stdlib || is_of Stdlib found } }
+    ensures { result
+        ≡ record {
+          stdio = seen.stdio || is_of Stdio found;
+          stdlib = seen.stdlib
+              || is_of Stdlib found;
+        } }
 {
     match found {
         Some(Header::Stdio) => Includes {

@@ -37,8 +37,11 @@ pub struct OpenLiteral {
 /// The number of a name: its place in the list of names, to whose end a new one goes.
 fn name_number<'j>(names: &mut IndexSet<&'j [u8]>, name: &'j [u8]) -> Result<u32, LexError>
     requires { length names.old.keys < 2 ^ 32 - 1 }
-    ensures number { IfOk result (λ n. n ≡ position_or_len (bytes_eq name.now) (map (λ k. k.now) names.old.keys)) }
-    ensures names { OnOk result (map (λ k. k.now) names.new.keys ≡ names_with (map (λ k. k.now) names.old.keys) (Name name.now)) }
+    ensures number { IfOk result
+        (λ n. n ≡ position_or_len (bytes_eq name.now) (map (λ k. k.now) names.old.keys)) }
+    ensures names { OnOk result
+        (map (λ k. k.now) names.new.keys
+        ≡ names_with (map (λ k. k.now) names.old.keys) (Name name.now)) }
     ensures fits { OnOk result (length names.new.keys ≤ length names.old.keys + 1) }
     ensures err { IfErr result (λ e. e ≡ Memory) }
 {
@@ -52,8 +55,12 @@ fn name_number<'j>(names: &mut IndexSet<&'j [u8]>, name: &'j [u8]) -> Result<u32
 fn plain_kind<'j>(names: &mut IndexSet<&'j [u8]>, meaning: Meaning<'j>) -> Result<Kind, LexError>
     requires plain { literal_of (meaning_of meaning) ≡ None }
     requires room { length names.old.keys < 2 ^ 32 - 1 }
-    ensures kind { IfOk result (λ k. (literals : List (List ℕ)) → k ≡ kind_of (map (λ k. k.now) names.old.keys) literals (meaning_of meaning.entry)) }
-    ensures names { OnOk result (map (λ k. k.now) names.new.keys ≡ names_with (map (λ k. k.now) names.old.keys) (meaning_of meaning.entry)) }
+    ensures kind { IfOk result
+        (λ k. (literals : List (List ℕ))
+        → k ≡ kind_of (map (λ k. k.now) names.old.keys) literals (meaning_of meaning.entry)) }
+    ensures names { OnOk result
+        (map (λ k. k.now) names.new.keys
+        ≡ names_with (map (λ k. k.now) names.old.keys) (meaning_of meaning.entry)) }
     ensures fits { OnOk result (length names.new.keys ≤ length names.old.keys + 1) }
     ensures err { IfErr result (λ e. e ≡ Memory) }
 {
@@ -105,9 +112,11 @@ impl<'j> Builder<'j> {
     fn add(&mut self, read: ReadToken<'j>) -> Result<(), LexError>
         requires plain { literal_of (meaning_of read.meaning) ≡ None }
         requires room { length self.old.names.keys < 2 ^ 32 - 1 }
-        ensures built { OnOk result (built_of self.new ≡ added (built_of self.old) (read_of read.entry)) }
+        ensures built { OnOk result
+            (built_of self.new ≡ added (built_of self.old) (read_of read.entry)) }
         ensures names { OnOk result (length self.new.names.keys ≤ length self.old.names.keys + 1) }
-        ensures literals { OnOk result (length self.new.literals.items ≡ length self.old.literals.items) }
+        ensures literals { OnOk result
+            (length self.new.literals.items ≡ length self.old.literals.items) }
         ensures err { IfErr result (λ e. e ≡ Memory) }
     {
         let kind = plain_kind(&mut self.names, read.meaning)?;
@@ -127,7 +136,8 @@ impl<'j> Builder<'j> {
         requires { length self.old.literals.items < 2 ^ 32 }
         ensures built { OnOk result (built_of self.new ≡ closed (built_of self.old) held) }
         ensures names { OnOk result (length self.new.names.keys ≡ length self.old.names.keys) }
-        ensures literals { OnOk result (length self.new.literals.items ≤ length self.old.literals.items + 1) }
+        ensures literals { OnOk result
+            (length self.new.literals.items ≤ length self.old.literals.items + 1) }
         ensures err { IfErr result (λ e. e ≡ Memory) }
     {
         match held {
@@ -154,7 +164,8 @@ impl<'j> Builder<'j> {
 
 /// What stands between the quotes of a token that is a literal.
 fn literal_inside<'j>(meaning: Meaning<'j>) -> Option<&'j [u8]>
-    ensures { option_map (λ inside. values_of inside.now) result ≡ literal_of (meaning_of meaning.entry) }
+    ensures { option_map (λ inside. values_of inside.now) result
+        ≡ literal_of (meaning_of meaning.entry) }
 {
     match meaning {
         Meaning::Literal(inside) => Some(inside),
@@ -179,7 +190,8 @@ fn longer<'j>(
     read: ReadToken<'j>,
     inside: &[u8],
 ) -> Result<OpenLiteral, LexError>
-    ensures ok { IfOk result (λ l. read_literal l ≡ longer_of held (read_of read.entry) (values_of inside.now)) }
+    ensures ok { IfOk result
+        (λ l. read_literal l ≡ longer_of held (read_of read.entry) (values_of inside.now)) }
     ensures err { IfErr result (λ e. e ≡ Memory) }
 {
     match held {
@@ -212,8 +224,10 @@ fn step<'j>(
     requires literals { length builder.old.literals.items < 2 ^ 32 }
     ensures ok { IfOk result (λ after. (rest : List Read) →
         finished (built_of builder.new) (waiting after rest) ≡ finished (built_of builder.old) (waiting held (before (read_of read.entry) rest))) }
-    ensures names { OnOk result (length builder.new.names.keys ≤ length builder.old.names.keys + 1) }
-    ensures literals { OnOk result (length builder.new.literals.items ≤ length builder.old.literals.items + 1) }
+    ensures names { OnOk result
+        (length builder.new.names.keys ≤ length builder.old.names.keys + 1) }
+    ensures literals { OnOk result
+        (length builder.new.literals.items ≤ length builder.old.literals.items + 1) }
     ensures err { IfErr result (λ e. e ≡ Memory) }
 {
     match literal_inside(read.meaning) {
@@ -232,7 +246,10 @@ fn step<'j>(
 /// The tokens with adjacent literals joined, and the names and literals that they number. Only memory can be wanting.
 pub fn build<'j>(alloc: Global, reads: &[ReadToken<'j>]) -> Result<Builder<'j>, LexError>
     requires { length reads.now < 2 ^ 32 }
-    ensures ok { IfOk result (λ builder. built_of builder ≡ finished (record { tokens = []; names = []; literals = [] }) (joined (map read_of reads.now))) }
+    ensures ok { IfOk result
+        (λ builder. built_of builder
+        ≡ finished (record { tokens = []; names = []; literals = [] })
+        (joined (map read_of reads.now))) }
     ensures err { IfErr result (λ e. e ≡ Memory) }
 {
     let mut builder = Builder::new(alloc);

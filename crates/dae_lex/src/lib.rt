@@ -14,5 +14,3 @@ mod output;
 mod pieces;
 mod reading;
 mod replace;
-#[cfg(test)]
-mod tests;

@@ -64,9 +64,12 @@ fn spot_behind_byte(spot: Spot, byte: u8) -> Spot
 /// The characters of the text, lines joined. Only memory can be wanting.
 pub fn join_lines(alloc: Global, file: u16, text: &[u8]) -> Result<Joined, LexError>
     requires { length text.now ≤ 1048576 }
-    ensures bytes { IfOk result (λ joined. joined.bytes.items ≡ bytes_of (joined_lines file text.now)) }
-    ensures spots { IfOk result (λ joined. joined.spots.items ≡ spots_of (joined_lines file text.now)) }
-    ensures end { IfOk result (λ joined. joined.end ≡ (spot_behind (start_of file) text.now).place) }
+    ensures bytes { IfOk result
+        (λ joined. joined.bytes.items ≡ bytes_of (joined_lines file text.now)) }
+    ensures spots { IfOk result
+        (λ joined. joined.spots.items ≡ spots_of (joined_lines file text.now)) }
+    ensures end { IfOk result
+        (λ joined. joined.end ≡ (spot_behind (start_of file) text.now).place) }
     ensures err { IfErr result (λ e. e ≡ Memory) }
 {
     let mut bytes = Vec::new(alloc);

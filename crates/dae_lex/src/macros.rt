@@ -51,7 +51,10 @@ impl<'j> Macros<'j> {
     /// Adds a macro whose name has no definition yet.
     pub fn define(&mut self, name: &'j [u8], body: Vec<Piece<'j>>) -> Result<(), LexError>
         requires { body_of self.old name.now ≡ None }
-        ensures ok { OnOk result (self.new ≡ self.old ++ record { name = name.entry.now; body = map cut_of body.entry.items } ∷ []) }
+        ensures ok { OnOk result
+            (self.new
+            ≡ self.old ++ record { name = name.entry.now; body = map cut_of body.entry.items }
+            ∷ []) }
         ensures err { IfErr result (λ e. e ≡ Memory) }
     {
         match self.bodies.insert(name, body) {

@@ -97,7 +97,8 @@ impl<'j> Output<'j> {
 
     /// Takes a piece that isn't replaced, which comes from a piece of the text.
     pub fn take(&mut self, piece: Piece<'j>, origin: Piece<'j>) -> Result<(), LexError>
-        ensures settles { Settles (state_of self.new) result (settle (state_of self.old) (items_of (cut_of piece.entry) (cut_of origin.entry))) }
+        ensures settles { Settles (state_of self.new) result
+            (settle (state_of self.old) (items_of (cut_of piece.entry) (cut_of origin.entry))) }
         ensures left { OnOk result (self.new.room.replacements ≡ self.old.room.replacements) }
     {
         match piece.kind {
@@ -124,7 +125,8 @@ impl<'j> Output<'j> {
         meaning: Result<Meaning<'j>, Construct>,
         origin: Piece<'j>,
     ) -> Result<(), LexError>
-        ensures settles { Settles (state_of self.new) result (settle (state_of self.old) (taken (meant meaning.entry) (cut_of origin.entry) ∷ [])) }
+        ensures settles { Settles (state_of self.new) result
+            (settle (state_of self.old) (taken (meant meaning.entry) (cut_of origin.entry) ∷ [])) }
         ensures left { OnOk result (self.new.room.replacements ≡ self.old.room.replacements) }
     {
         if self.room.tokens == 0 {
@@ -156,7 +158,8 @@ impl<'j> Output<'j> {
 
     /// Counts one more replacement, of a name of the text.
     pub fn count_replacement(&mut self, origin: Piece<'j>) -> Result<(), LexError>
-        ensures settles { Settles (state_of self.new) result (settle (state_of self.old) (replaced (cut_of origin.entry) ∷ [])) }
+        ensures settles { Settles (state_of self.new) result
+            (settle (state_of self.old) (replaced (cut_of origin.entry) ∷ [])) }
         ensures left { OnOk result (self.new.room.replacements + 1 ≡ self.old.room.replacements) }
     {
         if self.room.replacements == 0 {

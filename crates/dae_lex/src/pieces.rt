@@ -29,7 +29,8 @@ fn piece_at<'j>(joined: &'j Joined, at: usize, form: Form) -> Piece<'j>
     requires same { length joined.now.bytes.items ≡ length joined.now.spots.items }
     requires within { IsWithin form (drop at joined.now.bytes.items) }
     requires small { All (λ s. s.offset < 2 ^ 31) joined.now.spots.items }
-    ensures { cut_of result ≡ piece form (drop at (chars joined.now.bytes.items joined.now.spots.items)) }
+    ensures { cut_of result
+        ≡ piece form (drop at (chars joined.now.bytes.items joined.now.spots.items)) }
 {
     let first = joined.spots[at];
     let last = joined.spots[at + (form.length - 1)];
@@ -47,10 +48,17 @@ fn piece_at<'j>(joined: &'j Joined, at: usize, form: Form) -> Piece<'j>
 pub fn cut_pieces<'j>(alloc: Global, joined: &'j Joined) -> Result<Vec<Piece<'j>>, LexError>
     requires same { length joined.now.bytes.items ≡ length joined.now.spots.items }
     requires small { All (λ s. s.offset < 2 ^ 31) joined.now.spots.items }
-    ensures ok { IfOk result (λ pieces. map cut_of pieces.items ≡ cut 0 (chars joined.now.bytes.items joined.now.spots.items)) }
-    ensures spelled { IfOk result (λ pieces. flat_map (λ p. p.spelling) (map cut_of pieces.items) ≡ joined.now.bytes.items) }
-    ensures order { IfOk result (λ pieces. (n : ℕ) → Rise 0 joined.now.spots.items n → FollowEachOther 0 (map cut_of pieces.items) n) }
-    ensures places { IfOk result (λ pieces. (p : Place_) → SpotsFrom p joined.now.spots.items → PlacesFrom p (map (λ q. q.place) (map cut_of pieces.items))) }
+    ensures ok { IfOk result
+        (λ pieces. map cut_of pieces.items
+        ≡ cut 0 (chars joined.now.bytes.items joined.now.spots.items)) }
+    ensures spelled { IfOk result
+        (λ pieces. flat_map (λ p. p.spelling) (map cut_of pieces.items) ≡ joined.now.bytes.items) }
+    ensures order { IfOk result
+        (λ pieces. (n : ℕ) → Rise 0 joined.now.spots.items n
+        → FollowEachOther 0 (map cut_of pieces.items) n) }
+    ensures places { IfOk result
+        (λ pieces. (p : Place_) → SpotsFrom p joined.now.spots.items
+        → PlacesFrom p (map (λ q. q.place) (map cut_of pieces.items))) }
     ensures err { IfErr result (λ e. e ≡ Memory) }
 {
     let mut pieces = Vec::new(alloc);

@@ -24,7 +24,8 @@ fn read_pieces<'j>(
     room: Room,
 ) -> Result<(Includes, Output<'j>), LexError>
     ensures ok { IfOk result (λ r. HasRead room (map cut_of pieces.now) r.0 r.1) }
-    ensures err { IfErr result (λ e. Fails e (reads_of room (items_of_pieces room (map cut_of pieces.now)))) }
+    ensures err { IfErr result
+        (λ e. Fails e (reads_of room (items_of_pieces room (map cut_of pieces.now)))) }
 {
     let mut out = Output::new(alloc, room);
     match take_lines(alloc, pieces, &mut out) {

@@ -60,7 +60,8 @@ impl<'m, 'j> Stack<'m, 'j> {
     /// Begins a replacement of a name that none is open of.
     pub fn push(&mut self, name: &'j [u8], rest: &'m [Piece<'j>]) -> Result<(), LexError>
         requires { list_any (bytes_eq name.now) (names_of self.old) ≡ false }
-        ensures ok { OnOk result (self.new ≡ self.old ++ frame_by name.entry.now rest.entry.now ∷ []) }
+        ensures ok { OnOk result
+            (self.new ≡ self.old ++ frame_by name.entry.now rest.entry.now ∷ []) }
         ensures err { IfErr result (λ e. e ≡ Memory) }
     {
         match self.frames.insert(name, rest) {
@@ -71,8 +72,10 @@ impl<'m, 'j> Stack<'m, 'j> {
 
     /// Takes the innermost replacement out, after which none of its name is open.
     pub fn pop(&mut self) -> Option<(&'j [u8], &'m [Piece<'j>])>
-        ensures taken { MatchOption result (self.old ≡ []) (λ f. self.old ≡ self.new ++ frame_by f.0.now f.1.now ∷ []) }
-        ensures over { IfSome result (λ f. list_any (bytes_eq f.0.now) (names_of self.new) ≡ false) }
+        ensures taken { MatchOption result (self.old ≡ [])
+            (λ f. self.old ≡ self.new ++ frame_by f.0.now f.1.now ∷ []) }
+        ensures over { IfSome result
+            (λ f. list_any (bytes_eq f.0.now) (names_of self.new) ≡ false) }
     {
         self.frames.pop()
     }
@@ -84,9 +87,11 @@ fn replacement_of<'m, 'j>(
     stack: &Stack<'m, 'j>,
     piece: Piece<'j>,
 ) -> Option<&'m [Piece<'j>]>
-    ensures body { option_map (λ body. map cut_of body.now) result ≡ replacement macros.now (names_of stack.now) (cut_of piece.entry) }
+    ensures body { option_map (λ body. map cut_of body.now) result
+        ≡ replacement macros.now (names_of stack.now) (cut_of piece.entry) }
     ensures small { IfSome result (λ body. length body.now < 2 ^ 64) }
-    ensures fresh { IfSome result (λ body. list_any (bytes_eq piece.entry.spelling.now) (names_of stack.now) ≡ false) }
+    ensures fresh { IfSome result
+        (λ body. list_any (bytes_eq piece.entry.spelling.now) (names_of stack.now) ≡ false) }
 {
     match piece.kind {
         PieceKind::Word => {
@@ -108,9 +113,11 @@ fn begin<'m, 'j>(
     out: &mut Output<'j>,
 ) -> Result<(), LexError>
     requires { list_any (bytes_eq name.now) (names_of stack.old) ≡ false }
-    ensures settles { Settles (state_of out.new) result (settle (state_of out.old) (replaced (cut_of origin.entry) ∷ [])) }
+    ensures settles { Settles (state_of out.new) result
+        (settle (state_of out.old) (replaced (cut_of origin.entry) ∷ [])) }
     ensures left { OnOk result (out.new.room.replacements + 1 ≡ out.old.room.replacements) }
-    ensures frames { OnOk result (stack.new ≡ stack.old ++ frame_by name.entry.now body.entry.now ∷ []) }
+    ensures frames { OnOk result
+        (stack.new ≡ stack.old ++ frame_by name.entry.now body.entry.now ∷ []) }
 {
     match out.count_replacement(origin) {
         Ok(()) => stack.push(name, body),
@@ -130,8 +137,12 @@ fn turn<'m, 'j>(
         Follows result
         (settle (state_of out.old) (pending n macros.now [] (cut_of origin.entry) stack.old))
         (settle (state_of out.new) (pending n macros.now [] (cut_of origin.entry) stack.new)) }
-    ensures depth { OnOk result (out.new.room.replacements + length stack.new ≤ out.old.room.replacements + length stack.old) }
-    ensures less { OnOk result (work_of out.new.room.replacements stack.new < work_of out.old.room.replacements stack.old) }
+    ensures depth { OnOk result
+        (out.new.room.replacements + length stack.new
+        ≤ out.old.room.replacements + length stack.old) }
+    ensures less { OnOk result
+        (work_of out.new.room.replacements stack.new
+        < work_of out.old.room.replacements stack.old) }
 {
     let Some((name, rest)) = stack.pop() else {
         return Ok(())

@@ -22,7 +22,8 @@ pub fn declare_type(
     name: Option<Name>,
     declared: NamedType,
 ) -> Result<(), CheckError>
-    ensures { Follows checker.new result (typedef_at place block given name (pure declared)) checker.old }
+    ensures { Follows checker.new result
+        (typedef_at place block given name (pure declared)) checker.old }
 {
     if given {
         return Err(broken(Rule::TypedefMisuse, place));

@@ -40,7 +40,8 @@ fn storages_of(
     checker: &Checker,
     parameters: usize,
 ) -> Result<Vec<Storage>, CheckError>
-    ensures { Gives (λ v. v.items) result (Ok (kept_from (tables checker.now) 1 0 parameters (tables checker.now).locals)) }
+    ensures { Gives (λ v. v.items) result
+        (Ok (kept_from (tables checker.now) 1 0 parameters (tables checker.now).locals)) }
 {
     let mut storages = Vec::new(alloc);
     let mut room = Room {
@@ -58,7 +59,9 @@ fn storages_of(
 
 /// Where a parameter or local object is kept, and the room behind it.
 fn keep(checker: &Checker, room: Room, local: Local) -> Result<(Storage, Room), CheckError>
-    ensures { (xs : List PlainLocal) → Gives (λ r. r.0 ∷ kept_in (tables checker.now) r.1 xs) result (Ok (kept_in (tables checker.now) room (local ∷ xs))) }
+    ensures { (xs : List PlainLocal)
+        → Gives (λ r. r.0 ∷ kept_in (tables checker.now) r.1 xs) result
+        (Ok (kept_in (tables checker.now) room (local ∷ xs))) }
 {
     let parameters = room.parameters.saturating_sub(1);
     if is_in_variable(checker, local) {
@@ -96,7 +99,8 @@ fn is_in_variable(checker: &Checker, local: Local) -> bool
 
 /// The next variable behind what is in the frame: a parameter takes one all the same.
 fn variable_behind(room: Room) -> Result<u32, CheckError>
-    ensures { Gives (λ v. v) result (Ok (if nat_eq room.parameters 0 then room.variable else suc room.variable)) }
+    ensures { Gives (λ v. v) result
+        (Ok (if nat_eq room.parameters 0 then room.variable else suc room.variable)) }
 {
     if room.parameters == 0 {
         return Ok(room.variable);

@@ -24,7 +24,8 @@ pub fn declare_function(
     name: Option<Name>,
     type_id: usize,
 ) -> Result<Option<usize>, CheckError>
-    ensures { Follows checker.new result (function_at place own given name (pure type_id)) checker.old }
+    ensures { Follows checker.new result
+        (function_at place own given name (pure type_id)) checker.old }
 {
     if is_main_name(checker, name) && !is_main_type(checker, type_id) {
         return Err(broken(Rule::BadMain, place));
@@ -148,7 +149,8 @@ fn enter_function(
     type_id: usize,
     found: Option<Entity>,
 ) -> Result<usize, CheckError>
-    ensures { LeavesAnd checker.new result (declared_function name own type_id found (tables checker.old)) }
+    ensures { LeavesAnd checker.new result
+        (declared_function name own type_id found (tables checker.old)) }
 {
     let Some(Entity::Function(number)) = found else {
         return add_function(checker, name, own, type_id);
@@ -206,7 +208,8 @@ pub fn definition_type(
     is_direct: bool,
     declared: NamedType,
 ) -> Result<usize, CheckError>
-    ensures { Follows checker.now result (definition_at place is_typedef is_direct (pure declared)) checker.now }
+    ensures { Follows checker.now result
+        (definition_at place is_typedef is_direct (pure declared)) checker.now }
 {
     let is_of_function = is_function(checker.shape_of(declared.type_id));
     if is_typedef || (is_of_function && !is_direct) {

@@ -77,7 +77,8 @@ pub fn declare_stdio(
     included: bool,
     numbers: &Numbers,
 ) -> Result<(), CheckError>
-    ensures { Leaves checker.new result (with_stdio included (view_numbers numbers.now) (tables checker.old)) }
+    ensures { Leaves checker.new result
+        (with_stdio included (view_numbers numbers.now) (tables checker.old)) }
 {
     if !included {
         return Ok(());
@@ -102,7 +103,8 @@ pub fn declare_stdlib(
     included: bool,
     numbers: &Numbers,
 ) -> Result<(), CheckError>
-    ensures { Leaves checker.new result (with_stdlib included (view_numbers numbers.now) (tables checker.old)) }
+    ensures { Leaves checker.new result
+        (with_stdlib included (view_numbers numbers.now) (tables checker.old)) }
 {
     if !included {
         return Ok(());

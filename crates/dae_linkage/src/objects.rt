@@ -23,7 +23,8 @@ pub fn declare_object(
     name: Option<Name>,
     type_id: usize,
 ) -> Result<Option<usize>, CheckError>
-    ensures { Follows checker.new result (object_at place word given name (pure type_id)) checker.old }
+    ensures { Follows checker.new result
+        (object_at place word given name (pure type_id)) checker.old }
 {
     let shape = checker.shape_of(type_id);
     if is_void(shape) {
@@ -121,7 +122,8 @@ fn enter_object(
     type_id: usize,
     found: Option<Entity>,
 ) -> Result<usize, CheckError>
-    ensures { LeavesAnd checker.new result (declared_object place name word given type_id found (tables checker.old)) }
+    ensures { LeavesAnd checker.new result
+        (declared_object place name word given type_id found (tables checker.old)) }
 {
     let Some(Entity::Object(number)) = found else {
         return add_object(checker, place, name, word, given, type_id);
@@ -161,7 +163,8 @@ fn add_object(
     given: bool,
     type_id: usize,
 ) -> Result<usize, CheckError>
-    ensures { LeavesAnd checker.new result (new_object place name word given type_id (tables checker.old)) }
+    ensures { LeavesAnd checker.new result
+        (new_object place name word given type_id (tables checker.old)) }
 {
     let name = name_number(name);
     let number = checker.add_object(Object {
@@ -187,7 +190,9 @@ pub fn type_of_object(checker: &Checker, number: usize) -> usize
 
 /// Gives an object another type: that of an array with the size that it got from its initialiser.
 pub fn set_object_type(checker: &mut Checker, number: usize, type_id: usize)
-    ensures { tables checker.new ≡ with_object_type number type_id (tables checker.old) (slice_get (tables checker.old).objects number) }
+    ensures { tables checker.new
+        ≡ with_object_type number type_id (tables checker.old)
+        (slice_get (tables checker.old).objects number) }
 {
     if let Some(object) = checker.object(number) {
         checker.set_object(number, Object { type_id, ..object });

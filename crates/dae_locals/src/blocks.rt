@@ -67,7 +67,8 @@ fn name_type(
     base: usize,
     item: &Item,
 ) -> Result<Vec<Statement>, CheckError>
-    ensures { GivesStatements checker.new result (plan_item_at true place base (view_item item.now)) checker.old }
+    ensures { GivesStatements checker.new result
+        (plan_item_at true place base (view_item item.now)) checker.old }
 {
     let declared = declarator(alloc, checker, place, false, base, &item.declarator)?;
     let given = item.initialiser.is_some();
@@ -90,7 +91,8 @@ fn declare(
     base: usize,
     item: &Item,
 ) -> Result<Vec<Statement>, CheckError>
-    ensures { GivesStatements checker.new result (plan_item_at false place base (view_item item.now)) checker.old }
+    ensures { GivesStatements checker.new result
+        (plan_item_at false place base (view_item item.now)) checker.old }
 {
     let declared = declarator(alloc, checker, place, false, base, &item.declarator)?;
     let given = item.initialiser.is_some();
@@ -107,7 +109,8 @@ fn declare_item(
     base: usize,
     item: &Item,
 ) -> Result<Vec<Statement>, CheckError>
-    ensures { GivesStatements checker.new result (plan_item_at is_typedef place base (view_item item.now)) checker.old }
+    ensures { GivesStatements checker.new result
+        (plan_item_at is_typedef place base (view_item item.now)) checker.old }
 {
     if is_typedef {
         name_type(alloc, checker, place, base, item)
@@ -126,7 +129,8 @@ fn declare_items(
     mut done: Vec<Statement>,
     list: &[Item],
 ) -> Result<Vec<Statement>, CheckError>
-    ensures { GivesStatements checker.new result (plan_items place is_typedef base (as_statements done) (view_items list.now)) checker.old }
+    ensures { GivesStatements checker.new result
+        (plan_items place is_typedef base (as_statements done) (view_items list.now)) checker.old }
 {
     for one in list {
         let at = declared_place(&one.declarator, place);
@@ -164,7 +168,8 @@ fn declaration(
     done: Vec<Statement>,
     one: &Declaration,
 ) -> Result<Vec<Statement>, CheckError>
-    ensures { GivesStatements checker.new result (plan_declaration (as_statements done) (view_declaration one.now)) checker.old }
+    ensures { GivesStatements checker.new result
+        (plan_declaration (as_statements done) (view_declaration one.now)) checker.old }
 {
     let base = base(alloc, checker, is_alone(&one.items), &one.specifiers)?;
     let place = place_of_specifiers(&one.specifiers, one.end);
@@ -179,7 +184,8 @@ pub fn declarations(
     checker: &mut Checker,
     list: &[Declaration],
 ) -> Result<Vec<Statement>, CheckError>
-    ensures { GivesStatements checker.new result (plan_declarations Done (view_declarations list.now)) checker.old }
+    ensures { GivesStatements checker.new result
+        (plan_declarations Done (view_declarations list.now)) checker.old }
 {
     let mut done = Vec::new(alloc);
     for one in list {

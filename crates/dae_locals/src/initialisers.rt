@@ -29,7 +29,8 @@ fn fill(
     filling: Filling,
     one: &Initialiser,
 ) -> Result<Filling, CheckError>
-    ensures { FollowsBy view_filling checker.new result (plan_initialiser (view_filling filling) (view_initialiser one.now)) checker.old }
+    ensures { FollowsBy view_filling checker.new result
+        (plan_initialiser (view_filling filling) (view_initialiser one.now)) checker.old }
 {
     match one {
         Initialiser::Value(e) => fill_value(alloc, checker, filling, e),
@@ -46,7 +47,8 @@ fn fill_list(
     filling: Filling,
     inner: &[Initialiser],
 ) -> Result<Filling, CheckError>
-    ensures { FollowsBy view_filling checker.new result (plan_list place (view_filling filling) (views_initialisers inner.now)) checker.old }
+    ensures { FollowsBy view_filling checker.new result
+        (plan_list place (view_filling filling) (views_initialisers inner.now)) checker.old }
 {
     let over = filling.over;
     let opening = open_list(alloc, checker, place, filling, inner)?;
@@ -63,7 +65,8 @@ fn fill_all(
     mut filling: Filling,
     all: &[Initialiser],
 ) -> Result<Filling, CheckError>
-    ensures { FollowsBy view_filling checker.new result (plan_initialisers (view_filling filling) (views_initialisers all.now)) checker.old }
+    ensures { FollowsBy view_filling checker.new result
+        (plan_initialisers (view_filling filling) (views_initialisers all.now)) checker.old }
 {
     for one in all {
         filling = fill(alloc, checker, filling, one)?;
@@ -78,7 +81,8 @@ fn fill_value(
     filling: Filling,
     e: &Expression,
 ) -> Result<Filling, CheckError>
-    ensures { FollowsBy view_filling checker.new result (plan_initialiser (view_filling filling) (Value (view e.now))) checker.old }
+    ensures { FollowsBy view_filling checker.new result
+        (plan_initialiser (view_filling filling) (Value (view e.now))) checker.old }
 {
     let x = operand(alloc, checker, e)?;
     let landing = land(alloc, checker, e.place(), literal_in(e), filling, &x)?;
@@ -109,7 +113,8 @@ fn fill_by_value(
     whole: bool,
     e: &Expression,
 ) -> Result<Filling, CheckError>
-    ensures { FollowsBy view_filling checker.new result (whole_by offset type_id (Value (view e.now)) whole) checker.old }
+    ensures { FollowsBy view_filling checker.new result
+        (whole_by offset type_id (Value (view e.now)) whole) checker.old }
 {
     if whole {
         let x = operand(alloc, checker, e)?;
@@ -128,7 +133,8 @@ fn fill_whole(
     type_id: usize,
     one: &Initialiser,
 ) -> Result<Filling, CheckError>
-    ensures { FollowsBy view_filling checker.new result (plan_whole offset type_id (view_initialiser one.now)) checker.old }
+    ensures { FollowsBy view_filling checker.new result
+        (plan_whole offset type_id (view_initialiser one.now)) checker.old }
 {
     match one {
         Initialiser::Value(e) => {
@@ -153,7 +159,8 @@ pub fn content(
     type_id: usize,
     initialiser: &Initialiser,
 ) -> Result<Content, CheckError>
-    ensures { FollowsBy view_content checker.new result (plan_content place offset type_id (view_initialiser initialiser.now)) checker.old }
+    ensures { FollowsBy view_content checker.new result
+        (plan_content place offset type_id (view_initialiser initialiser.now)) checker.old }
 {
     let filling = fill_whole(alloc, checker, offset, type_id, initialiser)?;
     finish_content(checker, place, type_id, filling)
@@ -166,7 +173,8 @@ pub fn look_through(
     checker: &mut Checker,
     initialiser: &Initialiser,
 ) -> Result<(), CheckError>
-    ensures { Follows checker.new result (looked_through (view_initialiser initialiser.now)) checker.old }
+    ensures { Follows checker.new result
+        (looked_through (view_initialiser initialiser.now)) checker.old }
 {
     let nothing = Filling {
         rest: Vec::new(alloc),

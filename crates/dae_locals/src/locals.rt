@@ -29,7 +29,8 @@ fn set_scalar(
     number: usize,
     initialiser: &Initialiser,
 ) -> Result<Vec<Statement>, CheckError>
-    ensures { GivesStatements checker.new result (plan_scalar place number (view_initialiser initialiser.now)) checker.old }
+    ensures { GivesStatements checker.new result
+        (plan_scalar place number (view_initialiser initialiser.now)) checker.old }
 {
     match initialiser {
         Initialiser::Value(e) => set_value(alloc, checker, place, number, e),
@@ -47,7 +48,8 @@ fn set_first(
     brace: Place,
     list: &[Initialiser],
 ) -> Result<Vec<Statement>, CheckError>
-    ensures { GivesStatements checker.new result (plan_scalar_list place number brace (views_initialisers list.now)) checker.old }
+    ensures { GivesStatements checker.new result
+        (plan_scalar_list place number brace (views_initialisers list.now)) checker.old }
 {
     check_scalar_list(checker, brace, list)?;
     match list {
@@ -64,7 +66,8 @@ fn set_value(
     number: usize,
     e: &Expression,
 ) -> Result<Vec<Statement>, CheckError>
-    ensures { GivesStatements checker.new result (plan_scalar place number (Value (view e.now))) checker.old }
+    ensures { GivesStatements checker.new result
+        (plan_scalar place number (Value (view e.now))) checker.old }
 {
     let x = operand(alloc, checker, e)?;
     initialise_scalar(alloc, checker, place, e.place(), number, x)
@@ -78,7 +81,8 @@ fn initialise(
     number: usize,
     initialiser: &Initialiser,
 ) -> Result<Vec<Statement>, CheckError>
-    ensures { GivesStatements checker.new result (plan_initialised place number (view_initialiser initialiser.now)) checker.old }
+    ensures { GivesStatements checker.new result
+        (plan_initialised place number (view_initialiser initialiser.now)) checker.old }
 {
     let type_id = type_of_local(checker, number);
     if is_scalar(checker.shape_of(type_id)) {
@@ -98,7 +102,8 @@ pub fn begin(
     given: &Option<(Place, Initialiser)>,
     number: Option<usize>,
 ) -> Result<Vec<Statement>, CheckError>
-    ensures { GivesStatements checker.new result (plan_local place (view_value given.now) number) checker.old }
+    ensures { GivesStatements checker.new result
+        (plan_local place (view_value given.now) number) checker.old }
 {
     match given {
         Some((_, initialiser)) => match number {

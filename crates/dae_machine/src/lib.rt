@@ -14,8 +14,6 @@ pub use turn_words::Words;
 mod laws;
 mod machine;
 mod open;
-#[cfg(test)]
-mod tests;
 mod turn_words;
 
 /// Who moves next: a processor, the memory that fills the slot of this number for a side, or the memory that drains the

@@ -103,7 +103,8 @@ impl Machine {
         requires enabled { IsSome (step self.old.setup self.old.state pick) }
         requires few { self.old.state.steps < 1000000000000 }
         ensures setup { self.new.setup ≡ self.old.setup }
-        ensures state { step self.old.setup self.old.state pick ≡ Some (record self.new.state { printed = result }) }
+        ensures state { step self.old.setup self.old.state pick
+            ≡ Some (record self.new.state { printed = result }) }
     {
         match pick {
             Pick::A => {
@@ -136,7 +137,8 @@ impl Machine {
     fn try_a(&mut self) -> bool
         requires few { self.old.state.steps < 1000000000000 }
         ensures done { result ≡ true → Stepped Pick.A [] self.old self.new }
-        ensures none { result ≡ false → (step self.old.setup self.old.state Pick.A ≡ None) × (self.new ≡ self.old) }
+        ensures none { result ≡ false
+            → (step self.old.setup self.old.state Pick.A ≡ None) × (self.new ≡ self.old) }
     {
         let memory = self.memory.len() as u32;
         let answer = self.a.step(memory, &mut self.queues);
@@ -151,7 +153,8 @@ impl Machine {
     fn try_e(&mut self) -> Option<Piece>
         requires few { self.old.state.steps < 1000000000000 }
         ensures done { IfSome result (λ piece. Stepped Pick.E piece self.old self.new) }
-        ensures none { result ≡ None → (step self.old.setup self.old.state Pick.E ≡ None) × (self.new ≡ self.old) }
+        ensures none { result ≡ None
+            → (step self.old.setup self.old.state Pick.E ≡ None) × (self.new ≡ self.old) }
     {
         let memory = self.memory.len() as u32;
         match self.e.step(memory, &mut self.queues) {
@@ -168,7 +171,8 @@ impl Machine {
         requires enabled { IsSome (step self.old.setup self.old.state (Pick.Fill side number)) }
         requires few { self.old.state.steps < 1000000000000 }
         ensures setup { self.new.setup ≡ self.old.setup }
-        ensures state { step self.old.setup self.old.state (Pick.Fill side number) ≡ Some (record self.new.state { printed = [] }) }
+        ensures state { step self.old.setup self.old.state (Pick.Fill side number)
+            ≡ Some (record self.new.state { printed = [] }) }
     {
         if let Some(word) = self.queues.fill_word(side, number, self.memory.as_slice()) {
             self.queues.fill(side, number, word);
@@ -180,7 +184,8 @@ impl Machine {
     fn try_drain(&mut self) -> bool
         requires few { self.old.state.steps < 1000000000000 }
         ensures done { result ≡ true → Stepped Pick.Drain [] self.old self.new }
-        ensures none { result ≡ false → (step self.old.setup self.old.state Pick.Drain ≡ None) × (self.new ≡ self.old) }
+        ensures none { result ≡ false
+            → (step self.old.setup self.old.state Pick.Drain ≡ None) × (self.new ≡ self.old) }
     {
         let Some((at, word)) = self.queues.draining() else {
             return false;

@@ -47,7 +47,11 @@ pub fn common_memory(alloc: Global, image: &Image) -> Result<Vec<u8>, AllocError
     requires { DataFit image.now }
     ensures size { IfOk result (λ memory. length memory.items ≡ image.now.memory) }
     ensures small { IfOk result (λ memory. length memory.items < 2 ^ 32) }
-    ensures bytes { IfOk result (λ memory. memory.items ≡ replicate 16 0 ++ (image.now.content ++ replicate (image.now.memory - (16 + length image.now.content)) 0)) }
+    ensures bytes { IfOk result
+        (λ memory. memory.items
+        ≡ replicate 16 0
+        ++ (image.now.content
+        ++ replicate (image.now.memory - (16 + length image.now.content)) 0)) }
 {
     let mut memory = vec![in alloc; 0; 16]?;
     memory.extend_from_slice(image.content.as_slice())?;

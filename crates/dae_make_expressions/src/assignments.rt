@@ -13,7 +13,9 @@ use std::alloc::AllocError;
 /// Adds or removes the assignments of an expression.
 #[cycle(count)]
 pub fn count(later: &mut Later, change: Change, e: &Expression) -> Result<(), AllocError>
-    ensures { IfOk result (λ x. Changes change (assignments (view e.now)) (counts_of later.old) (counts_of later.new)) }
+    ensures { IfOk result
+        (λ x. Changes change (assignments (view e.now)) (counts_of later.old)
+        (counts_of later.new)) }
 {
     match e {
         Expression::Number(_) => Ok(()),
@@ -95,7 +97,9 @@ pub fn count(later: &mut Later, change: Change, e: &Expression) -> Result<(), Al
 
 #[cycle(count)]
 fn count_target(later: &mut Later, change: Change, t: &Target) -> Result<(), AllocError>
-    ensures { IfOk result (λ x. Changes change (target_assignments (view_target t.now)) (counts_of later.old) (counts_of later.new)) }
+    ensures { IfOk result
+        (λ x. Changes change (target_assignments (view_target t.now)) (counts_of later.old)
+        (counts_of later.new)) }
 {
     match t {
         Target::Variable(v) => {
@@ -112,7 +116,9 @@ fn count_target(later: &mut Later, change: Change, t: &Target) -> Result<(), All
 /// Adds or removes the assignments of all expressions of a list.
 #[cycle(count)]
 pub fn count_all(later: &mut Later, change: Change, xs: &[Expression]) -> Result<(), AllocError>
-    ensures { IfOk result (λ x. Changes change (all_assignments (view_expressions xs.now)) (counts_of later.old) (counts_of later.new)) }
+    ensures { IfOk result
+        (λ x. Changes change (all_assignments (view_expressions xs.now)) (counts_of later.old)
+        (counts_of later.new)) }
 {
     for e in xs {
         count(later, change, e)?;

@@ -23,7 +23,9 @@ impl Lowerer {
     /// The operand that holds an expression's value. `none` is the number of no function.
     #[cycle(lower)]
     pub fn value(&mut self, links: &Links, none: u32, e: &Expression) -> Result<Operand, AllocError>
-        ensures { IfOk result (LowersTo (ways (links_in none links.now) (view e.now)).value (assignments (view e.now)) self.old self.new) }
+        ensures { IfOk result
+            (LowersTo (ways (links_in none links.now) (view e.now)).value
+            (assignments (view e.now)) self.old self.new) }
     {
         match e {
             Expression::Number(number) => Ok(Operand::Number(*number)),
@@ -148,7 +150,9 @@ impl Lowerer {
     /// An expression for its effects.
     #[cycle(lower)]
     pub fn effect(&mut self, links: &Links, none: u32, e: &Expression) -> Result<(), AllocError>
-        ensures { IfOk result (LowersTo (ways (links_in none links.now) (view e.now)).effect (assignments (view e.now)) self.old self.new) }
+        ensures { IfOk result
+            (LowersTo (ways (links_in none links.now) (view e.now)).effect
+            (assignments (view e.now)) self.old self.new) }
     {
         match e {
             Expression::Variable(_, _) => Ok(()),
@@ -247,7 +251,9 @@ impl Lowerer {
         none: u32,
         e: &Expression,
     ) -> Result<Condition, AllocError>
-        ensures { IfOk result (λ c. LowersTo (ways (links_in none links.now) (view e.now)).condition (assignments (view e.now)) self.old self.new (condition_of c)) }
+        ensures { IfOk result
+            (λ c. LowersTo (ways (links_in none links.now) (view e.now)).condition
+            (assignments (view e.now)) self.old self.new (condition_of c)) }
     {
         match e {
             Expression::Not(_, a) => {
@@ -341,7 +347,9 @@ impl Lowerer {
     /// What is assigned, once its address is known.
     #[cycle(lower)]
     fn spot(&mut self, links: &Links, none: u32, t: &Target) -> Result<Spot, AllocError>
-        ensures { IfOk result (λ o. LowersTo (spot (links_in none links.now) (view_target t.now)) (target_assignments (view_target t.now)) self.old self.new (spot_of o)) }
+        ensures { IfOk result
+            (λ o. LowersTo (spot (links_in none links.now) (view_target t.now))
+            (target_assignments (view_target t.now)) self.old self.new (spot_of o)) }
     {
         match t {
             Target::Variable(v) => {
@@ -363,7 +371,9 @@ impl Lowerer {
         none: u32,
         xs: &[Expression],
     ) -> Result<Vec<Operand>, AllocError>
-        ensures { IfOk result (λ ys. LowersTo (operands (links_in none links.now) (view_expressions xs.now)) (all_assignments (view_expressions xs.now)) self.old self.new ys.items) }
+        ensures { IfOk result
+            (λ ys. LowersTo (operands (links_in none links.now) (view_expressions xs.now))
+            (all_assignments (view_expressions xs.now)) self.old self.new ys.items) }
     {
         let mut operands = Vec::new(self.alloc);
         for e in xs {
@@ -385,7 +395,10 @@ impl Lowerer {
         change: u32,
         new: bool,
     ) -> Result<Operand, AllocError>
-        ensures { IfOk result (LowersTo (ways (links_in none links.now) (Step place kind (view_target t.now) change new)).value (target_assignments (view_target t.now)) self.old self.new) }
+        ensures { IfOk result
+            (LowersTo
+            (ways (links_in none links.now) (Step place kind (view_target t.now) change new)).value
+            (target_assignments (view_target t.now)) self.old self.new) }
     {
         let spot = self.spot(links, none, t)?;
         let flag = is_kept(&self.later, new, spot);
@@ -402,7 +415,10 @@ impl Lowerer {
         part: Part,
         e: &Expression,
     ) -> Result<Vec<Statement>, AllocError>
-        ensures { IfOk result (λ inner. PartsTo (used part (ways (links_in none links.now) (view e.now))) (assignments (view e.now)) self.old self.new inner.items) }
+        ensures { IfOk result
+            (λ inner.
+            PartsTo (used part (ways (links_in none links.now) (view e.now)))
+            (assignments (view e.now)) self.old self.new inner.items) }
     {
         let outer = self.maker.begin_block(self.alloc);
         self.part(links, none, part, e)?;
@@ -418,7 +434,9 @@ impl Lowerer {
         part: Part,
         e: &Expression,
     ) -> Result<(), AllocError>
-        ensures { IfOk result (LowersTo (used part (ways (links_in none links.now) (view e.now))) (assignments (view e.now)) self.old self.new) }
+        ensures { IfOk result
+            (LowersTo (used part (ways (links_in none links.now) (view e.now)))
+            (assignments (view e.now)) self.old self.new) }
     {
         match part {
             Part::Value(place, v) => {

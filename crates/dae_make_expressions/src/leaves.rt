@@ -71,7 +71,8 @@ pub fn constant(
     v: u32,
     number: u32,
 ) -> Result<Vec<Statement>, AllocError>
-    ensures { IfOk result (λ block. form_of block.items ≡ one place (Assign v (Same (Number number)))) }
+    ensures { IfOk result
+        (λ block. form_of block.items ≡ one place (Assign v (Same (Number number)))) }
 {
     let mut block = Vec::new(alloc);
     let value = Value::Same(Operand::Number(number));

@@ -19,7 +19,8 @@ ghost use Rattle.dae_make_expressions.specs.Lowered.{state_of};
 impl Lowerer {
     /// Nothing is written, in a function with so many variables.
     pub fn new(alloc: Global, variables: u32) -> Lowerer
-        ensures { state_of result ≡ record { written = record { code = Done; next = variables }; later = never } }
+        ensures { state_of result
+            ≡ record { written = record { code = Done; next = variables }; later = never } }
     {
         Lowerer {
             alloc,

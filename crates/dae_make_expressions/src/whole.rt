@@ -21,7 +21,9 @@ impl Lowerer {
         none: u32,
         e: &Expression,
     ) -> Result<Operand, AllocError>
-        ensures { IfOk result (MakesWhole ((ways (links_in none links.now) (view e.now)).value nowhere) self.old self.new) }
+        ensures { IfOk result
+            (MakesWhole
+            ((ways (links_in none links.now) (view e.now)).value nowhere) self.old self.new) }
     {
         count(&mut self.later, Change::Add, e)?;
         let x = self.value(links, none, e)?;
@@ -35,7 +37,9 @@ impl Lowerer {
         none: u32,
         e: &Expression,
     ) -> Result<(), AllocError>
-        ensures { IfOk result (MakesWhole ((ways (links_in none links.now) (view e.now)).effect nowhere) self.old self.new) }
+        ensures { IfOk result
+            (MakesWhole
+            ((ways (links_in none links.now) (view e.now)).effect nowhere) self.old self.new) }
     {
         count(&mut self.later, Change::Add, e)?;
         self.effect(links, none, e)?;
@@ -49,7 +53,10 @@ impl Lowerer {
         none: u32,
         e: &Expression,
     ) -> Result<Condition, AllocError>
-        ensures { IfOk result (λ c. MakesWhole ((ways (links_in none links.now) (view e.now)).condition nowhere) self.old self.new (condition_of c)) }
+        ensures { IfOk result
+            (λ c. MakesWhole
+            ((ways (links_in none links.now) (view e.now)).condition nowhere) self.old self.new
+            (condition_of c)) }
     {
         count(&mut self.later, Change::Add, e)?;
         let condition = self.condition(links, none, e)?;
@@ -63,7 +70,10 @@ impl Lowerer {
         none: u32,
         xs: &[Expression],
     ) -> Result<Vec<Operand>, AllocError>
-        ensures { IfOk result (λ ys. MakesWhole (operands (links_in none links.now) (view_expressions xs.now) nowhere) self.old self.new ys.items) }
+        ensures { IfOk result
+            (λ ys. MakesWhole
+            (operands (links_in none links.now)
+            (view_expressions xs.now) nowhere) self.old self.new ys.items) }
     {
         count_all(&mut self.later, Change::Add, xs)?;
         let operands = self.operands(links, none, xs)?;

@@ -47,7 +47,8 @@ fn store_parameter(
     number: u32,
     slot: &Option<Slot>,
 ) -> Result<(), AllocError>
-    ensures { IfOk result (MakesWhole (parameters_stored place (slot.now ∷ []) number) lowerer.old lowerer.new) }
+    ensures { IfOk result
+        (MakesWhole (parameters_stored place (slot.now ∷ []) number) lowerer.old lowerer.new) }
 {
     match slot {
         Some(slot) => {
@@ -64,7 +65,8 @@ fn store_parameters(
     place: Place,
     slots: &[Option<Slot>],
 ) -> Result<(), AllocError>
-    ensures { IfOk result (MakesWhole (parameters_stored place slots.now 1) lowerer.old lowerer.new) }
+    ensures { IfOk result
+        (MakesWhole (parameters_stored place slots.now 1) lowerer.old lowerer.new) }
 {
     let mut number = 1;
     for slot in slots {
@@ -110,7 +112,8 @@ fn close(block: Vec<Statement>, place: Place, last: Item) -> Result<Vec<Statemen
 
 /// The function begins only where its frame has room, where the flag says that this is checked.
 fn check_frame(lowerer: &mut Lowerer, place: Place, flag: bool) -> Result<(), AllocError>
-    ensures { IfOk result (MakesWhole (emit (checks flag place (Expect Frame) Done)) lowerer.old lowerer.new) }
+    ensures { IfOk result
+        (MakesWhole (emit (checks flag place (Expect Frame) Done)) lowerer.old lowerer.new) }
 {
     if flag {
         lowerer.maker.item(place, Item::Expect(Check::Frame))?;

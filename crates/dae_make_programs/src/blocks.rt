@@ -34,7 +34,8 @@ pub fn leave_if_not(alloc: Global, place: Place, test: Test) -> Result<Statement
 
 /// A variable goes up by one.
 pub fn go_up(alloc: Global, place: Place, v: u32) -> Result<Vec<Statement>, AllocError>
-    ensures { IfOk result (λ block. form_of block.items ≡ one place (Assign v (Binary Add (Variable v) (Number 1)))) }
+    ensures { IfOk result
+        (λ block. form_of block.items ≡ one place (Assign v (Binary Add (Variable v) (Number 1)))) }
 {
     let more = Value::Binary(Operator::Add, Operand::Variable(v), Operand::Number(1));
     let block = single(alloc, place, Item::Assign(v, more))?;

@@ -48,7 +48,8 @@ fn zero_turn(
 /// So many bytes from an offset in the frame on become 0. What is given is the first of three variables, which is for
 /// addresses.
 pub fn zero(lowerer: &mut Lowerer, place: Place, offset: u32, size: u32) -> Result<u32, AllocError>
-    ensures { IfOk result (MakesWhole (λ n. only (zeros place offset size n) n (n + 3)) lowerer.old lowerer.new) }
+    ensures { IfOk result
+        (MakesWhole (λ n. only (zeros place offset size n) n (n + 3)) lowerer.old lowerer.new) }
 {
     let address = lowerer.maker.reserve()?;
     let index = lowerer.maker.reserve()?;
@@ -73,7 +74,10 @@ fn put(
     v: u32,
     item: &Setting,
 ) -> Result<(), AllocError>
-    ensures { IfOk result (MakesWhole (settings (links_in none links.now) place v (view_settings (item.now ∷ []))) lowerer.old lowerer.new) }
+    ensures { IfOk result
+        (MakesWhole
+        (settings (links_in none links.now) place v
+        (view_settings (item.now ∷ []))) lowerer.old lowerer.new) }
 {
     let y = lowerer.whole_value(links, none, &item.value)?;
     let address = Value::FrameAddress(item.offset);
@@ -93,7 +97,10 @@ pub fn put_all(
     v: u32,
     items: &[Setting],
 ) -> Result<(), AllocError>
-    ensures { IfOk result (MakesWhole (settings (links_in none links.now) place v (view_settings items.now)) lowerer.old lowerer.new) }
+    ensures { IfOk result
+        (MakesWhole
+        (settings (links_in none links.now) place v
+        (view_settings items.now)) lowerer.old lowerer.new) }
 {
     for item in items {
         put(lowerer, links, none, place, v, item)?;

@@ -73,7 +73,8 @@ fn print_piece(
     xs: &[Operand],
     piece: &Piece,
 ) -> Result<(), AllocError>
-    ensures { IfOk result (MakesWhole (prints place (piece.now ∷ []) xs.now) lowerer.old lowerer.new) }
+    ensures { IfOk result
+        (MakesWhole (prints place (piece.now ∷ []) xs.now) lowerer.old lowerer.new) }
 {
     match piece {
         Piece::Byte(byte) => {

@@ -29,7 +29,9 @@ fn leave_unless(
     place: Place,
     e: &Expression,
 ) -> Result<(), AllocError>
-    ensures { IfOk result (MakesWhole (leave_unless (links_in none links.now) place (view e.now)) lowerer.old lowerer.new) }
+    ensures { IfOk result
+        (MakesWhole
+        (leave_unless (links_in none links.now) place (view e.now)) lowerer.old lowerer.new) }
 {
     let condition = lowerer.whole_condition(links, none, e)?;
     let stay = Vec::new(lowerer.alloc);
@@ -46,7 +48,10 @@ fn leave_unless_some(
     place: Place,
     test: &Option<Expression>,
 ) -> Result<(), AllocError>
-    ensures { IfOk result (MakesWhole (leave_unless_some (links_in none links.now) place (view_some test.now)) lowerer.old lowerer.new) }
+    ensures { IfOk result
+        (MakesWhole
+        (leave_unless_some (links_in none links.now) place
+        (view_some test.now)) lowerer.old lowerer.new) }
 {
     match test {
         Some(e) => {
@@ -64,7 +69,9 @@ fn effect_of_some(
     none: u32,
     step: &Option<Expression>,
 ) -> Result<(), AllocError>
-    ensures { IfOk result (MakesWhole (effect_of_some (links_in none links.now) (view_some step.now)) lowerer.old lowerer.new) }
+    ensures { IfOk result
+        (MakesWhole
+        (effect_of_some (links_in none links.now) (view_some step.now)) lowerer.old lowerer.new) }
 {
     match step {
         Some(e) => {
@@ -83,7 +90,11 @@ fn test_block(
     place: Place,
     e: &Expression,
 ) -> Result<Vec<FormStatement>, AllocError>
-    ensures { IfOk result (λ inner. MakesBlock (leave_unless (links_in none links.now) place (view e.now)) lowerer.old lowerer.new inner.items) }
+    ensures { IfOk result
+        (λ inner.
+        MakesBlock
+        (leave_unless (links_in none links.now) place
+        (view e.now)) lowerer.old lowerer.new inner.items) }
 {
     let outer = lowerer.maker.begin_block(lowerer.alloc);
     leave_unless(lowerer, links, none, place, e)?;
@@ -97,7 +108,11 @@ fn step_block(
     none: u32,
     step: &Option<Expression>,
 ) -> Result<Vec<FormStatement>, AllocError>
-    ensures { IfOk result (λ inner. MakesBlock (effect_of_some (links_in none links.now) (view_some step.now)) lowerer.old lowerer.new inner.items) }
+    ensures { IfOk result
+        (λ inner.
+        MakesBlock
+        (effect_of_some (links_in none links.now)
+        (view_some step.now)) lowerer.old lowerer.new inner.items) }
 {
     let outer = lowerer.maker.begin_block(lowerer.alloc);
     effect_of_some(lowerer, links, none, step)?;
@@ -114,7 +129,10 @@ fn initialise(
     size: u32,
     items: &[Setting],
 ) -> Result<(), AllocError>
-    ensures { IfOk result (MakesWhole (statements (links_in none links.now) (Initialise place offset size (view_settings items.now) Done)) lowerer.old lowerer.new) }
+    ensures { IfOk result
+        (MakesWhole
+        (statements (links_in none links.now)
+        (Initialise place offset size (view_settings items.now) Done)) lowerer.old lowerer.new) }
 {
     let v = zero(lowerer, place, offset, size)?;
     put_all(lowerer, links, none, place, v, items)?;
@@ -129,7 +147,10 @@ fn give_back(
     place: Place,
     value: &Option<Expression>,
 ) -> Result<(), AllocError>
-    ensures { IfOk result (MakesWhole (statements (links_in none links.now) (Return place (view_some value.now) Done)) lowerer.old lowerer.new) }
+    ensures { IfOk result
+        (MakesWhole
+        (statements (links_in none links.now)
+        (Return place (view_some value.now) Done)) lowerer.old lowerer.new) }
 {
     match value {
         Some(e) => {
@@ -152,7 +173,9 @@ pub fn make_statements(
     none: u32,
     ss: &[Statement],
 ) -> Result<(), AllocError>
-    ensures { IfOk result (MakesWhole (statements (links_in none links.now) (view_statements ss.now)) lowerer.old lowerer.new) }
+    ensures { IfOk result
+        (MakesWhole
+        (statements (links_in none links.now) (view_statements ss.now)) lowerer.old lowerer.new) }
 {
     for s in ss {
         make_statement(lowerer, links, none, s)?;
@@ -167,7 +190,10 @@ fn make_statement(
     none: u32,
     s: &Statement,
 ) -> Result<(), AllocError>
-    ensures { IfOk result (MakesWhole (statements (links_in none links.now) (statement_then s.now Done)) lowerer.old lowerer.new) }
+    ensures { IfOk result
+        (MakesWhole
+        (statements (links_in none links.now)
+        (statement_then s.now Done)) lowerer.old lowerer.new) }
 {
     match s {
         Statement::Evaluate(_, e) => {
@@ -233,7 +259,11 @@ fn block(
     none: u32,
     ss: &[Statement],
 ) -> Result<Vec<FormStatement>, AllocError>
-    ensures { IfOk result (λ inner. MakesBlock (statements (links_in none links.now) (view_statements ss.now)) lowerer.old lowerer.new inner.items) }
+    ensures { IfOk result
+        (λ inner.
+        MakesBlock
+        (statements (links_in none links.now)
+        (view_statements ss.now)) lowerer.old lowerer.new inner.items) }
 {
     let outer = lowerer.maker.begin_block(lowerer.alloc);
     make_statements(lowerer, links, none, ss)?;
@@ -250,7 +280,9 @@ fn make_switch(
     x: Operand,
     arms: &[Arm],
 ) -> Result<(), AllocError>
-    ensures { IfOk result (MakesWhole (switch_on (links_in none links.now) place (arms_of arms.now) x) lowerer.old lowerer.new) }
+    ensures { IfOk result
+        (MakesWhole
+        (switch_on (links_in none links.now) place (arms_of arms.now) x) lowerer.old lowerer.new) }
 {
     let goes_on = arms_continue(arms);
     let v = begin_switch(lowerer, place, x, arms, goes_on)?;
@@ -272,7 +304,10 @@ fn make_arms(
     v: u32,
     arms: &[Arm],
 ) -> Result<(), AllocError>
-    ensures { IfOk result (MakesWhole (arms_from (links_in none links.now) place v 0 (arms_of arms.now)) lowerer.old lowerer.new) }
+    ensures { IfOk result
+        (MakesWhole
+        (arms_from (links_in none links.now) place v 0
+        (arms_of arms.now)) lowerer.old lowerer.new) }
 {
     let mut number = 0;
     for arm in arms {

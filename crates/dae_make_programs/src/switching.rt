@@ -44,7 +44,8 @@ fn has_default(labels: &[Option<u32>]) -> bool
 
 /// The number of the arm with `default`, and where there is none of the end.
 pub fn default_arm(arms: &[Arm]) -> Result<u32, AllocError>
-    ensures { IfOk result (λ k. k ≡ arm_with None 0 (arms_of arms.now) (count_arms (arms_of arms.now))) }
+    ensures { IfOk result
+        (λ k. k ≡ arm_with None 0 (arms_of arms.now) (count_arms (arms_of arms.now))) }
 {
     let mut number = 0;
     for arm in arms {
@@ -89,7 +90,10 @@ fn search_label(
     number: u32,
     label: &Option<u32>,
 ) -> Result<(), AllocError>
-    ensures { IfOk result (λ u. (rest : Form) → (form_of block.new.items ⨾ rest) ≡ (form_of block.old.items ⨾ search_labels place x v number (label.now ∷ []) rest)) }
+    ensures { IfOk result
+        (λ u. (rest : Form)
+        → (form_of block.new.items ⨾ rest)
+        ≡ (form_of block.old.items ⨾ search_labels place x v number (label.now ∷ []) rest)) }
 {
     match label {
         Some(label) => {
@@ -111,7 +115,10 @@ fn search_labels(
     number: u32,
     labels: &[Option<u32>],
 ) -> Result<(), AllocError>
-    ensures { IfOk result (λ u. (rest : Form) → (form_of block.new.items ⨾ rest) ≡ (form_of block.old.items ⨾ search_labels place x v number labels.now rest)) }
+    ensures { IfOk result
+        (λ u. (rest : Form)
+        → (form_of block.new.items ⨾ rest)
+        ≡ (form_of block.old.items ⨾ search_labels place x v number labels.now rest)) }
 {
     for label in labels {
         search_label(alloc, block, place, x, v, number, label)?;
@@ -141,7 +148,10 @@ pub fn search(
 
 /// Nothing has continued the loop outside yet, where the flag says that something may.
 fn clear(lowerer: &mut Lowerer, place: Place, flag: u32, goes_on: bool) -> Result<(), AllocError>
-    ensures { IfOk result (MakesWhole (emit (where_so goes_on (one place (Assign flag (Same (Number 0)))))) lowerer.old lowerer.new) }
+    ensures { IfOk result
+        (MakesWhole
+        (emit (where_so goes_on
+        (one place (Assign flag (Same (Number 0)))))) lowerer.old lowerer.new) }
 {
     if goes_on {
         let zero = Value::Same(Operand::Number(0));
@@ -159,7 +169,10 @@ pub fn begin_switch(
     arms: &[Arm],
     goes_on: bool,
 ) -> Result<u32, AllocError>
-    ensures { IfOk result (MakesWhole (switch_begun place x (arm_with None 0 (arms_of arms.now) (count_arms (arms_of arms.now))) (arms_of arms.now) goes_on) lowerer.old lowerer.new) }
+    ensures { IfOk result
+        (MakesWhole
+        (switch_begun place x (arm_with None 0 (arms_of arms.now) (count_arms (arms_of arms.now)))
+        (arms_of arms.now) goes_on) lowerer.old lowerer.new) }
 {
     let v = lowerer.maker.reserve()?;
     let flag = lowerer.maker.reserve()?;
@@ -180,7 +193,8 @@ pub fn do_arm(
     number: u32,
     body: Vec<Statement>,
 ) -> Result<(), AllocError>
-    ensures { IfOk result (MakesWhole (arm_done place v number (form_of body.items)) lowerer.old lowerer.new) }
+    ensures { IfOk result
+        (MakesWhole (arm_done place v number (form_of body.items)) lowerer.old lowerer.new) }
 {
     let test = Test {
         comparison: Comparison::AtLeastUnsigned,
@@ -198,7 +212,9 @@ pub fn do_arm(
 
 /// What a continue in the arms goes to: it is noted, and the arms are left.
 fn note(alloc: Global, place: Place, flag: u32, goes_on: bool) -> Result<Vec<Statement>, AllocError>
-    ensures { IfOk result (λ block. form_of block.items ≡ where_so goes_on (Do place (Assign flag (Same (Number 1))) (one place Break))) }
+    ensures { IfOk result
+        (λ block. form_of block.items
+        ≡ where_so goes_on (Do place (Assign flag (Same (Number 1))) (one place Break))) }
 {
     let mut block = Vec::new(alloc);
     if goes_on {
@@ -211,7 +227,11 @@ fn note(alloc: Global, place: Place, flag: u32, goes_on: bool) -> Result<Vec<Sta
 
 /// Where the arms continued the loop outside, so does what is behind them.
 fn go_on(lowerer: &mut Lowerer, place: Place, flag: u32, goes_on: bool) -> Result<(), AllocError>
-    ensures { IfOk result (MakesWhole (emit (where_so goes_on (If place (test_of NotEqual (Variable flag) (Number 0)) (one place Continue) Done Done))) lowerer.old lowerer.new) }
+    ensures { IfOk result
+        (MakesWhole
+        (emit (where_so goes_on
+        (If place (test_of NotEqual (Variable flag) (Number 0))
+        (one place Continue) Done Done))) lowerer.old lowerer.new) }
 {
     if goes_on {
         let test = Test {
@@ -238,7 +258,8 @@ pub fn end_switch(
     goes_on: bool,
     body: Vec<Statement>,
 ) -> Result<(), AllocError>
-    ensures { IfOk result (MakesWhole (switch_ended place v goes_on (form_of body.items)) lowerer.old lowerer.new) }
+    ensures { IfOk result
+        (MakesWhole (switch_ended place v goes_on (form_of body.items)) lowerer.old lowerer.new) }
 {
     let flag = one_more(v)?;
     let step = note(lowerer.alloc, place, flag, goes_on)?;

@@ -60,7 +60,8 @@ impl Later {
     }
 
     fn add(&mut self, v: u32) -> Result<(), AllocError>
-        ensures { IfOk result (λ x. Changes Add (once v) (counts_of self.old) (counts_of self.new)) }
+        ensures { IfOk result
+            (λ x. Changes Add (once v) (counts_of self.old) (counts_of self.new)) }
     {
         self.reach(v)?;
         let index = v as usize;
@@ -81,7 +82,8 @@ impl Later {
 
     /// Adds an assignment to a variable, or removes one.
     pub fn change(&mut self, v: u32, change: Change) -> Result<(), AllocError>
-        ensures { IfOk result (λ x. Changes change (once v) (counts_of self.old) (counts_of self.new)) }
+        ensures { IfOk result
+            (λ x. Changes change (once v) (counts_of self.old) (counts_of self.new)) }
     {
         match change {
             Change::Add => {

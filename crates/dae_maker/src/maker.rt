@@ -296,7 +296,8 @@ impl Maker {
         x: Operand,
         y: Operand,
     ) -> Result<Operand, AllocError>
-        ensures { IfOk result (Appends (updated_in place kind operator spot x y) self.old self.new) }
+        ensures { IfOk result
+            (Appends (updated_in place kind operator spot x y) self.old self.new) }
     {
         let z = self.operated(place, operator, x, y)?;
         let w = self.narrowed(place, kind, z)?;
@@ -315,7 +316,8 @@ impl Maker {
         flag: bool,
         spot: Spot,
     ) -> Result<Operand, AllocError>
-        ensures { IfOk result (Appends (stepped_in place kind change new flag spot) self.old self.new) }
+        ensures { IfOk result
+            (Appends (stepped_in place kind change new flag spot) self.old self.new) }
     {
         let x = self.held(place, kind, flag, spot)?;
         let y = self.advanced(place, kind, change, spot, x)?;
@@ -331,7 +333,8 @@ impl Maker {
         x: Operand,
         y: Operand,
     ) -> Result<Operand, AllocError>
-        ensures { IfOk result (Appends (set place (Holds (related comparison turned x y))) self.old self.new) }
+        ensures { IfOk result
+            (Appends (set place (Holds (related comparison turned x y))) self.old self.new) }
     {
         let z = self.set(place, Value::Holds(related(comparison, turned, x, y)))?;
         Ok(z)
@@ -357,7 +360,9 @@ impl Maker {
     /// Leaves the next variable to what comes.
     pub fn reserve(&mut self) -> Result<u32, AllocError>
         ensures given { IfOk result (λ v. v ≡ self.old.next) }
-        ensures after { IfOk result (λ v. so_far self.new ≡ record { code = form_of self.old.statements.items; next = v + 1 }) }
+        ensures after { IfOk result
+            (λ v. so_far self.new
+            ≡ record { code = form_of self.old.statements.items; next = v + 1 }) }
     {
         let variable = self.next;
         self.next = one_more(variable)?;
@@ -375,7 +380,8 @@ impl Maker {
     /// Ends a block, which is given, and goes on behind the statements before it.
     pub fn end_block(&mut self, outer: Vec<Statement>) -> Vec<Statement>
         ensures block { form_of result.items ≡ form_of self.old.statements.items }
-        ensures after { so_far self.new ≡ record { code = form_of outer.items; next = self.old.next } }
+        ensures after { so_far self.new
+            ≡ record { code = form_of outer.items; next = self.old.next } }
     {
         std::mem::replace(&mut self.statements, outer)
     }
@@ -387,7 +393,9 @@ impl Maker {
         yes: Vec<Statement>,
         no: Vec<Statement>,
     ) -> Result<(), AllocError>
-        ensures { IfOk result (Appends (emit (If place test (form_of yes.items) (form_of no.items) Done)) self.old self.new) }
+        ensures { IfOk result
+            (Appends
+            (emit (If place test (form_of yes.items) (form_of no.items) Done)) self.old self.new) }
     {
         self.statements.push(Statement::If(place, test, yes, no))?;
         Ok(())
@@ -401,7 +409,10 @@ impl Maker {
         yes: Vec<Statement>,
         no: Vec<Statement>,
     ) -> Result<(), AllocError>
-        ensures { IfOk result (Appends (emit (forked place (condition_of condition) (form_of yes.items) (form_of no.items))) self.old self.new) }
+        ensures { IfOk result
+            (Appends
+            (emit (forked place (condition_of condition) (form_of yes.items)
+            (form_of no.items))) self.old self.new) }
     {
         if condition.turned {
             self.choice(place, condition.test, no, yes)?;
@@ -419,7 +430,9 @@ impl Maker {
         body: Vec<Statement>,
         step: Vec<Statement>,
     ) -> Result<(), AllocError>
-        ensures { IfOk result (Appends (emit (Loop place (form_of body.items) (form_of step.items) Done)) self.old self.new) }
+        ensures { IfOk result
+            (Appends
+            (emit (Loop place (form_of body.items) (form_of step.items) Done)) self.old self.new) }
     {
         self.statements.push(Statement::Loop(place, body, step))?;
         Ok(())

@@ -8,15 +8,18 @@ ghost use Rattle.dae_meaning.specs.Worlds.{AreBytes};
 
 /// A store changes no memory's length.
 pub fn memory_keeps_length()
-    ensures { (width : Width) (address x : ℕ) (memory : List ℕ) → length (stored width address x memory) ≡ length memory }
+    ensures { (width : Width) (address x : ℕ) (memory : List ℕ)
+        → length (stored width address x memory) ≡ length memory }
 {}
 
 /// A memory of bytes stays one, whatever is stored.
 pub fn memory_keeps_bytes()
-    ensures { (width : Width) (address x : ℕ) (memory : List ℕ) → AreBytes memory → AreBytes (stored width address x memory) }
+    ensures { (width : Width) (address x : ℕ) (memory : List ℕ) → AreBytes memory
+        → AreBytes (stored width address x memory) }
 {}
 
 /// What is loaded from a memory of bytes is a word.
 pub fn loads_are_words()
-    ensures { (kind : LoadKind) (address : ℕ) (memory : List ℕ) → AreBytes memory → loaded kind address memory < 2 ^ 32 }
+    ensures { (kind : LoadKind) (address : ℕ) (memory : List ℕ) → AreBytes memory
+        → loaded kind address memory < 2 ^ 32 }
 {}

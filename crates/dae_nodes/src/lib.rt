@@ -12,7 +12,6 @@ pub use declarators::{
     absent, empty_function, function, grouped, named, no_parameters, pointer, sized_array,
     unsized_array, with_parameter,
 };
-pub use depths::{Depths, GREATEST_DEPTH};
 pub use expressions::{
     assignment, binary, call, cast, comma, conditional, constant, identifier, index, literal,
     member, parenthesised, postfix, prefix, sizeof_expression, sizeof_type, with_argument,
@@ -39,12 +38,9 @@ pub use values::{
 
 mod declarations;
 mod declarators;
-mod depths;
 mod expressions;
 mod lists;
 mod operators;
 mod specifiers;
 mod statements;
-#[cfg(test)]
-mod tests;
 mod values;

@@ -2,8 +2,8 @@ ghost use Rattle.std.specs.Prelude.{◌≡◌, List, length, slice_get, Option, 
 ghost use Rattle.dae_grammar.specs.FirstPlaces.{Places, nowhere, both, over};
 ghost use Rattle.dae_nodes.specs.Shown.{Holds, IsKept, IsFrom, IsPair, IsLonger};
 
-use crate::depths::Depths;
 use dae_base::Place;
+use dae_depths::Depths;
 use dae_scope::Binding;
 use dae_tree::{Declarator, Expression, Parameter, Specifier};
 use std::alloc::{AllocError, Global};

@@ -88,7 +88,8 @@ pub fn slots_of(
     locals: &[Local],
     storages: &[Storage],
 ) -> Result<Vec<Option<Slot>>, CheckError>
-    ensures { Gives (λ slots. slots.items) result (Ok (slots_of (tables checker.now) parameters locals.now storages.now)) }
+    ensures { Gives (λ slots. slots.items) result
+        (Ok (slots_of (tables checker.now) parameters locals.now storages.now)) }
 {
     let mut slots = Vec::new(alloc);
     let mut rest = storages;
@@ -141,7 +142,8 @@ pub fn frame_size(
     locals: &[Local],
     storages: &[Storage],
 ) -> Result<u64, CheckError>
-    ensures { Gives (λ size. size) result (Ok (frame_of (tables checker.now) locals.now storages.now)) }
+    ensures { Gives (λ size. size) result
+        (Ok (frame_of (tables checker.now) locals.now storages.now)) }
 {
     let Some(end) = last_end(checker, locals, storages).checked_add(3) else {
         return Err(CheckError::Memory);

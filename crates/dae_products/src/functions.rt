@@ -70,7 +70,8 @@ fn routine_type(routine: Option<Routine>) -> usize
 
 /// The number of parameters in a list of at most so many.
 fn count_parameters_from(checker: &Checker, depth: usize, shape: Shape) -> Result<usize, CheckError>
-    ensures { Gives (λ n. n) result (Ok (length (parameters_from depth (tables checker.now) shape))) }
+    ensures { Gives (λ n. n) result
+        (Ok (length (parameters_from depth (tables checker.now) shape))) }
 {
     if depth == 0 {
         return Ok(0);
@@ -102,7 +103,8 @@ fn typed_function(
     place: Place,
     body: Body,
 ) -> Result<TypedFunction, CheckError>
-    ensures { Gives view_placed result (Ok (written_of (tables checker.now) names.now body, place)) }
+    ensures { Gives view_placed result
+        (Ok (written_of (tables checker.now) names.now body, place)) }
 {
     let routine = body.routine;
     let count = count_parameters(checker, routine)?;
@@ -142,7 +144,8 @@ pub fn functions_in(
     places: &[Place],
     bodies: Vec<Body>,
 ) -> Result<Vec<TypedFunction>, CheckError>
-    ensures { Gives view_all result (Ok (written_all (tables checker.now) names.now bodies.items, places.now)) }
+    ensures { Gives view_all result
+        (Ok (written_all (tables checker.now) names.now bodies.items, places.now)) }
 {
     let mut functions = Vec::new(alloc);
     let mut rest = places;

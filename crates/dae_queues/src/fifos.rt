@@ -21,7 +21,8 @@ pub trait Fifo<T: Copy> {
 
     /// Appends an item, or hands it back where the queue is full.
     fn push(&mut self, item: T) -> Option<T>
-        ensures item { result ≡ (if nat_lt (length (held self.old)) (depth self.old) then None else Some item) }
+        ensures item { result
+            ≡ (if nat_lt (length (held self.old)) (depth self.old) then None else Some item) }
         ensures queue { self.new ≡ (if nat_lt (length (held self.old)) (depth self.old) then pushed item self.old else self.old) };
 
     /// Takes the oldest item, or gives None where the queue is empty.

@@ -16,8 +16,6 @@ mod fifos;
 pub mod laws;
 mod slots;
 mod stores;
-#[cfg(test)]
-mod tests;
 
 /// A load that was issued: its number in its queue, counted from 0, its address and kind, the number of store
 /// addresses that were pushed before it, and its value once memory filled it.

@@ -176,7 +176,8 @@ impl SlotQueue {
     /// or None past the last.
     #[tactic(auto, using(crate::proofs::Fills::nth_here))]
     pub fn nth_fillable(&self, stores: &StoreQueue, n: u16) -> Option<Slot>
-        ensures { result ≡ slice_get (filter (can_be_filled stores.now.held.sa) self.now.held.slots) n }
+        ensures { result
+            ≡ slice_get (filter (can_be_filled stores.now.held.sa) self.now.held.slots) n }
     {
         let mut left = n;
         for at in self.filled..self.len() {
@@ -218,7 +219,9 @@ impl SlotQueue {
 
 fn put_at(ring: &mut HeapCircularBuffer<Slot>, at: usize, mut slot: Slot, value: u32)
     requires { slice_get ring.old.items at ≡ Some slot }
-    ensures { ring.new ≡ buffer (slice_set ring.old.items at (record slot { value = Some value })) ring.old.capacity }
+    ensures { ring.new
+        ≡ buffer
+        (slice_set ring.old.items at (record slot { value = Some value })) ring.old.capacity }
 {
     slot.value = Some(value);
     if let Some(place) = ring.get_mut(at) {

@@ -11,5 +11,6 @@ ghost use Rattle.dae_rounds.specs.Order.{InOrder};
 
 /// A list of rounds is a run.
 pub fn order_is_a_run()
-    ensures { (setup : Setup) (s t : State) (ps : List Pick) → InOrder setup s ps t → Runs setup s ps t }
+    ensures { (setup : Setup) (s t : State) (ps : List Pick) → InOrder setup s ps t
+        → Runs setup s ps t }
 {}

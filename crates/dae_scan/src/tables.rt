@@ -38,7 +38,8 @@ fn exact_row<T: Copy>(rows: &[(&[u8], T)], name: &[u8]) -> Option<T>
 pub fn sign_at(bytes: &[u8]) -> Option<(usize, PieceKind)>
     ensures value { result ≡ sign_of bytes.now }
     ensures within { IfSome result (λ found. (0 < found.0) × (found.0 ≤ length bytes.now)) }
-    ensures longest { IfSome result (λ found. IsLongestRow (map (λ r. (r.0.now, r.1)) SIGNS) bytes.now found.0) }
+    ensures longest { IfSome result
+        (λ found. IsLongestRow (map (λ r. (r.0.now, r.1)) SIGNS) bytes.now found.0) }
 {
     find_row(&SIGNS, bytes)
 }

@@ -63,7 +63,8 @@ impl<B: Copy> Scope<B> {
 
     /// The names of the innermost scope that is open, or of the whole, in their order.
     pub fn inner(&self, alloc: Global) -> Result<Vec<Binding<B>>, AllocError>
-        ensures { IfOk result (λ inner. self.now.names ≡ bound_all inner.items (innermost self.now.outside)) }
+        ensures { IfOk result
+            (λ inner. self.now.names ≡ bound_all inner.items (innermost self.now.outside)) }
     {
         let start = self.starts.last().copied().unwrap_or(0);
         let mut inner = Vec::new(alloc);

@@ -1,8 +1,8 @@
 -- The lists inside of a step are no deeper than it, which is why the walk ends.
-use Rattle.std.proofs.Common.{◌≡◌, ℕ, ◌+◌, ◌*◌, ◌<◌, List, arith}
+use Rattle.std.proofs.Common.{◌≡◌, ℕ, ◌+◌, ◌*◌, ◌<◌, ◌≤◌, List, length, get_or, sym, subst, arith}
 use Rattle.std.specs.Prelude.{Vec}
 use Rattle.std.specs.declared.alloc.Global.{Global}
-use denote.Param.Weighed.{most}
+use denote.Param.Weighed.{most, at_most}
 use Rattle.dae_ir.proofs.stream.Step.TheLaws.{the_size}
 use Rattle.dae_ir.specs.declared.stream.Mark.{Mark}
 use Rattle.dae_ir.specs.declared.stream.Branch.{Branch}
@@ -28,3 +28,8 @@ second_in_loop m p q s e = grind (arith, the_lemmas)
 -- the measures of the walk's two functions
 pub list_below : (xs ys : List Step) (s : Step) → xs ≡ ys → deepest ys < the_size s → 2 * deepest xs + 1 < 2 * the_size s + 0
 list_below xs ys s e lt = rw e (omega (arith, lt))
+
+pub step_below : (xs : List Step) (i : ℕ) (s : Step) → i < length xs → s ≡ get_or xs i s → 2 * the_size s + 0 < 2 * deepest xs + 1
+step_below xs i s lt e =
+    let h : the_size s ≤ deepest xs = subst (λ (z : Step). the_size z ≤ deepest xs) (sym e) (at_most (λ (x : Step). the_size x) xs i s lt) in
+    omega (arith, h)

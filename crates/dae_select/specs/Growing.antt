@@ -1,54 +1,93 @@
 -- The code of actions, with the words of it at which they begin.
-use Rattle.std.specs.Prelude.{◌≡◌, ℕ, ◌+◌, Bool, ◌||◌, if◌then◌else◌, List, length}
+use Rattle.std.specs.Prelude.{◌≡◌, ℕ, zero, suc, ◌+◌, Bool, true, ◌||◌, if◌then◌else◌, List, length, slice_get, Option, Some, None}
 use Rattle.dae_ir.specs.Code.{Done, Do, If, Loop}
 use Rattle.dae_ir.specs.Classes.{VariableSet}
 use Rattle.dae_ir.specs.Streams.{Actions, step_onto}
-use Rattle.dae_ir.specs.declared.stream.Step.{Step}
+use Rattle.dae_ir.specs.declared.stream.Action.{Action}
+use Rattle.dae_ir.specs.declared.stream.Action.TheVariants.{Receive, Accept}
+use Rattle.dae_ir.specs.declared.stream.Step.{Step, Act, If', Loop'}
 use Rattle.dae_walks.specs.Live.{Ways, ways, behind, live, nowhere, step_ways, body_ways}
 use Rattle.dae_walks.specs.Agrees.{Plan}
+use Rattle.dae_walks.specs.declared.Standing.{Standing}
+use Rattle.dae_walks.specs.declared.Standing.TheVariants.{Settled, Early}
 use Rattle.dae_live.specs.Members.{member}
 use Rattle.dae_blocks.specs.Blocks.{jump_words, jump_over, jump_back}
-use Rattle.dae_blocks.specs.Code.{action_code, branch_code, does_nothing, past_code, entry_code}
+use Rattle.dae_blocks.specs.Code.{reads_once, standing_behind, pair_standing, if_settled, block_code, branch_code, does_nothing, past_code, entry_code}
 use Rattle.dae_blocks.specs.Sizes.{is_short}
 use Rattle.dae_select.specs.Grown.{Grown, no_code, glue, acting, in_front, from_front}
 use Rattle.dae_select.specs.declared.growing.PlacedWord.{PlacedWord}
 use Rattle.dae_select.specs.declared.walking.Exits.{Exits}
 
 -- the code of actions, block by block
-abbrev pub marked_code : Bool → Plan → (ℕ → ℕ) → ℕ → Actions → Ways → ℕ → ℕ → Grown
-marked_code short plan variables f Done x leaves skips = no_code
-marked_code short plan variables f (Do m a k) x leaves skips =
-    let rest = marked_code short plan variables f k x leaves skips in
-    in_front (acting m.place (action_code plan variables f a (live k x) (jump_over short (length rest.code + leaves)) (jump_over short (length rest.code + skips)))) rest
-marked_code short plan variables f (If m b p q k) x leaves skips =
-    let rest = marked_code short plan variables f k x leaves skips in
-    let second = marked_code short plan variables f q (behind (live k x) x) (length rest.code + leaves) (length rest.code + skips) in
+abbrev pub marked_code : Bool → Plan → (ℕ → ℕ) → ℕ → Standing → Actions → Ways → ℕ → ℕ → Grown
+marked_code short plan variables f standing Done x leaves skips = no_code
+marked_code short plan variables f standing (Do m a k) x leaves skips =
+    let next = standing_behind a k x in
+    let rest = marked_code short plan variables f next k x leaves skips in
+    in_front (acting m.place (block_code plan variables f standing a next (live k x) (jump_over short (length rest.code + leaves)) (jump_over short (length rest.code + skips)))) rest
+marked_code short plan variables f standing (If m b p q k) x leaves skips =
+    let rest = marked_code short plan variables f Settled k x leaves skips in
+    let second = marked_code short plan variables f Settled q (behind (live k x) x) (length rest.code + leaves) (length rest.code + skips) in
     let past = past_code short (does_nothing p || does_nothing q) (length second.code) in
     let far = length past + length second.code + length rest.code in
-    let first = marked_code short plan variables f p (behind (live k x) x) (far + leaves) (far + skips) in
+    let first = marked_code short plan variables f Settled p (behind (live k x) x) (far + leaves) (far + skips) in
     let n = if does_nothing p then length second.code else length first.code + length past in
     in_front (acting m.place (branch_code (plan.home f) short b (does_nothing p) n)) (in_front first (in_front (glue past) (in_front second rest)))
-marked_code short plan variables f (Loop m body step k) x leaves skips =
-    let rest = marked_code short plan variables f k x leaves skips in
-    let again = marked_code short plan variables f step (step_ways body step (live k x)) (jump_words short) 0 in
-    let turn = marked_code short plan variables f body (body_ways body step (live k x)) (length again.code + jump_words short) 0 in
+marked_code short plan variables f standing (Loop m body step k) x leaves skips =
+    let rest = marked_code short plan variables f Settled k x leaves skips in
+    let again = marked_code short plan variables f Settled step (step_ways body step (live k x)) (jump_words short) 0 in
+    let turn = marked_code short plan variables f Settled body (body_ways body step (live k x)) (length again.code + jump_words short) 0 in
     in_front turn (in_front again (in_front (glue (jump_back short (length turn.code + length again.code))) rest))
 
 -- the words of a function's code at which its actions begin
 abbrev pub function_places : Plan → (ℕ → ℕ) → ℕ → Actions → List PlacedWord
 function_places plan variables f code =
-    let actions = marked_code (is_short code) plan variables f code nowhere 0 0 in
+    let actions = marked_code (is_short code) plan variables f Settled code nowhere 0 0 in
     from_front (length (entry_code plan variables f (live code nowhere)) + length actions.code) actions.places
 
--- in front of this code stands the code of a function's actions, and these variables are live before it. A Break's way from
--- its end is so much longer than what stands there, and a Continue's
-pub record IsCodeOf (short : Bool) (plan : Plan) (variables : ℕ → ℕ) (f : ℕ) (base : Grown) (leaves skips : ℕ) (x : Ways) (actions : Actions) (new : Grown) (set : List Bool) : Type 0 where
-  pub code : new ≡ in_front (marked_code short plan variables f actions x (length base.code + leaves) (length base.code + skips)) base
+-- in front of this code stands the code of a function's actions, before which things stand so, and these variables are live
+-- before it. A Break's way from its end is so much longer than what stands there, and a Continue's
+pub record IsCodeOf (short : Bool) (plan : Plan) (variables : ℕ → ℕ) (f : ℕ) (standing : Standing) (base : Grown) (leaves skips : ℕ) (x : Ways) (actions : Actions) (new : Grown) (set : List Bool) : Type 0 where
+  pub code : new ≡ in_front (marked_code short plan variables f standing actions x (length base.code + leaves) (length base.code + skips)) base
   pub live : member set ≡ live actions x
 
+-- ---- steps
+
+-- where the next action is done early, it reads once the variable that this action takes a word into
+abbrev pub IsTakenBy : Standing → Action → Type 0
+IsTakenBy (Early d x) (Receive v) = reads_once v x ≡ true
+IsTakenBy (Early d x) (Accept v) = reads_once v x ≡ true
+IsTakenBy standing a = Unit {0}
+
+abbrev pub IsTakenByStep : Standing → Step → Type 0
+IsTakenByStep standing (Act m a) = IsTakenBy standing a
+IsTakenByStep standing step' = Unit {0}
+
+-- how things stand behind a step, before the rest of its list
+abbrev pub standing_after : Step → Actions → Ways → Standing
+standing_after (Act m a) k x = standing_behind a k x
+standing_after (If' m b s p t q) k x = Settled
+standing_after (Loop' m s p t q) k x = Settled
+
+-- how they stand before a step, where these variables are live behind it and things stand so behind it
+abbrev pub standing_between : Option Step → Step → VariableSet → Standing → Standing
+standing_between (Some (Act m a)) (Act m' b) live standing = if_settled standing (pair_standing a b live)
+standing_between before step' live standing = Settled
+
+-- the step before this place of a list
+abbrev pub step_before : List Step → ℕ → Option Step
+step_before steps zero = None
+step_before steps (suc i) = slice_get steps i
+
+-- how things stand before what is left of a list, where this step stands before it
+abbrev pub standing_before : Option Step → Actions → Ways → Standing
+standing_before None k x = Settled
+standing_before (Some step) k x = standing_after step k x
+
 -- with a step before whatever stands there
-abbrev pub IsStepCode : Bool → Plan → (ℕ → ℕ) → ℕ → Exits → Step → Grown → List Bool → Grown → List Bool → Type 0
-IsStepCode short plan variables f exits step old next new set =
+abbrev pub IsStepCode : Bool → Plan → (ℕ → ℕ) → ℕ → Standing → Standing → Exits → Step → Grown → List Bool → Grown → List Bool → Type 0
+IsStepCode short plan variables f before after exits step old next new set =
     (base : Grown) (k : Actions) (n : VariableSet)
-    → IsCodeOf short plan variables f base exits.leaves exits.skips (ways n (member exits.leaves_live) (member exits.skips_live)) k old next
-    → IsCodeOf short plan variables f base exits.leaves exits.skips (ways n (member exits.leaves_live) (member exits.skips_live)) (step_onto step k) new set
+    → after ≡ standing_after step k (ways n (member exits.leaves_live) (member exits.skips_live))
+    → IsCodeOf short plan variables f after base exits.leaves exits.skips (ways n (member exits.leaves_live) (member exits.skips_live)) k old next
+    → IsCodeOf short plan variables f before base exits.leaves exits.skips (ways n (member exits.leaves_live) (member exits.skips_live)) (step_onto step k) new set

@@ -16,7 +16,8 @@ use dae_meaning::{Comparison, Operator};
 use dae_walks::Home;
 use std::alloc::AllocError;
 
-fn operation(operator: Operator, target: u8, left: u8, right: u8) -> Inst
+/// An operation on two registers, into a third.
+pub fn operation(operator: Operator, target: u8, left: u8, right: u8) -> Inst
     ensures { result ≡ operation_code operator target left right }
 {
     match operator {
@@ -99,27 +100,26 @@ fn binary_code(
     }
 }
 
+/// What a load gets from a word, by x7.
 fn extend(code: &mut Vec<Inst>, kind: LoadKind, target: u8, from: u8) -> Result<(), AllocError>
     ensures { OnOk result (code.new.items ≡ code.old.items ++ extend_code kind target from) }
 {
     match kind {
-        LoadKind::I8 => code.extend_from_slice(&[
-            Inst::Slli(target, from, 24),
-            Inst::Srai(target, target, 24),
-        ]),
+        LoadKind::I8 => {
+            code.extend_from_slice(&[Inst::Slli(7, from, 24), Inst::Srai(target, 7, 24)])
+        }
         LoadKind::U8 => code.extend_from_slice(&[Inst::Andi(target, from, 255)]),
-        LoadKind::I16 => code.extend_from_slice(&[
-            Inst::Slli(target, from, 16),
-            Inst::Srai(target, target, 16),
-        ]),
-        LoadKind::U16 => code.extend_from_slice(&[
-            Inst::Slli(target, from, 16),
-            Inst::Srli(target, target, 16),
-        ]),
+        LoadKind::I16 => {
+            code.extend_from_slice(&[Inst::Slli(7, from, 16), Inst::Srai(target, 7, 16)])
+        }
+        LoadKind::U16 => {
+            code.extend_from_slice(&[Inst::Slli(7, from, 16), Inst::Srli(target, 7, 16)])
+        }
         LoadKind::I32 => code.extend_from_slice(&[Inst::Addi(target, from, 0)]),
     }
 }
 
+/// A comparison of two registers, by x7: only its last instruction writes the target, which may stand for a queue.
 fn compare(
     code: &mut Vec<Inst>,
     comparison: Comparison,
@@ -131,28 +131,24 @@ fn compare(
         ++ compare_code comparison target left right) }
 {
     match comparison {
-        Comparison::Equal => code.extend_from_slice(&[
-            Inst::Sub(target, left, right),
-            Inst::Sltiu(target, target, 1),
-        ]),
-        Comparison::NotEqual => code.extend_from_slice(&[
-            Inst::Sub(target, left, right),
-            Inst::Sltu(target, 0, target),
-        ]),
+        Comparison::Equal => {
+            code.extend_from_slice(&[Inst::Sub(7, left, right), Inst::Sltiu(target, 7, 1)])
+        }
+        Comparison::NotEqual => {
+            code.extend_from_slice(&[Inst::Sub(7, left, right), Inst::Sltu(target, 0, 7)])
+        }
         Comparison::LessSigned => code.extend_from_slice(&[Inst::Slt(target, left, right)]),
-        Comparison::AtLeastSigned => code.extend_from_slice(&[
-            Inst::Slt(target, left, right),
-            Inst::Xori(target, target, 1),
-        ]),
+        Comparison::AtLeastSigned => {
+            code.extend_from_slice(&[Inst::Slt(7, left, right), Inst::Xori(target, 7, 1)])
+        }
         Comparison::LessUnsigned => code.extend_from_slice(&[Inst::Sltu(target, left, right)]),
-        Comparison::AtLeastUnsigned => code.extend_from_slice(&[
-            Inst::Sltu(target, left, right),
-            Inst::Xori(target, target, 1),
-        ]),
+        Comparison::AtLeastUnsigned => {
+            code.extend_from_slice(&[Inst::Sltu(7, left, right), Inst::Xori(target, 7, 1)])
+        }
     }
 }
 
-/// A comparison of two registers.
+/// A comparison of two operands in registers.
 fn compare_registers(
     code: &mut Vec<Inst>,
     homes: &[Home],
@@ -174,7 +170,7 @@ fn compare_registers(
     )
 }
 
-/// A register gets 1 where the test holds, and else 0.
+/// A register, or the queue that it stands for, gets 1 where the test holds, and else 0.
 pub fn test_code(
     code: &mut Vec<Inst>,
     homes: &[Home],
@@ -211,7 +207,8 @@ fn frame_code(code: &mut Vec<Inst>, target: u8, offset: u32) -> Result<(), Alloc
     }
 }
 
-fn value_code(
+/// A value goes into a register.
+pub fn value_code(
     code: &mut Vec<Inst>,
     homes: &[Home],
     target: u8,

@@ -1,7 +1,7 @@
 // The blocks of checks.
 
 ghost use Rattle.std.specs.Prelude.{◌≡◌, ℕ, ◌+◌, ◌-◌, ◌++◌, ◌∷◌, [], ◌<◌, ◌^◌, nat_lt, if◌then◌else◌, OnOk};
-ghost use Rattle.dae_blocks.specs.Blocks.{fail_code, over, align_code, room_code, place_code, zero_code, depth_code, call_room_code, frame_room_code, check_code};
+ghost use Rattle.dae_blocks.specs.Blocks.{fail_code, over, align_code, room_code, place_code, zero_code, depth_code, frames_room_code, call_room_code, frame_room_code, check_code};
 ghost use Rattle.dae_select.specs.Layouts.{is_a, plan_of, homes_at};
 ghost use Rattle.dae_walks.specs.Homes.{home_in};
 ghost use Rattle.dae_select.specs.Tables.{AreNear};
@@ -99,6 +99,17 @@ fn depth_code(code: &mut Vec<Inst>, limit: u16) -> Result<(), AllocError>
     fail_code(code, Side::A, 4)
 }
 
+/// Room for frames of so many bytes, which fit into the memory at all. None need no room.
+fn frames_room_code(code: &mut Vec<Inst>, memory: u32, frames: u32) -> Result<(), AllocError>
+    ensures { OnOk result (code.new.items ≡ code.old.items ++ frames_room_code memory frames) }
+{
+    if frames == 0 {
+        Ok(())
+    } else {
+        room_code(code, memory.saturating_sub(frames))
+    }
+}
+
 /// Whether a call of a function whose frame has `next` bytes is within the limits.
 fn call_room_code(
     code: &mut Vec<Inst>,
@@ -114,7 +125,7 @@ fn call_room_code(
     if u64::from(memory) < frames {
         return fail_code(code, Side::A, 4);
     }
-    room_code(code, memory - frames as u32)?;
+    frames_room_code(code, memory, frames as u32)?;
     depth_code(code, limit)
 }
 

@@ -3,15 +3,16 @@
 ghost use Rattle.std.specs.Prelude.{◌≡◌, ℕ, ◌+◌, ◌*◌, ◌++◌, ◌∷◌, [], ◌<◌, ◌≤◌, ◌^◌, OnOk};
 ghost use Rattle.dae_encode.specs.declared.Inst.TheVariants.{Jal};
 ghost use Rattle.dae_blocks.specs.Blocks.{near_offset, jump_by, jump_words, jump_over, jump_back, enter_code};
-ghost use Rattle.dae_blocks.specs.Blocks.{branch_inst, opposite, one_way, goes_code};
-ghost use Rattle.dae_blocks.specs.Code.{past_code, branch_code};
+ghost use Rattle.dae_blocks.specs.Blocks.{source, against_zero, immediate_of, branch_inst, opposite, one_way, goes_code};
+ghost use Rattle.dae_blocks.specs.Code.{past_code, told_code, branch_code};
 ghost use Rattle.dae_walks.specs.Homes.{home_in};
 ghost use Rattle.dae_select.specs.Tables.{AreNear};
 
 use crate::assigning::test_code;
 use crate::fetching::{fetch, lower, source, upper};
+use crate::numbers::{takes_number, tell_number};
 use dae_encode::Inst;
-use dae_ir::Branch;
+use dae_ir::{Branch, Operand, Test};
 use dae_meaning::Comparison;
 use dae_walks::Home;
 use std::alloc::AllocError;
@@ -162,6 +163,83 @@ fn goes_code(
     }
 }
 
+/// The same for the operands of a test, which are in their registers: where the test holds, or just where not.
+fn goes_by_operands(
+    code: &mut Vec<Inst>,
+    homes: &[Home],
+    short: bool,
+    test: Test,
+    way: bool,
+    words: u64,
+) -> Result<(), AllocError>
+    ensures { OnOk result (code.new.items ≡ code.old.items
+        ++ goes_code short (one_way way test.comparison) (source (home_in homes.now) 5 test.left)
+        (source (home_in homes.now) 6 test.right) words) }
+{
+    let left = source(homes, 5, test.left);
+    let right = source(homes, 6, test.right);
+    let relation = one_way(way, test.comparison);
+    goes_code(code, short, relation, left, right, words)
+}
+
+/// How x7 compares with 0 where a comparison with a number holds that was told.
+fn against_zero(relation: Comparison) -> Comparison
+    ensures { result ≡ against_zero relation }
+{
+    match relation {
+        Comparison::Equal => Comparison::Equal,
+        Comparison::NotEqual => Comparison::NotEqual,
+        Comparison::LessSigned => Comparison::NotEqual,
+        Comparison::AtLeastSigned => Comparison::Equal,
+        Comparison::LessUnsigned => Comparison::NotEqual,
+        Comparison::AtLeastUnsigned => Comparison::Equal,
+    }
+}
+
+/// A right operand that is in no register behind a test: an immediate other than 0.
+fn immediate_of(comparison: Comparison, operand: Operand) -> Option<u32>
+    ensures { result ≡ immediate_of comparison operand }
+{
+    match operand {
+        Operand::Variable(_) => None,
+        Operand::Number(number) => {
+            if takes_number(comparison, number) && number != 0 {
+                Some(number)
+            } else {
+                None
+            }
+        }
+    }
+}
+
+/// A test is told, and a branch follows: on its operands, which are still in their registers, or else on x7.
+fn told_code(
+    code: &mut Vec<Inst>,
+    homes: &[Home],
+    short: bool,
+    test: Test,
+    way: bool,
+    words: u64,
+) -> Result<(), AllocError>
+    requires { AreNear homes.now }
+    ensures { OnOk result (code.new.items ≡ code.old.items
+        ++ told_code (immediate_of test.comparison test.right) (home_in homes.now) short test way
+        words) }
+{
+    match immediate_of(test.comparison, test.right) {
+        None => {
+            test_code(code, homes, 29, test)?;
+            goes_by_operands(code, homes, short, test, way, words)
+        }
+        Some(number) => {
+            fetch(code, homes, 5, test.left)?;
+            tell_number(code, test.comparison, source(homes, 5, test.left), number)?;
+            let relation = one_way(way, against_zero(test.comparison));
+            goes_code(code, short, relation, 7, 0, words)
+        }
+    }
+}
+
 /// The block of a branch: on to what stands so many words ahead of its end where its test holds, or where a number other than
 /// 0 is heard, or just where not.
 pub fn branch_code(
@@ -180,22 +258,9 @@ pub fn branch_code(
         Branch::Silent(test) => {
             fetch(code, homes, 5, test.left)?;
             fetch(code, homes, 6, test.right)?;
-            let left = source(homes, 5, test.left);
-            let right = source(homes, 6, test.right);
-            goes_code(
-                code,
-                short,
-                one_way(way, test.comparison),
-                left,
-                right,
-                words,
-            )
+            goes_by_operands(code, homes, short, test, way, words)
         }
-        Branch::Tells(test) => {
-            test_code(code, homes, 5, test)?;
-            code.push(Inst::Addi(29, 5, 0))?;
-            goes_code(code, short, one_way(way, Comparison::NotEqual), 5, 0, words)
-        }
+        Branch::Tells(test) => told_code(code, homes, short, test, way, words),
         Branch::Hears => {
             let relation = one_way(way, Comparison::NotEqual);
             goes_code(code, short, relation, 29, 0, words)

@@ -19,4 +19,5 @@ mod jumping;
 mod layouts;
 mod numbers;
 mod opening;
+mod pairing;
 mod walking;

@@ -2,7 +2,7 @@
 
 ghost use Rattle.std.specs.Prelude.{◌≡◌, ◌++◌, Some, None, if◌then◌else◌, OnOk};
 ghost use Rattle.dae_base.specs.Words.{minus};
-ghost use Rattle.dae_blocks.specs.Blocks.{is_immediate, exponent, power_code, immediate_code, commutes, exchanged_code, takes_number, compare_number_code, more_code, less_code};
+ghost use Rattle.dae_blocks.specs.Blocks.{is_immediate, exponent, power_code, immediate_code, commutes, exchanged_code, takes_number, compare_number_code, tell_number_code, more_code, less_code};
 ghost use Rattle.dae_meaning.specs.declared.Comparison.TheVariants.{Equal, NotEqual};
 
 use crate::fetching::{is_immediate, lower, number_code};
@@ -127,8 +127,8 @@ fn equal_number(
         code.extend_from_slice(&[Inst::Sltiu(target, register, 1)])
     } else {
         code.extend_from_slice(&[
-            Inst::Addi(target, register, lower(negated(number))),
-            Inst::Sltiu(target, target, 1),
+            Inst::Addi(7, register, lower(negated(number))),
+            Inst::Sltiu(target, 7, 1),
         ])
     }
 }
@@ -146,13 +146,13 @@ fn different_number(
         code.extend_from_slice(&[Inst::Sltu(target, 0, register)])
     } else {
         code.extend_from_slice(&[
-            Inst::Addi(target, register, lower(negated(number))),
-            Inst::Sltu(target, 0, target),
+            Inst::Addi(7, register, lower(negated(number))),
+            Inst::Sltu(target, 0, 7),
         ])
     }
 }
 
-/// The comparison of a register with such a number.
+/// The comparison of a register with such a number, by x7.
 pub fn compare_number(
     code: &mut Vec<Inst>,
     comparison: Comparison,
@@ -168,15 +168,35 @@ pub fn compare_number(
         Comparison::Equal => equal_number(code, target, register, number),
         Comparison::NotEqual => different_number(code, target, register, number),
         Comparison::LessSigned => code.extend_from_slice(&[Inst::Slti(target, register, imm)]),
-        Comparison::AtLeastSigned => code.extend_from_slice(&[
-            Inst::Slti(target, register, imm),
-            Inst::Xori(target, target, 1),
-        ]),
+        Comparison::AtLeastSigned => {
+            code.extend_from_slice(&[Inst::Slti(7, register, imm), Inst::Xori(target, 7, 1)])
+        }
         Comparison::LessUnsigned => code.extend_from_slice(&[Inst::Sltiu(target, register, imm)]),
-        Comparison::AtLeastUnsigned => code.extend_from_slice(&[
-            Inst::Sltiu(target, register, imm),
-            Inst::Xori(target, target, 1),
-        ]),
+        Comparison::AtLeastUnsigned => {
+            code.extend_from_slice(&[Inst::Sltiu(7, register, imm), Inst::Xori(target, 7, 1)])
+        }
+    }
+}
+
+/// The same where the number is not 0 and the flag is told, which goes by x7 in any case.
+pub fn tell_number(
+    code: &mut Vec<Inst>,
+    comparison: Comparison,
+    register: u8,
+    number: u32,
+) -> Result<(), AllocError>
+    ensures { OnOk result (code.new.items ≡ code.old.items
+        ++ tell_number_code comparison register number) }
+{
+    let imm = lower(number);
+    match comparison {
+        Comparison::LessSigned => {
+            code.extend_from_slice(&[Inst::Slti(7, register, imm), Inst::Addi(29, 7, 0)])
+        }
+        Comparison::LessUnsigned => {
+            code.extend_from_slice(&[Inst::Sltiu(7, register, imm), Inst::Addi(29, 7, 0)])
+        }
+        _ => compare_number(code, comparison, 29, register, number),
     }
 }
 

@@ -7,10 +7,11 @@ ghost use Rattle.dae_ir.specs.Streams.{Actions, actions_of, step_onto};
 ghost use Rattle.dae_walks.specs.Live.{ways, is};
 ghost use Rattle.dae_live.specs.Members.{member};
 ghost use Rattle.dae_blocks.specs.Blocks.{take_code, own_code, jump_words, jump_over, jump_back};
-ghost use Rattle.dae_blocks.specs.Code.{action_code, call_code, branch_code};
+ghost use Rattle.dae_blocks.specs.Code.{action_code, block_code, call_code, branch_code};
 ghost use Rattle.dae_blocks.specs.Code.{does_nothing, past_code};
 ghost use Rattle.dae_select.specs.Grown.{glue, acting, in_front};
-ghost use Rattle.dae_select.specs.Growing.{IsCodeOf, IsStepCode};
+ghost use Rattle.dae_select.specs.Growing.{IsCodeOf, IsStepCode, IsTakenBy, IsTakenByStep};
+ghost use Rattle.dae_walks.specs.declared.Standing.TheVariants.{Settled as IsSettled};
 ghost use Rattle.dae_select.specs.Layouts.{plan_of, variables_of, AreSmall};
 ghost use Rattle.dae_walks.specs.Homes.{home_in};
 ghost use Rattle.dae_select.specs.Tables.{AreNear};
@@ -25,11 +26,12 @@ use crate::fetching::{home_of, move_code};
 use crate::growing::GrowingCode;
 use crate::jumping::{branch_code, jump_back, jump_over, jump_words, past_code};
 use crate::layouts::Layouts;
+use crate::pairing::{late_code, standing_between, taking_code};
 use dae_base::{LoadKind, Place};
 use dae_encode::Inst;
 use dae_ir::{Action, Argument, Branch, Operand, Step};
 use dae_live::{LiveSet, live_at_turn, live_before_action, live_with_branch};
-use dae_walks::Home;
+use dae_walks::{Home, Standing};
 use std::alloc::{AllocError, Global};
 
 /// Where a Break goes and a Continue: what is live there, and how many words lie between the end of the code and there.
@@ -155,6 +157,43 @@ fn action_code(
     }
 }
 
+/// The block of an action, where things stand so before it and so behind it, as `action_code` has the rest.
+fn block_code(
+    alloc: Global,
+    code: &mut Vec<Inst>,
+    layouts: &Layouts,
+    function: u32,
+    homes: &[Home],
+    short: bool,
+    before: Standing,
+    action: &Action,
+    after: Standing,
+    live: &LiveSet,
+    ahead: u64,
+    exits: &Exits,
+) -> Result<(), AllocError>
+    requires near { AreNear homes.now }
+    requires homes { home_in homes.now ≡ (plan_of layouts.now).home function }
+    requires small { AreSmall layouts.now }
+    requires taken { IsTakenBy after action.now }
+    ensures { OnOk result (code.new.items ≡ code.old.items
+        ++ block_code (plan_of layouts.now) (variables_of layouts.now) function before action.now
+        after (member live.now) (jump_over short (ahead + exits.now.leaves)) (jump_over short
+        (ahead + exits.now.skips))) }
+{
+    match (before, after) {
+        (Standing::Late(_, value), _) => late_code(code, homes, action, value),
+        (Standing::Early(_, _), _) => Ok(()),
+        (Standing::Settled, Standing::Late(_, _)) => Ok(()),
+        (Standing::Settled, Standing::Early(target, value)) => {
+            taking_code(code, homes, action, target, value)
+        }
+        (Standing::Settled, Standing::Settled) => action_code(
+            alloc, code, layouts, function, homes, short, action, live, ahead, exits,
+        ),
+    }
+}
+
 /// What leads behind a second list that stands in front of the last `rest` words, where neither list is empty.
 fn put_past(
     alloc: Global,
@@ -228,23 +267,27 @@ fn put_action(
     homes: &[Home],
     place: Place,
     short: bool,
+    before: Standing,
     action: &Action,
+    after: Standing,
     live: &LiveSet,
     exits: &Exits,
 ) -> Result<(), AllocError>
     requires near { AreNear homes.now }
     requires homes { home_in homes.now ≡ (plan_of layouts.now).home function }
     requires small { AreSmall layouts.now }
+    requires taken { IsTakenBy after action.now }
     ensures { OnOk result (code.new
-        ≡ in_front (acting place (action_code (plan_of layouts.now)
-        (variables_of layouts.now) function action.now (member live.now) (jump_over short
-        (length code.old.code + exits.now.leaves)) (jump_over short
-        (length code.old.code + exits.now.skips)))) code.old) }
+        ≡ in_front (acting place (block_code (plan_of layouts.now)
+        (variables_of layouts.now) function before action.now after (member live.now)
+        (jump_over short (length code.old.code + exits.now.leaves))
+        (jump_over short (length code.old.code + exits.now.skips)))) code.old) }
 {
     let mut block = Vec::new(alloc);
     let ahead = code.len() as u64;
-    action_code(
-        alloc, &mut block, layouts, function, homes, short, action, live, ahead, exits,
+    block_code(
+        alloc, &mut block, layouts, function, homes, short, before, action, after, live, ahead,
+        exits,
     )?;
     code.put_action(place, block.as_slice())
 }
@@ -316,21 +359,25 @@ fn step_code(
     function: u32,
     homes: &[Home],
     short: bool,
+    before: Standing,
     step: &Step,
+    after: Standing,
     next: LiveSet,
     exits: &Exits,
 ) -> Result<LiveSet, AllocError>
     requires near { AreNear homes.now }
     requires homes { home_in homes.now ≡ (plan_of layouts.now).home function }
     requires small { AreSmall layouts.now }
+    requires taken { IsTakenByStep after step.now }
     ensures { IfOk result (λ set.
-        IsStepCode short (plan_of layouts.now)
-        (variables_of layouts.now) function exits.now step.now code.old next code.new set) }
+        IsStepCode short (plan_of layouts.now) (variables_of layouts.now) function
+        before after exits.now step.now code.old next code.new set) }
 {
     match step {
         Step::Act(mark, action) => {
             put_action(
-                alloc, code, layouts, function, homes, mark.place, short, action, &next, exits,
+                alloc, code, layouts, function, homes, mark.place, short, before, action, after,
+                &next, exits,
             )?;
             live_before_action(alloc, action, next, &exits.leaves_live, &exits.skips_live)
         }
@@ -409,23 +456,19 @@ pub fn list_code(
     requires small { AreSmall layouts.now }
     ensures { IfOk result (λ set.
         IsCodeOf short (plan_of layouts.now)
-        (variables_of layouts.now) function code.old exits.now.leaves exits.now.skips (ways
+        (variables_of layouts.now) function IsSettled code.old exits.now.leaves exits.now.skips (ways
         (member next) (member exits.now.leaves_live) (member exits.now.skips_live))
         (actions_of steps.now) code.new set) }
 {
     let mut set = next;
+    let mut after = Standing::Settled;
     for index in (0..steps.len()).rev() {
+        let step = &steps[index];
+        let before = standing_between(steps, index, step, &set, after);
         set = step_code(
-            alloc,
-            code,
-            layouts,
-            function,
-            homes,
-            short,
-            &steps[index],
-            set,
-            exits,
+            alloc, code, layouts, function, homes, short, before, step, after, set, exits,
         )?;
+        after = before;
     }
     Ok(set)
 }

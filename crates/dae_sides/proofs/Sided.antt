@@ -22,6 +22,7 @@ use Rattle.dae_walks.specs.Live.{live, nowhere}
 use Rattle.dae_walks.specs.Agrees.{Plan}
 use Rattle.dae_walks.specs.declared.Home.{Home}
 use Rattle.dae_blocks.specs.Blocks.{leave_code, number_code, enter_code}
+use Rattle.dae_walks.specs.declared.Standing.TheVariants.{Settled}
 use Rattle.dae_blocks.specs.Code.{entry_code, code_of, function_code, start_code, finish_code}
 use Rattle.dae_blocks.specs.Sizes.{is_short}
 use Rattle.dae_blocks.specs.Fits.{Fits}
@@ -231,7 +232,7 @@ module _ (stream : Stream) (old : Layouts) (unplaced : AreUnplaced stream old) w
       starts g lt = start_behind P variables fs old.functions first 0 g g long lt (omega arith)
 
       abbrev own_code : ℕ → List Inst
-      own_code g = code_of (is_short (body g)) Q variables g (body g) nowhere 0 0 ++ leave_code (Q.home g) (Some (Number 0))
+      own_code g = code_of (is_short (body g)) Q variables g Settled (body g) nowhere 0 0 ++ leave_code (Q.home g) (Some (Number 0))
 
       end_low : (g : ℕ) → g < length fs → Q.start g + length (own_code g) ≤ 2 ^ 25
       end_low g lt =

@@ -7,6 +7,7 @@ use Rattle.dae_ir.specs.declared.stream.StreamFunction.{StreamFunction}
 use Rattle.dae_walks.specs.Live.{live, nowhere}
 use Rattle.dae_walks.specs.Agrees.{Plan}
 use Rattle.dae_blocks.specs.Blocks.{leave_code}
+use Rattle.dae_walks.specs.declared.Standing.TheVariants.{Settled}
 use Rattle.dae_blocks.specs.Code.{code_of, function_code, entry_code}
 use Rattle.dae_blocks.specs.Sizes.{most_words_in, is_short}
 use Rattle.dae_blocks.proofs.LawsOfBlocks.{append_short, code_length, entry_short, leave_short}
@@ -17,8 +18,8 @@ module _ (plan : Plan) (variables : ℕ → ℕ) (f : ℕ) where
   function_length : (code : Actions) → length (function_code plan variables f code) ≤ most_words_in code + 25
   function_length code =
       let h : length (function_code plan variables f code) ≤ 19 + (most_words_in code + 6)
-      = append_short (entry_code plan variables f (live code nowhere)) (code_of (is_short code) plan variables f code nowhere 0 0 ++ leave_code (plan.home f) (Some (Number 0))) 19 (most_words_in code + 6) (entry_short plan variables f (live code nowhere))
-      (append_short (code_of (is_short code) plan variables f code nowhere 0 0) (leave_code (plan.home f) (Some (Number 0))) (most_words_in code) 6 (code_length (is_short code) plan variables f code nowhere 0 0) (leave_short (plan.home f) (Some (Number 0)))) in omega arith
+      = append_short (entry_code plan variables f (live code nowhere)) (code_of (is_short code) plan variables f Settled code nowhere 0 0 ++ leave_code (plan.home f) (Some (Number 0))) 19 (most_words_in code + 6) (entry_short plan variables f (live code nowhere))
+      (append_short (code_of (is_short code) plan variables f Settled code nowhere 0 0) (leave_code (plan.home f) (Some (Number 0))) (most_words_in code) 6 (code_length (is_short code) plan variables f Settled code nowhere 0 0) (leave_short (plan.home f) (Some (Number 0)))) in omega arith
 
 pub functions_length : (plan : Plan) (variables : ℕ → ℕ) (fs : List StreamFunction) (k : ℕ) → length (functions_code plan variables k fs) ≤ most_of_functions fs
 functions_length plan variables [] k = omega arith

@@ -89,7 +89,8 @@ pub fn element_count(
     type_id: usize,
     known: Known,
 ) -> Result<u32, CheckError>
-    ensures { (e : Expression) (c : Category) → Follows checker.now result (count_at place (pure (typed e type_id c known))) checker.now }
+    ensures { (e : Expression) (c : Category)
+        → Follows checker.now result (count_at place (pure (typed e type_id c known))) checker.now }
 {
     let shape = checker.shape_of(type_id);
     if !is_integer(shape) {
@@ -136,7 +137,8 @@ pub fn add_parameter(
     name: Option<Name>,
     declared: NamedType,
 ) -> Result<usize, CheckError>
-    ensures { Follows checker.new result (parameter_at place list name (pure declared)) checker.old }
+    ensures { Follows checker.new result
+        (parameter_at place list name (pure declared)) checker.old }
 {
     let shape = adjusted(checker, declared.type_id);
     if is_function(shape) {

@@ -60,7 +60,9 @@ pub fn constant_value(
     type_id: usize,
     known: Known,
 ) -> Result<u32, CheckError>
-    ensures { (e : Expression) (c : Category) → Follows checker.now result (constant_at place (pure (typed e type_id c known))) checker.now }
+    ensures { (e : Expression) (c : Category)
+        → Follows checker.now result
+        (constant_at place (pure (typed e type_id c known))) checker.now }
 {
     if !is_integer(checker.shape_of(type_id)) {
         return Err(broken(Rule::NotInteger, place));

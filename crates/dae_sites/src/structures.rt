@@ -117,7 +117,8 @@ pub fn add_member(
     name: Option<Name>,
     declared: NamedType,
 ) -> Result<Layout, CheckError>
-    ensures { Follows checker.new result (member_at place structure layout name (pure declared)) checker.old }
+    ensures { Follows checker.new result
+        (member_at place structure layout name (pure declared)) checker.old }
 {
     let shape = checker.shape_of(declared.type_id);
     if is_void(shape) {

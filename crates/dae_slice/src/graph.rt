@@ -85,7 +85,9 @@ impl Graph {
     /// Where the second variable is needed, so is the first.
     pub fn link(&mut self, from: Node, to: Node) -> Result<(), AllocError>
         requires { exists self.old to.function to.variable ≡ true }
-        ensures { OnOk result (Adds (λ c. c to.function to.variable ≡ true → c from.function from.variable ≡ true) self.old self.new) }
+        ensures { OnOk result
+            (Adds (λ c. c to.function to.variable ≡ true
+            → c from.function from.variable ≡ true) self.old self.new) }
     {
         let row = &mut self.rows[to.function];
         let vertex = &mut row[to.variable];

@@ -44,7 +44,9 @@ fn link_operand(
     to: Node,
 ) -> Result<(), AllocError>
     requires { exists graph.old to.function to.variable ≡ true }
-    ensures { OnOk result (Adds (λ c. c to.function to.variable ≡ true → has (c function) operand ≡ true) graph.old graph.new) }
+    ensures { OnOk result
+        (Adds (λ c. c to.function to.variable ≡ true
+        → has (c function) operand ≡ true) graph.old graph.new) }
 {
     if let Operand::Variable(variable) = operand {
         let variable = variable as usize;
@@ -60,7 +62,10 @@ fn link_two(
     to: Node,
 ) -> Result<(), AllocError>
     requires { exists graph.old to.function to.variable ≡ true }
-    ensures { OnOk result (Adds (λ c. (c to.function to.variable ≡ true → has (c function) operands.0 ≡ true) × (c to.function to.variable ≡ true → has (c function) operands.1 ≡ true)) graph.old graph.new) }
+    ensures { OnOk result
+        (Adds (λ c. (c to.function to.variable ≡ true → has (c function) operands.0 ≡ true)
+        × (c to.function to.variable ≡ true
+        → has (c function) operands.1 ≡ true)) graph.old graph.new) }
 {
     link_operand(graph, function, operands.0, to)?;
     link_operand(graph, function, operands.1, to)?;
@@ -70,7 +75,9 @@ fn link_two(
 // What stands in the value leads to the variable.
 fn link_value(graph: &mut Graph, value: Value, to: Node) -> Result<(), AllocError>
     requires { exists graph.old to.function to.variable ≡ true }
-    ensures { OnOk result (Adds (λ c. c to.function to.variable ≡ true → has_value (c to.function) value ≡ true) graph.old graph.new) }
+    ensures { OnOk result
+        (Adds (λ c. c to.function to.variable ≡ true
+        → has_value (c to.function) value ≡ true) graph.old graph.new) }
 {
     match value {
         Value::Same(x) => link_operand(graph, to.function, x, to),
@@ -89,7 +96,8 @@ fn link_arguments(
     arguments: &[Operand],
 ) -> Result<(), AllocError>
     requires { (k : ℕ) → 0 < k → k ≤ length arguments.now → exists graph.old callee k ≡ true }
-    ensures { OnOk result (Adds (λ c. ArgumentsKept (c callee) (c function) 1 arguments.now) graph.old graph.new) }
+    ensures { OnOk result
+        (Adds (λ c. ArgumentsKept (c callee) (c function) 1 arguments.now) graph.old graph.new) }
 {
     for (index, argument) in arguments.iter().enumerate() {
         let to = Node {
@@ -108,7 +116,9 @@ fn link_call(
     arguments: &[Operand],
 ) -> Result<(), AllocError>
     requires { CallHasTargets (exists graph.old) to.function to.variable callee arguments.now }
-    ensures { OnOk result (Adds (λ c. CallKept (c callee) (c to.function) to.variable arguments.now) graph.old graph.new) }
+    ensures { OnOk result
+        (Adds (λ c.
+        CallKept (c callee) (c to.function) to.variable arguments.now) graph.old graph.new) }
 {
     link_arguments(graph, to.function, callee, arguments)?;
     let result = Node {
@@ -146,7 +156,9 @@ fn link_addresses(graph: &mut Graph, function: usize, item: &Item) -> Result<(),
 
 fn link_needs(graph: &mut Graph, a: &Graph, function: usize, item: &Item) -> Result<(), AllocError>
     requires { HasTargets (exists graph.old) function item.now }
-    ensures { OnOk result (Adds (λ c. NeedsKept c (marked a.now function) (c function) item.now) graph.old graph.new) }
+    ensures { OnOk result
+        (Adds (λ c.
+        NeedsKept c (marked a.now function) (c function) item.now) graph.old graph.new) }
 {
     match item {
         Item::Assign(variable, value) => link_sent(graph, a, function, *variable, *value),
@@ -176,7 +188,9 @@ fn link_sent(
     value: Value,
 ) -> Result<(), AllocError>
     requires { exists graph.old function variable ≡ true }
-    ensures { OnOk result (Adds (λ c. marked a.now function variable ≡ false → c function variable ≡ true → has_value (c function) value ≡ true) graph.old graph.new) }
+    ensures { OnOk result
+        (Adds (λ c. marked a.now function variable ≡ false → c function variable ≡ true
+        → has_value (c function) value ≡ true) graph.old graph.new) }
 {
     let variable = variable as usize;
     let to = Node { function, variable };
@@ -189,7 +203,8 @@ fn link_sent(
 
 // The address that is checked is A's.
 fn seed_address(graph: &mut Graph, function: usize, check: Check) -> Result<(), AllocError>
-    ensures { OnOk result (Adds (λ c. AddressesKept c (c function) (Expect check)) graph.old graph.new) }
+    ensures { OnOk result
+        (Adds (λ c. AddressesKept c (c function) (Expect check)) graph.old graph.new) }
 {
     match check {
         Check::Place(_, address) => seed_operand(graph, function, address),
@@ -204,7 +219,9 @@ fn seed_checked(
     function: usize,
     check: Check,
 ) -> Result<(), AllocError>
-    ensures { OnOk result (Adds (λ c. NeedsKept c (marked a.now function) (c function) (Expect check)) graph.old graph.new) }
+    ensures { OnOk result
+        (Adds (λ c.
+        NeedsKept c (marked a.now function) (c function) (Expect check)) graph.old graph.new) }
 {
     match check {
         Check::Zero(operand) => {
@@ -226,7 +243,8 @@ pub fn link_item(
     item: &Item,
 ) -> Result<(), AllocError>
     requires { HasTargets (exists graph.old) function item.now }
-    ensures { OnOk result (Adds (λ c. ItemKept sought.entry c function item.now) graph.old graph.new) }
+    ensures { OnOk result
+        (Adds (λ c. ItemKept sought.entry c function item.now) graph.old graph.new) }
 {
     match sought {
         Sought::Addresses => link_addresses(graph, function, item),
@@ -241,7 +259,8 @@ pub fn link_test(
     function: usize,
     test: Test,
 ) -> Result<(), AllocError>
-    ensures { OnOk result (Adds (λ c. ConditionKept sought.entry c function test) graph.old graph.new) }
+    ensures { OnOk result
+        (Adds (λ c. ConditionKept sought.entry c function test) graph.old graph.new) }
 {
     match sought {
         Sought::Addresses => Ok(()),
@@ -250,7 +269,8 @@ pub fn link_test(
 }
 
 fn seed_decided(graph: &mut Graph, a: &Graph, function: usize, test: Test) -> Result<(), AllocError>
-    ensures { OnOk result (Adds (λ c. TestKept (marked a.now function) (c function) test) graph.old graph.new) }
+    ensures { OnOk result
+        (Adds (λ c. TestKept (marked a.now function) (c function) test) graph.old graph.new) }
 {
     if a.has_test(function, test) {
         Ok(())

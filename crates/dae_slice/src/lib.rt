@@ -9,6 +9,4 @@ pub use tables::{classes, decider};
 mod graph;
 mod items;
 mod tables;
-#[cfg(test)]
-mod tests;
 mod walk;

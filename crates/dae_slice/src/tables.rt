@@ -29,8 +29,10 @@ pub fn classes(alloc: Global, ir: &Ir) -> Result<Items<Items<Class>>, AllocError
 
 // The variables that the sought sets have are marked.
 fn marks(alloc: Global, functions: &[Function], sought: Sought) -> Result<Graph, AllocError>
-    requires targets { (f : ℕ) → CodeHasTargets (in_range functions.now) f (body_in (slice_get functions.now f)) }
-    requires range { (f : ℕ) → CodeKept sought (in_range functions.now) f (body_in (slice_get functions.now f)) }
+    requires targets { (f : ℕ)
+        → CodeHasTargets (in_range functions.now) f (body_in (slice_get functions.now f)) }
+    requires range { (f : ℕ)
+        → CodeKept sought (in_range functions.now) f (body_in (slice_get functions.now f)) }
     ensures { IfOk result (λ g. IsLeastFor sought.entry functions.now (marked g)) }
 {
     let mut graph = Graph::new(alloc, functions)?;
@@ -47,7 +49,9 @@ fn make_tables(
     a: &Graph,
     e: &Graph,
 ) -> Result<Items<Items<Class>>, AllocError>
-    ensures { IfOk result (λ tables. IsTable (length functions.now) functions.now (marked a.now) (marked e.now) tables) }
+    ensures { IfOk result
+        (λ tables.
+        IsTable (length functions.now) functions.now (marked a.now) (marked e.now) tables) }
 {
     let mut tables = Items::new(alloc);
     for (number, function) in functions.iter().enumerate() {
@@ -63,7 +67,8 @@ fn make_table(
     a: &Graph,
     e: &Graph,
 ) -> Result<Items<Class>, AllocError>
-    ensures { IfOk result (λ row. IsRow variables (marked a.now function) (marked e.now function) row) }
+    ensures { IfOk result
+        (λ row. IsRow variables (marked a.now function) (marked e.now function) row) }
 {
     let mut table = Items::new(alloc);
     for variable in 0..variables {

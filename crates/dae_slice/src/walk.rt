@@ -21,7 +21,9 @@ pub fn link_statements(
     statements: &[Statement],
 ) -> Result<(), AllocError>
     requires { CodeHasTargets (exists graph.old) function (form_of statements.now) }
-    ensures { OnOk result (Adds (λ c. CodeKept sought.entry c function (form_of statements.now)) graph.old graph.new) }
+    ensures { OnOk result
+        (Adds (λ c.
+        CodeKept sought.entry c function (form_of statements.now)) graph.old graph.new) }
 {
     for statement in statements {
         link_statement(graph, sought, function, statement)?;
@@ -37,7 +39,9 @@ fn link_statement(
     statement: &Statement,
 ) -> Result<(), AllocError>
     requires { CodeHasTargets (exists graph.old) function (before statement.now Done) }
-    ensures { OnOk result (Adds (λ c. CodeKept sought.entry c function (before statement.now Done)) graph.old graph.new) }
+    ensures { OnOk result
+        (Adds (λ c.
+        CodeKept sought.entry c function (before statement.now Done)) graph.old graph.new) }
 {
     match statement {
         Statement::Simple(_, item) => {

@@ -15,7 +15,7 @@ use Rattle.dae_ir.specs.Streams.{actions_of}
 use Rattle.dae_ir.specs.declared.form.Function.{Function as FormFunction}
 use Rattle.dae_ir.specs.declared.stream.StreamFunction.{StreamFunction}
 use Rattle.dae_tree_sizes.specs.Sizes.{priced, pay_of_all, IsDefinition, PartsPay, DefinitionsAreLong}
-use Rattle.dae_typed_sizes.specs.Paid.{literal_bytes}
+use Rattle.dae_typed_sizes.specs.Paid.{bytes_of_literal}
 use Rattle.dae_code_sizes.specs.Code.{burden}
 use Rattle.dae_word_sizes.specs.Words.{words_in}
 use Rattle.dae_file_sizes.specs.From.{AreFrom}
@@ -126,7 +126,7 @@ priced_twice f [] = refl
 priced_twice f (n ∷ ns) = let h = priced_twice f ns in omega (arith, h)
 
 abbrev bytes : List (List ℕ) → ℕ → ℕ
-bytes ls n = length (literal_bytes ls n)
+bytes ls n = length (bytes_of_literal ls n)
 
 sources_pay : (ls : List (List ℕ)) (xs : List External) → pays (sources_of ls xs) ≡ 56 * pay_of_all (λ n. 2 * bytes ls n) xs
 sources_pay ls [] = refl

@@ -8,7 +8,7 @@ use Rattle.dae_tree.specs.Trees.{External}
 use Rattle.dae_kinds.specs.Tables.{Tables}
 use Rattle.dae_typed.specs.declared.files.FileParts.{FileParts}
 use Rattle.dae_tree_sizes.specs.Sizes.{IsDefinition}
-use Rattle.dae_file_sizes.specs.Small.{tokens, HasParameters, IsFileOf}
+use Rattle.dae_file_sizes.specs.Small.{tokens, HasParameters, IsPlanned}
 
 -- a definition or declaration, with the literals of its file
 pub record Source : Type 0 where
@@ -29,7 +29,7 @@ pub record IsTypedAs (c : Contents) (file : FileParts) : Type 0 where
   pub parsed : IsFile c
   pub start : Tables
   pub literals : start.literals ≡ c.literals
-  pub typed : IsFileOf (view_externals c.externals) start file
+  pub typed : IsPlanned (view_externals c.externals) start file
   pub parameters : AllByRecursion (HasParameters file) file.functions
 
 abbrev pub AreTypedAs : List Contents → List FileParts → Type 0

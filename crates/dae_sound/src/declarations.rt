@@ -123,7 +123,8 @@ fn defined_routine(d: FileDeclaration) -> Option<usize>
 
 /// Whether functions have bodies in the order of the declarations that aren't mere references.
 pub fn are_bodies_of(declarations: &[FileDeclaration], functions: &[TypedFunction]) -> bool
-    ensures { result ≡ same_numbers (routines_in functions.now) (defined_routines declarations.now) }
+    ensures { result
+        ≡ same_numbers (routines_in functions.now) (defined_routines declarations.now) }
 {
     let mut rest = functions;
     for d in declarations {

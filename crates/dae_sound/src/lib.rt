@@ -19,5 +19,3 @@ mod shapes;
 mod sound;
 mod statements;
 mod tables;
-#[cfg(test)]
-mod tests;

@@ -57,7 +57,8 @@ fn note<'f>(seen: &mut IndexSet<&'f [u8]>, name: Option<&'f [u8]>) -> Result<(),
 
 fn note_objects<'f>(parts: &'f FileParts, seen: &mut IndexSet<&'f [u8]>) -> Result<(), Doubt>
     ensures fresh { OnOk result (AreNew seen.old.keys (object_names parts.now parts.now.objects)) }
-    ensures noted { OnOk result (AreNoted seen.old.keys seen.new.keys (object_names parts.now parts.now.objects)) }
+    ensures noted { OnOk result
+        (AreNoted seen.old.keys seen.new.keys (object_names parts.now parts.now.objects)) }
 {
     for object in parts.objects.as_slice() {
         note(seen, object_name(parts, *object))?;
@@ -66,7 +67,8 @@ fn note_objects<'f>(parts: &'f FileParts, seen: &mut IndexSet<&'f [u8]>) -> Resu
 }
 
 fn note_routines<'f>(parts: &'f FileParts, seen: &mut IndexSet<&'f [u8]>) -> Result<(), Doubt>
-    ensures fresh { OnOk result (AreNew seen.old.keys (routine_names parts.now parts.now.routines)) }
+    ensures fresh { OnOk result
+        (AreNew seen.old.keys (routine_names parts.now parts.now.routines)) }
 {
     for routine in parts.routines.as_slice() {
         note(seen, routine_name(parts, *routine))?;

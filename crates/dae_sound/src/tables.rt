@@ -129,7 +129,8 @@ fn shorter(parts: &FileParts, list: Shape) -> Option<Shape>
 
 /// The length of a list of the types of parameters.
 fn count_from(parts: &FileParts, list: Shape) -> usize
-    ensures { result ≡ length (parameters_from (length parts.now.shapes) (tables_of parts.now) list) }
+    ensures { result
+        ≡ length (parameters_from (length parts.now.shapes) (tables_of parts.now) list) }
 {
     let mut rest = list;
     for count in 0..parts.shapes.len() {

@@ -42,7 +42,8 @@ pub fn needs(tables: &[Items<Class>], function: usize, side: Side, v: u32) -> bo
 
 /// Whether A sends a copy of what is put into the variable.
 pub fn is_shared(tables: &[Items<Class>], function: usize, v: u32) -> bool
-    ensures { result ≡ ((classes_of tables.now function).s v && (classes_of tables.now function).needs v) }
+    ensures { result
+        ≡ ((classes_of tables.now function).s v && (classes_of tables.now function).needs v) }
 {
     let class = class(tables, function, v);
     class.a && class.e
@@ -50,7 +51,8 @@ pub fn is_shared(tables: &[Items<Class>], function: usize, v: u32) -> bool
 
 /// Whether E alone needs the variable.
 pub fn is_for_e_alone(tables: &[Items<Class>], function: usize, v: u32) -> bool
-    ensures { result ≡ (not ((classes_of tables.now function).s v) && (classes_of tables.now function).needs v) }
+    ensures { result
+        ≡ (not ((classes_of tables.now function).s v) && (classes_of tables.now function).needs v) }
 {
     let class = class(tables, function, v);
     !class.a && class.e

@@ -39,7 +39,9 @@ fn put_a_part(
     number: u64,
     part: Part,
 ) -> Result<(), AllocError>
-    ensures { OnOk result (Adds (a_part (classes_of tables.now function) number part) steps.old.items steps.new.items) }
+    ensures { OnOk result
+        (Adds (a_part
+        (classes_of tables.now function) number part) steps.old.items steps.new.items) }
 {
     match part {
         Part::Sets(place, v, value) => {
@@ -67,7 +69,9 @@ fn put_e_part(
     number: u64,
     part: Part,
 ) -> Result<(), AllocError>
-    ensures { OnOk result (Adds (e_part (classes_of tables.now function) number part) steps.old.items steps.new.items) }
+    ensures { OnOk result
+        (Adds (e_part
+        (classes_of tables.now function) number part) steps.old.items steps.new.items) }
 {
     match part {
         Part::Sets(place, v, value) => {
@@ -93,7 +97,10 @@ fn put_a_parts(
     number: u64,
     group: &[Part],
 ) -> Result<(), AllocError>
-    ensures { OnOk result (Adds (parts (a_part (classes_of tables.now function) number) group.now) steps.old.items steps.new.items) }
+    ensures { OnOk result
+        (Adds (parts
+        (a_part
+        (classes_of tables.now function) number) group.now) steps.old.items steps.new.items) }
 {
     for part in group {
         put_a_part(steps, tables, function, number, *part)?;
@@ -108,7 +115,10 @@ fn put_e_parts(
     number: u64,
     group: &[Part],
 ) -> Result<(), AllocError>
-    ensures { OnOk result (Adds (parts (e_part (classes_of tables.now function) number) group.now) steps.old.items steps.new.items) }
+    ensures { OnOk result
+        (Adds (parts
+        (e_part
+        (classes_of tables.now function) number) group.now) steps.old.items steps.new.items) }
 {
     for part in group {
         put_e_part(steps, tables, function, number, *part)?;
@@ -117,7 +127,8 @@ fn put_e_parts(
 }
 
 fn first_check(group: &[Part]) -> Option<Place>
-    ensures { (number : ℕ) (x : Action) (k : Actions) → message number x group.now k ≡ message_at result number x k }
+    ensures { (number : ℕ) (x : Action) (k : Actions)
+        → message number x group.now k ≡ message_at result number x k }
 {
     for part in group {
         if let Part::Tests(place, _) = part {
@@ -201,7 +212,9 @@ fn put_a_group(
     group: &[Part],
     last: Last,
 ) -> Result<(), AllocError>
-    ensures { OnOk result (Adds (a_group (classes_of tables.now function) number group.now last) steps.old.items steps.new.items) }
+    ensures { OnOk result
+        (Adds (a_group
+        (classes_of tables.now function) number group.now last) steps.old.items steps.new.items) }
 {
     put_a_parts(steps, tables, function, number, group)?;
     put_address(steps, number, last)?;
@@ -217,7 +230,9 @@ fn put_e_group(
     group: &[Part],
     last: Last,
 ) -> Result<(), AllocError>
-    ensures { OnOk result (Adds (e_group (classes_of tables.now function) number group.now last) steps.old.items steps.new.items) }
+    ensures { OnOk result
+        (Adds (e_group
+        (classes_of tables.now function) number group.now last) steps.old.items steps.new.items) }
 {
     put_message(steps, number, Action::Hear, group)?;
     put_e_parts(steps, tables, function, number, group)?;

@@ -105,7 +105,10 @@ fn put_argument(
     parameter: u32,
     operand: Operand,
 ) -> Result<(), AllocError>
-    ensures { OnOk result (arguments.new ≡ (if flag then arguments.old ++ record { parameter = parameter; operand = operand } ∷ [] else arguments.old)) }
+    ensures { OnOk result
+        (arguments.new
+        ≡ (if flag then arguments.old ++ record { parameter = parameter; operand = operand }
+        ∷ [] else arguments.old)) }
 {
     if flag {
         arguments.push(Argument { parameter, operand })?;
@@ -123,7 +126,9 @@ fn arguments(
     operands: &[Operand],
 ) -> Result<Items<Argument>, AllocError>
     requires { length operands.now ≡ parameters }
-    ensures { IfOk result (λ list. list ≡ arguments_in (set_of (is_a side) (classes_of tables.now callee)) 1 operands.now) }
+    ensures { IfOk result
+        (λ list. list
+        ≡ arguments_in (set_of (is_a side) (classes_of tables.now callee)) 1 operands.now) }
 {
     let mut arguments = Items::new(alloc);
     let mut parameter = 0;
@@ -153,7 +158,8 @@ fn kept_variable(tables: &[Items<Class>], task: Task, v: u32) -> Option<u32>
 
 // The operand of a return, where the side needs the result.
 fn kept_result(tables: &[Items<Class>], task: Task, operand: Operand) -> Option<Operand>
-    ensures { result ≡ kept (set_of (is_a task.side) (classes_of tables.now task.function) 0) operand }
+    ensures { result
+        ≡ kept (set_of (is_a task.side) (classes_of tables.now task.function) 0) operand }
 {
     needs(tables, task.function, task.side, 0).then_some(operand)
 }
@@ -178,7 +184,10 @@ fn call(
     operands: &[Operand],
 ) -> Result<Action, AllocError>
     requires { TakesArguments (slice_get functions.now callee) (length operands.now) }
-    ensures { IfOk result (λ action. action ≡ jump_action (is_a task.side) (classes_of tables.now) (classes_of tables.now task.function) (Enters v callee operands.now)) }
+    ensures { IfOk result
+        (λ action. action
+        ≡ jump_action (is_a task.side) (classes_of tables.now) (classes_of tables.now task.function)
+        (Enters v callee operands.now)) }
 {
     let count = parameters(functions, callee);
     let list = arguments(alloc, tables, callee as usize, task.side, count, operands)?;

@@ -11,7 +11,5 @@ mod items;
 mod parts;
 mod regions;
 mod streams;
-#[cfg(test)]
-mod tests;
 mod walk;
 mod work;

@@ -53,7 +53,9 @@ fn item_fits(
     inside: bool,
     item: &Item,
 ) -> bool
-    ensures { result ≡ (item_of (is_a side) (classes_of tables.now function) item.now && (inside || not (is_jump item.now))) }
+    ensures { result
+        ≡ (item_of (is_a side) (classes_of tables.now function) item.now
+        && (inside || not (is_jump item.now))) }
 {
     let fits = match side {
         Side::A => is_a_item(tables, function, item),
@@ -79,7 +81,9 @@ fn statement_fits(
     inside: bool,
     statement: &Statement,
 ) -> bool
-    ensures { (k : Form) → fits (is_a side) (classes_of tables.now function) inside (before statement.now k) ≡ (result && fits (is_a side) (classes_of tables.now function) inside k) }
+    ensures { (k : Form)
+        → fits (is_a side) (classes_of tables.now function) inside (before statement.now k)
+        ≡ (result && fits (is_a side) (classes_of tables.now function) inside k) }
 {
     match statement {
         Statement::Simple(_, item) => item_fits(tables, function, side, inside, item),
@@ -103,7 +107,8 @@ fn list_fits(
     inside: bool,
     statements: &[Statement],
 ) -> bool
-    ensures { result ≡ fits (is_a side) (classes_of tables.now function) inside (form_of statements.now) }
+    ensures { result
+        ≡ fits (is_a side) (classes_of tables.now function) inside (form_of statements.now) }
 {
     for statement in statements {
         if !statement_fits(tables, function, side, inside, statement) {
@@ -142,7 +147,8 @@ fn region(
     outside: bool,
     statement: &Statement,
 ) -> Option<Side>
-    ensures { by_side result ≡ region outside (classes_of tables.now function) (before statement.now Done) }
+    ensures { by_side result
+        ≡ region outside (classes_of tables.now function) (before statement.now Done) }
 {
     if !outside {
         return None;
@@ -167,9 +173,16 @@ pub struct Plan {
 
 /// What a side does of an If or a Loop that stands outside of regions or inside.
 pub fn plan_of(tables: &[Items<Class>], task: Task, outside: bool, statement: &Statement) -> Plan
-    ensures stands { result.stands ≡ stands_in (is_a task.side) (region outside (classes_of tables.now task.function) (before statement.now Done)) }
-    ensures outside { result.outside ≡ is_outside outside (region outside (classes_of tables.now task.function) (before statement.now Done)) }
-    ensures tells { result.tells ≡ tells_in (region outside (classes_of tables.now task.function) (before statement.now Done)) (before statement.now Done) }
+    ensures stands { result.stands
+        ≡ stands_in (is_a task.side)
+        (region outside (classes_of tables.now task.function) (before statement.now Done)) }
+    ensures outside { result.outside
+        ≡ is_outside outside
+        (region outside (classes_of tables.now task.function) (before statement.now Done)) }
+    ensures tells { result.tells
+        ≡ tells_in
+        (region outside (classes_of tables.now task.function) (before statement.now Done))
+        (before statement.now Done) }
 {
     match region(tables, task.function, outside, statement) {
         None => Plan {

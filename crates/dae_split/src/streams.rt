@@ -21,7 +21,10 @@ fn split_function(
     function: &Function,
 ) -> Result<StreamFunction, AllocError>
     requires { CallsFit functions.now (form_of function.now.body) }
-    ensures { IfOk result (λ made. IsFunctionOf (is_a task.side) (classes_of tables.now) (classes_of tables.now task.function) task.cap function.now made) }
+    ensures { IfOk result
+        (λ made.
+        IsFunctionOf (is_a task.side) (classes_of tables.now)
+        (classes_of tables.now task.function) task.cap function.now made) }
 {
     let name = Text::from_str(alloc, function.name.as_str())?;
     let body = list(
@@ -49,7 +52,8 @@ fn split_functions(
     cap: u8,
 ) -> Result<Items<StreamFunction>, AllocError>
     requires { AllCallsFit functions.now functions.now }
-    ensures { IfOk result (λ list. AreFunctionsOf (is_a side) (classes_of tables.now) cap 0 functions.now list) }
+    ensures { IfOk result
+        (λ list. AreFunctionsOf (is_a side) (classes_of tables.now) cap 0 functions.now list) }
 {
     let mut streams = Items::new(alloc);
     for i in 0..functions.len() {
@@ -71,7 +75,8 @@ fn stream(
     cap: u8,
 ) -> Result<Stream, AllocError>
     requires { IsScoped ir.now }
-    ensures { IfOk result (λ stream. IsStreamOf (is_a side) (classes_of tables.now) cap ir.now stream) }
+    ensures { IfOk result
+        (λ stream. IsStreamOf (is_a side) (classes_of tables.now) cap ir.now stream) }
 {
     let functions = split_functions(alloc, ir.functions.as_slice(), tables, side, cap)?;
     Ok(Stream {

@@ -19,7 +19,8 @@ use std::alloc::{AllocError, Global};
 
 // The processor that decides tells the other, but inside of a region.
 fn branch(tables: &[Items<Class>], task: Task, outside: bool, test: Test) -> Branch
-    ensures { result ≡ branch_at outside (is_a task.side) (decision (classes_of tables.now task.function) test) }
+    ensures { result
+        ≡ branch_at outside (is_a task.side) (decision (classes_of tables.now task.function) test) }
 {
     if !outside {
         return Branch::Silent(test);
@@ -47,7 +48,9 @@ fn put_if(
     p: Vec<Step>,
     q: Vec<Step>,
 ) -> Result<(), AllocError>
-    ensures { OnOk result (Adds (If mark branch (onto p.items Done) (onto q.items Done)) steps.old.items steps.new.items) }
+    ensures { OnOk result
+        (Adds (If mark branch (onto p.items Done)
+        (onto q.items Done)) steps.old.items steps.new.items) }
 {
     steps.push(Step::If(mark, branch, p, q))?;
     Ok(())
@@ -59,7 +62,9 @@ fn put_loop(
     body: Vec<Step>,
     step: Vec<Step>,
 ) -> Result<(), AllocError>
-    ensures { OnOk result (Adds (Loop mark (onto body.items Done) (onto step.items Done)) steps.old.items steps.new.items) }
+    ensures { OnOk result
+        (Adds (Loop mark (onto body.items Done)
+        (onto step.items Done)) steps.old.items steps.new.items) }
 {
     steps.push(Step::Loop(mark, body, step))?;
     Ok(())
@@ -128,7 +133,11 @@ pub fn list(
     body: &[Statement],
 ) -> Result<Vec<Step>, AllocError>
     requires fit { CallsFit functions.now (form_of body.now) }
-    ensures { IfOk result (λ steps. onto steps.items Done ≡ projected outside (is_a task.side) (classes_of tables.now) (classes_of tables.now task.function) task.cap 0 (rounds (classes_of tables.now task.function) task.cap outside (form_of body.now) [])) }
+    ensures { IfOk result
+        (λ steps. onto steps.items Done
+        ≡ projected outside (is_a task.side) (classes_of tables.now)
+        (classes_of tables.now task.function) task.cap 0
+        (rounds (classes_of tables.now task.function) task.cap outside (form_of body.now) [])) }
 {
     let mut x = Stretch {
         steps: Vec::new(alloc),

@@ -110,7 +110,8 @@ fn printed(
     kinds: &[bool],
     list: &[Tree],
 ) -> Result<Vec<Expression>, CheckError>
-    ensures { FollowsBy views_of_arguments checker.new result (plan_arguments_printed kinds.now list.now) checker.old }
+    ensures { FollowsBy views_of_arguments checker.new result
+        (plan_arguments_printed kinds.now list.now) checker.old }
 {
     let mut done = Vec::new(alloc);
     let mut number = 0;
@@ -131,7 +132,8 @@ fn print(
     format: &Tree,
     rest: &[Tree],
 ) -> Result<Vec<Statement>, CheckError>
-    ensures { GivesStatements checker.new result (plan_format_printed place format.now rest.now) checker.old }
+    ensures { GivesStatements checker.new result
+        (plan_format_printed place format.now rest.now) checker.old }
 {
     let pieces = read_format(
         alloc,

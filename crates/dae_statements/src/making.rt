@@ -32,7 +32,8 @@ pub fn choose(
     yes: Vec<Statement>,
     no: Vec<Statement>,
 ) -> Result<Vec<Statement>, CheckError>
-    ensures { MakesStatements result (If place (view test) (as_statements yes) (as_statements no) Done) }
+    ensures { MakesStatements result
+        (If place (view test) (as_statements yes) (as_statements no) Done) }
 {
     alone(alloc, Statement::If(place, test, yes, no))
 }
@@ -45,7 +46,8 @@ pub fn repeat(
     body: Vec<Statement>,
     step: Option<Expression>,
 ) -> Result<Vec<Statement>, CheckError>
-    ensures { MakesStatements result (Loop place (view_some test) (as_statements body) (view_some step) Done) }
+    ensures { MakesStatements result
+        (Loop place (view_some test) (as_statements body) (view_some step) Done) }
 {
     alone(alloc, Statement::Loop(place, test, body, step))
 }
@@ -60,7 +62,9 @@ pub fn repeat_from(
     body: Vec<Statement>,
     step: Option<Expression>,
 ) -> Result<Vec<Statement>, CheckError>
-    ensures { MakesStatements result (started at_start (view_some start) (Loop place (view_some test) (as_statements body) (view_some step) Done)) }
+    ensures { MakesStatements result
+        (started at_start (view_some start)
+        (Loop place (view_some test) (as_statements body) (view_some step) Done)) }
 {
     let repeated = repeat(alloc, place, test, body, step)?;
     match start {

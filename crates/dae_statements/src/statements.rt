@@ -72,7 +72,8 @@ fn no_block(checker: &Checker, place: Place) -> CheckError
 /// The body of a switch has no declarations.
 #[tactic(auto, unfolding(dae_rules::specs::Plan::ask_all))]
 fn check_switch_body(checker: &Checker, list: &[Declaration]) -> Result<(), CheckError>
-    ensures follows { Follows checker.now result (switch_body_at (view_declarations list.now)) checker.now }
+    ensures follows { Follows checker.now result
+        (switch_body_at (view_declarations list.now)) checker.now }
     ensures none { OnOk result (view_declarations list.now ≡ []) }
 {
     match list {
@@ -92,7 +93,8 @@ fn statement(
     around: Surrounding,
     one: &TreeStatement,
 ) -> Result<Vec<Statement>, CheckError>
-    ensures { GivesStatements checker.new result (plan_statement around (view_statement one.now)) checker.old }
+    ensures { GivesStatements checker.new result
+        (plan_statement around (view_statement one.now)) checker.old }
 {
     match one {
         TreeStatement::Block(inner) => scope(alloc, checker, around, inner),
@@ -175,7 +177,9 @@ fn sequence(
     mut done: Written,
     list: &[TreeStatement],
 ) -> Result<Vec<Statement>, CheckError>
-    ensures { GivesStatements checker.new result (plan_statements around (as_statements done.statements) (views_statements list.now)) checker.old }
+    ensures { GivesStatements checker.new result
+        (plan_statements around (as_statements done.statements)
+        (views_statements list.now)) checker.old }
 {
     for one in list {
         let next = statement(alloc, checker, around, one)?;
@@ -195,7 +199,8 @@ fn if_true(
     test: Condition,
     one: &TreeStatement,
 ) -> Result<Vec<Statement>, CheckError>
-    ensures { GivesStatements checker.new result (plan_chosen place (view test.tree) around (view_statement one.now)) checker.old }
+    ensures { GivesStatements checker.new result
+        (plan_chosen place (view test.tree) around (view_statement one.now)) checker.old }
 {
     let yes = statement(alloc, checker, around, one)?;
     choose(alloc, place, test.tree, yes, Vec::new(alloc))
@@ -212,7 +217,9 @@ fn if_false(
     yes: Written,
     one: &TreeStatement,
 ) -> Result<Vec<Statement>, CheckError>
-    ensures { GivesStatements checker.new result (plan_otherwise place (view test.tree) (as_statements yes.statements) around (view_statement one.now)) checker.old }
+    ensures { GivesStatements checker.new result
+        (plan_otherwise place (view test.tree) (as_statements yes.statements) around
+        (view_statement one.now)) checker.old }
 {
     let no = statement(alloc, checker, around, one)?;
     choose(alloc, place, test.tree, yes.statements, no)
@@ -228,7 +235,8 @@ fn while_true(
     test: Condition,
     one: &TreeStatement,
 ) -> Result<Vec<Statement>, CheckError>
-    ensures { GivesStatements checker.new result (plan_while place (view test.tree) around (view_statement one.now)) checker.old }
+    ensures { GivesStatements checker.new result
+        (plan_while place (view test.tree) around (view_statement one.now)) checker.old }
 {
     let body = statement(alloc, checker, in_loop(around), one)?;
     repeat(alloc, place, Some(test.tree), body, None)
@@ -242,7 +250,8 @@ fn until_false(
     body: Vec<Statement>,
     e: &Tree,
 ) -> Result<Vec<Statement>, CheckError>
-    ensures { GivesStatements checker.new result (plan_do place (as_statements body) (view_tree e.now)) checker.old }
+    ensures { GivesStatements checker.new result
+        (plan_do place (as_statements body) (view_tree e.now)) checker.old }
 {
     let test = condition(alloc, checker, e)?;
     repeat_before(alloc, place, body, test)
@@ -261,7 +270,9 @@ fn for_each(
     step: Option<Expression>,
     one: &TreeStatement,
 ) -> Result<Vec<Statement>, CheckError>
-    ensures { GivesStatements checker.new result (plan_for first (view_some start) place (view_some test) (view_some step) around (view_statement one.now)) checker.old }
+    ensures { GivesStatements checker.new result
+        (plan_for first (view_some start) place (view_some test) (view_some step) around
+        (view_statement one.now)) checker.old }
 {
     let body = statement(alloc, checker, in_loop(around), one)?;
     repeat_from(alloc, first, start, place, test, body, step)
@@ -277,7 +288,8 @@ fn switch(
     value: Value,
     one: &TreeStatement,
 ) -> Result<Vec<Statement>, CheckError>
-    ensures { GivesStatements checker.new result (plan_switch place (done_value value) around (view_statement one.now)) checker.old }
+    ensures { GivesStatements checker.new result
+        (plan_switch place (done_value value) around (view_statement one.now)) checker.old }
 {
     let arms = switch_body(alloc, checker, in_switch(around), one)?;
     branch(alloc, place, value.tree, arms)
@@ -291,7 +303,8 @@ fn switch_body(
     around: Surrounding,
     one: &TreeStatement,
 ) -> Result<Vec<Arm>, CheckError>
-    ensures { FollowsBy view_arms checker.new result (plan_switch_body around (view_statement one.now)) checker.old }
+    ensures { FollowsBy view_arms checker.new result
+        (plan_switch_body around (view_statement one.now)) checker.old }
 {
     match one {
         TreeStatement::Block(inner) => switch_block(alloc, checker, around, inner),
@@ -307,7 +320,8 @@ fn switch_block(
     around: Surrounding,
     inner: &Block,
 ) -> Result<Vec<Arm>, CheckError>
-    ensures { FollowsBy view_arms checker.new result (plan_switch_block around inner.now) checker.old }
+    ensures { FollowsBy view_arms checker.new result
+        (plan_switch_block around inner.now) checker.old }
 {
     let enclosing = checker.open();
     let arms = switch_parts(alloc, checker, around, inner)?;
@@ -323,7 +337,8 @@ fn switch_parts(
     around: Surrounding,
     inner: &Block,
 ) -> Result<Vec<Arm>, CheckError>
-    ensures { FollowsBy view_arms checker.new result (plan_switch_parts around inner.now) checker.old }
+    ensures { FollowsBy view_arms checker.new result
+        (plan_switch_parts around inner.now) checker.old }
 {
     check_switch_body(checker, &inner.declarations)?;
     arms(alloc, checker, around, &inner.statements)
@@ -337,7 +352,8 @@ fn arms(
     around: Surrounding,
     list: &[TreeStatement],
 ) -> Result<Vec<Arm>, CheckError>
-    ensures { FollowsBy view_arms checker.new result (plan_arms around unarmed (views_statements list.now)) checker.old }
+    ensures { FollowsBy view_arms checker.new result
+        (plan_arms around unarmed (views_statements list.now)) checker.old }
 {
     let mut arming = Arming {
         seen: Vec::new(alloc),
@@ -358,7 +374,8 @@ fn labelled(
     arming: Arming,
     one: &TreeStatement,
 ) -> Result<Arming, CheckError>
-    ensures { FollowsBy view_arming checker.new result (plan_label around (view_arming arming) (view_statement one.now)) checker.old }
+    ensures { FollowsBy view_arming checker.new result
+        (plan_label around (view_arming arming) (view_statement one.now)) checker.old }
 {
     match one {
         TreeStatement::Case(place, e, t) => {
@@ -383,7 +400,8 @@ fn unlabelled(
     arming: Arming,
     one: &TreeStatement,
 ) -> Result<Arming, CheckError>
-    ensures { FollowsBy view_arming checker.new result (plan_unlabelled around (view_arming arming) (view_statement one.now)) checker.old }
+    ensures { FollowsBy view_arming checker.new result
+        (plan_unlabelled around (view_arming arming) (view_statement one.now)) checker.old }
 {
     let written = statement(alloc, checker, around, one)?;
     let arms = add_statements(alloc, arming.arms, written)?;
@@ -402,7 +420,9 @@ pub fn block(
     declarations: &[Declaration],
     statements: &[TreeStatement],
 ) -> Result<Vec<Statement>, CheckError>
-    ensures { GivesStatements checker.new result (plan_block around (view_declarations declarations.now) (views_statements statements.now)) checker.old }
+    ensures { GivesStatements checker.new result
+        (plan_block around (view_declarations declarations.now)
+        (views_statements statements.now)) checker.old }
 {
     let begun = dae_locals::declarations(alloc, checker, declarations)?;
     sequence(

@@ -49,7 +49,8 @@ pub fn optional_value(
     checker: &mut Checker,
     e: &Option<Tree>,
 ) -> Result<Option<Expression>, CheckError>
-    ensures { FollowsBy view_some checker.new result (plan_optional (view_optional e.now)) checker.old }
+    ensures { FollowsBy view_some checker.new result
+        (plan_optional (view_optional e.now)) checker.old }
 {
     match e {
         Some(e) => Ok(Some(operand(alloc, checker, e)?.tree)),
@@ -91,7 +92,8 @@ pub fn give_back(
     around: Surrounding,
     e: &Option<Tree>,
 ) -> Result<Vec<Statement>, CheckError>
-    ensures { GivesStatements checker.new result (plan_return place around (view_optional e.now)) checker.old }
+    ensures { GivesStatements checker.new result
+        (plan_return place around (view_optional e.now)) checker.old }
 {
     match e {
         Some(e) => {

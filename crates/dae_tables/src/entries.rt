@@ -149,7 +149,8 @@ impl Checker {
 
     /// Leaves the first so many parameters and local objects.
     pub fn cut_locals(&mut self, count: usize)
-        ensures { tables self.new ≡ with_locals (take count (tables self.old).locals) (tables self.old) }
+        ensures { tables self.new
+            ≡ with_locals (take count (tables self.old).locals) (tables self.old) }
     {
         self.locals.truncate(count);
     }

@@ -196,7 +196,8 @@ impl Checker {
 
     /// The number of bytes of a literal with the zero byte at its end.
     pub fn literal_size(&self, number: usize) -> Result<u32, CheckError>
-        ensures { Gives (λ size. size) result (Ok (literal_size (slice_get (tables self.now).literals number))) }
+        ensures { Gives (λ size. size) result
+            (Ok (literal_size (slice_get (tables self.now).literals number))) }
     {
         let Some(bytes) = self.literals.as_slice().get(number) else {
             return Ok(1);

@@ -121,7 +121,8 @@ impl Declarator {
     /// The part that makes the declared name a function (C90 6.5.4.3 and 6.7.1).
     #[tactic(auto, using(crate::proofs::Laws::view_function))]
     pub fn function_part(&self) -> Option<&Declarator>
-        ensures { option_map view_declarator (option_copied result) ≡ function_part (view_declarator self.now) }
+        ensures { option_map view_declarator (option_copied result)
+            ≡ function_part (view_declarator self.now) }
     {
         match self {
             Declarator::Absent => None,
@@ -158,7 +159,9 @@ impl Declarator {
 impl Declaration {
     /// The place of the first token.
     pub fn place(&self) -> Place
-        ensures { result ≡ place_of_specifiers (view_declaration self.now).specifiers (view_declaration self.now).end }
+        ensures { result
+            ≡ place_of_specifiers (view_declaration self.now).specifiers
+            (view_declaration self.now).end }
     {
         place_of_first(self.specifiers.as_slice(), self.end)
     }

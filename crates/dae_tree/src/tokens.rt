@@ -151,7 +151,8 @@ impl<'t> Tokens<'t> {
     /// The bytes of the text from a token's start to its end, with the joins of lines in them.
     pub fn spelling(&self, at: usize) -> &'t [u8]
         requires { at < length self.now.tokens }
-        ensures { IfSome (slice_get self.now.tokens at) (λ t. result.now ≡ slice_range self.now.text t.start t.end) }
+        ensures { IfSome (slice_get self.now.tokens at)
+            (λ t. result.now ≡ slice_range self.now.text t.start t.end) }
     {
         let token = self.tokens.as_slice()[at];
         &self.text[token.start as usize..token.end as usize]

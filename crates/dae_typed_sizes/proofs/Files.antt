@@ -34,7 +34,7 @@ use Rattle.dae_file_plans.specs.Files.{Product, Declares, Data, Body, retyped, n
 use Rattle.dae_tree_sizes.specs.Sizes.{worth_of_declarations, worth_of_statements, worth_of_external, declares_in, declares_in_specifiers, declares_in_parameters, declares_in_value, declares_in_declarations, declares_in_statements, declares_in_external, IsDefinition}
 use Rattle.dae_typed_sizes.specs.Weights.{weight_in}
 use Rattle.dae_typed_sizes.specs.Paid.{price}
-use Rattle.dae_typed_sizes.specs.Bodies.{Defined, bodies_in, IsPaidBy, ArePaidBy, BodiesPaid}
+use Rattle.dae_typed_sizes.specs.Bodies.{PlannedBody, bodies_in, IsPaidBy, ArePaidBy, BodiesPaid}
 use Rattle.dae_typed_sizes.proofs.Within.{Grown, Within, none, same, stays, grows, grown_more, fewer, unmeasured, pure_within, maps_stays, maps_reads, chain_within, nothing_within, looks_within, ends_within, settles_within}
 use Rattle.dae_typed_sizes.proofs.Weighing.{composite_grown}
 use Rattle.dae_typed_sizes.proofs.Steps.{count_name, base_within, node_keeps, maps_keeps}
@@ -49,7 +49,7 @@ bodies-append : (xs ys : List Product) → bodies_in (xs ++ ys) ≡ bodies_in xs
 bodies-append [] ys = refl
 bodies-append (Declares d ∷ xs) ys = bodies-append xs ys
 bodies-append (Data o items ∷ xs) ys = bodies-append xs ys
-bodies-append (Body f locals storages body ∷ xs) ys = ap (λ (fs : List Defined). record { routine = f; locals = locals; storages = storages; statements = body } ∷ fs) (bodies-append xs ys)
+bodies-append (Body f locals storages body ∷ xs) ys = ap (λ (fs : List PlannedBody). record { routine = f; locals = locals; storages = storages; statements = body } ∷ fs) (bodies-append xs ys)
 
 append_nil : {X : Type 0} (xs : List X) → xs ++ [] ≡ xs
 append_nil [] = refl
@@ -58,7 +58,7 @@ append_nil (x ∷ xs) = ap (λ ys. x ∷ ys) (append_nil xs)
 abbrev bodies : List Product → ℕ
 bodies xs = length (bodies_in xs)
 
-no_bodies : (fs : List Defined) → length fs ≤ 0 → fs ≡ []
+no_bodies : (fs : List PlannedBody) → length fs ≤ 0 → fs ≡ []
 no_bodies [] h = refl
 no_bodies (f ∷ fs) h = absurd (omega (arith, h))
 
@@ -122,13 +122,13 @@ length-kept s v o n (x ∷ xs) =
     length_if (in_variable s x) (storage.Variable v) (storage.Frame at) (kept_from s (suc v) o (n - 1) xs) (kept_from s u (at + l.size) (n - 1) xs) (length xs) (length-kept s (suc v) o (n - 1) xs) (length-kept s u (at + l.size) (n - 1) xs)
 
 -- a definition gives one body, or none
-abbrev Part : ℕ → List (List ℕ) → External → List Defined → Type 0
+abbrev Part : ℕ → List (List ℕ) → External → List PlannedBody → Type 0
 Part c ls x [] = Unit {0}
 Part c ls x (f ∷ []) = IsPaidBy c ls x f
 Part c ls x (f ∷ g ∷ fs) = ⊥
 
 -- with what other parts of the file give
-parts : (c : ℕ) (ls : List (List ℕ)) (x : External) (xs : List External) (fs gs : List Defined) → Part c ls x fs → ArePaidBy c ls xs gs → ArePaidBy c ls (x ∷ xs) (fs ++ gs)
+parts : (c : ℕ) (ls : List (List ℕ)) (x : External) (xs : List External) (fs gs : List PlannedBody) → Part c ls x fs → ArePaidBy c ls xs gs → ArePaidBy c ls (x ∷ xs) (fs ++ gs)
 parts c ls x xs [] [] h k = tt
 parts c ls x xs [] (g ∷ gs) h k = inr k
 parts c ls x xs (f ∷ []) gs h k = inl (h, k)
@@ -282,7 +282,7 @@ module _ (c : ℕ) (low : c ≤ 1) (ls : List (List ℕ)) where
 
   -- what stands behind what is done
   abbrev Behind : External → List Product → Tables → List Product → Type 0
-  Behind x done s r = (fs : List Defined) × (bodies_in r ≡ bodies_in done ++ fs) × Part c ls x fs
+  Behind x done s r = (fs : List PlannedBody) × (bodies_in r ≡ bodies_in done ++ fs) × Part c ls x fs
 
   defined_leads : (done : List Product) (ws : Specifiers) (d : Declarator) (q : Place) (ds : List Declaration) (ss : Statements) → Leads ls Any (Behind (tree.Defined ws d q ds ss) done) (plan_defined done ws d q ds ss)
   defined_leads done ws d q ds ss =
@@ -304,7 +304,7 @@ module _ (c : ℕ) (low : c ≤ 1) (ls : List (List ℕ)) where
   external_leads done (tree.Defined ws d q ds ss) = defined_leads done ws d q ds ss
 
   abbrev AllBehind : List External → List Product → Tables → List Product → Type 0
-  AllBehind xs done s r = (fs : List Defined) × (bodies_in r ≡ bodies_in done ++ fs) × ArePaidBy c ls xs fs
+  AllBehind xs done s r = (fs : List PlannedBody) × (bodies_in r ≡ bodies_in done ++ fs) × ArePaidBy c ls xs fs
 
   externals_lead : (done : List Product) (xs : List External) → Leads ls Any (AllBehind xs done) (plan_externals done xs)
   externals_lead done [] = leads_pure done (λ s h. ([], sym (append_nil (bodies_in done)), tt))

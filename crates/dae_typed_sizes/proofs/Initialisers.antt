@@ -28,7 +28,7 @@ use Rattle.dae_typed_sizes.proofs.Expressions.{value_of_within}
 -- the literal that an expression is, or none
 abbrev pub text_in : List (List ℕ) → Option ℕ → List ℕ
 text_in ls None = []
-text_in ls (Some n) = paid.literal_bytes ls n
+text_in ls (Some n) = paid.bytes_of_literal ls n
 
 bytes_are : (o : Option (List ℕ)) → (elim o [ None ↦ [] | Some bytes ↦ bytes ]) ≡ bytes_or_none o
 bytes_are None = refl

@@ -13,13 +13,13 @@ use Rattle.dae_typed_sizes.specs.Weights.{weight_in}
 use Rattle.dae_typed_sizes.specs.Paid.{price}
 
 -- the parameters and locals of a function, where each is kept, and its statements
-pub record Defined : Type 0 where
+pub record PlannedBody : Type 0 where
   pub routine : ℕ
   pub locals : List Local
   pub storages : List Storage
   pub statements : Statements
 
-abbrev pub bodies_in : List Product → List Defined
+abbrev pub bodies_in : List Product → List PlannedBody
 bodies_in [] = []
 bodies_in (Declares d ∷ xs) = bodies_in xs
 bodies_in (Data o items ∷ xs) = bodies_in xs
@@ -27,7 +27,7 @@ bodies_in (Body f locals storages body ∷ xs) = record { routine = f; locals = 
 
 -- A definition has at least as many declared names as there are parameters and locals. What its block comes to, before locals
 -- that begin as 0 are set, weighs at least 8 less than it pays.
-pub record IsPaidBy (c : ℕ) (literals : List (List ℕ)) (x : External) (f : Defined) : Type 0 where
+pub record IsPaidBy (c : ℕ) (literals : List (List ℕ)) (x : External) (f : PlannedBody) : Type 0 where
   pub definition : IsDefinition x
   pub place : Place
   pub tables : Tables
@@ -38,7 +38,7 @@ pub record IsPaidBy (c : ℕ) (literals : List (List ℕ)) (x : External) (f : D
   pub weight : 8 + weight_in c block ≤ worth_of_external (price c literals) x
 
 -- bodies come from definitions, at most one from each, in their order
-abbrev pub ArePaidBy : (c : ℕ) (literals : List (List ℕ)) → List External → List Defined → Type 0
+abbrev pub ArePaidBy : (c : ℕ) (literals : List (List ℕ)) → List External → List PlannedBody → Type 0
 ArePaidBy c literals xs [] = Unit {0}
 ArePaidBy c literals [] (f ∷ fs) = ⊥
 ArePaidBy c literals (x ∷ xs) (f ∷ fs) = (IsPaidBy c literals x f × ArePaidBy c literals xs fs) ⊎ ArePaidBy c literals xs (f ∷ fs)

@@ -13,8 +13,8 @@ abbrev pub bytes_or_none : Option (List ℕ) → List ℕ
 bytes_or_none None = []
 bytes_or_none (Some bytes) = bytes
 
-abbrev pub literal_bytes : List (List ℕ) → ℕ → List ℕ
-literal_bytes literals n = bytes_or_none (slice_get literals n)
+abbrev pub bytes_of_literal : List (List ℕ) → ℕ → List ℕ
+bytes_of_literal literals n = bytes_or_none (slice_get literals n)
 
 -- so many for each byte
 abbrev pub for_each : ℕ → List ℕ → ℕ
@@ -23,7 +23,7 @@ for_each c (b ∷ bs) = c + for_each c bs
 
 -- the price of a literal: two such for each of its bytes
 abbrev pub price : ℕ → List (List ℕ) → ℕ → ℕ
-price c literals n = for_each c (literal_bytes literals n) + for_each c (literal_bytes literals n)
+price c literals n = for_each c (bytes_of_literal literals n) + for_each c (bytes_of_literal literals n)
 
 -- a value weighs less than the tokens of its expression pay, whatever was declared before
 abbrev pub ValuesPaid : Type 0

@@ -71,7 +71,9 @@ fn is_complete(parts: &FileParts, structure: usize) -> bool
 
 /// The first member of a structure among components, and the components behind it.
 fn next_member(components: &[Component], structure: usize) -> Option<(Component, &[Component])>
-    ensures members { MatchOption result (filter (is_member_of structure) components.now ≡ []) (λ x. filter (is_member_of structure) components.now ≡ x.0 ∷ filter (is_member_of structure) x.1.now) }
+    ensures members { MatchOption result (filter (is_member_of structure) components.now ≡ [])
+        (λ x. filter (is_member_of structure) components.now
+        ≡ x.0 ∷ filter (is_member_of structure) x.1.now) }
     ensures shorter { MatchOption result Unit (λ x. length x.1.now < length components.now) }
 {
     for (index, component) in components.iter().enumerate() {
@@ -108,7 +110,10 @@ pub struct Couple {
 
 #[cycle(across)]
 fn same_members(depth: usize, f: &FileParts, g: &FileParts, structures: Couple) -> bool
-    ensures { result ≡ same_members (same_within_files depth f.now g.now false) f.now g.now (members_of (tables_of f.now) structures.left) (members_of (tables_of g.now) structures.right) }
+    ensures { result
+        ≡ same_members (same_within_files depth f.now g.now false) f.now g.now
+        (members_of (tables_of f.now) structures.left)
+        (members_of (tables_of g.now) structures.right) }
 {
     let mut left = f.components.as_slice();
     let mut right = g.components.as_slice();
@@ -158,7 +163,8 @@ fn same_shapes(
     behind: bool,
     shapes: (Shape, Shape),
 ) -> bool
-    ensures { result ≡ shape_across (same_within_files depth f.now g.now) f.now g.now behind shapes.0 shapes.1 }
+    ensures { result
+        ≡ shape_across (same_within_files depth f.now g.now) f.now g.now behind shapes.0 shapes.1 }
 {
     match shapes {
         (Shape::Pointer(m), Shape::Pointer(n)) => same_within(depth, f, g, true, m, n),

@@ -82,8 +82,12 @@ fn next_definition<'f>(
     next: &mut IndexMap<&'f [u8], FileRow>,
     row: FileRow,
 ) -> Result<Option<FileRow>, AllocError>
-    ensures clash { IfOk result (λ other. (ds : List FileRow) → AreNextDefinitions files.now ds next.old.entries → other ≡ find (clashes files.now Definitions row) ds) }
-    ensures noted { OnOk result ((ds : List FileRow) → AreNextDefinitions files.now ds next.old.entries → AreNextDefinitions files.now (row ∷ ds) next.new.entries) }
+    ensures clash { IfOk result
+        (λ other. (ds : List FileRow) → AreNextDefinitions files.now ds next.old.entries
+        → other ≡ find (clashes files.now Definitions row) ds) }
+    ensures noted { OnOk result
+        ((ds : List FileRow) → AreNextDefinitions files.now ds next.old.entries
+        → AreNextDefinitions files.now (row ∷ ds) next.new.entries) }
 {
     if !defines(row) {
         return Ok(None);
@@ -147,7 +151,9 @@ fn take_others<'f>(
     name: &'f [u8],
 ) -> Vec<FileRow>
     ensures others { result.items ≡ items_or_none (entry_of_name later.old.entries name.entry) }
-    ensures kept { (q : Bor (List ℕ)) → entry_of_name later.new.entries q ≡ cond (bytes_eq name.now q.now) None (entry_of_name later.old.entries q) }
+    ensures kept { (q : Bor (List ℕ))
+        → entry_of_name later.new.entries q
+        ≡ cond (bytes_eq name.now q.now) None (entry_of_name later.old.entries q) }
 {
     match later.swap_remove(&name) {
         Some(others) => others,
@@ -162,8 +168,12 @@ fn next_difference<'f>(
     later: &mut IndexMap<&'f [u8], Vec<FileRow>>,
     row: FileRow,
 ) -> Result<Option<FileRow>, AllocError>
-    ensures clash { IfOk result (λ other. (ds : List FileRow) → AreLater files.now ds later.old.entries → other ≡ find (clashes files.now Types row) ds) }
-    ensures noted { OnOk result ((ds : List FileRow) → AreLater files.now ds later.old.entries → AreLater files.now (row ∷ ds) later.new.entries) }
+    ensures clash { IfOk result
+        (λ other. (ds : List FileRow) → AreLater files.now ds later.old.entries
+        → other ≡ find (clashes files.now Types row) ds) }
+    ensures noted { OnOk result
+        ((ds : List FileRow) → AreLater files.now ds later.old.entries
+        → AreLater files.now (row ∷ ds) later.new.entries) }
 {
     match external_name(files, row.file, row.declaration.entity) {
         Some(name) => {

@@ -22,7 +22,9 @@ pub fn add_identity<'f>(
     seen: &mut IndexSet<Identity<'f>>,
     row: FileRow,
 ) -> Result<bool, AllocError>
-    ensures { IfOk result (λ fresh. (i : Option Identity) × IsIdentity files.now row.file (entity_of row) i × AddsIdentity i seen.old.keys seen.new.keys fresh) }
+    ensures { IfOk result
+        (λ fresh. (i : Option Identity) × IsIdentity files.now row.file (entity_of row) i
+        × AddsIdentity i seen.old.keys seen.new.keys fresh) }
 {
     match identity_of(files, row.file, row.declaration.entity) {
         Some(identity) => {
@@ -39,7 +41,9 @@ fn add_giver<'f>(
     givers: &mut IndexSet<Identity<'f>>,
     row: FileRow,
 ) -> Result<(), AllocError>
-    ensures { OnOk result ((ds : List FileRow) → AreGivers files.now ds givers.old.keys → AreGivers files.now (row ∷ ds) givers.new.keys) }
+    ensures { OnOk result
+        ((ds : List FileRow) → AreGivers files.now ds givers.old.keys
+        → AreGivers files.now (row ∷ ds) givers.new.keys) }
 {
     if refers(row) {
         return Ok(());

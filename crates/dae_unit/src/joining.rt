@@ -33,7 +33,8 @@ pub struct ProgramParts {
 
 // Where the objects end.
 fn objects_end(alloc: Global, files: &[TypedFile], placed: &[FileRow]) -> Result<u64, AllocError>
-    ensures { IfOk result (λ end. end ≡ end_from first_place (object_layouts files.now [] placed.now)) }
+    ensures { IfOk result
+        (λ end. end ≡ end_from first_place (object_layouts files.now [] placed.now)) }
 {
     let rooms = object_layouts(alloc, files, placed)?;
     Ok(end_of(rooms.as_slice()))
@@ -48,7 +49,8 @@ fn make_links<'r>(
     bodies: &'r [FileRow],
 ) -> Result<Vec<Links>, AllocError>
     requires { length bodies.now < 2 ^ 32 }
-    ensures { IfOk result (λ links. links.items ≡ links_of files.now placed.now bodies.now places.now) }
+    ensures { IfOk result
+        (λ links. links.items ≡ links_of files.now placed.now bodies.now places.now) }
 {
     let numbers = numbers_of(alloc, files, placed)?;
     let rooms = Rooms {
@@ -74,7 +76,9 @@ fn make(
     places: &[u32],
     frames: u32,
 ) -> Result<ProgramParts, JoinError>
-    ensures ok { IfOk result (λ p. IsMadeOf files.items placed.now places.now (end_from first_place (object_layouts files.items [] placed.now)) frames p) }
+    ensures ok { IfOk result
+        (λ p. IsMadeOf files.items placed.now places.now
+        (end_from first_place (object_layouts files.items [] placed.now)) frames p) }
     ensures err { IfErr result (λ e. e ≡ Memory) }
 {
     let end = objects_end(alloc, files.as_slice(), placed)?;

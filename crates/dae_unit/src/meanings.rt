@@ -26,7 +26,8 @@ pub struct Rooms<'r, 'f> {
 
 fn object_place(files: &[TypedFile], rooms: Rooms, file: usize, entity: Entity) -> u32
     requires { IsIndexed files.now rooms.placed }
-    ensures { result ≡ object_place files.now rooms.entry.placed.rows.now rooms.entry.places.now file entity }
+    ensures { result
+        ≡ object_place files.now rooms.entry.placed.rows.now rooms.entry.places.now file entity }
 {
     let number = number_of(files, file, entity, rooms.placed);
     if number < rooms.placed.rows.len() {
@@ -108,7 +109,9 @@ fn function_numbers(
 ) -> Result<Vec<u32>, AllocError>
     requires few { length bodies.rows.now < 2 ^ 32 }
     requires indexed { IsIndexed files.now bodies }
-    ensures { IfOk result (λ numbers. numbers.items ≡ function_numbers files.now bodies.entry.rows.now file [] 0 routines.now) }
+    ensures { IfOk result
+        (λ numbers. numbers.items
+        ≡ function_numbers files.now bodies.entry.rows.now file [] 0 routines.now) }
 {
     let mut numbers = Vec::new(alloc);
     for (number, _) in routines.iter().enumerate() {

@@ -27,7 +27,9 @@ fn put_number<'f>(
     number: usize,
     row: FileRow,
 ) -> Result<(), AllocError>
-    ensures { OnOk result ((i : Option Identity) × IsIdentity files.now row.file (entity_of row) i × PutsNumber i number numbers.old.entries numbers.new.entries) }
+    ensures { OnOk result
+        ((i : Option Identity) × IsIdentity files.now row.file (entity_of row) i
+        × PutsNumber i number numbers.old.entries numbers.new.entries) }
 {
     if let Some(identity) = identity_of(files, row.file, row.declaration.entity) {
         numbers.insert(identity, number)?;

@@ -45,8 +45,13 @@ fn is_first<'f>(
     seen: &mut IndexSet<Identity<'f>>,
     row: FileRow,
 ) -> Result<bool, AllocError>
-    ensures first { IfOk result (λ first. (done : List FileRow) → AreDeclaredIn files.now done seen.old.keys → first ≡ is_first files.now done row) }
-    ensures seen { OnOk result ((done : List FileRow) → AreDeclaredIn files.now done seen.old.keys → AreDeclaredIn files.now (if is_first files.now done row then done ++ row ∷ [] else done) seen.new.keys) }
+    ensures first { IfOk result
+        (λ first. (done : List FileRow) → AreDeclaredIn files.now done seen.old.keys
+        → first ≡ is_first files.now done row) }
+    ensures seen { OnOk result
+        ((done : List FileRow) → AreDeclaredIn files.now done seen.old.keys
+        → AreDeclaredIn files.now
+        (if is_first files.now done row then done ++ row ∷ [] else done) seen.new.keys) }
 {
     if !gives_room(row) {
         return Ok(false);
@@ -64,7 +69,10 @@ fn place_row<'f>(
 ) -> Result<(), AllocError>
     requires { AreDeclaredIn files.now placed.old.items seen.old.keys }
     ensures seen { OnOk result (AreDeclaredIn files.now placed.new.items seen.new.keys) }
-    ensures placed { OnOk result (placed.new.items ≡ (if is_first files.now placed.old.items row then placed.old.items ++ row ∷ [] else placed.old.items)) }
+    ensures placed { OnOk result
+        (placed.new.items
+        ≡ (if is_first files.now placed.old.items row then placed.old.items ++ row
+        ∷ [] else placed.old.items)) }
 {
     let first = is_first(files, seen, row)?;
     if first {

@@ -65,10 +65,10 @@ copy_form : (x : ℕ) → x < 28 → used A (Computes 28 x 0) ≡ Some Cq
 unfolding queue_use
 copy_form x h = rw (low x h) refl
 
-message_form : (by_a : Bool) (x : ℕ) → x < 28 → used (side by_a) (Computes 29 x 0) ≡ Some (told_on by_a)
+message_form : (by_a : Bool) (x y : ℕ) → x < 28 → y < 28 → used (side by_a) (Computes 29 x y) ≡ Some (told_on by_a)
 unfolding queue_use
-message_form true x h = rw (low x h) refl
-message_form false x h = rw (low x h) refl
+message_form true x y h k = rw (low x h, low y k) refl
+message_form false x y h k = rw (low x h, low y k) refl
 
 taken_load : (t : ℕ) → t < 28 → used E (Computes t 30 0) ≡ Some Ld
 unfolding queue_use
@@ -87,6 +87,27 @@ unfolding queue_use
 taken_message true t h = rw (low t h) refl
 taken_message false t h = rw (low t h) refl
 
+-- with another source
+load_left : (t r : ℕ) → t < 28 → r < 28 → used E (Computes t 30 r) ≡ Some Ld
+unfolding queue_use
+load_left t r h k = rw (low t h, low r k) refl
+
+load_right : (t r : ℕ) → t < 28 → r < 28 → used E (Computes t r 30) ≡ Some Ld
+unfolding queue_use
+load_right t r h k = rw (low t h, low r k) refl
+
+copy_left : (t r : ℕ) → t < 28 → r < 28 → used E (Computes t 28 r) ≡ Some Cq
+unfolding queue_use
+copy_left t r h k = rw (low t h, low r k) refl
+
+copy_right : (t r : ℕ) → t < 28 → r < 28 → used E (Computes t r 28) ≡ Some Cq
+unfolding queue_use
+copy_right t r h k = rw (low t h, low r k) refl
+
+datum_of : (x y : ℕ) → x < 28 → y < 28 → used E (Computes 30 x y) ≡ Some Sd
+unfolding queue_use
+datum_of x y h k = rw (low x h, low y k) refl
+
 -- ---- instructions
 
 pub loads_for_e : (i : Inst) (kind : LoadKind) (base offset : ℕ) → form_of (effect i) ≡ Loads kind 30 base offset → base < 28 → queue_in A i ≡ Some Ld
@@ -104,8 +125,11 @@ pushes_datum i x e h = by_form E i (Computes 30 x 0) (Some Sd) e (datum_form x h
 pub pushes_copy : (i : Inst) (x : ℕ) → form_of (effect i) ≡ Computes 28 x 0 → x < 28 → queue_in A i ≡ Some Cq
 pushes_copy i x e h = by_form A i (Computes 28 x 0) (Some Cq) e (copy_form x h)
 
+pub pushes_flag : (by_a : Bool) (i : Inst) (x y : ℕ) → form_of (effect i) ≡ Computes 29 x y → x < 28 → y < 28 → queue_in (side by_a) i ≡ Some (told_on by_a)
+pushes_flag by_a i x y e h k = by_form (side by_a) i (Computes 29 x y) (Some (told_on by_a)) e (message_form by_a x y h k)
+
 pub pushes_message : (by_a : Bool) (i : Inst) (x : ℕ) → form_of (effect i) ≡ Computes 29 x 0 → x < 28 → queue_in (side by_a) i ≡ Some (told_on by_a)
-pushes_message by_a i x e h = by_form (side by_a) i (Computes 29 x 0) (Some (told_on by_a)) e (message_form by_a x h)
+pushes_message by_a i x e h = pushes_flag by_a i x 0 e h (omega arith)
 
 pub takes_load : (i : Inst) (t : ℕ) → form_of (effect i) ≡ Computes t 30 0 → t < 28 → queue_in E i ≡ Some Ld
 takes_load i t e h = by_form E i (Computes t 30 0) (Some Ld) e (taken_load t h)
@@ -118,3 +142,18 @@ takes_copy i t e h = by_form E i (Computes t 28 0) (Some Cq) e (taken_copy t h)
 
 pub takes_message : (by_a : Bool) (i : Inst) (t : ℕ) → form_of (effect i) ≡ Computes t 29 0 → t < 28 → queue_in (side by_a) i ≡ Some (heard_on by_a)
 takes_message by_a i t e h = by_form (side by_a) i (Computes t 29 0) (Some (heard_on by_a)) e (taken_message by_a t h)
+
+pub takes_load_left : (i : Inst) (t r : ℕ) → form_of (effect i) ≡ Computes t 30 r → t < 28 → r < 28 → queue_in E i ≡ Some Ld
+takes_load_left i t r e h k = by_form E i (Computes t 30 r) (Some Ld) e (load_left t r h k)
+
+pub takes_load_right : (i : Inst) (t r : ℕ) → form_of (effect i) ≡ Computes t r 30 → t < 28 → r < 28 → queue_in E i ≡ Some Ld
+takes_load_right i t r e h k = by_form E i (Computes t r 30) (Some Ld) e (load_right t r h k)
+
+pub takes_copy_left : (i : Inst) (t r : ℕ) → form_of (effect i) ≡ Computes t 28 r → t < 28 → r < 28 → queue_in E i ≡ Some Cq
+takes_copy_left i t r e h k = by_form E i (Computes t 28 r) (Some Cq) e (copy_left t r h k)
+
+pub takes_copy_right : (i : Inst) (t r : ℕ) → form_of (effect i) ≡ Computes t r 28 → t < 28 → r < 28 → queue_in E i ≡ Some Cq
+takes_copy_right i t r e h k = by_form E i (Computes t r 28) (Some Cq) e (copy_right t r h k)
+
+pub sends_datum : (i : Inst) (x y : ℕ) → form_of (effect i) ≡ Computes 30 x y → x < 28 → y < 28 → queue_in E i ≡ Some Sd
+sends_datum i x y e h k = by_form E i (Computes 30 x y) (Some Sd) e (datum_of x y h k)

@@ -1,5 +1,5 @@
 -- Blocks whose registers are plain: they use no queue.
-use Rattle.std.proofs.Common.{◌≡◌, ℕ, ◌+◌, ◌-◌, ◌*◌, ◌%◌, ◌^◌, ◌<◌, Bool, true, false, ◌&&◌, List, [], ◌∷◌, ◌++◌, Option, Some, None, arith, pos, refl, sym, subst, ℤ}
+use Rattle.std.proofs.Common.{◌≡◌, ℕ, ◌+◌, ◌-◌, ◌*◌, ◌%◌, ◌^◌, ◌<◌, Bool, true, false, ◌&&◌, List, [], ◌∷◌, ◌++◌, Option, Some, None, arith, pos, refl, sym, ap, ◌∙◌, subst, append_assoc, ℤ}
 use Rattle.std.specs.Prelude.{nat_lt, if◌then◌else◌, nat_eq, ℤ}
 use Rattle.std.specs.List.{AllByRecursion}
 use Rattle.std.proofs.lemmas.Bool.Decides.{nat_tests}
@@ -10,7 +10,7 @@ use Rattle.dae_base.specs.declared.LoadKind.TheVariants.{I8, U8, I16, U16, I32}
 use Rattle.dae_encode.specs.Instructions.{effect, form_of}
 use Rattle.dae_encode.specs.declared.Form.TheVariants.{Computes}
 use Rattle.dae_encode.specs.declared.Inst.{Inst}
-use Rattle.dae_encode.specs.declared.Inst.TheVariants.{Lui, Addi, Sltiu, Xori, Ori, Andi, Slli, Srli, Srai, Add, Sub, Sltu}
+use Rattle.dae_encode.specs.declared.Inst.TheVariants.{Lui, Addi, Slti, Sltiu, Xori, Ori, Andi, Slli, Srli, Srai, Add, Sub, Slt, Sltu}
 use Rattle.dae_ir.specs.Classes.{VariableSet}
 use Rattle.dae_ir.specs.declared.form.Operand.{Operand}
 use Rattle.dae_ir.specs.declared.form.Operand.TheVariants.{Variable, Number}
@@ -26,7 +26,7 @@ use Rattle.dae_walks.specs.Homes.{IsHome, is_home_register, slot_at, kept_at}
 use Rattle.dae_walks.specs.Agrees.{Plan}
 use Rattle.dae_walks.specs.declared.Home.{Home}
 use Rattle.dae_walks.specs.declared.Home.TheVariants.{Register, Slot}
-use Rattle.dae_blocks.specs.Blocks.{upper, lower, is_immediate, more_code, less_code, number_code, load_code, store_code, register_or, source, fetch_home, fetch, move_code, keep, operation_code, exponent, power_code, immediate_code, commutes, exchanged_code, behind_or, combine_registers, binary_code, extend_code, compare_code, takes_number, compare_number_code, compare_registers, compare_operands, test_code, value_code, system_code, stop_code, jump_by, enter_code, arguments_code, waits_at, is_register, save_code, restore_code, deeper_code, back_code, result_code, leave_code, jump_words, jump_over, jump_back, branch_inst, opposite, goes_by, goes_code}
+use Rattle.dae_blocks.specs.Blocks.{upper, lower, is_immediate, more_code, less_code, number_code, load_code, store_code, register_or, source, fetch_home, fetch, move_code, keep, operation_code, exponent, power_code, immediate_code, commutes, exchanged_code, behind_or, combine_registers, binary_code, extend_code, compare_code, takes_number, compare_number_code, tell_number_code, compare_registers, compare_operands, test_code, value_code, system_code, stop_code, jump_by, enter_code, arguments_code, waits_at, is_register, save_code, restore_code, deeper_code, back_code, result_code, leave_code, jump_words, jump_over, jump_back, branch_inst, opposite, goes_by, goes_code}
 use Rattle.dae_blocks.specs.Code.{some_below, filtered, home_registers, registers_in, call_code, entry_code, start_code, finish_code, past_code}
 use Rattle.dae_uses.proofs.Access.{IsPlain}
 
@@ -113,58 +113,115 @@ operation_plain ShiftRightSigned t x y a b c = (a, b, c)
 operation_plain ShiftRightUnsigned t x y a b c = (a, b, c)
 
 -- what is chosen, and what isn't
-chosen_plain : (b : Bool) (j i : Inst) → IsPlain (form_of (effect j)) → (if b then Some j else None) ≡ Some i → IsPlain (form_of (effect i))
-chosen_plain true j i h e = subst (λ (k : Inst). IsPlain (form_of (effect k))) (same_Some j i e) h
-chosen_plain false j i h e = absurd (let none : None ≡ Some i = e in cc)
+chosen_form : (b : Bool) (j i : Inst) (t x : ℕ) → form_of (effect j) ≡ Computes t x 0 → (if b then Some j else None) ≡ Some i → form_of (effect i) ≡ Computes t x 0
+chosen_form true j i t x h e = subst (λ (k : Inst). form_of (effect k) ≡ Computes t x 0) (same_Some j i e) h
+chosen_form false j i t x h e = absurd (let none : None ≡ Some i = e in cc)
 
-power_plain : (o : Option ℕ) (t x : ℕ) (i : Inst) → t < 28 → x < 28 → power_code o t x ≡ Some i → IsPlain (form_of (effect i))
-power_plain None t x i a b e = absurd (let none : None ≡ Some i = e in cc)
-power_plain (Some k) t x i a b e = chosen_plain true (Slli t x (pos k)) i (a, b, omega arith) e
+power_form : (o : Option ℕ) (t x : ℕ) (i : Inst) → power_code o t x ≡ Some i → form_of (effect i) ≡ Computes t x 0
+power_form None t x i e = absurd (let none : None ≡ Some i = e in cc)
+power_form (Some k) t x i e = chosen_form true (Slli t x (pos k)) i t x refl e
 
-immediate_plain : (o : Operator) (t x n : ℕ) (i : Inst) → t < 28 → x < 28 → immediate_code o t x n ≡ Some i → IsPlain (form_of (effect i))
-immediate_plain Plus t x n i a b e = chosen_plain (is_immediate n) (Addi t x (lower n)) i (a, b, omega arith) e
-immediate_plain Subtract t x n i a b e = chosen_plain (is_immediate (minus 0 n)) (Addi t x (lower (minus 0 n))) i (a, b, omega arith) e
-immediate_plain Multiply t x n i a b e = power_plain (exponent n) t x i a b e
-immediate_plain DivideSigned t x n i a b e = absurd (let none : None ≡ Some i = e in cc)
-immediate_plain DivideUnsigned t x n i a b e = absurd (let none : None ≡ Some i = e in cc)
-immediate_plain RemainderSigned t x n i a b e = absurd (let none : None ≡ Some i = e in cc)
-immediate_plain RemainderUnsigned t x n i a b e = absurd (let none : None ≡ Some i = e in cc)
-immediate_plain Both t x n i a b e = chosen_plain (is_immediate n) (Andi t x (lower n)) i (a, b, omega arith) e
-immediate_plain Either t x n i a b e = chosen_plain (is_immediate n) (Ori t x (lower n)) i (a, b, omega arith) e
-immediate_plain Differ t x n i a b e = chosen_plain (is_immediate n) (Xori t x (lower n)) i (a, b, omega arith) e
-immediate_plain ShiftLeft t x n i a b e = chosen_plain true (Slli t x (pos (n % 32))) i (a, b, omega arith) e
-immediate_plain ShiftRightSigned t x n i a b e = chosen_plain true (Srai t x (pos (n % 32))) i (a, b, omega arith) e
-immediate_plain ShiftRightUnsigned t x n i a b e = chosen_plain true (Srli t x (pos (n % 32))) i (a, b, omega arith) e
+-- an operation with a number has one source
+pub immediate_form : (o : Operator) (t x n : ℕ) (i : Inst) → immediate_code o t x n ≡ Some i → form_of (effect i) ≡ Computes t x 0
+immediate_form Plus t x n i e = chosen_form (is_immediate n) (Addi t x (lower n)) i t x refl e
+immediate_form Subtract t x n i e = chosen_form (is_immediate (minus 0 n)) (Addi t x (lower (minus 0 n))) i t x refl e
+immediate_form Multiply t x n i e = power_form (exponent n) t x i e
+immediate_form DivideSigned t x n i e = absurd (let none : None ≡ Some i = e in cc)
+immediate_form DivideUnsigned t x n i e = absurd (let none : None ≡ Some i = e in cc)
+immediate_form RemainderSigned t x n i e = absurd (let none : None ≡ Some i = e in cc)
+immediate_form RemainderUnsigned t x n i e = absurd (let none : None ≡ Some i = e in cc)
+immediate_form Both t x n i e = chosen_form (is_immediate n) (Andi t x (lower n)) i t x refl e
+immediate_form Either t x n i e = chosen_form (is_immediate n) (Ori t x (lower n)) i t x refl e
+immediate_form Differ t x n i e = chosen_form (is_immediate n) (Xori t x (lower n)) i t x refl e
+immediate_form ShiftLeft t x n i e = chosen_form true (Slli t x (pos (n % 32))) i t x refl e
+immediate_form ShiftRightSigned t x n i e = chosen_form true (Srai t x (pos (n % 32))) i t x refl e
+immediate_form ShiftRightUnsigned t x n i e = chosen_form true (Srli t x (pos (n % 32))) i t x refl e
 
-exchanged_plain : (o : Operator) (t x n : ℕ) (i : Inst) → t < 28 → x < 28 → exchanged_code o t x n ≡ Some i → IsPlain (form_of (effect i))
-exchanged_plain o t x n i a b e = by (commutes o) e
+pub exchanged_form : (o : Operator) (t x n : ℕ) (i : Inst) → exchanged_code o t x n ≡ Some i → form_of (effect i) ≡ Computes t x 0
+exchanged_form o t x n i e = by (commutes o) e
   where
-    by : (c : Bool) → (if c then immediate_code o t x n else None) ≡ Some i → IsPlain (form_of (effect i))
-    by true f = immediate_plain o t x n i a b f
+    by : (c : Bool) → (if c then immediate_code o t x n else None) ≡ Some i → form_of (effect i) ≡ Computes t x 0
+    by true f = immediate_form o t x n i f
     by false f = absurd (let none : None ≡ Some i = f in cc)
 
+immediate_plain : (o : Operator) (t x n : ℕ) (i : Inst) → t < 28 → x < 28 → immediate_code o t x n ≡ Some i → IsPlain (form_of (effect i))
+immediate_plain o t x n i a b e = rw (immediate_form o t x n i e) (a, b, omega arith)
+
+exchanged_plain : (o : Operator) (t x n : ℕ) (i : Inst) → t < 28 → x < 28 → exchanged_code o t x n ≡ Some i → IsPlain (form_of (effect i))
+exchanged_plain o t x n i a b e = rw (exchanged_form o t x n i e) (a, b, omega arith)
+
 extend_plain : (kind : LoadKind) (t x : ℕ) → t < 28 → x < 28 → AllPlain (extend_code kind t x)
-extend_plain I8 t x a b = ((a, b, omega arith), ((a, a, omega arith), tt))
+extend_plain I8 t x a b = ((omega arith, b, omega arith), ((a, omega arith, omega arith), tt))
 extend_plain U8 t x a b = ((a, b, omega arith), tt)
-extend_plain I16 t x a b = ((a, b, omega arith), ((a, a, omega arith), tt))
-extend_plain U16 t x a b = ((a, b, omega arith), ((a, a, omega arith), tt))
+extend_plain I16 t x a b = ((omega arith, b, omega arith), ((a, omega arith, omega arith), tt))
+extend_plain U16 t x a b = ((omega arith, b, omega arith), ((a, omega arith, omega arith), tt))
 extend_plain I32 t x a b = ((a, b, omega arith), tt)
 
-compare_plain : (r : Comparison) (t x y : ℕ) → t < 28 → x < 28 → y < 28 → AllPlain (compare_code r t x y)
-compare_plain Equal t x y a b c = ((a, b, c), ((a, a, omega arith), tt))
-compare_plain NotEqual t x y a b c = ((a, b, c), ((a, omega arith, a), tt))
-compare_plain LessSigned t x y a b c = ((a, b, c), tt)
-compare_plain AtLeastSigned t x y a b c = ((a, b, c), ((a, a, omega arith), tt))
-compare_plain LessUnsigned t x y a b c = ((a, b, c), tt)
-compare_plain AtLeastUnsigned t x y a b c = ((a, b, c), ((a, a, omega arith), tt))
+-- ---- comparisons: plain instructions, and a last one on plain registers that writes t, whatever t is
 
-compare_number_plain : (r : Comparison) (t x n : ℕ) → t < 28 → x < 28 → AllPlain (compare_number_code r t x n)
-compare_number_plain Equal t x n a b = plain_either (nat_eq n 0) (Sltiu t x (pos 1) ∷ []) (Addi t x (lower (minus 0 n)) ∷ (Sltiu t t (pos 1) ∷ [])) ((a, b, omega arith), tt) ((a, b, omega arith), ((a, a, omega arith), tt))
-compare_number_plain NotEqual t x n a b = plain_either (nat_eq n 0) (Sltu t 0 x ∷ []) (Addi t x (lower (minus 0 n)) ∷ (Sltu t 0 t ∷ [])) ((a, omega arith, b), tt) ((a, b, omega arith), ((a, omega arith, a), tt))
-compare_number_plain LessSigned t x n a b = ((a, b, omega arith), tt)
-compare_number_plain AtLeastSigned t x n a b = ((a, b, omega arith), ((a, a, omega arith), tt))
-compare_number_plain LessUnsigned t x n a b = ((a, b, omega arith), tt)
-compare_number_plain AtLeastUnsigned t x n a b = ((a, b, omega arith), ((a, a, omega arith), tt))
+pub record Writes (t : ℕ) (is : List Inst) : Type 0 where
+  pub before' : List Inst
+  pub last : Inst
+  pub first : ℕ
+  pub second : ℕ
+  pub plain : AllPlain before'
+  pub low : first < 28
+  pub low' : second < 28
+  pub form : form_of (effect last) ≡ Computes t first second
+  pub same : is ≡ before' ++ last ∷ []
+
+alone : (t : ℕ) (i : Inst) (x y : ℕ) → form_of (effect i) ≡ Computes t x y → x < 28 → y < 28 → Writes t (i ∷ [])
+alone t i x y e h k = record { before' = []; last = i; first = x; second = y; plain = tt; low = h; low' = k; form = e; same = refl }
+
+behind : (t : ℕ) (is js : List Inst) → AllPlain is → Writes t js → Writes t (is ++ js)
+behind t is js h w = record {
+  before' = is ++ w.before';
+  last = w.last;
+  first = w.first;
+  second = w.second;
+  plain = plain_append is w.before' h w.plain;
+  low = w.low;
+  low' = w.low';
+  form = w.form;
+  same = ap (λ (ks : List Inst). is ++ ks) w.same ∙ sym (append_assoc is w.before' (w.last ∷ []));
+}
+
+either_writes : (t : ℕ) (b : Bool) (is js : List Inst) → Writes t is → Writes t js → Writes t (if b then is else js)
+either_writes t true is js h k = h
+either_writes t false is js h k = k
+
+written_plain : (t : ℕ) (is : List Inst) → t < 28 → Writes t is → AllPlain is
+written_plain t is h w =
+    let last : IsPlain (form_of (effect w.last)) = rw (w.form) (h, w.low, w.low') in
+    subst (λ (ks : List Inst). AllPlain ks) (sym w.same) (plain_append w.before' (w.last ∷ []) w.plain (last, tt))
+
+compare_writes : (r : Comparison) (t x y : ℕ) → x < 28 → y < 28 → Writes t (compare_code r t x y)
+compare_writes Equal t x y b c = behind t (Sub 7 x y ∷ []) (Sltiu t 7 (pos 1) ∷ []) ((omega arith, b, c), tt) (alone t (Sltiu t 7 (pos 1)) 7 0 refl (omega arith) (omega arith))
+compare_writes NotEqual t x y b c = behind t (Sub 7 x y ∷ []) (Sltu t 0 7 ∷ []) ((omega arith, b, c), tt) (alone t (Sltu t 0 7) 0 7 refl (omega arith) (omega arith))
+compare_writes LessSigned t x y b c = alone t (Slt t x y) x y refl b c
+compare_writes AtLeastSigned t x y b c = behind t (Slt 7 x y ∷ []) (Xori t 7 (pos 1) ∷ []) ((omega arith, b, c), tt) (alone t (Xori t 7 (pos 1)) 7 0 refl (omega arith) (omega arith))
+compare_writes LessUnsigned t x y b c = alone t (Sltu t x y) x y refl b c
+compare_writes AtLeastUnsigned t x y b c = behind t (Sltu 7 x y ∷ []) (Xori t 7 (pos 1) ∷ []) ((omega arith, b, c), tt) (alone t (Xori t 7 (pos 1)) 7 0 refl (omega arith) (omega arith))
+
+compare_number_writes : (r : Comparison) (t x n : ℕ) → x < 28 → Writes t (compare_number_code r t x n)
+compare_number_writes Equal t x n b =
+    either_writes t (nat_eq n 0) (Sltiu t x (pos 1) ∷ []) (Addi 7 x (lower (minus 0 n)) ∷ (Sltiu t 7 (pos 1) ∷ [])) (alone t (Sltiu t x (pos 1)) x 0 refl b (omega arith))
+    (behind t (Addi 7 x (lower (minus 0 n)) ∷ []) (Sltiu t 7 (pos 1) ∷ []) ((omega arith, b, omega arith), tt) (alone t (Sltiu t 7 (pos 1)) 7 0 refl (omega arith) (omega arith)))
+compare_number_writes NotEqual t x n b =
+    either_writes t (nat_eq n 0) (Sltu t 0 x ∷ []) (Addi 7 x (lower (minus 0 n)) ∷ (Sltu t 0 7 ∷ [])) (alone t (Sltu t 0 x) 0 x refl (omega arith) b)
+    (behind t (Addi 7 x (lower (minus 0 n)) ∷ []) (Sltu t 0 7 ∷ []) ((omega arith, b, omega arith), tt) (alone t (Sltu t 0 7) 0 7 refl (omega arith) (omega arith)))
+compare_number_writes LessSigned t x n b = alone t (Slti t x (lower n)) x 0 refl b (omega arith)
+compare_number_writes AtLeastSigned t x n b = behind t (Slti 7 x (lower n) ∷ []) (Xori t 7 (pos 1) ∷ []) ((omega arith, b, omega arith), tt) (alone t (Xori t 7 (pos 1)) 7 0 refl (omega arith) (omega arith))
+compare_number_writes LessUnsigned t x n b = alone t (Sltiu t x (lower n)) x 0 refl b (omega arith)
+compare_number_writes AtLeastUnsigned t x n b = behind t (Sltiu 7 x (lower n) ∷ []) (Xori t 7 (pos 1) ∷ []) ((omega arith, b, omega arith), tt) (alone t (Xori t 7 (pos 1)) 7 0 refl (omega arith) (omega arith))
+
+pub tell_number_writes : (r : Comparison) (x n : ℕ) → x < 28 → Writes 29 (tell_number_code r x n)
+tell_number_writes Equal x n b = compare_number_writes Equal 29 x n b
+tell_number_writes NotEqual x n b = compare_number_writes NotEqual 29 x n b
+tell_number_writes LessSigned x n b = behind 29 (Slti 7 x (lower n) ∷ []) (Addi 29 7 (pos 0) ∷ []) ((omega arith, b, omega arith), tt) (alone 29 (Addi 29 7 (pos 0)) 7 0 refl (omega arith) (omega arith))
+tell_number_writes AtLeastSigned x n b = compare_number_writes AtLeastSigned 29 x n b
+tell_number_writes LessUnsigned x n b = behind 29 (Sltiu 7 x (lower n) ∷ []) (Addi 29 7 (pos 0) ∷ []) ((omega arith, b, omega arith), tt) (alone 29 (Addi 29 7 (pos 0)) 7 0 refl (omega arith) (omega arith))
+tell_number_writes AtLeastUnsigned x n b = compare_number_writes AtLeastUnsigned 29 x n b
 
 module _ (n : ℕ) (home : ℕ → Home) (good : (v : ℕ) → IsHome n (home v)) where
   pub source_low : (r : ℕ) (x : Operand) → r < 28 → source home r x < 28
@@ -217,17 +274,24 @@ module _ (n : ℕ) (home : ℕ → Home) (good : (v : ℕ) → IsHome n (home v)
       by None e = registers_plain t o (Number k) (Variable v) h
   binary_plain t o (Variable u) (Variable v) h = registers_plain t o (Variable u) (Variable v) h
 
-  compare_registers_plain : (t : ℕ) (r : Comparison) (x y : Operand) → t < 28 → AllPlain (compare_registers home t r x y)
-  compare_registers_plain t r x y h = fetched 5 x _ (omega arith) (fetched 6 y _ (omega arith) (compare_plain r t (source home 5 x) (source home 6 y) h (source_low 5 x (omega arith)) (source_low 6 y (omega arith))))
+  fetched_writes : (t r : ℕ) (x : Operand) (is : List Inst) → r < 28 → Writes t is → Writes t (fetch home r x ++ is)
+  fetched_writes t r x is h w = behind t (fetch home r x) is (fetch_plain r x h) w
 
-  compare_operands_plain : (t : ℕ) (r : Comparison) (x y : Operand) → t < 28 → AllPlain (compare_operands home t r x y)
-  compare_operands_plain t r x (Variable v) h = compare_registers_plain t r x (Variable v) h
-  compare_operands_plain t r x (Number k) h =
-      plain_either (takes_number r k) (fetch home 5 x ++ compare_number_code r t (source home 5 x) k) (compare_registers home t r x (Number k))
-      (fetched 5 x _ (omega arith) (compare_number_plain r t (source home 5 x) k h (source_low 5 x (omega arith)))) (compare_registers_plain t r x (Number k) h)
+  compare_registers_writes : (t : ℕ) (r : Comparison) (x y : Operand) → Writes t (compare_registers home t r x y)
+  compare_registers_writes t r x y =
+      fetched_writes t 5 x _ (omega arith) (fetched_writes t 6 y _ (omega arith) (compare_writes r t (source home 5 x) (source home 6 y) (source_low 5 x (omega arith)) (source_low 6 y (omega arith))))
 
-  pub test_plain : (t : ℕ) (test : Test) → t < 28 → AllPlain (test_code home t test)
-  test_plain t test h = compare_operands_plain t test.comparison test.left test.right h
+  compare_operands_writes : (t : ℕ) (r : Comparison) (x y : Operand) → Writes t (compare_operands home t r x y)
+  compare_operands_writes t r x (Variable v) = compare_registers_writes t r x (Variable v)
+  compare_operands_writes t r x (Number k) =
+      either_writes t (takes_number r k) (fetch home 5 x ++ compare_number_code r t (source home 5 x) k) (compare_registers home t r x (Number k))
+      (fetched_writes t 5 x _ (omega arith) (compare_number_writes r t (source home 5 x) k (source_low 5 x (omega arith)))) (compare_registers_writes t r x (Number k))
+
+  pub test_writes : (t : ℕ) (test : Test) → Writes t (test_code home t test)
+  test_writes t test = compare_operands_writes t test.comparison test.left test.right
+
+  test_plain : (t : ℕ) (test : Test) → t < 28 → AllPlain (test_code home t test)
+  test_plain t test h = written_plain t (test_code home t test) h (test_writes t test)
 
   pub value_plain : (t : ℕ) (x : Value) → t < 28 → AllPlain (value_code home t x)
   value_plain t (Same x) h = move_plain t x h

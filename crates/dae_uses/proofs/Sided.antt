@@ -1,7 +1,8 @@
 -- The code of an action uses the queue of the action and no other, and so does that of a function.
-use Rattle.std.proofs.Common.{◌≡◌, ◌≢◌, ◌↔◌, ◌⊎◌, inl, inr, ℕ, ◌+◌, ◌-◌, ◌<◌, ◌*◌, ◌%◌, ◌^◌, Bool, true, false, List, [], ◌∷◌, ◌++◌, length, Option, Some, None, refl, sym, subst, ◌∙◌, arith, pos, negsuc}
-use Rattle.std.specs.Prelude.{◌||◌, nat_lt, if◌then◌else◌, ℤ}
+use Rattle.std.proofs.Common.{◌≡◌, ◌≢◌, ◌↔◌, ◌⊎◌, inl, inr, ℕ, ◌+◌, ◌-◌, ◌<◌, ◌*◌, Bool, true, false, List, [], ◌∷◌, ◌++◌, length, Option, Some, None, refl, sym, ap, subst, ◌∙◌, arith, pos, negsuc}
+use Rattle.std.specs.Prelude.{◌||◌, nat_lt, nat_eq, not, if◌then◌else◌, ℤ}
 use Rattle.std.specs.List.{AllByRecursion}
+use Rattle.std.proofs.lemmas.Bool.Decides.{nat_tests}
 use Rattle.dae_base.specs.Words.{word, size}
 use Rattle.dae_base.specs.declared.Queue.{Queue}
 use Rattle.dae_base.specs.declared.Queue.TheVariants.{Ld, Al, Sa, Sd, Cq}
@@ -10,9 +11,9 @@ use Rattle.dae_base.specs.declared.Width.TheVariants.{B1, B2, B4}
 use Rattle.dae_base.specs.declared.LoadKind.{LoadKind}
 use Rattle.dae_base.specs.declared.LoadKind.TheVariants.{I8, U8, I16, U16, I32}
 use Rattle.dae_encode.specs.Instructions.{effect, form_of}
-use Rattle.dae_encode.specs.declared.Form.TheVariants.{Loads, Stores}
+use Rattle.dae_encode.specs.declared.Form.TheVariants.{Computes, Loads, Stores}
 use Rattle.dae_encode.specs.declared.Inst.{Inst}
-use Rattle.dae_encode.specs.declared.Inst.TheVariants.{Addi, Andi, Beq, Bne, Bltu, Bgeu, Ecall}
+use Rattle.dae_encode.specs.declared.Inst.TheVariants.{Addi, Add, Andi, Beq, Bne, Bltu, Bgeu, Ecall}
 use Rattle.dae_ir.specs.Code.{Done, Do, If, Loop}
 use Rattle.dae_ir.specs.Classes.{VariableSet}
 use Rattle.dae_ir.specs.Deeds.{told_on, heard_on}
@@ -20,23 +21,33 @@ use Rattle.dae_ir.specs.Programs.{side}
 use Rattle.dae_ir.specs.Streams.{Actions}
 use Rattle.dae_ir.specs.declared.form.Operand.{Operand}
 use Rattle.dae_ir.specs.declared.form.Operand.TheVariants.{Variable, Number}
+use Rattle.dae_ir.specs.declared.form.Test.{Test}
 use Rattle.dae_ir.specs.declared.form.Check.{Check}
 use Rattle.dae_ir.specs.declared.form.Check.TheVariants.{Place, Zero, Room, Frame, Abort}
+use Rattle.dae_ir.specs.declared.form.Value.{Value}
+use Rattle.dae_ir.specs.declared.form.Value.TheVariants.{Same, Extended, Binary, Holds, FrameAddress}
+use Rattle.dae_ir.specs.declared.stream.Mark.{Mark}
 use Rattle.dae_ir.specs.declared.stream.Action.{Action}
 use Rattle.dae_ir.specs.declared.stream.Action.TheVariants.{Set as Compute, Issue, Own, Receive, Address, Datum, Offer, Accept, Emit, Probe, Tell, Hear, Stop, Break, Continue, Call, Return}
 use Rattle.dae_ir.specs.declared.stream.Branch.{Branch}
 use Rattle.dae_ir.specs.declared.stream.Branch.TheVariants.{Silent, Tells, Hears}
+use Rattle.dae_meaning.specs.declared.Operator.{Operator}
 use Rattle.dae_meaning.specs.declared.Comparison.{Comparison}
 use Rattle.dae_meaning.specs.declared.Comparison.TheVariants.{NotEqual}
+use Rattle.dae_walks.specs.declared.Home.{Home}
+use Rattle.dae_walks.specs.declared.Home.TheVariants.{Register}
 use Rattle.dae_walks.specs.Homes.{IsHome}
-use Rattle.dae_walks.specs.Live.{Ways, live, behind, body_ways, step_ways, nowhere}
+use Rattle.dae_walks.specs.declared.Standing.{Standing}
+use Rattle.dae_walks.specs.declared.Standing.TheVariants.{Settled, Early, Late}
+use Rattle.dae_walks.specs.Live.{Ways, none, in_operand, live, behind, body_ways, step_ways, nowhere}
 use Rattle.dae_walks.specs.Agrees.{Plan}
-use Rattle.dae_blocks.specs.Blocks.{number_code, register_or, source, fetch, move_code, keep, test_code, call_number, issue_code, address_code, take_code, fail_code, over, align_code, room_code, check_code, hear_code, jump_over, jump_back, leave_code, jump_words, branch_inst, opposite, one_way, goes_by, goes_code}
-use Rattle.dae_blocks.specs.Code.{action_code, branch_code, code_of, entry_code, function_code, finish_code, start_code, does_nothing, past_code}
+use Rattle.dae_blocks.specs.Blocks.{number_code, register_or, source, operation_code, immediate_code, exchanged_code, behind_or, combine_registers, binary_code, value_code, fetch, move_code, keep, test_code, call_number, issue_code, address_code, take_code, fail_code, over, align_code, room_code, check_code, hear_code, jump_over, jump_back, leave_code, jump_words, branch_inst, opposite, one_way, goes_by, goes_code, frames_room_code, lower, is_immediate, tell_number_code, against_zero, immediate_of}
+use Rattle.dae_blocks.specs.Code.{either_one, reads_once, with_home, early_code, late_code, standing_behind, block_code, action_code, branch_code, code_of, entry_code, function_code, finish_code, start_code, does_nothing, past_code, told_code, written_last}
 use Rattle.dae_uses.specs.Uses.{queue_in, action_queue, branch_queue, IsOfSide, AreOfSide, IsUntouched, LeavesAlone}
-use Rattle.dae_uses.proofs.Access.{IsPlain, plain, loads_for_e, loads_own, gives_address, pushes_datum, pushes_copy, pushes_message, takes_load, takes_own, takes_copy, takes_message}
-use Rattle.dae_uses.proofs.Quiet.{AllPlain, plain_append, number_plain, register_low, keep_plain, jump_plain, source_low, fetch_plain, move_is, test_plain, value_plain, system_plain, stop_plain, leave_plain, call_plain, entry_plain, finish_plain, start_plain, over_plain, past_plain, back_jump_plain, branch_form, goes_plain}
+use Rattle.dae_uses.proofs.Access.{IsPlain, plain, loads_for_e, loads_own, gives_address, pushes_datum, pushes_copy, pushes_message, takes_load, takes_own, takes_copy, takes_message, takes_load_left, takes_load_right, takes_copy_left, takes_copy_right, pushes_flag, sends_datum}
+use Rattle.dae_uses.proofs.Quiet.{immediate_form, exchanged_form, AllPlain, plain_append, number_plain, register_low, keep_plain, source_low, fetch_plain, move_is, value_plain, system_plain, stop_plain, leave_plain, call_plain, entry_plain, finish_plain, start_plain, over_plain, past_plain, back_jump_plain, branch_form, goes_plain, test_writes, Writes, tell_number_writes}
 use Rattle.dae_blocks.specs.Sizes.{is_short}
+use Rattle.dae_blocks.proofs.LawsOfBlocks.{operation_is, passed_on, by_pairs, Suits, suits_behind}
 
 no_some : (q : Queue) → None ≢ Some q
 no_some q e = absurd (let x : None ≡ Some q = e in cc)
@@ -106,6 +117,12 @@ module _ (by_a : Bool) where
   tells : (x : ℕ) (is : List Inst) → x < 28 → Only Told is → (imm : ℤ) → Uses by_a Told (Addi 29 x imm ∷ is)
   tells x is h k imm = first_uses Told (Addi 29 x imm) is (pushes_message by_a (Addi 29 x imm) x refl h) k
 
+  -- the last instruction of such code tells
+  writes_uses : (is : List Inst) → Writes 29 is → Uses by_a Told is
+  writes_uses is w =
+      subst (λ (js : List Inst). Uses by_a Told js) (sym w.same)
+      (behind_plain Told w.before' (w.last ∷ []) w.plain (first_uses Told w.last [] (pushes_flag by_a w.last w.first w.second w.form w.low w.low') tt))
+
   fail_uses : (b : Bool) (code : ℕ) → Uses by_a Told (fail_code b code)
   fail_uses true code = tells 0 (Ecall ∷ []) (omega arith) (quiet Told (Ecall ∷ []) (tt, tt)) (pos code)
   fail_uses false code =
@@ -118,6 +135,13 @@ module _ (by_a : Bool) where
 
   room_uses : (n : ℕ) → Uses by_a Told (room_code n)
   room_uses n = behind_plain Told (number_code 6 n) (Bgeu 6 3 (pos 12) ∷ fail_code true 4) (number_plain 6 n (omega arith)) (next_uses Told (Bgeu 6 3 (pos 12)) (fail_code true 4) (omega arith, omega arith, omega arith) (fail_uses true 4))
+
+  frames_only : (memory n : ℕ) → Only Told (frames_room_code memory n)
+  frames_only memory n = by (nat_eq n 0)
+    where
+      by : (none : Bool) → Only Told (if none then [] else room_code (memory - n))
+      by true = tt
+      by false = (room_uses (memory - n)).only
 
   hear_uses : (b : Bool) → Uses by_a (Some (heard_on by_a)) (hear_code b)
   hear_uses true = first_uses _ (Addi 5 29 (pos 0)) (Beq 5 0 (pos 8) ∷ (Ecall ∷ [])) (takes_message by_a (Addi 5 29 (pos 0)) 5 refl (omega arith)) (quiet _ (Beq 5 0 (pos 8) ∷ (Ecall ∷ [])) ((omega arith, omega arith, omega arith), (tt, tt)))
@@ -183,8 +207,9 @@ module _ (plan : Plan) (variables : ℕ → ℕ) (good : (f v : ℕ) → IsHome 
         behind_plain by_a' (Some (told_on by_a')) (fetch (plan.home f) 5 x) (Bne (source (plan.home f) 5 x) 0 (over by_a') ∷ fail_code by_a' 1) (fetches x)
         (next_uses by_a' (Some (told_on by_a')) (Bne (source (plan.home f) 5 x) 0 (over by_a')) (fail_code by_a' 1) (omega arith, low x, omega arith) (fail_uses by_a' by_a' 1))
     check_uses (Room g) =
-        either_uses by_a' (Some (told_on by_a')) (nat_lt plan.memory (plan.frame f + plan.frame g)) (fail_code true 4) (room_code (plan.memory - (plan.frame f + plan.frame g)) ++ (number_code 6 plan.limit ++ Bltu 10 6 (pos 12) ∷ fail_code true 4)) (fail_uses by_a' true 4)
-        (behind_only by_a' (Some (told_on by_a')) (room_code (plan.memory - (plan.frame f + plan.frame g))) (number_code 6 plan.limit ++ Bltu 10 6 (pos 12) ∷ fail_code true 4) (room_uses by_a' (plan.memory - (plan.frame f + plan.frame g))).only
+        let frames : List Inst = frames_room_code plan.memory (plan.frame f + plan.frame g) in
+        either_uses by_a' (Some (told_on by_a')) (nat_lt plan.memory (plan.frame f + plan.frame g)) (fail_code true 4) (frames ++ (number_code 6 plan.limit ++ Bltu 10 6 (pos 12) ∷ fail_code true 4)) (fail_uses by_a' true 4)
+        (behind_only by_a' (Some (told_on by_a')) frames (number_code 6 plan.limit ++ Bltu 10 6 (pos 12) ∷ fail_code true 4) (frames_only by_a' plan.memory (plan.frame f + plan.frame g))
         (behind_plain by_a' (Some (told_on by_a')) (number_code 6 plan.limit) (Bltu 10 6 (pos 12) ∷ fail_code true 4) (number_plain 6 plan.limit (omega arith)) (next_uses by_a' (Some (told_on by_a')) (Bltu 10 6 (pos 12)) (fail_code true 4) (omega arith, omega arith, omega arith) (fail_uses by_a' true 4))))
     check_uses Frame = either_uses by_a' (Some (told_on by_a')) (nat_lt plan.memory (plan.frame f)) (fail_code true 4) (room_code (plan.memory - plan.frame f)) (fail_uses by_a' true 4) (room_uses by_a' (plan.memory - plan.frame f))
     check_uses Abort = fail_uses by_a' true 5
@@ -218,6 +243,122 @@ module _ (plan : Plan) (variables : ℕ → ℕ) (good : (f v : ℕ) → IsHome 
     action_uses short (Call v g xs) live leaves skips is = no_queue by_a' _ (call_plain plan variables good f v g xs _)
     action_uses short (Return x) live leaves skips is = no_queue by_a' _ (leave_plain (variables f) (plan.home f) (good f) x)
 
+    -- ---- pairs
+
+    -- a value that goes into the queue of store data
+    module _ (is : by_a' ≡ false) where
+      sends : (i : Inst) (x y : ℕ) → form_of (effect i) ≡ Computes 30 x y → x < 28 → y < 28 → Uses by_a' (Some Sd) (i ∷ [])
+      sends i x y form h k = first_uses by_a' (Some Sd) i [] (on_e i (Some Sd) is (sends_datum i x y form h k)) tt
+
+      send_registers : (operator : Operator) (x y : Operand) → Uses by_a' (Some Sd) (combine_registers (plan.home f) 30 operator x y)
+      send_registers operator x y =
+          let a = source (plan.home f) 5 x in let b = source (plan.home f) 6 y in
+          behind_plain by_a' (Some Sd) (fetch (plan.home f) 5 x) _ (fetches x) (behind_plain by_a' (Some Sd) (fetch (plan.home f) 6 y) (operation_code operator 30 a b ∷ []) (fetch_plain (variables f) (plan.home f) (good f) 6 y (omega arith))
+          (sends (operation_code operator 30 a b) a b (ap form_of (operation_is operator 30 a b)) (low x) (source_low (variables f) (plan.home f) (good f) 6 y (omega arith))))
+
+      send_binary : (operator : Operator) (x y : Operand) → Uses by_a' (Some Sd) (binary_code (plan.home f) 30 operator x y)
+      send_binary operator x (Number n) = by (immediate_code operator 30 (source (plan.home f) 5 x) n) refl
+        where
+          by : (i : Option Inst) → immediate_code operator 30 (source (plan.home f) 5 x) n ≡ i → Uses by_a' (Some Sd) (behind_or (fetch (plan.home f) 5 x) i (combine_registers (plan.home f) 30 operator x (Number n)))
+          by (Some i) e = behind_plain by_a' (Some Sd) (fetch (plan.home f) 5 x) (i ∷ []) (fetches x) (sends i (source (plan.home f) 5 x) 0 (immediate_form operator 30 (source (plan.home f) 5 x) n i e) (low x) (omega arith))
+          by None e = send_registers operator x (Number n)
+      send_binary operator (Number n) (Variable v) = by (exchanged_code operator 30 (source (plan.home f) 5 (Variable v)) n) refl
+        where
+          by : (i : Option Inst) → exchanged_code operator 30 (source (plan.home f) 5 (Variable v)) n ≡ i → Uses by_a' (Some Sd) (behind_or (fetch (plan.home f) 5 (Variable v)) i (combine_registers (plan.home f) 30 operator (Number n) (Variable v)))
+          by (Some i) e = behind_plain by_a' (Some Sd) (fetch (plan.home f) 5 (Variable v)) (i ∷ []) (fetches (Variable v)) (sends i (source (plan.home f) 5 (Variable v)) 0 (exchanged_form operator 30 (source (plan.home f) 5 (Variable v)) n i e) (low (Variable v)) (omega arith))
+          by None e = send_registers operator (Number n) (Variable v)
+      send_binary operator (Variable u) (Variable v) = send_registers operator (Variable u) (Variable v)
+
+      send_value : (y : Value) → written_last y ≡ true → Uses by_a' (Some Sd) (value_code (plan.home f) 30 y)
+      send_value (Same x) last = move_uses (Some Sd) 30 x (λ r imm l. on_e (Addi 30 r imm) (Some Sd) is (pushes_datum (Addi 30 r imm) r refl l))
+      send_value (Binary operator x y) last = send_binary operator x y
+      send_value (FrameAddress offset) last =
+          either_uses by_a' (Some Sd) (is_immediate offset) (Addi 30 3 (lower offset) ∷ []) (number_code 5 offset ++ Add 30 3 5 ∷ []) (sends (Addi 30 3 (lower offset)) 3 0 refl (omega arith) (omega arith))
+          (behind_plain by_a' (Some Sd) (number_code 5 offset) (Add 30 3 5 ∷ []) (number_plain 5 offset (omega arith)) (sends (Add 30 3 5) 3 5 refl (omega arith) (omega arith)))
+      send_value (Extended kind x) last = absurd (let bad : false ≡ true = last in cc)
+      send_value (Holds test) last = absurd (let bad : false ≡ true = last in cc)
+
+    -- a value of the front of a queue, in place of a variable
+    module _ (o : Option Queue) (q : ℕ) (left : (i : Inst) (t r : ℕ) → form_of (effect i) ≡ Computes t q r → t < 28 → r < 28 → queue_in (side by_a') i ≡ o) (right : (i : Inst) (t r : ℕ) → form_of (effect i) ≡ Computes t r q → t < 28 → r < 28 → queue_in (side by_a') i ≡ o) where
+      abbrev Instead : ℕ → ℕ → Home
+      Instead v = with_home v (Register q) (plan.home f)
+
+      low_of : (r : ℕ) (x : Operand) → r < 28 → source (plan.home f) r x < 28
+      low_of r x h = source_low (variables f) (plan.home f) (good f) r x h
+
+      left_uses : (t : ℕ) (operator : Operator) (y : Operand) → t < 28 → Uses by_a' o (fetch (plan.home f) 6 y ++ operation_code operator t q (source (plan.home f) 6 y) ∷ [])
+      left_uses t operator y low' =
+          let i = operation_code operator t q (source (plan.home f) 6 y) in
+          behind_plain by_a' o (fetch (plan.home f) 6 y) (i ∷ []) (fetch_plain (variables f) (plan.home f) (good f) 6 y (omega arith)) (first_uses by_a' o i [] (left i t (source (plan.home f) 6 y) (ap form_of (operation_is operator t q (source (plan.home f) 6 y))) low' (low_of 6 y (omega arith))) tt)
+
+      right_uses : (t : ℕ) (operator : Operator) (x : Operand) → t < 28 → Uses by_a' o (fetch (plan.home f) 5 x ++ operation_code operator t (source (plan.home f) 5 x) q ∷ [])
+      right_uses t operator x low' =
+          let i = operation_code operator t (source (plan.home f) 5 x) q in
+          behind_plain by_a' o (fetch (plan.home f) 5 x) (i ∷ []) (fetches x) (first_uses by_a' o i [] (right i t (source (plan.home f) 5 x) (ap form_of (operation_is operator t (source (plan.home f) 5 x) q)) low' (low x)) tt)
+
+      early_binary : (v t : ℕ) (operator : Operator) (x y : Operand) → either_one (in_operand x v) (in_operand y v) ≡ true → t < 28 → Uses by_a' o (binary_code (Instead v) t operator x y)
+      early_binary v t operator (Number n) (Number k) one low' = absurd (let bad : false ≡ true = one in cc)
+      early_binary v t operator (Variable a) (Number n) one low' =
+          let e : nat_eq v a ≡ true = left_one (nat_eq v a) one in
+          let same : nat_eq a v ≡ true = grind (arith, nat_tests) in
+          rw same (by (immediate_code operator t q n) refl)
+        where
+          left_one : (b : Bool) → either_one b false ≡ true → b ≡ true
+          left_one true e = refl
+          left_one false e = absurd cc
+
+          by : (i : Option Inst) → immediate_code operator t q n ≡ i → Uses by_a' o (behind_or [] i (fetch (plan.home f) 6 (Number n) ++ operation_code operator t q (source (plan.home f) 6 (Number n)) ∷ []))
+          by (Some i) e = first_uses by_a' o i [] (left i t 0 (immediate_form operator t q n i e) low' (omega arith)) tt
+          by None e = left_uses t operator (Number n) low'
+      early_binary v t operator (Number n) (Variable b) one low' =
+          let same : nat_eq b v ≡ true = grind (arith, nat_tests) in
+          rw same (by (exchanged_code operator t q n) refl)
+        where
+          by : (i : Option Inst) → exchanged_code operator t q n ≡ i → Uses by_a' o (behind_or [] i (fetch (plan.home f) 5 (Number n) ++ operation_code operator t (source (plan.home f) 5 (Number n)) q ∷ []))
+          by (Some i) e = first_uses by_a' o i [] (left i t 0 (exchanged_form operator t q n i e) low' (omega arith)) tt
+          by None e = right_uses t operator (Number n) low'
+      early_binary v t operator (Variable a) (Variable b) one low' = by (nat_eq v a) refl one
+        where
+          by : (z : Bool) → nat_eq v a ≡ z → either_one z (nat_eq v b) ≡ true → Uses by_a' o (combine_registers (Instead v) t operator (Variable a) (Variable b))
+          by true e other =
+              let same : nat_eq a v ≡ true = grind (arith, nat_tests) in
+              let far : nat_eq b v ≡ false = unlike b other in
+              rw (same, far) (left_uses t operator (Variable b) low')
+            where
+              unlike : (b : ℕ) → not (nat_eq v b) ≡ true → nat_eq b v ≡ false
+              unlike b e = grind (arith, nat_tests)
+          by false e other =
+              let same : nat_eq b v ≡ true = grind (arith, nat_tests) in
+              let far : nat_eq a v ≡ false = grind (arith, nat_tests) in
+              rw (same, far) (right_uses t operator (Variable a) low')
+
+      early_value : (v t : ℕ) (y : Value) → reads_once v y ≡ true → t < 28 → Uses by_a' o (value_code (Instead v) t y)
+      early_value v t (Same (Variable a)) once low' =
+          let same : nat_eq a v ≡ true = grind (arith, nat_tests) in
+          rw same (first_uses by_a' o (Addi t q (pos 0)) [] (left (Addi t q (pos 0)) t 0 refl low' (omega arith)) tt)
+      early_value v t (Same (Number n)) once low' = absurd (let bad : false ≡ true = once in cc)
+      early_value v t (Extended kind x) once low' = absurd (let bad : false ≡ true = once in cc)
+      early_value v t (Binary operator x y) once low' = early_binary v t operator x y once low'
+      early_value v t (Holds test) once low' = absurd (let bad : false ≡ true = once in cc)
+      early_value v t (FrameAddress offset) once low' = absurd (let bad : false ≡ true = once in cc)
+
+      early_uses : (v d : ℕ) (y : Value) → reads_once v y ≡ true → Uses by_a' o (early_code (plan.home f) q v d y)
+      early_uses v d y once = before_plain by_a' o (value_code (Instead v) (register_or 5 (plan.home f d)) y) (keep (plan.home f d)) (early_value v (register_or 5 (plan.home f d)) y once (home_low d)) (keep_plain (plan.home f d))
+
+    -- the block of an action, where things stand so before it and so behind it
+    block_uses : (short : Bool) (standing : Standing) (m : Mark) (x : Ways) (leaves skips : ℕ) (a : Action) (k : Actions) → Suits standing (Do m a k) x → IsOfSide by_a' a →
+        Uses by_a' (action_queue by_a' a) (block_code plan variables f standing a (standing_behind a k x) (live k x) (jump_over short leaves) (jump_over short skips))
+    block_uses short Settled m x leaves skips a k suits is =
+        by_pairs (λ (a : Action) (k : Actions) (standing : Standing). IsOfSide by_a' a → Uses by_a' (action_queue by_a' a) (block_code plan variables f Settled a standing (live k x) (jump_over short leaves) (jump_over short skips))) x
+        (λ a k is. action_uses short a (live k x) leaves skips is)
+        (λ t y n b k e passes dead is. no_queue by_a' [] tt)
+        (λ v n d y k e once dead is. early_uses (Some Ld) 30 (λ i t r form a b. on_e i (Some Ld) is (takes_load_left i t r form a b)) (λ i t r form a b. on_e i (Some Ld) is (takes_load_right i t r form a b)) v d y once)
+        (λ v n d y k e once dead is. early_uses (Some Cq) 28 (λ i t r form a b. on_e i (Some Cq) is (takes_copy_left i t r form a b)) (λ i t r form a b. on_e i (Some Cq) is (takes_copy_right i t r form a b)) v d y once)
+        a k is
+    block_uses short (Late t y) m x leaves skips a k suits is =
+        passed_on (λ (b : Action). IsOfSide by_a' b → Uses by_a' (action_queue by_a' b) (late_code (plan.home f) b y)) t y a suits.0 (λ d is. action_uses short (Compute d y) none 0 0 tt) (λ last is. send_value is y last) is
+    block_uses short (Early v y) m x leaves skips a k suits is = subst (λ (b : Action). Uses by_a' (action_queue by_a' b) []) (sym suits.0) (no_queue by_a' [] tt)
+
     -- a branch on what is heard
     hears : (t short : Bool) (relation : Comparison) (n : ℕ) → Uses by_a' (Some (heard_on by_a')) (goes_by t short relation 29 0 n)
     hears true short relation n = first_uses by_a' (Some (heard_on by_a')) (branch_inst relation 29 0 (pos (4 * (n + 1)))) [] (takes_message by_a' (branch_inst relation 29 0 (pos (4 * (n + 1)))) 0 (branch_form relation 29 0 (pos (4 * (n + 1)))) (omega arith)) tt
@@ -226,14 +367,22 @@ module _ (plan : Plan) (variables : ℕ → ℕ) (good : (f v : ℕ) → IsHome 
         first_uses by_a' (Some (heard_on by_a')) (branch_inst (opposite relation) 29 0 far) (jump_over short n) (takes_message by_a' (branch_inst (opposite relation) 29 0 far) 0 (branch_form (opposite relation) 29 0 far) (omega arith))
         (quiet by_a' (Some (heard_on by_a')) (jump_over short n) (over_plain short n))
 
+    told_uses : (o : Option ℕ) (short : Bool) (t : Test) (way : Bool) (n : ℕ) → Uses by_a' (Some (told_on by_a')) (told_code o (plan.home f) short t way n)
+    told_uses None short t way n =
+        let x : ℕ = source (plan.home f) 5 t.left in let y : ℕ = source (plan.home f) 6 t.right in
+        before_plain by_a' (Some (told_on by_a')) (test_code (plan.home f) 29 t) (goes_code short (one_way way t.comparison) x y n) (writes_uses by_a' (test_code (plan.home f) 29 t) (test_writes (variables f) (plan.home f) (good f) 29 t))
+        (goes_plain short (one_way way t.comparison) x y n (low t.left) (source_low (variables f) (plan.home f) (good f) 6 t.right (omega arith)))
+    told_uses (Some k) short t way n =
+        let tell : List Inst = tell_number_code t.comparison (source (plan.home f) 5 t.left) k in
+        let last : List Inst = goes_code short (one_way way (against_zero t.comparison)) 7 0 n in
+        behind_plain by_a' (Some (told_on by_a')) (fetch (plan.home f) 5 t.left) (tell ++ last) (fetches t.left)
+        (before_plain by_a' (Some (told_on by_a')) tell last (writes_uses by_a' tell (tell_number_writes t.comparison (source (plan.home f) 5 t.left) k (low t.left))) (goes_plain short (one_way way (against_zero t.comparison)) 7 0 n (omega arith) (omega arith)))
+
     branch_uses : (short : Bool) (b : Branch) (way : Bool) (n : ℕ) → Uses by_a' (branch_queue by_a' b) (branch_code (plan.home f) short b way n)
     branch_uses short (Silent t) way n =
         no_queue by_a' _ (plain_append (fetch (plan.home f) 5 t.left) _ (fetch_plain (variables f) (plan.home f) (good f) 5 t.left (omega arith)) (plain_append (fetch (plan.home f) 6 t.right) _ (fetch_plain (variables f) (plan.home f) (good f) 6 t.right (omega arith))
         (goes_plain short (one_way way t.comparison) (source (plan.home f) 5 t.left) (source (plan.home f) 6 t.right) n (source_low (variables f) (plan.home f) (good f) 5 t.left (omega arith)) (source_low (variables f) (plan.home f) (good f) 6 t.right (omega arith)))))
-    branch_uses short (Tells t) way n =
-        let last : List Inst = goes_code short (one_way way NotEqual) 5 0 n in
-        behind_plain by_a' (Some (told_on by_a')) (test_code (plan.home f) 5 t) (Addi 29 5 (pos 0) ∷ last) (test_plain (variables f) (plan.home f) (good f) 5 t (omega arith))
-        (tells by_a' 5 last (omega arith) (quiet by_a' _ last (goes_plain short (one_way way NotEqual) 5 0 n (omega arith) (omega arith))) (pos 0))
+    branch_uses short (Tells t) way n = told_uses (immediate_of t.comparison t.right) short t way n
     branch_uses short Hears way n = hears (nat_lt n 1000) short (one_way way NotEqual) n
 
     -- ---- structured code
@@ -245,29 +394,30 @@ module _ (plan : Plan) (variables : ℕ → ℕ) (good : (f v : ℕ) → IsHome 
       abbrev Both : Actions → List Inst → Type 0
       Both code is = (LeavesAlone by_a' q is → IsUntouched by_a' q code) × (IsUntouched by_a' q code → LeavesAlone by_a' q is)
 
-      code_both : (short : Bool) (code : Actions) (x : Ways) (leaves skips : ℕ) → AreOfSide by_a' code → Both code (code_of short plan variables f code x leaves skips)
-      code_both short Done x leaves skips is = ((λ h. tt), (λ h. tt))
-      code_both short (Do m a k) x leaves skips is =
-          let rest = code_of short plan variables f k x leaves skips in
-          let here = action_code plan variables f a (live k x) (jump_over short (length rest + leaves)) (jump_over short (length rest + skips)) in
-          let uses = action_uses short a (live k x) (length rest + leaves) (length rest + skips) is.0 in
-          let more = code_both short k x leaves skips is.1 in (
+      code_both : (short : Bool) (standing : Standing) (code : Actions) (x : Ways) (leaves skips : ℕ) → Suits standing code x → AreOfSide by_a' code → Both code (code_of short plan variables f standing code x leaves skips)
+      code_both short standing Done x leaves skips suits is = ((λ h. tt), (λ h. tt))
+      code_both short standing (Do m a k) x leaves skips suits is =
+          let standing' = standing_behind a k x in
+          let rest = code_of short plan variables f standing' k x leaves skips in
+          let here = block_code plan variables f standing a standing' (live k x) (jump_over short (length rest + leaves)) (jump_over short (length rest + skips)) in
+          let uses = block_uses short standing m x (length rest + leaves) (length rest + skips) a k suits is.0 in
+          let more = code_both short standing' k x leaves skips (suits_behind a k x) is.1 in (
             (λ alone. let two = alone_split by_a' q here rest alone in ((λ e. uses.some q e two.0), more.0 two.1)),
             (λ free. alone_append by_a' q here rest (others_alone by_a' (action_queue by_a' a) q here uses.only free.0) (more.1 free.1)),
           )
-      code_both short (If m b p r k) x leaves skips is =
+      code_both short standing (If m b p r k) x leaves skips suits is =
           let none = does_nothing p in
-          let rest = code_of short plan variables f k x leaves skips in
-          let second = code_of short plan variables f r (behind (live k x) x) (length rest + leaves) (length rest + skips) in
+          let rest = code_of short plan variables f Settled k x leaves skips in
+          let second = code_of short plan variables f Settled r (behind (live k x) x) (length rest + leaves) (length rest + skips) in
           let past = past_code short (none || does_nothing r) (length second) in
           let far = length past + length second + length rest in
-          let first = code_of short plan variables f p (behind (live k x) x) (far + leaves) (far + skips) in
+          let first = code_of short plan variables f Settled p (behind (live k x) x) (far + leaves) (far + skips) in
           let n = if none then length second else length first + length past in
           let decides = branch_code (plan.home f) short b none n in
           let uses = branch_uses short b none n in
-          let one = code_both short p (behind (live k x) x) (far + leaves) (far + skips) is.1 in
-          let two = code_both short r (behind (live k x) x) (length rest + leaves) (length rest + skips) is.2 in
-          let more = code_both short k x leaves skips is.3 in (
+          let one = code_both short Settled p (behind (live k x) x) (far + leaves) (far + skips) tt is.1 in
+          let two = code_both short Settled r (behind (live k x) x) (length rest + leaves) (length rest + skips) tt is.2 in
+          let more = code_both short Settled k x leaves skips tt is.3 in (
             (λ alone.
                 let a = alone_split by_a' q decides (first ++ (past ++ (second ++ rest))) alone in
                 let b = alone_split by_a' q first (past ++ (second ++ rest)) a.1 in
@@ -280,14 +430,14 @@ module _ (plan : Plan) (variables : ℕ → ℕ) (good : (f v : ℕ) → IsHome 
                 (alone_append by_a' q past (second ++ rest) (silent past (past_plain short (none || does_nothing r) (length second)))
                 (alone_append by_a' q second rest (two.1 free.2) (more.1 free.3))))),
           )
-      code_both short (Loop m body step k) x leaves skips is =
-          let rest = code_of short plan variables f k x leaves skips in
-          let again = code_of short plan variables f step (step_ways body step (live k x)) (jump_words short) 0 in
-          let turned = code_of short plan variables f body (body_ways body step (live k x)) (length again + jump_words short) 0 in
+      code_both short standing (Loop m body step k) x leaves skips suits is =
+          let rest = code_of short plan variables f Settled k x leaves skips in
+          let again = code_of short plan variables f Settled step (step_ways body step (live k x)) (jump_words short) 0 in
+          let turned = code_of short plan variables f Settled body (body_ways body step (live k x)) (length again + jump_words short) 0 in
           let back = jump_back short (length turned + length again) in
-          let one = code_both short body (body_ways body step (live k x)) (length again + jump_words short) 0 is.0 in
-          let two = code_both short step (step_ways body step (live k x)) (jump_words short) 0 is.1 in
-          let more = code_both short k x leaves skips is.2 in (
+          let one = code_both short Settled body (body_ways body step (live k x)) (length again + jump_words short) 0 tt is.0 in
+          let two = code_both short Settled step (step_ways body step (live k x)) (jump_words short) 0 tt is.1 in
+          let more = code_both short Settled k x leaves skips tt is.2 in (
             (λ alone.
                 let a = alone_split by_a' q turned (again ++ (back ++ rest)) alone in
                 let b = alone_split by_a' q again (back ++ rest) a.1 in
@@ -302,9 +452,9 @@ module _ (plan : Plan) (variables : ℕ → ℕ) (good : (f v : ℕ) → IsHome 
       function_both : (code : Actions) → AreOfSide by_a' code → Both code (function_code plan variables f code)
       function_both code is =
           let enters = entry_code plan variables f (live code nowhere) in
-          let does = code_of (is_short code) plan variables f code nowhere 0 0 in
+          let does = code_of (is_short code) plan variables f Settled code nowhere 0 0 in
           let leaves = leave_code (plan.home f) (Some (Number 0)) in
-          let both = code_both (is_short code) code nowhere 0 0 is in (
+          let both = code_both (is_short code) Settled code nowhere 0 0 tt is in (
             (λ alone. both.0 (alone_split by_a' q does leaves (alone_split by_a' q enters (does ++ leaves) alone).1).0),
             (λ free. alone_append by_a' q enters (does ++ leaves) (silent enters (entry_plain plan variables good f (live code nowhere)))
                 (alone_append by_a' q does leaves (both.1 free) (silent leaves (leave_plain (variables f) (plan.home f) (good f) (Some (Number 0)))))),

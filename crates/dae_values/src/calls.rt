@@ -81,7 +81,8 @@ fn parameters_from(
     depth: usize,
     shape: Shape,
 ) -> Result<Vec<usize>, CheckError>
-    ensures { Gives (λ ts. ts.items) result (Ok (parameters_from depth (tables checker.now) shape)) }
+    ensures { Gives (λ ts. ts.items) result
+        (Ok (parameters_from depth (tables checker.now) shape)) }
 {
     if depth == 0 {
         return Ok(Vec::new(alloc));
@@ -169,7 +170,8 @@ pub fn add_argument(
     mut done: Vec<Expression>,
     x: Value,
 ) -> Result<Vec<Expression>, CheckError>
-    ensures { FollowsBy views checker.now result (argument_at place function number (views done) (one x)) checker.now }
+    ensures { FollowsBy views checker.now result
+        (argument_at place function number (views done) (one x)) checker.now }
 {
     let type_id = parameter_type(alloc, checker, function, number)?;
     if !fits_some(checker, &x, type_id) {
@@ -241,7 +243,8 @@ pub fn begin_call(
     function: usize,
     given: usize,
 ) -> Result<(), CheckError>
-    ensures { FollowsBy (λ _. tt {0}) checker.new result (call_at place name function given) checker.old }
+    ensures { FollowsBy (λ _. tt {0}) checker.new result
+        (call_at place name function given) checker.old }
 {
     let library = library_of(checker.routine(function));
     if is_printf(library) {

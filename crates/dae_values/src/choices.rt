@@ -89,7 +89,8 @@ fn join_pointers(
 /// The type of a conditional by its branches, where they go together.
 #[tactic(auto, unfolding(dae_kinds::specs::Values::joined))]
 fn join(checker: &mut Checker, y: &Value, z: &Value) -> Result<Option<usize>, CheckError>
-    ensures { Joins checker.new result (joined (tables checker.old) (view_value y.now) (view_value z.now)) }
+    ensures { Joins checker.new result
+        (joined (tables checker.old) (view_value y.now) (view_value z.now)) }
 {
     match (checker.shape_of(y.type_id), checker.shape_of(z.type_id)) {
         (Shape::Void, Shape::Void) => Ok(Some(VOID)),

@@ -18,7 +18,8 @@ use dae_tree::{Constant, Name};
 
 /// An integer constant.
 pub fn constant_number(constant: Constant) -> Value
-    ensures { view_value result ≡ number constant.value (if constant.unsigned then unsigned_id else int_id) }
+    ensures { view_value result
+        ≡ number constant.value (if constant.unsigned then unsigned_id else int_id) }
 {
     Value::number(
         constant.value,
@@ -52,7 +53,9 @@ pub fn literal(checker: &mut Checker, number: u32) -> Result<Value, CheckError>
 
 /// An object of the file, behind the literals.
 fn object(checker: &Checker, number: usize) -> Result<Value, CheckError>
-    ensures { MakesValue result (object_at (object_number (tables checker.now) number) (object_type (slice_get (tables checker.now).objects number))) }
+    ensures { MakesValue result
+        (object_at (object_number (tables checker.now) number)
+        (object_type (slice_get (tables checker.now).objects number))) }
 {
     let Some(behind) = checker.count_literals().checked_add(number) else {
         return Err(CheckError::Memory);

@@ -42,7 +42,8 @@ fn assigned(
     x: Value,
     y: Value,
 ) -> Result<Value, CheckError>
-    ensures { MakesValue result (assigned place (tables checker.now) (view_value x) (view_value y)) }
+    ensures { MakesValue result
+        (assigned place (tables checker.now) (view_value x) (view_value y)) }
 {
     let type_id = x.type_id;
     let kind = load_kind(checker.shape_of(type_id));
@@ -108,7 +109,9 @@ fn updated_by(
     y: Value,
     combination: Option<Combination>,
 ) -> Result<Expression, CheckError>
-    ensures { MakesTree result (updated_by place (tables checker.now) operator (view_value x.now) (view_value y) (view_combined combination)) }
+    ensures { MakesTree result
+        (updated_by place (tables checker.now) operator (view_value x.now) (view_value y)
+        (view_combined combination)) }
 {
     match combination {
         Some(Combination::PointerFirst(to)) => {
@@ -127,7 +130,8 @@ fn updated(
     x: Value,
     y: Value,
 ) -> Result<Value, CheckError>
-    ensures { MakesValue result (updated place (tables checker.now) operator (view_value x) (view_value y)) }
+    ensures { MakesValue result
+        (updated place (tables checker.now) operator (view_value x) (view_value y)) }
 {
     let type_id = x.type_id;
     let left = checker.shape_of(type_id);
@@ -219,7 +223,9 @@ fn member_value(
     type_id: usize,
     checked: bool,
 ) -> Result<Value, CheckError>
-    ensures { MakesValue result (member_value place (tables checker.now) (view tree) type_id checked (shape_of (tables checker.now) type_id)) }
+    ensures { MakesValue result
+        (member_value place (tables checker.now) (view tree) type_id checked
+        (shape_of (tables checker.now) type_id)) }
 {
     match checker.shape_of(type_id) {
         Shape::Struct(_) | Shape::Array(_, _) => Ok(Value {
@@ -247,7 +253,8 @@ fn member_in(
     category: Category,
     known: Known,
 ) -> Result<Value, CheckError>
-    ensures { MakesValue result (member_in place (tables checker.now) operator (view tree) type_id category known) }
+    ensures { MakesValue result
+        (member_in place (tables checker.now) operator (view tree) type_id category known) }
 {
     match (operator, category) {
         (MemberOperator::Arrow, _) => Ok(Value {
@@ -277,7 +284,8 @@ fn member_by(
     x: Value,
     component: Component,
 ) -> Result<Value, CheckError>
-    ensures { MakesValue result (member_by place (tables checker.now) operator (view_value x) (Some component)) }
+    ensures { MakesValue result
+        (member_by place (tables checker.now) operator (view_value x) (Some component)) }
 {
     let known = known_further(x.known, component.offset);
     let tree = further(alloc, place, x.tree, component.offset)?;

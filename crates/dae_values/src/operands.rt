@@ -38,7 +38,8 @@ fn points_to_void(checker: &Checker, shape: Shape) -> bool
 
 /// Whether an operator may compare two values of which one is a pointer.
 fn are_comparable(checker: &Checker, operator: BinaryOperator, x: &Value, y: &Value) -> bool
-    ensures { result ≡ are_comparable (tables checker.now) operator (view_value x.now) (view_value y.now) }
+    ensures { result
+        ≡ are_comparable (tables checker.now) operator (view_value x.now) (view_value y.now) }
 {
     let left = checker.shape_of(x.type_id);
     let right = checker.shape_of(y.type_id);
@@ -60,7 +61,8 @@ fn compared_as(
     x: &Value,
     y: &Value,
 ) -> Option<Combination>
-    ensures { view_combined result ≡ compared_as (tables checker.now) operator (view_value x.now) (view_value y.now) }
+    ensures { view_combined result
+        ≡ compared_as (tables checker.now) operator (view_value x.now) (view_value y.now) }
 {
     if is_comparison(operator) && are_comparable(checker, operator, x, y) {
         Some(Combination::Pointers)
@@ -77,7 +79,8 @@ pub fn combination_of(
     x: &Value,
     y: &Value,
 ) -> Option<Combination>
-    ensures { view_combined result ≡ combination (tables checker.now) operator (view_value x.now) (view_value y.now) }
+    ensures { view_combined result
+        ≡ combination (tables checker.now) operator (view_value x.now) (view_value y.now) }
 {
     let is_shifting = is_sum(operator) || is_difference(operator);
     match (checker.shape_of(x.type_id), checker.shape_of(y.type_id)) {
@@ -131,7 +134,8 @@ fn indexed(
     x: Value,
     y: Value,
 ) -> Result<Value, CheckError>
-    ensures { MakesValue result (indexed place (tables checker.now) element (view_value x) (view_value y)) }
+    ensures { MakesValue result
+        (indexed place (tables checker.now) element (view_value x) (view_value y)) }
 {
     let size = checker.layout_at(element).size;
     let known = moved_on(x.known, scaled_known(y.known, size));
@@ -156,7 +160,8 @@ fn indexed_behind(
     x: Value,
     y: Value,
 ) -> Result<Value, CheckError>
-    ensures { MakesValue result (indexed_behind place (tables checker.now) element (view_value x) (view_value y)) }
+    ensures { MakesValue result
+        (indexed_behind place (tables checker.now) element (view_value x) (view_value y)) }
 {
     let size = checker.layout_at(element).size;
     let known = moved_on(y.known, scaled_known(x.known, size));
@@ -179,7 +184,8 @@ fn indexed_back(
     x: Value,
     y: Value,
 ) -> Result<Value, CheckError>
-    ensures { MakesValue result (indexed_back place (tables checker.now) element (view_value x) (view_value y)) }
+    ensures { MakesValue result
+        (indexed_back place (tables checker.now) element (view_value x) (view_value y)) }
 {
     let size = checker.layout_at(element).size;
     let known = moved_back(x.known, scaled_known(y.known, size));
@@ -219,7 +225,9 @@ fn combine(
     x: Value,
     y: Value,
 ) -> Result<Value, CheckError>
-    ensures { MakesValue result (combined_as place (tables checker.now) operator (view_value x) (view_value y) (Some (view_combination combination))) }
+    ensures { MakesValue result
+        (combined_as place (tables checker.now) operator (view_value x) (view_value y)
+        (Some (view_combination combination))) }
 {
     match combination {
         Combination::Words => {
@@ -275,7 +283,9 @@ fn subscript(
     y: Value,
     combination: Option<Combination>,
 ) -> Result<Value, CheckError>
-    ensures { MakesValue result (subscripted place (tables checker.now) (view_value x) (view_value y) (view_combined combination)) }
+    ensures { MakesValue result
+        (subscripted place (tables checker.now) (view_value x) (view_value y)
+        (view_combined combination)) }
 {
     match combination {
         Some(Combination::PointerFirst(to)) => {
@@ -359,7 +369,8 @@ pub fn binary(
     x: Value,
     y: Value,
 ) -> Result<Value, CheckError>
-    ensures { GivesValue checker.now result (binary_at place second operator (two x y)) checker.now }
+    ensures { GivesValue checker.now result
+        (binary_at place second operator (two x y)) checker.now }
 {
     match operator {
         BinaryOperator::AndAnd => and(alloc, checker, place, second, x, y),

@@ -193,7 +193,8 @@ pub fn prefix(
     name: Option<Name>,
     x: Value,
 ) -> Result<Value, CheckError>
-    ensures { GivesValue checker.new result (prefix_at place operand operator name (one x)) checker.old }
+    ensures { GivesValue checker.new result
+        (prefix_at place operand operator name (one x)) checker.old }
 {
     match operator {
         PrefixOperator::Increment => step(alloc, checker, place, false, true, x),

@@ -24,7 +24,9 @@ fn read(
     x: Value,
     checked: bool,
 ) -> Result<Value, CheckError>
-    ensures { Gives (λ y. (tables checker.new, view_value y)) result (Ok (read_by place (tables checker.old) (view_value x) checked (shape_of (tables checker.old) x.type_id))) }
+    ensures { Gives (λ y. (tables checker.new, view_value y)) result
+        (Ok (read_by place (tables checker.old) (view_value x) checked
+        (shape_of (tables checker.old) x.type_id))) }
 {
     match checker.shape_of(x.type_id) {
         Shape::Void => Ok(x),

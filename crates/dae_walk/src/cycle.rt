@@ -126,7 +126,8 @@ fn prefix(
     operator: PrefixOperator,
     a: &Expression,
 ) -> Result<Value, CheckError>
-    ensures { GivesValue checker.new result (plan (Prefix place operator (view a.now))) checker.old }
+    ensures { GivesValue checker.new result
+        (plan (Prefix place operator (view a.now))) checker.old }
 {
     let x = expression(alloc, checker, a)?;
     dae_values::prefix(alloc, checker, place, a.place(), operator, name_in(a), x)
@@ -140,7 +141,8 @@ fn sizeof(
     place: Place,
     a: &Expression,
 ) -> Result<Value, CheckError>
-    ensures { GivesValue checker.new result (plan (SizeofExpression place (view a.now))) checker.old }
+    ensures { GivesValue checker.new result
+        (plan (SizeofExpression place (view a.now))) checker.old }
 {
     let uses = checker.copy_uses()?;
     let x = expression(alloc, checker, a)?;
@@ -254,7 +256,8 @@ fn arguments(
     function: Option<usize>,
     list: &[Expression],
 ) -> Result<Vec<dae_program::Expression>, CheckError>
-    ensures { FollowsBy views_of_arguments checker.new result (plan_all function list.now) checker.old }
+    ensures { FollowsBy views_of_arguments checker.new result
+        (plan_all function list.now) checker.old }
 {
     let mut done = Vec::new(alloc);
     let mut number = 0;
@@ -324,7 +327,8 @@ fn specifier(
     base: Option<usize>,
     specifier: &Specifier,
 ) -> Result<Option<usize>, CheckError>
-    ensures { Follows checker.new result (plan_specifier context alone base (view_specifier specifier.now)) checker.old }
+    ensures { Follows checker.new result
+        (plan_specifier context alone base (view_specifier specifier.now)) checker.old }
 {
     match specifier {
         Specifier::Word(place, word) => dae_sites::check_word(
@@ -409,7 +413,8 @@ pub fn components(
     mut layout: Layout,
     list: &[Declarator],
 ) -> Result<Layout, CheckError>
-    ensures { Follows checker.new result (plan_component_list place structure base layout (views_declarators list.now)) checker.old }
+    ensures { Follows checker.new result
+        (plan_component_list place structure base layout (views_declarators list.now)) checker.old }
 {
     for one in list {
         let at = declared_place(one, place);
@@ -426,7 +431,8 @@ pub fn enumerators(
     checker: &mut Checker,
     list: &[Enumerator],
 ) -> Result<u32, CheckError>
-    ensures { Follows checker.new result (plan_enumerators 0 (views_enumerators list.now)) checker.old }
+    ensures { Follows checker.new result
+        (plan_enumerators 0 (views_enumerators list.now)) checker.old }
 {
     let mut word = 0;
     for one in list {
@@ -453,7 +459,8 @@ pub fn declarator(
     base: usize,
     part: &Declarator,
 ) -> Result<NamedType, CheckError>
-    ensures { Follows checker.new result (plan_declarator place free base (view_declarator part.now)) checker.old }
+    ensures { Follows checker.new result
+        (plan_declarator place free base (view_declarator part.now)) checker.old }
 {
     match part {
         Declarator::Absent => Ok(NamedType {

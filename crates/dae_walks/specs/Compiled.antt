@@ -6,26 +6,29 @@ use Rattle.dae_ir.specs.Code.{Done, Do, If, Loop}
 use Rattle.dae_ir.specs.Classes.{VariableSet}
 use Rattle.dae_meaning.specs.Worlds.{World}
 use Rattle.dae_meaning.specs.Variables.{Env, put}
-use Rattle.dae_ir.specs.Form.{Program, value, holds}
+use Rattle.dae_ir.specs.Form.{Program, value, holds, computed}
 use Rattle.dae_ir.specs.Streams.{Actions}
 use Rattle.dae_ir.specs.Deeds.{Quit, Plainly, WithStatus, Went, Push, Halts, told_on, heard_on, deed}
 use Rattle.dae_ir.specs.declared.form.Operand.{Operand}
-use Rattle.dae_ir.specs.declared.form.Operand.TheVariants.{Number}
+use Rattle.dae_ir.specs.declared.form.Value.{Value}
 use Rattle.dae_ir.specs.declared.stream.Argument.{Argument}
 use Rattle.dae_ir.specs.declared.stream.Action.{Action}
 use Rattle.dae_ir.specs.declared.stream.Action.TheVariants.{Break, Continue, Call, Return}
 use Rattle.dae_ir.specs.declared.stream.Branch.{Branch}
 use Rattle.dae_ir.specs.declared.stream.Branch.TheVariants.{Silent, Tells, Hears}
+use Rattle.dae_walks.specs.declared.Standing.{Standing}
+use Rattle.dae_walks.specs.declared.Standing.TheVariants.{Settled, Early, Late}
 use Rattle.dae_walks.specs.Walks.{Setting, Comes, Nears, Acts}
 use Rattle.dae_walks.specs.Does.{Does, event}
-use Rattle.dae_walks.specs.Live.{Ways, ways, behind, live, none, is, turn, step_ways}
+use Rattle.dae_walks.specs.Live.{Ways, ways, behind, live, is, turn, step_ways}
 use Rattle.dae_walks.specs.Homes.{Contents}
 use Rattle.dae_walks.specs.Agrees.{Plan, Moment, Waiting, depth_of, top_of, IsWithin, AreWaiting, Shows, Stands}
 
--- where code goes on, as a word of the code, and what is live there
+-- where code goes on, as a word of the code; what is live there of what the processor holds; and how that stands to the moment
 pub record Exit : Type 0 where
   pub word : ℕ
   pub live : VariableSet
+  pub standing : Standing
 
 pub record Exits : Type 0 where
   pub next : Exit
@@ -33,7 +36,7 @@ pub record Exits : Type 0 where
   pub skips : Exit
 
 abbrev pub exit : ℕ → VariableSet → Exit
-exit word live = record { word = word; live = live }
+exit word live = record { word = word; live = live; standing = Settled }
 
 abbrev pub exits : Exit → Exit → Exit → Exits
 exits next leaves skips = record { next = next; leaves = leaves; skips = skips }
@@ -45,6 +48,12 @@ ways_of x = ways x.next.live x.leaves.live x.skips.live
 
 abbrev pub with_env : Env → Moment → Moment
 with_env env m = record m { env = env }
+
+-- the processor goes on at a word, where what it holds stands so to the moment
+abbrev pub HoldsAt : Plan → Standing → VariableSet → Moment → ℕ → Processor → Type 0
+HoldsAt plan Settled live m word p = Stands plan live m word p
+HoldsAt plan (Early v x) live m word p = Stands plan live (with_env (put true v (computed x m.frame m.env) m.env) m) word p
+HoldsAt plan (Late v x) live m word p = (env : Env) × (m.env ≡ put true v (computed x m.frame env) env) × Stands plan live (with_env env m) word p
 
 -- the world of a moment is one with its frame, its top and its depth, and a memory of the right size
 pub record IsWorldOf (plan : Plan) (m : Moment) (w : World) : Type 0 where
@@ -109,7 +118,7 @@ bit b = if b then 1 else 0
 module _ (s : Setting) (plan : Plan) (program : Program) (entries : ℕ → VariableSet) (most widest : ℕ) where
   -- the function f runs, and the processor agrees with the moment at this word
   abbrev pub At : ℕ → Exit → Moment → Processor → Type 0
-  At f x m p = (m.function ≡ f) × Stands plan x.live m x.word p
+  At f x m p = (m.function ≡ f) × HoldsAt plan x.standing x.live m x.word p
 
   -- it goes from the one place to the other, and nothing changes
   abbrev pub Leads : ℕ → Exit → Exit → Type 0
@@ -151,19 +160,17 @@ module _ (s : Setting) (plan : Plan) (program : Program) (entries : ℕ → Vari
       (m : Moment) (p : Processor) → At f here m p
       → Nears s most p (λ l q. (x : ℕ) → x < 2 ^ 32 → (put : ℕ) × Acts s q (event (Takes (heard_on plan.by_a)) put x []) (λ r. Comes s l r (Chosen f first second (not (nat_eq x 0)) m)))
 
-  -- the code from a word on does a list of actions of the function f, up to where it goes on
-  abbrev pub CodeDone : ℕ → Actions → ℕ → Exits → Type 0
-  CodeDone f Done here x = Leads f (exit here x.next.live) x.next
-  CodeDone f (Do mark a k) here x =
-      (next : ℕ) × ActionDone f a (exit here (live (Do mark a k) (ways_of x))) (exit next (live k (ways_of x))) x × CodeDone f k next x
+  -- the code does a list of actions of the function f, from one place up to where it goes on
+  abbrev pub CodeDone : ℕ → Actions → Exit → Exits → Type 0
+  CodeDone f Done here x = Leads f here x.next
+  CodeDone f (Do mark a k) here x = (next : Exit) × ActionDone f a here next x × CodeDone f k next x
   CodeDone f (If mark b p q k) here x =
-      (first : ℕ) × (second : ℕ) × (next : ℕ)
-      × BranchDone f b (exit here (live (If mark b p q k) (ways_of x))) (exit first (live p (behind (live k (ways_of x)) (ways_of x)))) (exit second (live q (behind (live k (ways_of x)) (ways_of x))))
-      × CodeDone f p first (record x { next = exit next (live k (ways_of x)) })
-      × CodeDone f q second (record x { next = exit next (live k (ways_of x)) }) × CodeDone f k next x
+      (first : Exit) × (second : Exit) × (next : Exit)
+      × BranchDone f b here first second
+      × CodeDone f p first (record x { next = next }) × CodeDone f q second (record x { next = next }) × CodeDone f k next x
   CodeDone f (Loop mark body step k) here x =
-      (again : ℕ) × (end : ℕ) × (next : ℕ)
-      × CodeDone f body here (exits (exit again (live step (step_ways body step (live k (ways_of x))))) (exit next (live k (ways_of x))) (exit again (live step (step_ways body step (live k (ways_of x))))))
-      × CodeDone f step again (exits (exit end (turn body step (live k (ways_of x)))) (exit next (live k (ways_of x))) (exit end (turn body step (live k (ways_of x)))))
-      × Turns f (exit end (turn body step (live k (ways_of x)))) (exit here (turn body step (live k (ways_of x))))
+      (begin : Exit) × (again : Exit) × (end : Exit) × (next : Exit)
+      × Leads f here begin
+      × CodeDone f body begin (exits again next again) × CodeDone f step again (exits end next end)
+      × Turns f end begin
       × CodeDone f k next x

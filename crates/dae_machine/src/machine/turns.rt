@@ -52,7 +52,8 @@ impl Machine {
     }
 
     fn alone(&self, pick: Pick) -> Option<Pick>
-        ensures { result ≡ (if is_some (step self.now.setup self.now.state pick) then Some pick else None) }
+        ensures { result
+            ≡ (if is_some (step self.now.setup self.now.state pick) then Some pick else None) }
     {
         if self.enabled(pick) { Some(pick) } else { None }
     }
@@ -134,7 +135,8 @@ impl Machine {
     }
 
     fn is_drained(&self) -> bool
-        ensures { IsTrue result ↔ ((self.now.state.queues.stores.sa ≡ []) × (self.now.state.queues.stores.sd ≡ [])) }
+        ensures { IsTrue result
+            ↔ ((self.now.state.queues.stores.sa ≡ []) × (self.now.state.queues.stores.sd ≡ [])) }
     {
         self.queues.len(Queue::Sa) == 0 && self.queues.len(Queue::Sd) == 0
     }
@@ -177,7 +179,8 @@ impl Machine {
     #[tactic(auto, using(crate::proofs::Turns::chosen_alone))]
     fn try_kind(&mut self, choice: u32, place: u32) -> Option<(Pick, Piece)>
         requires few { self.old.state.steps < 1000000000000 }
-        ensures { Tried result (chosen choice (kind_at self.old.setup self.old.state place)) self.old self.new }
+        ensures { Tried result
+            (chosen choice (kind_at self.old.setup self.old.state place)) self.old self.new }
     {
         match place % 4 {
             0 => self.try_alone_a(),
@@ -208,7 +211,9 @@ impl Machine {
 
     fn try_fills(&mut self, choice: u32) -> Option<(Pick, Piece)>
         requires few { self.old.state.steps < 1000000000000 }
-        ensures { Tried result (chosen choice (fills_of A self.old.state ++ fills_of E self.old.state)) self.old self.new }
+        ensures { Tried result
+            (chosen choice
+            (fills_of A self.old.state ++ fills_of E self.old.state)) self.old self.new }
     {
         let pick = self.enabled_fill(choice)?;
         let piece = self.step(pick);
@@ -216,7 +221,8 @@ impl Machine {
     }
 
     fn enabled_fill(&self, choice: u32) -> Option<Pick>
-        ensures pick { result ≡ chosen choice (fills_of A self.now.state ++ fills_of E self.now.state) }
+        ensures pick { result
+            ≡ chosen choice (fills_of A self.now.state ++ fills_of E self.now.state) }
         ensures enabled { IfSome result (λ pick. IsSome (step self.now.setup self.now.state pick)) }
     {
         let _ = &self.queues;

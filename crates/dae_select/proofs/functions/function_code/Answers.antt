@@ -10,6 +10,7 @@ use Rattle.dae_live.specs.Members.{member}
 use Rattle.dae_blocks.specs.Blocks.{leave_code}
 use Rattle.dae_blocks.specs.Code.{code_of, entry_code}
 use Rattle.dae_select.specs.Grown.{Grown, from_front}
+use Rattle.dae_walks.specs.declared.Standing.TheVariants.{Settled}
 use Rattle.dae_select.specs.Growing.{marked_code}
 use Rattle.dae_blocks.specs.Sizes.{is_short}
 use Rattle.dae_select.specs.Layouts.{plan_of, variables_of}
@@ -23,10 +24,10 @@ returns-clause-code c =
     let last : (ℕ → Home) → List Inst = λ home. leave_code home (Some (Number 0)) in
     let entry : VariableSet → List Inst = λ l. entry_code P V f l in
     let first = c.in_ok-entry_code.ensures ∙ ap (λ (l : List Inst). l ++ entry (member c.in_ok-live.live)) c.new-code.ensures.items ∙ ap entry c.in_ok-live.ensures.live in
-    let middle = c.as_slice.ensures.value ∙ c.into_vec.ensures ∙ ap (λ (g : Grown). g.code) c.in_ok-live.ensures.code ∙ same_code (is_short (actions_of a.body.now)) P V f (actions_of a.body.now) nowhere 0 0 in
+    let middle = c.as_slice.ensures.value ∙ c.into_vec.ensures ∙ ap (λ (g : Grown). g.code) c.in_ok-live.ensures.code ∙ same_code (is_short (actions_of a.body.now)) P V f Settled (actions_of a.body.now) nowhere 0 0 in
     c.in_ok-leave_code.ensures ∙ ap (λ (home : ℕ → Home). c.extend_from_slice.new.self.items ++ last home) c.homes-homes.ensures.homes
     ∙ ap (λ (l : List Inst). l ++ last (P.home f)) (c.in_ok-extend_from_slice.ensures.items ∙ ap (λ (l : List Inst). l ++ c.as_slice.result.now) first ∙ ap (λ (l : List Inst). entry (live (actions_of a.body.now) nowhere) ++ l) middle)
-    ∙ append_assoc (entry (live (actions_of a.body.now) nowhere)) (code_of (is_short (actions_of a.body.now)) P V f (actions_of a.body.now) nowhere 0 0) (last (P.home f))
+    ∙ append_assoc (entry (live (actions_of a.body.now) nowhere)) (code_of (is_short (actions_of a.body.now)) P V f Settled (actions_of a.body.now) nowhere 0 0) (last (P.home f))
 
 pub returns-clause-entry : goal.returns-clause-entry
 returns-clause-entry c =
@@ -42,7 +43,7 @@ returns-clause-places c =
     let a = c.args in
     let P = plan_of a.layouts.now in let V = variables_of a.layouts.now in let f = a.function in
     let entry : VariableSet → List Inst = λ l. entry_code P V f l in
-    let actions = marked_code (is_short (actions_of a.body.now)) P V f (actions_of a.body.now) nowhere 0 0 in
+    let actions = marked_code (is_short (actions_of a.body.now)) P V f Settled (actions_of a.body.now) nowhere 0 0 in
     let first = c.in_ok-entry_code.ensures ∙ ap (λ (l : List Inst). l ++ entry (member c.in_ok-live.live)) c.new-code.ensures.items ∙ ap entry c.in_ok-live.ensures.live in
     let l = c.len-entry.ensures in
     let long : c.len-entry.result ≡ length c.entry_code.new.code.items = omega arith in

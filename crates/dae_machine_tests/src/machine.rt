@@ -1,0 +1,165 @@
+//! The worked images, and the words of a generator.
+
+use dae_base::{Depths, Queue, Side, Width};
+use dae_core::CoreAnswer;
+use dae_image::read;
+use dae_machine::{End, Entry, Machine, OpenError, Pick, Rest, Schedule, Words};
+use std::test::*;
+
+/// The access processor halts, and the execute processor has a word that is no legal instruction there.
+const HALTS: [u8; 84] = [
+    68, 65, 69, 49, 1, 0, 0, 0, 0, 0, 0, 0, 0, 0, 0, 0, 0, 0, 0, 0, 0, 0, 0, 0, 0, 0, 0, 0, 0, 0,
+    0, 0, 64, 0, 0, 0, 1, 0, 0, 0, 0, 0, 0, 0, 0, 0, 0, 0, 0, 0, 0, 0, 0, 0, 0, 0, 1, 0, 0, 0, 1,
+    0, 0, 0, 0, 0, 0, 0, 0, 0, 0, 0, 0, 0, 0, 0, 115, 0, 0, 0, 147, 2, 15, 0,
+];
+
+/// A store to address 16 and a load from address 20 beside it: the load's word 7 is the status.
+const STORES_BESIDE: [u8; 108] = [
+    68, 65, 69, 49, 1, 0, 0, 0, 1, 0, 0, 0, 0, 0, 0, 0, 1, 0, 0, 0, 1, 0, 0, 0, 0, 0, 0, 0, 0, 0,
+    0, 0, 64, 0, 0, 0, 1, 0, 0, 0, 0, 0, 0, 0, 0, 0, 0, 0, 0, 0, 0, 0, 0, 0, 0, 0, 3, 0, 0, 0, 3,
+    0, 0, 0, 8, 0, 0, 0, 0, 0, 0, 0, 0, 0, 0, 0, 35, 40, 224, 1, 3, 47, 64, 1, 115, 0, 0, 0, 19, 5,
+    15, 0, 19, 15, 21, 0, 115, 0, 0, 0, 0, 0, 0, 0, 7, 0, 0, 0,
+];
+
+/// The same, but the load is of the bytes that the older store is to write, whose datum comes from that load.
+const STORES_THERE: [u8; 108] = [
+    68, 65, 69, 49, 1, 0, 0, 0, 1, 0, 0, 0, 0, 0, 0, 0, 1, 0, 0, 0, 1, 0, 0, 0, 0, 0, 0, 0, 0, 0,
+    0, 0, 64, 0, 0, 0, 1, 0, 0, 0, 0, 0, 0, 0, 0, 0, 0, 0, 0, 0, 0, 0, 0, 0, 0, 0, 3, 0, 0, 0, 3,
+    0, 0, 0, 8, 0, 0, 0, 0, 0, 0, 0, 0, 0, 0, 0, 35, 40, 224, 1, 3, 47, 0, 1, 115, 0, 0, 0, 19, 5,
+    15, 0, 19, 15, 21, 0, 115, 0, 0, 0, 0, 0, 0, 0, 7, 0, 0, 0,
+];
+
+/// A copy of 9 from the access processor is the status.
+const COPIES: [u8; 96] = [
+    68, 65, 69, 49, 2, 0, 0, 0, 0, 0, 0, 0, 0, 0, 0, 0, 0, 0, 0, 0, 0, 0, 0, 0, 0, 0, 0, 0, 0, 0,
+    0, 0, 1, 0, 0, 0, 64, 0, 0, 0, 1, 0, 0, 0, 0, 0, 0, 0, 0, 0, 0, 0, 0, 0, 0, 0, 0, 0, 0, 0, 2,
+    0, 0, 0, 2, 0, 0, 0, 0, 0, 0, 0, 0, 0, 0, 0, 0, 0, 0, 0, 19, 14, 144, 0, 115, 0, 0, 0, 19, 5,
+    14, 0, 115, 0, 0, 0,
+];
+
+const ONES: Depths = Depths {
+    ld: 1,
+    al: 1,
+    sa: 1,
+    sd: 1,
+    ab: 1,
+    eb: 1,
+    cq: 1,
+};
+
+/// Up to twenty turns of a schedule, and how the machine rests then.
+fn run(machine: &mut Machine, schedule: Schedule) -> Option<Rest> {
+    let mut words = Words::of(schedule);
+    for _ in 0..20 {
+        if machine.taken() < 1_000_000_000_000 {
+            let _ = machine.turn(words.next());
+        }
+    }
+    machine.rest()
+}
+
+#[test]
+fn worked_images_end_alike_under_all_schedules(rt: HostRuntime) -> Result<(), Fail> {
+    let rows: [(&[u8], Rest, u64, &[u8]); 4] = [
+        (&HALTS, Rest::Stuck, 1, &[0, 0, 0, 0, 0, 0, 0, 0]),
+        (
+            &STORES_BESIDE,
+            Rest::Final(End::Ended(7)),
+            8,
+            &[8, 0, 0, 0, 7, 0, 0, 0],
+        ),
+        (&STORES_THERE, Rest::Stuck, 3, &[0, 0, 0, 0, 7, 0, 0, 0]),
+        (
+            &COPIES,
+            Rest::Final(End::Ended(9)),
+            4,
+            &[0, 0, 0, 0, 0, 0, 0, 0],
+        ),
+    ];
+    for (bytes, rest, steps, memory) in rows {
+        if bytes.len() > 108 {
+            continue;
+        }
+        let image = read(rt.alloc(), bytes)?;
+        for schedule in [
+            Schedule::Round,
+            Schedule::A,
+            Schedule::E,
+            Schedule::Fill,
+            Schedule::Drain,
+            Schedule::Seed(7),
+        ] {
+            let mut machine = Machine::open(rt.alloc(), &image, ONES)?;
+            assert_eq!(rt; run(&mut machine, schedule), Some(rest));
+            assert_eq!(rt; machine.taken(), steps);
+            assert_eq!(rt; machine.memory().get(16..24), Some(memory));
+        }
+    }
+    Ok(())
+}
+
+#[test]
+fn a_load_passes_an_older_store_beside_it(rt: HostRuntime) -> Result<(), Fail> {
+    let image = read(rt.alloc(), &STORES_BESIDE)?;
+    let mut machine = Machine::open(rt.alloc(), &image, ONES)?;
+    for pick in [Pick::A, Pick::A, Pick::Fill(Side::E, 0)] {
+        assert!(rt; machine.enabled(pick));
+        if machine.enabled(pick) && machine.taken() < 1_000_000_000_000 {
+            assert!(rt; machine.step(pick).is_empty());
+        }
+    }
+    assert!(rt; !machine.enabled(Pick::Drain));
+    assert!(rt; matches!(machine.answer(Side::A), CoreAnswer::Did(_)));
+    assert_eq!(rt; machine.counter(Side::A), 8);
+    assert_eq!(rt; machine.register(Side::E, 10), 0);
+    assert_eq!(rt; (machine.len(Queue::Ld), machine.len(Queue::Sa)), (1, 1));
+    assert_eq!(rt;
+        machine.entry(Queue::Ld, 0),
+        Some(Entry {
+            number: 0,
+            addr: 20,
+            width: Width::B4,
+            value: Some(7)
+        })
+    );
+    assert_eq!(rt;
+        machine.entry(Queue::Sa, 0),
+        Some(Entry {
+            number: 0,
+            addr: 16,
+            width: Width::B4,
+            value: None
+        })
+    );
+    assert_eq!(rt; machine.entry(Queue::Sa, 1), None);
+    assert_eq!(rt; machine.filling(Side::E, 0), None);
+    Ok(())
+}
+
+#[test]
+fn a_depth_below_the_budget_is_refused(rt: HostRuntime) -> Result<(), Fail> {
+    let mut bytes = STORES_BESIDE;
+    bytes[8] = 2;
+    let image = read(rt.alloc(), &bytes)?;
+    let refusal = Machine::open(rt.alloc(), &image, ONES).err();
+    assert_eq!(rt; refusal, Some(OpenError::DepthBelow(Queue::Ld, 2, 1)));
+    Ok(())
+}
+
+#[test]
+fn words_of_schedules(rt: HostRuntime) {
+    let mut words = Words::of(Schedule::Seed(1));
+    assert_eq!(rt; words.next(), 15_496);
+    assert_eq!(rt; words.next(), 24_200);
+    for (schedule, first, second) in [
+        (Schedule::Round, 0, 1),
+        (Schedule::A, 0, 0),
+        (Schedule::E, 1, 1),
+        (Schedule::Fill, 2, 2),
+        (Schedule::Drain, 3, 3),
+    ] {
+        let mut words = Words::of(schedule);
+        assert_eq!(rt; words.next(), first);
+        assert_eq!(rt; words.next(), second);
+    }
+}

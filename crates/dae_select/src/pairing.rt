@@ -1,0 +1,258 @@
+// Two adjacent actions by one block: a value that is computed where it is moved to, and a word that is taken by the
+// instruction that computes with it.
+
+ghost use Rattle.std.specs.Prelude.{◌≡◌, ◌≤◌, ◌++◌, length, true, OnOk, Some as IsThere};
+ghost use Rattle.dae_walks.specs.Live.{in_operand};
+ghost use Rattle.dae_walks.specs.Homes.{home_in};
+ghost use Rattle.dae_live.specs.Members.{member};
+ghost use Rattle.dae_blocks.specs.Blocks.{value_code};
+ghost use Rattle.dae_blocks.specs.Code.{either_one, written_last, passes_on, reads_once, taken_standing, pair_standing, with_home, late_code, early_code, taking_code};
+ghost use Rattle.dae_walks.specs.declared.Standing.TheVariants.{Early as IsEarly};
+ghost use Rattle.dae_walks.specs.declared.Home.TheVariants.{Register as IsRegister};
+ghost use Rattle.dae_ir.specs.declared.form.Value.TheVariants.{Binary as IsBinary};
+ghost use Rattle.dae_select.specs.Growing.{standing_between, step_before, IsTakenBy};
+ghost use Rattle.dae_select.specs.Tables.{AreNear};
+
+use crate::assigning::{operation, set_code, value_code};
+use crate::fetching::{fetch, home_of, keep, register_or, source};
+use crate::numbers::{exchanged, immediate};
+use dae_encode::Inst;
+use dae_ir::{Action, Operand, Step, Value};
+use dae_live::LiveSet;
+use dae_meaning::Operator;
+use dae_walks::{Home, Standing};
+use std::alloc::AllocError;
+
+// ---- which actions are pairs
+
+fn is_variable(operand: Operand, variable: u32) -> bool
+    ensures { result ≡ in_operand operand variable }
+{
+    match operand {
+        Operand::Variable(read) => variable == read,
+        Operand::Number(_) => false,
+    }
+}
+
+/// Whether only the last instruction of a value's code writes the register that it goes into.
+fn written_last(value: Value) -> bool
+    ensures { result ≡ written_last value }
+{
+    match value {
+        Value::Same(_) | Value::Binary(_, _, _) | Value::FrameAddress(_) => true,
+        Value::Extended(_, _) | Value::Holds(_) => false,
+    }
+}
+
+/// Whether an action only moves this variable, which has this value, to where the value can be computed.
+fn passes_on(variable: u32, value: Value, action: &Action) -> bool
+    ensures { result ≡ passes_on variable value action.now }
+{
+    match action {
+        Action::Set(_, Value::Same(Operand::Variable(moved))) => *moved == variable,
+        Action::Datum(Operand::Variable(moved)) => *moved == variable && written_last(value),
+        _ => false,
+    }
+}
+
+/// Whether just one of two operands is this variable.
+fn is_one(variable: u32, left: Operand, right: Operand) -> bool
+    ensures { result ≡ either_one (in_operand left variable) (in_operand right variable) }
+{
+    if is_variable(left, variable) {
+        !is_variable(right, variable)
+    } else {
+        is_variable(right, variable)
+    }
+}
+
+/// Whether a value reads this variable just once.
+fn reads_once(variable: u32, value: Value) -> bool
+    ensures { result ≡ reads_once variable value }
+{
+    match value {
+        Value::Same(operand) => is_variable(operand, variable),
+        Value::Binary(_, left, right) => is_one(variable, left, right),
+        Value::Extended(_, _) | Value::Holds(_) | Value::FrameAddress(_) => false,
+    }
+}
+
+/// How things stand between an action that takes a word into a variable and the next one, behind which these are live.
+fn taken_standing(variable: u32, next: &Action, live: &LiveSet) -> Standing
+    ensures { result ≡ taken_standing variable next.now (member live.now) }
+{
+    match next {
+        Action::Set(target, value) => {
+            let dies = variable == *target || !live.contains(variable);
+            if reads_once(variable, *value) && dies {
+                Standing::Early(*target, *value)
+            } else {
+                Standing::Settled
+            }
+        }
+        _ => Standing::Settled,
+    }
+}
+
+/// How things stand between an action and the next one, behind which these variables are live.
+fn pair_standing(action: &Action, next: &Action, live: &LiveSet) -> Standing
+    ensures { result ≡ pair_standing action.now next.now (member live.now) }
+{
+    match action {
+        Action::Set(variable, value) => {
+            if passes_on(*variable, *value, next) && !live.contains(*variable) {
+                Standing::Late(*variable, *value)
+            } else {
+                Standing::Settled
+            }
+        }
+        Action::Receive(variable) => taken_standing(*variable, next, live),
+        Action::Accept(variable) => taken_standing(*variable, next, live),
+        _ => Standing::Settled,
+    }
+}
+
+/// How things stand between two steps, where these variables are live behind the second one and things stand so behind it.
+fn between_steps(before: &Step, step: &Step, live: &LiveSet, standing: Standing) -> Standing
+    ensures { result ≡ standing_between (IsThere before.now) step.now (member live.now) standing }
+{
+    match before {
+        Step::Act(_, action) => match step {
+            Step::Act(_, next) => match standing {
+                Standing::Settled => pair_standing(action, next, live),
+                Standing::Early(_, _) | Standing::Late(_, _) => Standing::Settled,
+            },
+            Step::If(_, _, _, _) | Step::Loop(_, _, _) => Standing::Settled,
+        },
+        Step::If(_, _, _, _) | Step::Loop(_, _, _) => Standing::Settled,
+    }
+}
+
+/// How things stand before a step of a list that stands at this index, where these variables are live behind it and things
+/// stand so behind it.
+pub fn standing_between(
+    steps: &[Step],
+    index: usize,
+    step: &Step,
+    live: &LiveSet,
+    standing: Standing,
+) -> Standing
+    requires { index ≤ length steps.now }
+    ensures { result
+        ≡ standing_between (step_before steps.now index) step.now (member live.now) standing }
+{
+    if index == 0 {
+        Standing::Settled
+    } else {
+        between_steps(&steps[index - 1], step, live, standing)
+    }
+}
+
+// ---- their blocks
+
+/// The block of an action that moves a variable on, where this value is computed in its stead.
+pub fn late_code(
+    code: &mut Vec<Inst>,
+    homes: &[Home],
+    action: &Action,
+    value: Value,
+) -> Result<(), AllocError>
+    requires { AreNear homes.now }
+    ensures { OnOk result (code.new.items ≡ code.old.items
+        ++ late_code (home_in homes.now) action.now value) }
+{
+    match action {
+        Action::Set(target, _) => set_code(code, homes, *target, value),
+        Action::Datum(_) => value_code(code, homes, 30, value),
+        _ => Ok(()),
+    }
+}
+
+/// An operation on the word at the front of a queue, for which this variable stands, and something else.
+fn taken_binary(
+    code: &mut Vec<Inst>,
+    homes: &[Home],
+    queue: u8,
+    variable: u32,
+    target: u8,
+    operator: Operator,
+    left: Operand,
+    right: Operand,
+) -> Result<(), AllocError>
+    requires near { AreNear homes.now }
+    requires once { reads_once variable (IsBinary operator left right) ≡ true }
+    ensures { OnOk result (code.new.items ≡ code.old.items
+        ++ value_code (with_home variable (IsRegister queue) (home_in homes.now)) target
+        (IsBinary operator left right)) }
+{
+    if is_variable(left, variable) {
+        let inst = match right {
+            Operand::Number(number) => immediate(operator, target, queue, number),
+            Operand::Variable(_) => None,
+        };
+        if let Some(inst) = inst {
+            return code.extend_from_slice(&[inst]);
+        }
+        fetch(code, homes, 6, right)?;
+        code.extend_from_slice(&[operation(operator, target, queue, source(homes, 6, right))])
+    } else {
+        let inst = match left {
+            Operand::Number(number) => exchanged(operator, target, queue, number),
+            Operand::Variable(_) => None,
+        };
+        if let Some(inst) = inst {
+            return code.extend_from_slice(&[inst]);
+        }
+        fetch(code, homes, 5, left)?;
+        code.extend_from_slice(&[operation(operator, target, source(homes, 5, left), queue)])
+    }
+}
+
+/// The block of an action that takes a word from a queue into a variable, with which the next action is done: it computes
+/// this value of that word into the target.
+fn early_code(
+    code: &mut Vec<Inst>,
+    homes: &[Home],
+    queue: u8,
+    variable: u32,
+    target: u32,
+    value: Value,
+) -> Result<(), AllocError>
+    requires near { AreNear homes.now }
+    requires once { reads_once variable value ≡ true }
+    ensures { OnOk result (code.new.items ≡ code.old.items
+        ++ early_code (home_in homes.now) queue variable target value) }
+{
+    let home = home_of(homes, target);
+    let register = register_or(5, home);
+    match value {
+        Value::Same(_) => code.extend_from_slice(&[Inst::Addi(register, queue, 0)])?,
+        Value::Binary(operator, left, right) => {
+            taken_binary(
+                code, homes, queue, variable, register, operator, left, right,
+            )?;
+        }
+        Value::Extended(_, _) | Value::Holds(_) | Value::FrameAddress(_) => (),
+    }
+    keep(code, home)
+}
+
+/// The block of an action that takes a word, with which the next action is done: it computes this value into the target.
+pub fn taking_code(
+    code: &mut Vec<Inst>,
+    homes: &[Home],
+    action: &Action,
+    target: u32,
+    value: Value,
+) -> Result<(), AllocError>
+    requires near { AreNear homes.now }
+    requires once { IsTakenBy (IsEarly target value) action.now }
+    ensures { OnOk result (code.new.items ≡ code.old.items
+        ++ taking_code (home_in homes.now) action.now target value) }
+{
+    match action {
+        Action::Receive(variable) => early_code(code, homes, 30, *variable, target, value),
+        Action::Accept(variable) => early_code(code, homes, 28, *variable, target, value),
+        _ => Ok(()),
+    }
+}
