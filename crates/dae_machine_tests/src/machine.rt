@@ -2,8 +2,10 @@
 
 use dae_base::{Depths, Queue, Side, Width};
 use dae_core::CoreAnswer;
-use dae_image::read;
+use dae_image::{Image, read};
 use dae_machine::{End, Entry, Machine, OpenError, Pick, Rest, Schedule, Words};
+use std::alloc::Global;
+use std::process::Abort;
 use std::test::*;
 
 /// The access processor halts, and the execute processor has a word that is no legal instruction there.
@@ -58,80 +60,112 @@ fn run(machine: &mut Machine, schedule: Schedule) -> Option<Rest> {
     machine.rest()
 }
 
-#[test]
-fn worked_images_end_alike_under_all_schedules(rt: HostRuntime) -> Result<(), Fail> {
-    let rows: [(&[u8], Rest, u64, &[u8]); 4] = [
-        (&HALTS, Rest::Stuck, 1, &[0, 0, 0, 0, 0, 0, 0, 0]),
-        (
-            &STORES_BESIDE,
-            Rest::Final(End::Ended(7)),
-            8,
-            &[8, 0, 0, 0, 7, 0, 0, 0],
-        ),
-        (&STORES_THERE, Rest::Stuck, 3, &[0, 0, 0, 0, 7, 0, 0, 0]),
-        (
-            &COPIES,
-            Rest::Final(End::Ended(9)),
-            4,
-            &[0, 0, 0, 0, 0, 0, 0, 0],
-        ),
-    ];
-    for (bytes, rest, steps, memory) in rows {
-        if bytes.len() > 108 {
-            continue;
-        }
-        let image = read(rt.alloc(), bytes)?;
-        for schedule in [
-            Schedule::Round,
-            Schedule::A,
-            Schedule::E,
-            Schedule::Fill,
-            Schedule::Drain,
-            Schedule::Seed(7),
-        ] {
-            let mut machine = Machine::open(rt.alloc(), &image, ONES)?;
-            assert_eq!(rt; run(&mut machine, schedule), Some(rest));
-            assert_eq!(rt; machine.taken(), steps);
-            assert_eq!(rt; machine.memory().get(16..24), Some(memory));
-        }
+fn opened(alloc: Global, image: &Image) -> Result<Machine, OpenError> {
+    Machine::open(alloc, image, ONES)
+}
+
+/// A run of the image rests so, after so many steps, with these bytes from address 16 on.
+fn check_run(
+    rt: &impl Abort,
+    alloc: Global,
+    image: &Image,
+    schedule: Schedule,
+    (rest, steps, memory): (Rest, u64, &[u8]),
+) -> Result<(), Fail> {
+    let mut machine = opened(alloc, image)?;
+    assert_eq!(rt; run(&mut machine, schedule), Some(rest));
+    assert_eq!(rt; machine.taken(), steps);
+    assert_eq!(rt; machine.memory().get(16..24), Some(memory));
+    Ok(())
+}
+
+fn check_runs(
+    rt: &impl Abort,
+    alloc: Global,
+    bytes: &[u8],
+    due: (Rest, u64, &[u8]),
+) -> Result<(), Fail> {
+    assert!(rt; bytes.len() <= 108);
+    let image = read(alloc, bytes)?;
+    for schedule in [
+        Schedule::Round,
+        Schedule::A,
+        Schedule::E,
+        Schedule::Fill,
+        Schedule::Drain,
+        Schedule::Seed(7),
+    ] {
+        check_run(rt, alloc, &image, schedule, due)?;
     }
     Ok(())
 }
 
 #[test]
-fn a_load_passes_an_older_store_beside_it(rt: HostRuntime) -> Result<(), Fail> {
-    let image = read(rt.alloc(), &STORES_BESIDE)?;
-    let mut machine = Machine::open(rt.alloc(), &image, ONES)?;
-    for pick in [Pick::A, Pick::A, Pick::Fill(Side::E, 0)] {
-        assert!(rt; machine.enabled(pick));
-        if machine.enabled(pick) && machine.taken() < 1_000_000_000_000 {
-            assert!(rt; machine.step(pick).is_empty());
-        }
+fn worked_images_end_alike_under_all_schedules(rt: HostRuntime) -> Result<(), Fail> {
+    let rows: [(&[u8], (Rest, u64, &[u8])); 4] = [
+        (&HALTS, (Rest::Stuck, 1, &[0, 0, 0, 0, 0, 0, 0, 0])),
+        (
+            &STORES_BESIDE,
+            (Rest::Final(End::Ended(7)), 8, &[8, 0, 0, 0, 7, 0, 0, 0]),
+        ),
+        (&STORES_THERE, (Rest::Stuck, 3, &[0, 0, 0, 0, 7, 0, 0, 0])),
+        (
+            &COPIES,
+            (Rest::Final(End::Ended(9)), 4, &[0, 0, 0, 0, 0, 0, 0, 0]),
+        ),
+    ];
+    for (bytes, due) in rows {
+        check_runs(&rt, rt.alloc(), bytes, due)?;
     }
+    Ok(())
+}
+
+fn check_step(rt: &impl Abort, machine: &mut Machine, pick: Pick) {
+    assert!(rt; machine.enabled(pick) && machine.taken() < 1_000_000_000_000);
+    assert!(rt; machine.step(pick).is_empty());
+}
+
+/// The machine after a store's address and a load, whose word has come.
+fn loaded(rt: &impl Abort, alloc: Global) -> Result<Machine, Fail> {
+    let image = read(alloc, &STORES_BESIDE)?;
+    let mut machine = opened(alloc, &image)?;
+    for pick in [Pick::A, Pick::A, Pick::Fill(Side::E, 0)] {
+        check_step(rt, &mut machine, pick);
+    }
+    Ok(machine)
+}
+
+fn check_entries(rt: &impl Abort, machine: &Machine) {
+    let load = Entry {
+        number: 0,
+        addr: 20,
+        width: Width::B4,
+        value: Some(7),
+    };
+    let store = Entry {
+        number: 0,
+        addr: 16,
+        width: Width::B4,
+        value: None,
+    };
+    for (queue, at, entry) in [
+        (Queue::Ld, 0, Some(load)),
+        (Queue::Sa, 0, Some(store)),
+        (Queue::Sa, 1, None),
+    ] {
+        assert_eq!(rt; machine.entry(queue, at), entry);
+    }
+}
+
+#[test]
+fn a_load_passes_an_older_store_beside_it(rt: HostRuntime) -> Result<(), Fail> {
+    let machine = loaded(&rt, rt.alloc())?;
     assert!(rt; !machine.enabled(Pick::Drain));
     assert!(rt; matches!(machine.answer(Side::A), CoreAnswer::Did(_)));
     assert_eq!(rt; machine.counter(Side::A), 8);
     assert_eq!(rt; machine.register(Side::E, 10), 0);
     assert_eq!(rt; (machine.len(Queue::Ld), machine.len(Queue::Sa)), (1, 1));
-    assert_eq!(rt;
-        machine.entry(Queue::Ld, 0),
-        Some(Entry {
-            number: 0,
-            addr: 20,
-            width: Width::B4,
-            value: Some(7)
-        })
-    );
-    assert_eq!(rt;
-        machine.entry(Queue::Sa, 0),
-        Some(Entry {
-            number: 0,
-            addr: 16,
-            width: Width::B4,
-            value: None
-        })
-    );
-    assert_eq!(rt; machine.entry(Queue::Sa, 1), None);
+    check_entries(&rt, &machine);
     assert_eq!(rt; machine.filling(Side::E, 0), None);
     Ok(())
 }
@@ -148,10 +182,8 @@ fn a_depth_below_the_budget_is_refused(rt: HostRuntime) -> Result<(), Fail> {
 
 #[test]
 fn words_of_schedules(rt: HostRuntime) {
-    let mut words = Words::of(Schedule::Seed(1));
-    assert_eq!(rt; words.next(), 15_496);
-    assert_eq!(rt; words.next(), 24_200);
     for (schedule, first, second) in [
+        (Schedule::Seed(1), 15_496, 24_200),
         (Schedule::Round, 0, 1),
         (Schedule::A, 0, 0),
         (Schedule::E, 1, 1),

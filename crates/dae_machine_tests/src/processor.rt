@@ -6,6 +6,8 @@ ghost use Rattle.std.specs.Prelude.{None, refl};
 use dae_base::{Depths, LoadKind, Queue, Side, Width};
 use dae_core::{Core, CoreAnswer, Fault, Halt, Ports, Queues, load, store};
 use dae_encode::QueueUse;
+use std::alloc::{AllocError, Global};
+use std::process::Abort;
 use std::test::*;
 
 /// No queues at all.
@@ -40,34 +42,67 @@ fn has_printed(answer: &CoreAnswer, text: &[u8]) -> bool {
     }
 }
 
+/// A processor of the side E at the first word of the code.
+fn opened(alloc: Global, code: &[u32]) -> Result<Core, AllocError> {
+    Core::open(alloc, Side::E, 0, 0, false, code)
+}
+
+fn step(core: &mut Core) -> CoreAnswer {
+    core.step(64, &mut NoQueues)
+}
+
+fn look(core: &Core) -> CoreAnswer {
+    core.look(64, &NoQueues)
+}
+
+/// A call by the selector prints the text for the number -7, and the call after it ends the run with that number.
+fn check_call(rt: &impl Abort, alloc: Global, selector: u8, text: &[u8]) -> Result<(), Fail> {
+    // addi x17, x0, selector; addi x10, x0, -7; ecall; addi x17, x0, 0; ecall
+    let code = [
+        0x0000_0893 + u32::from(selector) * 0x0010_0000,
+        0xFF90_0513,
+        0x0000_0073,
+        0x0000_0893,
+        0x0000_0073,
+    ];
+    let mut core = opened(alloc, &code)?;
+    for at in 0..5 {
+        let answer = step(&mut core);
+        assert!(rt; has_printed(&answer, if at == 2 { text } else { b"" }));
+    }
+    assert_eq!(rt; core.register(10), 0xFFFF_FFF9);
+    assert_eq!(rt; core.counter(), 20);
+    assert_eq!(rt; core.halted(), Some(Halt::Status(0xFFFF_FFF9)));
+    assert!(rt; matches!(step(&mut core), CoreAnswer::Halted));
+    Ok(())
+}
+
 #[test]
 fn calls_print_and_halt(rt: HostRuntime) -> Result<(), Fail> {
-    let rows: [(u32, &[u8]); 4] = [
+    let rows: [(u8, &[u8]); 4] = [
         (1, &[249]),
         (2, b"-7"),
         (3, b"4294967289"),
         (4, b"fffffff9"),
     ];
     for (selector, text) in rows {
-        // addi x17, x0, selector; addi x10, x0, -7; ecall; addi x17, x0, 0; ecall
-        let code = [
-            0x0000_0893 + selector * 0x0010_0000,
-            0xFF90_0513,
-            0x0000_0073,
-            0x0000_0893,
-            0x0000_0073,
-        ];
-        let mut core = Core::open(rt.alloc(), Side::E, 0, 0, false, &code)?;
-        let mut queues = NoQueues;
-        for at in 0..5 {
-            let answer = core.step(64, &mut queues);
-            let want = if at == 2 { text } else { b"" };
-            assert!(rt; has_printed(&answer, want));
-        }
-        assert_eq!(rt; core.register(10), 0xFFFF_FFF9);
-        assert_eq!(rt; core.counter(), 20);
-        assert_eq!(rt; core.halted(), Some(Halt::Status(0xFFFF_FFF9)));
-        assert!(rt; matches!(core.step(64, &mut queues), CoreAnswer::Halted));
+        check_call(&rt, rt.alloc(), selector, text)?;
+    }
+    Ok(())
+}
+
+/// The word faults so, or waits for the queue of loaded words.
+fn check_look(
+    rt: &impl Abort,
+    alloc: Global,
+    word: u32,
+    fault: Option<Fault>,
+) -> Result<(), AllocError> {
+    let core = opened(alloc, &[word])?;
+    match (look(&core), fault) {
+        (CoreAnswer::Faulted(found), Some(wanted)) => assert_eq!(rt; found, wanted),
+        (CoreAnswer::Waits(queue), None) => assert_eq!(rt; queue, Queue::Ld),
+        _ => assert!(rt; false),
     }
     Ok(())
 }
@@ -82,42 +117,58 @@ fn a_fault_comes_before_a_wait(rt: HostRuntime) -> Result<(), Fail> {
         (0x01DF_00B3, Some(Fault::Illegal)),
         (0x0000_100F, Some(Fault::Illegal)),
     ];
-    let queues = NoQueues;
     for (word, fault) in rows {
-        let core = Core::open(rt.alloc(), Side::E, 0, 0, false, &[word])?;
-        match (core.look(64, &queues), fault) {
-            (CoreAnswer::Faulted(found), Some(wanted)) => assert_eq!(rt; found, wanted),
-            (CoreAnswer::Waits(queue), None) => assert_eq!(rt; queue, Queue::Ld),
-            _ => assert!(rt; false),
-        }
+        check_look(&rt, rt.alloc(), word, fault)?;
     }
     let core = Core::open(rt.alloc(), Side::A, 4, 0, false, &[0x73])?;
-    assert!(rt; matches!(core.look(64, &queues), CoreAnswer::Faulted(Fault::BadPc)));
+    assert!(rt; matches!(look(&core), CoreAnswer::Faulted(Fault::BadPc)));
     Ok(())
+}
+
+const ONES: Depths = Depths {
+    ld: 1,
+    al: 1,
+    sa: 1,
+    sd: 1,
+    ab: 1,
+    eb: 1,
+    cq: 1,
+};
+
+const PUSH: QueueUse = QueueUse::Push(Queue::Ab);
+
+/// Queues without a message.
+fn empty(alloc: Global) -> Result<Queues, AllocError> {
+    Queues::with_depths(alloc, ONES)
+}
+
+/// Queues with a message, if there is room for it.
+fn with_message(alloc: Global, word: u32) -> Result<Queues, AllocError> {
+    let mut queues = Queues::with_depths(alloc, ONES)?;
+    if queues.offer(PUSH).is_some() {
+        queues.commit(PUSH, word);
+    }
+    Ok(queues)
+}
+
+fn check_offers(rt: &impl Abort, queues: &Queues, rows: &[(QueueUse, Option<u32>)]) {
+    for (access, word) in rows {
+        assert_eq!(rt; queues.offer(*access), *word);
+    }
 }
 
 #[test]
 fn a_message_waits_to_be_taken(rt: HostRuntime) -> Result<(), Fail> {
-    let depths = Depths {
-        ld: 1,
-        al: 1,
-        sa: 1,
-        sd: 1,
-        ab: 1,
-        eb: 1,
-        cq: 1,
-    };
-    let mut queues = Queues::with_depths(rt.alloc(), depths)?;
-    let push = QueueUse::Push(Queue::Ab);
     let take = QueueUse::Take(Queue::Ab);
-    assert_eq!(rt; queues.offer(push), Some(0));
-    assert_eq!(rt; queues.offer(take), None);
-    if queues.offer(push).is_some() {
-        queues.commit(push, 5);
-    }
-    assert_eq!(rt; queues.offer(push), None);
-    assert_eq!(rt; queues.offer(take), Some(5));
-    assert_eq!(rt; queues.offer(QueueUse::Push(Queue::Ld)), None);
+    let queues = empty(rt.alloc())?;
+    check_offers(&rt, &queues, &[(PUSH, Some(0)), (take, None)]);
+    let queues = with_message(rt.alloc(), 5)?;
+    let other = QueueUse::Push(Queue::Ld);
+    check_offers(
+        &rt,
+        &queues,
+        &[(PUSH, None), (take, Some(5)), (other, None)],
+    );
     Ok(())
 }
 

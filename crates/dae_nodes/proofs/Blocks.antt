@@ -7,7 +7,7 @@ use Rattle.dae_tree.specs.declared.statements.Statement.{Statement, roll-Stateme
 use Rattle.dae_tree.specs.declared.statements.Statement.TheVariants as statement
 use Rattle.dae_tree.specs.Trees as tree
 use Rattle.dae_tree.specs.FileViews.{view_statement}
-use Rattle.dae_nodes.specs.declared.values.Read.{Read}
+use Rattle.dae_parts.specs.declared.reading.Read.{Read}
 use Rattle.dae_nodes.specs.Parts.{ShowsStatement}
 
 pub not_block : (s : Statement) (p : Place) (ds : List tree.Declaration) (ss : tree.Statements) → ((b : Block) → s ≢ statement.Block b) → view_statement s ≢ tree.Block p ds ss

@@ -11,7 +11,7 @@ use Rattle.dae_grammar.specs.FirstPlaces.{firsts_declarator}
 use Rattle.dae_tree.specs.Lists as lists
 use Rattle.dae_grammar.specs.Frames as frames
 use Rattle.dae_grammar.specs.Machine.{parameters_onto}
-use Rattle.dae_nodes.specs.declared.values.Read.{Read}
+use Rattle.dae_parts.specs.declared.reading.Read.{Read}
 use Rattle.dae_nodes.specs.Parts.{ShowsDeclarator, is_present, is_some_list, first_place}
 
 -- the place of a declarator is that of its first node

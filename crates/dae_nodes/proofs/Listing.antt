@@ -21,12 +21,12 @@ use Rattle.dae_grammar.specs.FirstPlaces.{Places, or_else, both, firsts, firsts_
 use Rattle.dae_tree.specs.Lists as lists
 use Rattle.dae_grammar.specs.Frames as frames
 use Rattle.dae_grammar.specs.Machine.{onto, arguments_onto, members_onto, enumerator_before, enumerators_onto, declarators_onto, parameters_onto, initialisers_onto, statements_onto}
-use Rattle.dae_nodes.specs.declared.values.Read.{Read}
-use Rattle.dae_nodes.specs.Shown.{Holds, IsSeen, Shows, ShowsList, firsts_list, IsLonger}
+use Rattle.dae_parts.specs.declared.reading.Read.{Read}
+use Rattle.dae_parts.specs.Shown.{Holds, IsSeen, Shows, ShowsList, firsts_list, IsLonger}
 use Rattle.dae_nodes.specs.Parts.{ShowsArguments, ShowsMembers, view_line, firsts_line, ShowsEnumerators, view_entry, firsts_entry, ShowsDeclarators, ShowsParameterList, view_parameter, firsts_parameter, ShowsInitialisers, ShowsItems, firsts_item, ShowsDeclarations, ShowsStatements}
 use Rattle.dae_grammar.proofs.Laws.{onto_last}
-use Rattle.dae_nodes.proofs.Holding.{holds_same}
-use Rattle.dae_nodes.proofs.Showing.{seen_at}
+use Rattle.dae_parts.proofs.Laws.{holds_same}
+use Rattle.dae_parts.proofs.Laws.{seen_at}
 
 or_else_along : (x y z : Option Place) → or_else x (or_else y z) ≡ or_else (or_else x y) z
 or_else_along None y z = refl

@@ -13,11 +13,11 @@ use Rattle.dae_tree.specs.Grammar.{void_word}
 use Rattle.dae_tree.specs.Views.{view_specifier, views_specifiers}
 use Rattle.dae_grammar.specs.FirstPlaces.{Places, or_else, both, firsts_specifier, firsts_specifiers}
 use Rattle.dae_grammar.specs.Machine.{specifiers_onto}
-use Rattle.dae_nodes.specs.declared.values.Read.{Read}
-use Rattle.dae_nodes.specs.Shown.{Holds, IsSeen, Shows, IsLonger}
+use Rattle.dae_parts.specs.declared.reading.Read.{Read}
+use Rattle.dae_parts.specs.Shown.{Holds, IsSeen, Shows, IsLonger}
 use Rattle.dae_nodes.specs.Parts.{ShowsSpecifiers, ShowsSpecifier, first_place}
-use Rattle.dae_nodes.proofs.Holding.{holds_same}
-use Rattle.dae_nodes.proofs.Showing.{seen_at}
+use Rattle.dae_parts.proofs.Laws.{holds_same}
+use Rattle.dae_parts.proofs.Laws.{seen_at}
 
 -- specifiers before others
 abbrev joined : tree.Specifiers → tree.Specifiers → tree.Specifiers

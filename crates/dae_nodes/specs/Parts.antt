@@ -25,13 +25,13 @@ use Rattle.dae_grammar.specs.FirstPlaces.{Places, nowhere, both, firsts, firsts_
 use Rattle.dae_tree.specs.Lists as lists
 use Rattle.dae_grammar.specs.Frames as frames
 use Rattle.dae_grammar.specs.Machine.{parameters_onto}
-use Rattle.dae_nodes.specs.declared.values.Read.{Read}
+use Rattle.dae_parts.specs.declared.reading.Read.{Read}
 use Rattle.dae_nodes.specs.declared.values.Operand.{Operand}
 use Rattle.dae_nodes.specs.declared.values.Specified.{Specified}
 use Rattle.dae_nodes.specs.declared.values.Declared.{Declared}
 use Rattle.dae_nodes.specs.declared.values.ParameterList.{ParameterList}
 use Rattle.dae_nodes.specs.declared.values.Loop.{Loop}
-use Rattle.dae_nodes.specs.Shown.{Shows, ShowsList}
+use Rattle.dae_parts.specs.Shown.{Shows, ShowsList}
 use Rattle.dae_scope.specs.Shown.{bound_all}
 
 -- ---- expressions

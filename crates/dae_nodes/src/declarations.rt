@@ -8,9 +8,10 @@ ghost use Rattle.dae_tree.specs.Depth.{place_of_specifiers};
 ghost use Rattle.dae_grammar.specs.Machine.{initialisers_onto, onto};
 ghost use Rattle.dae_nodes.specs.Parts.{ShowsOperand, ShowsSpecified, ShowsDeclared, ShowsInitialiser, ShowsInitialisers, ShowsItems, ShowsDeclaration, ShowsDeclarations, ShowsStatement, ShowsExternal, ShowsExternals};
 
-use crate::values::{Declared, Operand, Read, Specified, beside, longer, over};
+use crate::values::{Declared, Operand, Specified};
 use dae_base::Place;
 use dae_depths::Depths;
+use dae_parts::{Read, beside, longer, over};
 use dae_tree::{Block, Declaration, External, Initialiser, Item, Statement};
 use std::alloc::{AllocError, Global};
 

@@ -8,10 +8,9 @@ ghost use Rattle.dae_grammar.specs.Machine.{closed_by, parameters_onto};
 ghost use Rattle.dae_scope.specs.Shown.{bound_all};
 ghost use Rattle.dae_nodes.specs.Parts.{ShowsOperand, ShowsSpecified, ShowsDeclared, ShowsParameterList, ShowsParameters};
 
-use crate::values::{
-    Declared, Operand, ParameterList, Read, Specified, beside, flat, longer, over,
-};
+use crate::values::{Declared, Operand, ParameterList, Specified};
 use dae_base::Place;
+use dae_parts::{Read, beside, flat, longer, over};
 use dae_scope::Binding;
 use dae_tree::{Declarator, Name, Parameter};
 use std::alloc::{AllocError, Global};

@@ -3,9 +3,9 @@ ghost use Rattle.dae_tree.specs.Trees as tree;
 ghost use Rattle.dae_grammar.specs.Machine.{arguments_onto};
 ghost use Rattle.dae_nodes.specs.Parts.{ShowsOperand, ShowsArguments, ShowsSpecified, ShowsDeclared};
 
-use crate::operators::strength;
-use crate::values::{Declared, Operand, Read, Specified, beside, flat, longer, over};
+use crate::values::{Declared, Operand, Specified};
 use dae_base::Place;
+use dae_parts::{Read, beside, flat, longer, over, strength};
 use dae_tree::{
     AssignmentOperator, BinaryOperator, Constant, Expression, MemberOperator, Name,
     PostfixOperator, PrefixOperator, TypeName,

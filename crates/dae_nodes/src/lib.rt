@@ -20,7 +20,6 @@ pub use lists::{
     has_items, has_members, no_arguments, no_declarations, no_declarators, no_enumerators,
     no_externals, no_initialisers, no_items, no_members, no_statements,
 };
-pub use operators::{strength, under};
 pub use specifiers::{
     no_specifiers, with_declarator, with_enumeration, with_enumeration_body, with_member,
     with_plain_enumerator, with_structure, with_structure_body, with_type_name,
@@ -31,16 +30,12 @@ pub use statements::{
     empty_statement, evaluation, for_statement, if_else_statement, if_statement, return_statement,
     switch_statement, while_statement, with_statement,
 };
-pub use values::{
-    Declared, Loop, Operand, ParameterList, Read, Specified, beside, flat, longer, over,
-    tree_or_depth,
-};
+pub use values::{Declared, Loop, Operand, ParameterList, Specified};
 
 mod declarations;
 mod declarators;
 mod expressions;
 mod lists;
-mod operators;
 mod specifiers;
 mod statements;
 mod values;

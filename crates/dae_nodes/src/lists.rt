@@ -4,7 +4,7 @@ ghost use Rattle.dae_tree.specs.Lists as lists;
 ghost use Rattle.dae_grammar.specs.Frames as frames;
 ghost use Rattle.dae_nodes.specs.Parts.{is_some_list, ShowsArguments, ShowsMembers, ShowsEnumerators, ShowsDeclarators, ShowsInitialisers, ShowsItems, ShowsDeclarations, ShowsStatements, ShowsExternals};
 
-use crate::values::{Read, flat};
+use dae_parts::{Read, flat};
 use dae_tree::{
     Declaration, Declarator, Enumerator, Expression, External, Initialiser, Item, Member, Statement,
 };

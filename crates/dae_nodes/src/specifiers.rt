@@ -8,8 +8,9 @@ ghost use Rattle.dae_grammar.specs.Frames as frames;
 ghost use Rattle.dae_grammar.specs.Machine.{specifiers_onto, members_onto, enumerators_onto, declarators_onto};
 ghost use Rattle.dae_nodes.specs.Parts.{ShowsOperand, ShowsSpecifier, ShowsSpecified, ShowsDeclared, ShowsDeclarators, ShowsMembers, ShowsEnumerators};
 
-use crate::values::{Declared, Operand, Read, Specified, beside, flat, longer, over};
+use crate::values::{Declared, Operand, Specified};
 use dae_base::Place;
+use dae_parts::{Read, beside, flat, longer, over};
 use dae_tree::{Declarator, Enumerator, Keyword, Member, Name, Specifier};
 use std::alloc::{AllocError, Global};
 

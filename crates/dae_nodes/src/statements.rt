@@ -4,11 +4,12 @@ ghost use Rattle.dae_grammar.specs.Frames as frames;
 ghost use Rattle.dae_grammar.specs.Machine.{for_of, onto, statements_onto};
 ghost use Rattle.dae_tree.specs.Views.{view_optional};
 ghost use Rattle.dae_grammar.specs.FirstPlaces.{firsts_optional};
-ghost use Rattle.dae_nodes.specs.Shown.{Shows};
+ghost use Rattle.dae_parts.specs.Shown.{Shows};
 ghost use Rattle.dae_nodes.specs.Parts.{ShowsOperand, ShowsOptional, ShowsDeclarations, ShowsStatement, ShowsStatements, ShowsLoop};
 
-use crate::values::{Loop, Operand, Read, beside, flat, longer, over};
+use crate::values::{Loop, Operand};
 use dae_base::Place;
+use dae_parts::{Read, beside, flat, longer, over};
 use dae_tree::{Block, Declaration, Expression, Heading, Statement, Test};
 use std::alloc::{AllocError, Global};
 

@@ -1,19 +1,9 @@
-ghost use Rattle.std.specs.Prelude.{◌≡◌, List, length, slice_get, Option, Some, None, IfOk, IfErr, OnOk};
-ghost use Rattle.dae_grammar.specs.FirstPlaces.{Places, nowhere, both, over};
-ghost use Rattle.dae_nodes.specs.Shown.{Holds, IsKept, IsFrom, IsPair, IsLonger};
+// What is kept beside the tree of a part: of operands, specifiers, declarators, parameters and loops.
 
 use dae_base::Place;
-use dae_depths::Depths;
+use dae_parts::Read;
 use dae_scope::Binding;
 use dae_tree::{Declarator, Expression, Parameter, Specifier};
-use std::alloc::{AllocError, Global};
-
-/// A part that was read: its tree, where no node in it is too deep, and the places of its first nodes.
-#[derive(Drop)]
-pub struct Read<T> {
-    pub tree: Option<T>,
-    pub depths: Depths,
-}
 
 /// An expression that was read, its level, and the place of its first token.
 #[derive(Drop)]
@@ -64,79 +54,4 @@ pub struct Loop {
     pub first: Place,
     pub test: Option<Operand>,
     pub second: Place,
-}
-
-/// A tree without nodes.
-pub fn flat<T: Drop>(alloc: Global, tree: T) -> Read<T>
-    ensures tree { result.tree ≡ Some tree }
-    ensures places { Holds result nowhere }
-{
-    Read {
-        tree: Some(tree),
-        depths: Depths::none(alloc),
-    }
-}
-
-/// A node at this place over a part.
-pub fn over<T: Drop>(alloc: Global, place: Place, part: Read<T>) -> Result<Read<T>, AllocError>
-    ensures { (f : Places) → Holds part f → IfOk result (λ r. Holds r (over place f) × IsFrom part.tree r.tree) }
-{
-    let Read { tree, depths } = part;
-    let depths = depths.under(alloc, place)?;
-    if depths.fits() {
-        Ok(Read { tree, depths })
-    } else {
-        Ok(Read { tree: None, depths })
-    }
-}
-
-/// Two parts, one behind the other.
-pub fn beside<T: Drop, U: Drop>(left: Read<T>, right: Read<U>) -> Result<Read<(T, U)>, AllocError>
-    ensures { (f g : Places) → Holds left f → Holds right g → IfOk result (λ r. Holds r (both f g) × IsPair left.tree right.tree r.tree) }
-{
-    let Read { tree, depths } = left;
-    let Read {
-        tree: other,
-        depths: others,
-    } = right;
-    let depths = depths.beside(&others)?;
-    match (tree, other) {
-        (Some(tree), Some(other)) => Ok(Read {
-            tree: Some((tree, other)),
-            depths,
-        }),
-        _ => Ok(Read { tree: None, depths }),
-    }
-}
-
-/// A list with a tree more.
-pub fn longer<T: Drop>(before: Read<Vec<T>>, item: Read<T>) -> Result<Read<Vec<T>>, AllocError>
-    ensures { (f g : Places) → Holds before f → Holds item g → IfOk result (λ r. Holds r (both f g) × IsLonger before.tree item.tree r.tree) }
-{
-    let Read { tree, depths } = beside(before, item)?;
-    match tree {
-        Some((list, item)) => {
-            let mut list = list;
-            list.push(item)?;
-            Ok(Read {
-                tree: Some(list),
-                depths,
-            })
-        }
-        None => Ok(Read { tree: None, depths }),
-    }
-}
-
-/// The tree of a part, or the place of its first node that is too deep.
-pub fn tree_or_depth<T: Drop>(read: Read<T>) -> Result<T, Place>
-    requires { IsKept read.tree (length read.depths.places.items) }
-    ensures tree { IfOk result (λ t. read.tree ≡ Some t) }
-    ensures shallow { OnOk result (slice_get read.depths.places.items 200 ≡ None) }
-    ensures deep { IfErr result (λ p. slice_get read.depths.places.items 200 ≡ Some p) }
-{
-    let Read { tree, depths } = read;
-    match tree {
-        Some(tree) => Ok(tree),
-        None => Err(depths.first_too_deep()),
-    }
 }

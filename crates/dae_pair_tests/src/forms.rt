@@ -12,6 +12,65 @@ const PLACE: Place = Place {
     col: 1,
 };
 
+/// The forms here, each by its name.
+#[derive(Clone, Copy)]
+pub enum Sample {
+    SumsOfArrays,
+    WordsBehindPointers,
+    StepsToOne,
+    EachFromTheOneBefore,
+    IndicesStored,
+    LoadedIndex,
+    EmptyLoop,
+    IndexAfterALoop,
+    CheckedDivisor,
+    ConstantsPrinted,
+    ProductStored,
+    ByteOfAWord,
+    DividedByAnObject,
+    IndexFromMemory,
+    FiveLoads,
+    ThreeCopies,
+    CallWithResult,
+    HalvesInAFrame,
+    LoneBreak,
+    OpenEnd,
+    ReturningMain,
+    AssignedResult,
+    UnknownVariable,
+    OneArgumentTooMany,
+}
+
+/// Makes the form of this name.
+pub fn build(alloc: Global, sample: Sample) -> Result<Ir, AllocError> {
+    match sample {
+        Sample::SumsOfArrays => sums_of_arrays(alloc),
+        Sample::WordsBehindPointers => words_behind_pointers(alloc),
+        Sample::StepsToOne => steps_to_one(alloc),
+        Sample::EachFromTheOneBefore => each_from_the_one_before(alloc),
+        Sample::IndicesStored => indices_stored(alloc),
+        Sample::LoadedIndex => loaded_index(alloc),
+        Sample::EmptyLoop => empty_loop(alloc),
+        Sample::IndexAfterALoop => index_after_a_loop(alloc),
+        Sample::CheckedDivisor => checked_divisor(alloc),
+        Sample::ConstantsPrinted => constants_printed(alloc),
+        Sample::ProductStored => product_stored(alloc),
+        Sample::ByteOfAWord => byte_of_a_word(alloc),
+        Sample::DividedByAnObject => divided_by_an_object(alloc),
+        Sample::IndexFromMemory => index_from_memory(alloc),
+        Sample::FiveLoads => five_loads(alloc),
+        Sample::ThreeCopies => three_copies(alloc),
+        Sample::CallWithResult => call_with_result(alloc),
+        Sample::HalvesInAFrame => halves_in_a_frame(alloc),
+        Sample::LoneBreak => lone_break(alloc),
+        Sample::OpenEnd => open_end(alloc),
+        Sample::ReturningMain => returning_main(alloc),
+        Sample::AssignedResult => assigned_result(alloc),
+        Sample::UnknownVariable => unknown_variable(alloc),
+        Sample::OneArgumentTooMany => one_argument_too_many(alloc),
+    }
+}
+
 fn number(word: u32) -> Operand {
     Operand::Number(word)
 }
@@ -122,7 +181,7 @@ fn program(alloc: Global, variables: u32, body: Vec<Statement>) -> Result<Ir, Al
 }
 
 /// `for (i = 0; i < 4; i++) c[i] = a[i] + b[i]; for (i = 0; i < 4; i++) printf("%d\n", c[i]);`
-pub fn sums_of_arrays(alloc: Global) -> Result<Ir, AllocError> {
+fn sums_of_arrays(alloc: Global) -> Result<Ir, AllocError> {
     let summing = [
         go_on_below(alloc, 1, 4)?,
         scale(2, 1),
@@ -166,7 +225,7 @@ fn print_elements(alloc: Global) -> Result<Statement, AllocError> {
 }
 
 /// `int *q[3] = {&u, &v, 0}; for (i = 0; i < 3; i++) printf("%d\n", *q[i]);`
-pub fn words_behind_pointers(alloc: Global) -> Result<Ir, AllocError> {
+fn words_behind_pointers(alloc: Global) -> Result<Ir, AllocError> {
     let printing = [
         go_on_below(alloc, 1, 3)?,
         scale(2, 1),
@@ -189,7 +248,7 @@ pub fn words_behind_pointers(alloc: Global) -> Result<Ir, AllocError> {
 }
 
 /// `n = 27; s = 0; while (n != 1) { if (n % 2) n = 3 * n + 1; else n = n / 2; s++; } printf("%d\n", s);`
-pub fn steps_to_one(alloc: Global) -> Result<Ir, AllocError> {
+fn steps_to_one(alloc: Global) -> Result<Ir, AllocError> {
     let odd = [
         binary(4, Operator::Multiply, number(3), variable(1)),
         add(5, variable(4), number(1)),
@@ -219,7 +278,7 @@ pub fn steps_to_one(alloc: Global) -> Result<Ir, AllocError> {
 }
 
 /// `x[0] = 0; for (i = 1; i < 10; i++) x[i] = x[i - 1] + 1; printf("%d\n", x[9]);`
-pub fn each_from_the_one_before(alloc: Global) -> Result<Ir, AllocError> {
+fn each_from_the_one_before(alloc: Global) -> Result<Ir, AllocError> {
     let turn = [
         go_on_below(alloc, 1, 10)?,
         scale(2, 1),
@@ -250,7 +309,7 @@ pub fn each_from_the_one_before(alloc: Global) -> Result<Ir, AllocError> {
 }
 
 /// `i = 0; while (i < 4) { s[i] = i; i++; } printf("%d\n", s[3]);`
-pub fn indices_stored(alloc: Global) -> Result<Ir, AllocError> {
+fn indices_stored(alloc: Global) -> Result<Ir, AllocError> {
     let turn = [
         go_on_below(alloc, 1, 4)?,
         scale(2, 1),
@@ -274,7 +333,7 @@ pub fn indices_stored(alloc: Global) -> Result<Ir, AllocError> {
 }
 
 /// `int k = 2; j = k; x[j] = j; printf("%d\n", x[2]);`
-pub fn loaded_index(alloc: Global) -> Result<Ir, AllocError> {
+fn loaded_index(alloc: Global) -> Result<Ir, AllocError> {
     let body = [
         load(2, number(16)),
         copy(1, variable(2)),
@@ -292,13 +351,13 @@ pub fn loaded_index(alloc: Global) -> Result<Ir, AllocError> {
 }
 
 /// `for (;;);`
-pub fn empty_loop(alloc: Global) -> Result<Ir, AllocError> {
+fn empty_loop(alloc: Global) -> Result<Ir, AllocError> {
     let forever = Statement::Loop(PLACE, Vec::new(alloc), Vec::new(alloc));
     program(alloc, 1, Vec::from_array(alloc, [forever, halt()])?)
 }
 
 /// `for (i = 0; i < 4; i++); x[i] = 7; printf("%d\n", x[4]);`
-pub fn index_after_a_loop(alloc: Global) -> Result<Ir, AllocError> {
+fn index_after_a_loop(alloc: Global) -> Result<Ir, AllocError> {
     let turn = Vec::from_array(alloc, [go_on_below(alloc, 1, 4)?])?;
     let body = [
         copy(1, number(0)),
@@ -318,7 +377,7 @@ pub fn index_after_a_loop(alloc: Global) -> Result<Ir, AllocError> {
 }
 
 /// `n = 10; d = 0; if (n > 5) n = n / d; printf("%d\n", n);`
-pub fn checked_divisor(alloc: Global) -> Result<Ir, AllocError> {
+fn checked_divisor(alloc: Global) -> Result<Ir, AllocError> {
     let divided = [
         expect_divisor(variable(2)),
         binary(3, Operator::DivideSigned, variable(1), variable(2)),
@@ -338,7 +397,7 @@ pub fn checked_divisor(alloc: Global) -> Result<Ir, AllocError> {
 }
 
 /// `printf("%d %d\n", -7 / 2, -7 % 2);`
-pub fn constants_printed(alloc: Global) -> Result<Ir, AllocError> {
+fn constants_printed(alloc: Global) -> Result<Ir, AllocError> {
     let body = [
         print(number(4_294_967_293)),
         Statement::Simple(PLACE, Item::Print(Spelling::Byte, number(32))),
@@ -350,7 +409,7 @@ pub fn constants_printed(alloc: Global) -> Result<Ir, AllocError> {
 }
 
 /// `g = 6; h = g * 7; printf("%d\n", h);`
-pub fn product_stored(alloc: Global) -> Result<Ir, AllocError> {
+fn product_stored(alloc: Global) -> Result<Ir, AllocError> {
     let body = [
         store(number(16), number(6)),
         load(1, number(16)),
@@ -365,7 +424,7 @@ pub fn product_stored(alloc: Global) -> Result<Ir, AllocError> {
 }
 
 /// `p = (unsigned char *)a; a[0] = 0x11223344; p[1] = 0; printf("%x\n", a[0]);`
-pub fn byte_of_a_word(alloc: Global) -> Result<Ir, AllocError> {
+fn byte_of_a_word(alloc: Global) -> Result<Ir, AllocError> {
     let byte = Check::Place(Width::B1, variable(2));
     let body = [
         copy(1, number(16)),
@@ -384,7 +443,7 @@ pub fn byte_of_a_word(alloc: Global) -> Result<Ir, AllocError> {
 }
 
 /// `printf("%d\n", 5); g = 7; g = g / z;`
-pub fn divided_by_an_object(alloc: Global) -> Result<Ir, AllocError> {
+fn divided_by_an_object(alloc: Global) -> Result<Ir, AllocError> {
     let body = [
         print(number(5)),
         print_line_feed(),
@@ -400,7 +459,7 @@ pub fn divided_by_an_object(alloc: Global) -> Result<Ir, AllocError> {
 }
 
 /// `for (i = 0; i < 3; i++) printf("%d\n", b[a[i]]);`
-pub fn index_from_memory(alloc: Global) -> Result<Ir, AllocError> {
+fn index_from_memory(alloc: Global) -> Result<Ir, AllocError> {
     let printing = [
         go_on_below(alloc, 1, 3)?,
         scale(2, 1),
@@ -425,7 +484,7 @@ pub fn index_from_memory(alloc: Global) -> Result<Ir, AllocError> {
 }
 
 /// `printf("%d\n", a[0] + a[1] + a[2] + a[3] + a[4]);`
-pub fn five_loads(alloc: Global) -> Result<Ir, AllocError> {
+fn five_loads(alloc: Global) -> Result<Ir, AllocError> {
     let body = [
         expect(number(16)),
         load(1, number(16)),
@@ -449,7 +508,7 @@ pub fn five_loads(alloc: Global) -> Result<Ir, AllocError> {
 }
 
 /// `i = k[0]; j = k[1]; l = k[2]; x[i] = i + j + l; x[j] = l; x[l] = 0; printf("%d\n", x[2]);`
-pub fn three_copies(alloc: Global) -> Result<Ir, AllocError> {
+fn three_copies(alloc: Global) -> Result<Ir, AllocError> {
     let body = [
         expect(number(16)),
         load(4, number(16)),
@@ -484,7 +543,7 @@ pub fn three_copies(alloc: Global) -> Result<Ir, AllocError> {
 }
 
 /// `int f(int n, int *p) { return n + *p; }` and in main `x = 3; g = 4; x = f(x, &g); printf("%d\n", x);`
-pub fn call_with_result(alloc: Global) -> Result<Ir, AllocError> {
+fn call_with_result(alloc: Global) -> Result<Ir, AllocError> {
     let sum = [
         expect(variable(2)),
         load(3, variable(2)),
@@ -516,7 +575,7 @@ fn expect_half(address: Operand) -> Statement {
 }
 
 /// `int x[3]; short s[2]; x[1] = 5; s[1] = x[1]; printf("%d\n", s[1]);`, all in main's frame.
-pub fn halves_in_a_frame(alloc: Global) -> Result<Ir, AllocError> {
+fn halves_in_a_frame(alloc: Global) -> Result<Ir, AllocError> {
     let half = Value::Extended(LoadKind::I16, variable(4));
     let body = [
         Statement::Simple(PLACE, Item::Expect(Check::Frame)),
@@ -542,24 +601,24 @@ pub fn halves_in_a_frame(alloc: Global) -> Result<Ir, AllocError> {
 }
 
 /// A Break outside of a loop.
-pub fn lone_break(alloc: Global) -> Result<Ir, AllocError> {
+fn lone_break(alloc: Global) -> Result<Ir, AllocError> {
     let out = Statement::Simple(PLACE, Item::Break);
     program(alloc, 1, Vec::from_array(alloc, [out, halt()])?)
 }
 
 /// A main that runs off its end.
-pub fn open_end(alloc: Global) -> Result<Ir, AllocError> {
+fn open_end(alloc: Global) -> Result<Ir, AllocError> {
     program(alloc, 1, Vec::from_array(alloc, [print_line_feed()])?)
 }
 
 /// A main that returns.
-pub fn returning_main(alloc: Global) -> Result<Ir, AllocError> {
+fn returning_main(alloc: Global) -> Result<Ir, AllocError> {
     let back = Statement::Simple(PLACE, Item::Return(number(0)));
     program(alloc, 1, Vec::from_array(alloc, [back])?)
 }
 
 /// A main that sets its result by an assignment.
-pub fn assigned_result(alloc: Global) -> Result<Ir, AllocError> {
+fn assigned_result(alloc: Global) -> Result<Ir, AllocError> {
     program(
         alloc,
         1,
@@ -568,7 +627,7 @@ pub fn assigned_result(alloc: Global) -> Result<Ir, AllocError> {
 }
 
 /// A variable that main doesn't have.
-pub fn unknown_variable(alloc: Global) -> Result<Ir, AllocError> {
+fn unknown_variable(alloc: Global) -> Result<Ir, AllocError> {
     program(
         alloc,
         2,
@@ -577,7 +636,7 @@ pub fn unknown_variable(alloc: Global) -> Result<Ir, AllocError> {
 }
 
 /// A call of main with an argument, where main has no parameter.
-pub fn one_argument_too_many(alloc: Global) -> Result<Ir, AllocError> {
+fn one_argument_too_many(alloc: Global) -> Result<Ir, AllocError> {
     let arguments = Items::from_vec(Vec::from_array(alloc, [number(1)])?);
     let call = Statement::Simple(PLACE, Item::Call(1, 0, arguments));
     program(alloc, 2, Vec::from_array(alloc, [call, halt()])?)

@@ -13,7 +13,7 @@ use Rattle.dae_parse.specs.declared.frames.Before.{Before}
 use Rattle.dae_parse.specs.declared.frames.Frame.{Frame}
 use Rattle.dae_parse.specs.declared.frames.Frame.TheVariants as frame
 use Rattle.dae_grammar.specs.Taken.{stack_taken, externals_before}
-use Rattle.dae_nodes.specs.declared.values.Read.{Read}
+use Rattle.dae_parts.specs.declared.reading.Read.{Read}
 use Rattle.dae_nodes.specs.Parts.{ShowsStatement}
 use Rattle.dae_parse.specs.States.{outside_stack}
 use Rattle.dae_parse.specs.Bottom.{IsBottom}

@@ -22,8 +22,8 @@ use Rattle.dae_base.specs.declared.Place.{Place}
 use Rattle.dae_grammar.specs.FirstPlaces.{or_else, firsts_external, firsts_file}
 use Rattle.dae_grammar.specs.Machine.{onto}
 use Rattle.dae_grammar.proofs.Laws.{unique, first_deep}
-use Rattle.dae_nodes.specs.Shown.{firsts_list}
-use Rattle.dae_nodes.proofs.Laws.{seen_at}
+use Rattle.dae_parts.specs.Shown.{firsts_list}
+use Rattle.dae_parts.proofs.Laws.{seen_at}
 use Rattle.dae_parse.specs.declared.frames.Before.{Before}
 use Rattle.dae_parse.specs.Frames.{ShowsFile}
 use Rattle.dae_parse.specs.declared.error.ParseError.{ParseError}

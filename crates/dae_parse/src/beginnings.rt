@@ -14,9 +14,10 @@ use crate::machine::Machine;
 use crate::names::begins_specifiers;
 use dae_base::Place;
 use dae_nodes::{
-    Loop, Operand, Read, block, break_statement, continue_statement, do_statement, empty_statement,
+    Loop, Operand, block, break_statement, continue_statement, do_statement, empty_statement,
     no_declarations, no_specifiers, no_statements, return_statement,
 };
+use dae_parts::Read;
 use dae_tree::{Keyword, Seen, Sign, Statement};
 use std::alloc::AllocError;
 

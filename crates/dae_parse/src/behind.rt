@@ -12,9 +12,10 @@ use crate::frames::{Body, Doing, Frame, Manner};
 use crate::machine::Machine;
 use dae_base::Place;
 use dae_nodes::{
-    Declared, Operand, Read, Specified, grouped, pointer, sized_array, sizeof_type,
-    with_declarator, with_member, with_valued_enumerator,
+    Declared, Operand, Specified, grouped, pointer, sized_array, sizeof_type, with_declarator,
+    with_member, with_valued_enumerator,
 };
+use dae_parts::Read;
 use dae_tree::{Declarator, Enumerator, Member, Name, Sign};
 use std::alloc::AllocError;
 

@@ -13,9 +13,10 @@ use crate::frames::{Body, Doing, Frame};
 use crate::machine::Machine;
 use dae_base::Place;
 use dae_nodes::{
-    Read, Specified, has_members, no_enumerators, no_members, no_specifiers, with_enumeration,
+    Specified, has_members, no_enumerators, no_members, no_specifiers, with_enumeration,
     with_enumeration_body, with_plain_enumerator, with_structure, with_structure_body,
 };
+use dae_parts::Read;
 use dae_tree::{Enumerator, Member, Name, Seen, Sign};
 use std::alloc::{AllocError, Global};
 

@@ -11,9 +11,10 @@ use crate::frames::{Doing, Frame, Head, Inside};
 use crate::machine::Machine;
 use dae_base::Place;
 use dae_nodes::{
-    Loop, Operand, Read, case_statement, default_statement, for_statement, if_else_statement,
+    Loop, Operand, case_statement, default_statement, for_statement, if_else_statement,
     if_statement, switch_statement, while_statement, with_statement,
 };
+use dae_parts::Read;
 use dae_tree::{Keyword, Statement};
 use std::alloc::AllocError;
 

@@ -15,9 +15,10 @@ use crate::frames::{Before, Doing, Frame, Inside, Manner};
 use crate::machine::Machine;
 use dae_base::Place;
 use dae_nodes::{
-    Declared, Read, Specified, declaration, declared_external, has_items, no_declarations,
-    no_items, no_specifiers, with_declaration, with_external, with_plain_item, with_valued_item,
+    Declared, Specified, declaration, declared_external, has_items, no_declarations, no_items,
+    no_specifiers, with_declaration, with_external, with_plain_item, with_valued_item,
 };
+use dae_parts::Read;
 use dae_tree::{Declaration, Initialiser, Item, Seen, Sign};
 use std::alloc::AllocError;
 

@@ -16,7 +16,8 @@ ghost use Rattle.dae_parse.specs.States.{Stands, Follows, outside_stack};
 use crate::frames::{Before, Doing, Frame};
 use crate::machine::Machine;
 use dae_base::Place;
-use dae_nodes::{Declared, Read, Specified, definition, with_external};
+use dae_nodes::{Declared, Specified, definition, with_external};
+use dae_parts::Read;
 use dae_tree::Statement;
 use std::alloc::AllocError;
 

@@ -9,9 +9,10 @@ use crate::frames::{Doing, Frame};
 use crate::machine::Machine;
 use dae_base::Place;
 use dae_nodes::{
-    Declared, Operand, Read, Specified, assignment, binary, call, cast, comma, conditional, index,
+    Declared, Operand, Specified, assignment, binary, call, cast, comma, conditional, index,
     parenthesised, prefix, sizeof_expression, with_argument,
 };
+use dae_parts::Read;
 use dae_tree::{AssignmentOperator, BinaryOperator, Expression, PrefixOperator, Sign};
 use std::alloc::AllocError;
 

@@ -1,5 +1,6 @@
 use dae_base::Place;
-use dae_nodes::{Declared, Loop, Operand, ParameterList, Read, Specified};
+use dae_nodes::{Declared, Loop, Operand, ParameterList, Specified};
+use dae_parts::Read;
 use dae_tree::{
     AssignmentOperator, BinaryOperator, Declaration, Declarator, Enumerator, Expression, External,
     Initialiser, Item, Member, Name, PrefixOperator, Seen, Statement,

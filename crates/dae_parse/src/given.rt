@@ -29,7 +29,8 @@ use crate::initialisers::{in_list, in_value};
 use crate::machine::Machine;
 use crate::parameters::of_parameter;
 use crate::specifiers::{for_cast, for_member, for_parameter, for_sizeof};
-use dae_nodes::{Declared, Operand, Read, Specified};
+use dae_nodes::{Declared, Operand, Specified};
+use dae_parts::Read;
 use dae_tree::{Declaration, Initialiser, Statement};
 use std::alloc::AllocError;
 

@@ -9,7 +9,8 @@ ghost use Rattle.dae_parse.specs.States.{Steps};
 use crate::frames::{Doing, Frame};
 use crate::machine::Machine;
 use dae_base::Place;
-use dae_nodes::{Operand, Read, initialiser_list, no_initialisers, value, with_initialiser};
+use dae_nodes::{Operand, initialiser_list, no_initialisers, value, with_initialiser};
+use dae_parts::Read;
 use dae_tree::{Initialiser, Sign};
 use std::alloc::AllocError;
 

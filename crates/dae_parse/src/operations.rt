@@ -8,7 +8,7 @@ ghost use Rattle.dae_grammar.specs.Frames.{Frame};
 ghost use Rattle.dae_grammar.specs.Machine.{operation as operation_at, reach as reach_of, left_level as left_level_of, sought};
 ghost use Rattle.dae_parse.specs.Operations.{operation_of, prefixed_by};
 
-use dae_nodes::strength;
+use dae_parts::strength;
 use dae_tree::{
     AssignmentOperator, BinaryOperator, MemberOperator, PostfixOperator, PrefixOperator, Sign,
 };

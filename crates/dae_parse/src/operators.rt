@@ -12,7 +12,8 @@ use crate::frames::{Doing, Frame};
 use crate::machine::Machine;
 use crate::operations::{Operation, begun_by, left_level, reach};
 use dae_base::Place;
-use dae_nodes::{Operand, member, postfix, under};
+use dae_nodes::{Operand, member, postfix};
+use dae_parts::under;
 use dae_tree::{Kind, MemberOperator, Sign};
 use std::alloc::AllocError;
 

@@ -10,7 +10,7 @@ use crate::error::ParseError;
 use crate::frames::Before;
 use crate::run::{Outcome, run};
 use dae_base::{Items, Place};
-use dae_nodes::tree_or_depth;
+use dae_parts::tree_or_depth;
 use dae_tree::{File, Header, Includes, Tokens};
 use std::alloc::{AllocError, Global};
 

@@ -14,7 +14,8 @@ use crate::frames::{Body, Doing, Frame, Manner, Open};
 use crate::machine::Machine;
 use crate::names::is_type;
 use dae_base::Place;
-use dae_nodes::{ParameterList, Read, Specified, no_declarators, with_type_name, with_word};
+use dae_nodes::{ParameterList, Specified, no_declarators, with_type_name, with_word};
+use dae_parts::Read;
 use dae_tree::{Keyword, Kind, Member, Name, Seen};
 use std::alloc::AllocError;
 

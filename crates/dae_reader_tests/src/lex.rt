@@ -1,11 +1,12 @@
 // Texts that are refused at a place or taken, and the tokens, names and literals of a few.
 
-use dae_base::Place;
+use dae_base::{Items, Place};
 use dae_lex::tokens;
-use dae_tree::{Constant, Construct, Fault, Header, Keyword, Kind, LexError, Room, Sign, Token};
+use dae_tree::{
+    Constant, Construct, Fault, Header, Keyword, Kind, LexError, Room, Sign, Token, Tokens,
+};
 use std::alloc::{AllocError, Global};
 use std::process::Abort;
-use std::test::Fail;
 
 /// Texts that are refused by name, and the line and column of the cause.
 const REFUSED: [(&[u8], Construct, u32, u32); 130] = [
@@ -370,9 +371,15 @@ fn check_bad_bytes(rt: &impl Abort, alloc: Global, rows: &[(&[u8], u32, u32)]) {
     }
 }
 
-fn check_taken(rt: &impl Abort, alloc: Global, rows: &[(&[u8], usize)]) {
+fn check_taken(rt: &impl Abort, alloc: Global, rows: &[(&[u8], usize)], room: Room) {
     for (text, tokens) in rows {
-        assert_eq!(rt; count(alloc, text, whole_room()), Some(*tokens));
+        assert_eq!(rt; count(alloc, text, room), Some(*tokens));
+    }
+}
+
+fn check_limits(rt: &impl Abort, alloc: Global, rows: &[(&[u8], LexError)], room: Room) {
+    for (text, error) in rows {
+        assert!(rt; refuses(alloc, text, *error, room));
     }
 }
 
@@ -393,7 +400,7 @@ fn each_refusal_stands_at_its_place(rt: HostRuntime) {
 
 #[test]
 fn near_misses_are_taken(rt: HostRuntime) {
-    check_taken(&rt, rt.alloc(), &TAKEN);
+    check_taken(&rt, rt.alloc(), &TAKEN, whole_room());
 }
 
 #[test]
@@ -429,67 +436,97 @@ fn a_joined_token_has_its_first_place(rt: HostRuntime) {
     assert!(rt; reads(rt.alloc(), b"int a\\\nb;", &tokens));
 }
 
-#[test]
-fn names_literals_and_headers(rt: HostRuntime) -> Result<(), Fail> {
-    let text = b"#include <stdio.h>\n#define s \"b\"\n\"a\" s \"\\n\" NULL 0xFFFFFFFFu 'A'";
-    let mut room = whole_room();
-    let read = tokens(rt.alloc(), 7, text, &mut room)
-        .ok()
-        .ok_or("refused")?;
-    let zero = Constant {
-        value: 0,
-        unsigned: false,
-    };
-    let most = Constant {
-        value: u32::MAX,
-        unsigned: true,
-    };
-    let letter = Constant {
-        value: 65,
-        unsigned: false,
-    };
-    assert_eq!(rt; read.tokens().len(), 4);
-    assert_eq!(rt; read.tokens()[0].kind, Kind::Literal(0));
-    assert_eq!(rt; read.spelling(0), b"\"a\" s \"\\n\"".as_slice());
-    assert_eq!(rt; read.tokens()[1].kind, Kind::Constant(zero));
-    assert_eq!(rt; read.tokens()[2].kind, Kind::Constant(most));
-    assert_eq!(rt; read.tokens()[3].kind, Kind::Constant(letter));
-    assert_eq!(rt; read.literals().len(), 1);
-    assert_eq!(rt; read.literals()[0].as_slice(), b"ab\n".as_slice());
+fn constant(value: u32, unsigned: bool) -> Kind {
+    Kind::Constant(Constant { value, unsigned })
+}
+
+fn has_kinds(tokens: &[Token], kinds: &[Kind]) -> bool {
+    if tokens.len() != kinds.len() {
+        return false;
+    }
+    for (token, kind) in tokens.iter().zip(kinds) {
+        if token.kind != *kind {
+            return false;
+        }
+    }
+    true
+}
+
+fn has_literal(literals: &[Items<u8>], expected: &[u8]) -> bool {
+    match literals {
+        [literal] => literal.as_slice() == expected,
+        _ => false,
+    }
+}
+
+/// Whether the first token has this spelling.
+fn is_spelled(read: &Tokens, expected: &[u8]) -> bool {
+    !read.tokens().is_empty() && read.spelling(0) == expected
+}
+
+fn check_reading(rt: &impl Abort, read: &Tokens) {
+    let kinds = [
+        Kind::Literal(0),
+        constant(0, false),
+        constant(u32::MAX, true),
+        constant(65, false),
+    ];
+    assert!(rt; has_kinds(read.tokens(), &kinds));
+    assert!(rt; is_spelled(read, b"\"a\" s \"\\n\""));
+    assert!(rt; has_literal(read.literals(), b"ab\n"));
     assert_eq!(rt; read.names().len(), 0);
     assert!(rt; read.includes(Header::Stdio) && !read.includes(Header::Stdlib));
-    assert_eq!(rt; room.tokens, 65_530);
-    assert_eq!(rt; room.replacements, 65_534);
-    assert_eq!(rt; room.literal_bytes, 65_533);
+}
+
+#[test]
+fn names_literals_and_headers(rt: HostRuntime) {
+    let text = b"#include <stdio.h>\n#define s \"b\"\n\"a\" s \"\\n\" NULL 0xFFFFFFFFu 'A'";
+    let mut room = whole_room();
+    match tokens(rt.alloc(), 7, text, &mut room) {
+        Ok(read) => check_reading(&rt, &read),
+        Err(_) => assert!(rt; false),
+    }
+    let left = Room {
+        tokens: 65_530,
+        replacements: 65_534,
+        literal_bytes: 65_533,
+    };
+    assert!(rt; room == left);
+}
+
+const SMALL: Room = Room {
+    tokens: 3,
+    replacements: 2,
+    literal_bytes: 2,
+};
+
+fn check_full(rt: &impl Abort, alloc: Global) -> Result<(), AllocError> {
+    let full = file_of_lines(alloc, 21_842)?;
+    assert_eq!(rt; count(alloc, &full, whole_room()), Some(65_536));
+    Ok(())
+}
+
+fn check_over(rt: &impl Abort, alloc: Global) -> Result<(), AllocError> {
+    let over = file_of_lines(alloc, 21_843)?;
+    let error = LexError::TooManyTokens(at(21_844, 1));
+    assert!(rt; refuses(alloc, &over, error, whole_room()));
     Ok(())
 }
 
 #[test]
-fn the_limits(rt: HostRuntime) -> Result<(), Fail> {
+fn the_limits(rt: HostRuntime) -> Result<(), AllocError> {
     let alloc = rt.alloc();
-    let full = file_of_lines(alloc, 21_842)?;
-    assert_eq!(rt; count(alloc, &full, whole_room()), Some(65_536));
-    let over = file_of_lines(alloc, 21_843)?;
-    let error = LexError::TooManyTokens(at(21_844, 1));
-    assert!(rt; refuses(alloc, &over, error, whole_room()));
-    let small = Room {
-        tokens: 3,
-        replacements: 2,
-        literal_bytes: 2,
-    };
-    assert_eq!(rt; count(alloc, b"#define x y\nx x y", small), Some(3));
-    assert!(rt;
-        refuses(
-            alloc,
-            b"x y\nz goto",
-            LexError::TooManyTokens(at(2, 3)),
-            small
-        )
-    );
+    check_full(&rt, alloc)?;
+    check_over(&rt, alloc)?;
+    let taken: [(&[u8], usize); 2] = [(b"#define x y\nx x y", 3), (b"\"a\" \"\\x62\" \"\"", 1)];
+    check_taken(&rt, alloc, &taken, SMALL);
     let replaced = LexError::Refused(Construct::TooManyReplacements, at(2, 5));
-    assert!(rt; refuses(alloc, b"#define x\nx x x", replaced, small));
     let long = LexError::Refused(Construct::LiteralsTooLong, at(1, 5));
-    assert!(rt; refuses(alloc, b"\"a\" \"bc\"", long, small));
-    assert_eq!(rt; count(alloc, b"\"a\" \"\\x62\" \"\"", small), Some(1));
+    let refused: [(&[u8], LexError); 3] = [
+        (b"x y\nz goto", LexError::TooManyTokens(at(2, 3))),
+        (b"#define x\nx x x", replaced),
+        (b"\"a\" \"bc\"", long),
+    ];
+    check_limits(&rt, alloc, &refused, SMALL);
     Ok(())
 }

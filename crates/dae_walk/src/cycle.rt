@@ -36,7 +36,7 @@ pub fn expression(alloc: Global, checker: &mut Checker, e: &Expression) -> Resul
         Expression::Index(a, _, b) => {
             let x = operand(alloc, checker, a)?;
             let (x, y) = pair(alloc, checker, x, b)?;
-            dae_values::index(alloc, checker, a.place(), b.place(), x, y)
+            dae_operations::index(alloc, checker, a.place(), b.place(), x, y)
         }
         Expression::Call(callee, _, list) => match called_function(checker, callee) {
             Some((name, function)) => { call(alloc, checker, callee.place(), name, function, list) }
@@ -47,19 +47,19 @@ pub fn expression(alloc: Global, checker: &mut Checker, e: &Expression) -> Resul
         },
         Expression::Member(a, _, MemberOperator::Dot, name) => {
             let x = expression(alloc, checker, a)?;
-            dae_values::member(alloc, checker, a.place(), MemberOperator::Dot, *name, x)
+            dae_operations::member(alloc, checker, a.place(), MemberOperator::Dot, *name, x)
         }
         Expression::Member(a, _, MemberOperator::Arrow, name) => {
             let x = operand(alloc, checker, a)?;
-            dae_values::member(alloc, checker, a.place(), MemberOperator::Arrow, *name, x)
+            dae_operations::member(alloc, checker, a.place(), MemberOperator::Arrow, *name, x)
         }
         Expression::Postfix(a, _, PostfixOperator::Increment) => {
             let x = expression(alloc, checker, a)?;
-            dae_values::postfix(alloc, checker, a.place(), PostfixOperator::Increment, x)
+            dae_operations::postfix(alloc, checker, a.place(), PostfixOperator::Increment, x)
         }
         Expression::Postfix(a, _, PostfixOperator::Decrement) => {
             let x = expression(alloc, checker, a)?;
-            dae_values::postfix(alloc, checker, a.place(), PostfixOperator::Decrement, x)
+            dae_operations::postfix(alloc, checker, a.place(), PostfixOperator::Decrement, x)
         }
         Expression::Prefix(place, operator, a) => prefix(alloc, checker, *place, *operator, a),
         Expression::SizeofExpression(place, a) => sizeof(alloc, checker, *place, a),
@@ -88,7 +88,7 @@ pub fn expression(alloc: Global, checker: &mut Checker, e: &Expression) -> Resul
         Expression::Comma(a, b) => {
             let x = operand(alloc, checker, a)?;
             let (x, y) = pair(alloc, checker, x, b)?;
-            dae_values::comma(alloc, checker, x, y)
+            dae_operations::comma(alloc, checker, x, y)
         }
     }
 }
@@ -130,7 +130,7 @@ fn prefix(
         (plan (Prefix place operator (view a.now))) checker.old }
 {
     let x = expression(alloc, checker, a)?;
-    dae_values::prefix(alloc, checker, place, a.place(), operator, name_in(a), x)
+    dae_operations::prefix(alloc, checker, place, a.place(), operator, name_in(a), x)
 }
 
 /// `sizeof` before an expression, which isn't used.
@@ -179,7 +179,7 @@ fn binary(
     ensures { GivesValue checker.new result (plan_binary place operator x b.now) checker.old }
 {
     let y = operand(alloc, checker, b)?;
-    dae_values::binary(alloc, checker, place, b.place(), operator, x, y)
+    dae_operations::binary(alloc, checker, place, b.place(), operator, x, y)
 }
 
 /// `?:` between a condition, from this place, a value and an expression.
@@ -195,7 +195,7 @@ fn conditional(
     ensures { GivesValue checker.new result (plan_conditional place x y b.now) checker.old }
 {
     let z = operand(alloc, checker, b)?;
-    dae_values::conditional(alloc, checker, place, x, y, z)
+    dae_operations::conditional(alloc, checker, place, x, y, z)
 }
 
 /// An assignment of an expression to an object, from this place.
@@ -212,7 +212,7 @@ fn assignment(
     ensures { GivesValue checker.new result (plan_assignment place operator x b.now) checker.old }
 {
     let y = operand(alloc, checker, b)?;
-    dae_values::assign(alloc, checker, place, operator, x, y)
+    dae_operations::assign(alloc, checker, place, operator, x, y)
 }
 
 /// A call of a function by its name.

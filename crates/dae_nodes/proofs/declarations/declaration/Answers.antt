@@ -7,7 +7,7 @@ use Rattle.dae_nodes.proofs.Specifying.{place_of_first}
 use Rattle.dae_tree.specs.FileViews.{view_declaration}
 use Rattle.dae_grammar.specs.FirstPlaces.{firsts_declaration, both, over, firsts_specifiers, firsts_items}
 use Rattle.dae_nodes.proofs.Listing.{shows_items}
-use Rattle.dae_nodes.proofs.Showing.{shows_over, shows_made, shows_absent, shows_pair, ap_two}
+use Rattle.dae_parts.proofs.Laws.{shows_over, shows_made, shows_absent, shows_pair, ap_two}
 use Rattle.dae_nodes.proofs.declarations.declaration.Goals as goal
 use Rattle.dae_nodes.proofs.declarations.declaration.Goals.{in-Some, in-None}
 

@@ -5,7 +5,7 @@ use Rattle.dae_tree.specs.FileViews.{view_statement, view_external}
 use Rattle.dae_grammar.specs.FirstPlaces.{both, over, firsts_specifiers, firsts_declarator, firsts_statement, firsts_external}
 use Rattle.dae_nodes.proofs.Making.{defined_same}
 use Rattle.dae_tree.proofs.Laws.{view_block}
-use Rattle.dae_nodes.proofs.Showing.{seen_at, shows_over, shows_made, shows_absent, shows_pair}
+use Rattle.dae_parts.proofs.Laws.{seen_at, shows_over, shows_made, shows_absent, shows_pair}
 use Rattle.dae_nodes.proofs.declarations.definition_at.Goals as goal
 use Rattle.dae_nodes.proofs.declarations.definition_at.Goals.{in-Some+in-Some-block_of, in-Some+in-None-block_of, in-None}
 

@@ -5,7 +5,7 @@ use Rattle.dae_tree.specs.FileViews.{view_initialiser}
 use Rattle.dae_grammar.specs.FirstPlaces.{firsts_initialiser}
 use Rattle.dae_nodes.proofs.Listing.{shows_initialisers}
 use Rattle.dae_tree.proofs.Laws.{view_initialiser_list}
-use Rattle.dae_nodes.proofs.Showing.{shows_over, shows_made, shows_absent}
+use Rattle.dae_parts.proofs.Laws.{shows_over, shows_made, shows_absent}
 use Rattle.dae_nodes.proofs.declarations.initialiser_list.Goals as goal
 use Rattle.dae_nodes.proofs.declarations.initialiser_list.Goals.{in-Some, in-None}
 

@@ -2,7 +2,7 @@ use Rattle.std.proofs.Common.{None, refl, ap}
 use Rattle.dae_tree.specs.Trees as tree
 use Rattle.dae_nodes.proofs.Listing.{shows_longer}
 use Rattle.dae_nodes.proofs.Making.{plain_item}
-use Rattle.dae_nodes.proofs.Showing.{shows_absent, shows_alone, shows_made}
+use Rattle.dae_parts.proofs.Laws.{shows_absent, shows_alone, shows_made}
 use Rattle.dae_nodes.specs.Parts.{firsts_item}
 use Rattle.dae_tree.specs.FileViews.{view_item}
 use Rattle.dae_nodes.proofs.declarations.with_plain_item.Goals as goal

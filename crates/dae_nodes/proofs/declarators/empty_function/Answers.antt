@@ -4,7 +4,7 @@ use Rattle.dae_tree.specs.Trees as tree
 use Rattle.dae_nodes.proofs.Declaring.{place_at_first}
 use Rattle.dae_tree.specs.Views.{view_declarator}
 use Rattle.dae_grammar.specs.FirstPlaces.{firsts_declarator, over}
-use Rattle.dae_nodes.proofs.Showing.{shows_over, shows_made, shows_absent}
+use Rattle.dae_parts.proofs.Laws.{shows_over, shows_made, shows_absent}
 use Rattle.dae_nodes.proofs.declarators.empty_function.Goals as goal
 use Rattle.dae_nodes.proofs.declarators.empty_function.Goals.{in-Some+in_ok-new-in-Some, in-None}
 

@@ -2,7 +2,7 @@ use Rattle.std.proofs.Common.{Bool, List, refl, sym, ap}
 use Rattle.dae_tree.specs.Trees as tree
 use Rattle.dae_scope.specs.declared.scope.Binding.{Binding}
 use Rattle.dae_grammar.specs.FirstPlaces.{firsts_declarator}
-use Rattle.dae_nodes.proofs.Showing.{shows_leaf}
+use Rattle.dae_parts.proofs.Laws.{shows_leaf}
 use Rattle.dae_scope.specs.Shown.{bound_all}
 use Rattle.dae_tree.specs.Views.{view_declarator}
 use Rattle.dae_nodes.proofs.declarators.named.Goals as goal

@@ -11,7 +11,7 @@ use Rattle.dae_tree.specs.Views.{view_declarator}
 use Rattle.dae_grammar.specs.FirstPlaces.{firsts_declarator, both, over, firsts_parameters}
 use Rattle.dae_nodes.proofs.Listing.{shows_parameters}
 use Rattle.dae_tree.proofs.Laws.{view_function}
-use Rattle.dae_nodes.proofs.Showing.{shows_over, shows_made, shows_absent, shows_pair, ap_two}
+use Rattle.dae_parts.proofs.Laws.{shows_over, shows_made, shows_absent, shows_pair, ap_two}
 use Rattle.dae_nodes.proofs.declarators.parameter_function.Goals as goal
 use Rattle.dae_nodes.proofs.declarators.parameter_function.Goals.{in-Some+in_ok-new-in-Some, in-None}
 

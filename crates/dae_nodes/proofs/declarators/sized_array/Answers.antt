@@ -4,7 +4,7 @@ use Rattle.dae_tree.specs.Trees as tree
 use Rattle.dae_nodes.proofs.Declaring.{place_at_first}
 use Rattle.dae_tree.specs.Views.{view, view_declarator}
 use Rattle.dae_grammar.specs.FirstPlaces.{firsts_declarator, both, over, firsts}
-use Rattle.dae_nodes.proofs.Showing.{shows_over, shows_made, shows_absent, shows_pair, ap_two}
+use Rattle.dae_parts.proofs.Laws.{shows_over, shows_made, shows_absent, shows_pair, ap_two}
 use Rattle.dae_nodes.proofs.declarators.sized_array.Goals as goal
 use Rattle.dae_nodes.proofs.declarators.sized_array.Goals.{in-Some+in_ok-new-in-Some+in_ok-new-in-Some-2, in-None}
 

@@ -6,7 +6,7 @@ use Rattle.std.specs.Prelude.{Bool, Ok, ◌||◌, if◌then◌else◌}
 use Rattle.dae_nodes.proofs.Declaring.{void_of_parameters}
 use Rattle.dae_nodes.proofs.Listing.{shows_longer}
 use Rattle.dae_nodes.proofs.Making.{parameter_of}
-use Rattle.dae_nodes.proofs.Showing.{ap_three, ap_two, shows_absent, shows_made, shows_pair}
+use Rattle.dae_parts.proofs.Laws.{ap_three, ap_two, shows_absent, shows_made, shows_pair}
 use Rattle.dae_nodes.specs.Parts.{firsts_parameter, view_parameter}
 use Rattle.dae_nodes.proofs.declarators.with_parameter.Goals as goal
 use Rattle.dae_nodes.proofs.declarators.with_parameter.Goals.{in-Some, in-None}

@@ -3,7 +3,7 @@ use Rattle.dae_base.specs.declared.Place.{Place}
 use Rattle.dae_tree.specs.Trees as tree
 use Rattle.dae_tree.specs.Views.{view}
 use Rattle.dae_grammar.specs.FirstPlaces.{firsts, both, over}
-use Rattle.dae_nodes.proofs.Showing.{shows_over, shows_made, shows_absent, shows_pair, ap_two}
+use Rattle.dae_parts.proofs.Laws.{shows_over, shows_made, shows_absent, shows_pair, ap_two}
 use Rattle.dae_nodes.proofs.expressions.binary.Goals as goal
 use Rattle.dae_nodes.proofs.expressions.binary.Goals.{in-Some+in_ok-new-in-Some+in_ok-new-in-Some-2, in-None}
 

@@ -6,7 +6,7 @@ use Rattle.dae_tree.specs.Views.{view}
 use Rattle.dae_grammar.specs.FirstPlaces.{firsts, both, over, firsts_all}
 use Rattle.dae_nodes.proofs.Listing.{shows_arguments}
 use Rattle.dae_tree.proofs.Laws.{view_call}
-use Rattle.dae_nodes.proofs.Showing.{shows_over, shows_made, shows_absent, shows_pair, ap_two}
+use Rattle.dae_parts.proofs.Laws.{shows_over, shows_made, shows_absent, shows_pair, ap_two}
 use Rattle.dae_nodes.proofs.expressions.call.Goals as goal
 use Rattle.dae_nodes.proofs.expressions.call.Goals.{in-Some+in_ok-new-in-Some, in-None}
 

@@ -4,7 +4,7 @@ use Rattle.dae_tree.specs.declared.expressions.TypeName.{TypeName}
 use Rattle.dae_tree.specs.Views.{view, views_specifiers, view_declarator}
 use Rattle.dae_grammar.specs.FirstPlaces.{firsts}
 use Rattle.dae_tree.proofs.Laws.{view_cast}
-use Rattle.dae_nodes.proofs.Showing.{shows_over, shows_made, shows_absent, shows_pair, ap_three}
+use Rattle.dae_parts.proofs.Laws.{shows_over, shows_made, shows_absent, shows_pair, ap_three}
 use Rattle.dae_nodes.proofs.expressions.cast.Goals as goal
 use Rattle.dae_nodes.proofs.expressions.cast.Goals.{in-Some+in_ok-new-in-Some+in_ok-new-in-Some-2, in-None}
 

@@ -1,7 +1,7 @@
 use Rattle.std.proofs.Common.{refl}
 use Rattle.dae_tree.specs.Trees as tree
 use Rattle.dae_grammar.specs.FirstPlaces.{firsts}
-use Rattle.dae_nodes.proofs.Showing.{shows_leaf}
+use Rattle.dae_parts.proofs.Laws.{shows_leaf}
 use Rattle.dae_tree.specs.Views.{view}
 use Rattle.dae_nodes.proofs.expressions.identifier.Goals as goal
 

@@ -2,7 +2,7 @@ use Rattle.std.proofs.Common.{refl, ap, ◌∙◌}
 use Rattle.dae_tree.specs.Trees as tree
 use Rattle.dae_tree.specs.Views.{view}
 use Rattle.dae_grammar.specs.FirstPlaces.{firsts}
-use Rattle.dae_nodes.proofs.Showing.{shows_over, shows_made, shows_absent}
+use Rattle.dae_parts.proofs.Laws.{shows_over, shows_made, shows_absent}
 use Rattle.dae_nodes.proofs.expressions.parenthesised.Goals as goal
 use Rattle.dae_nodes.proofs.expressions.parenthesised.Goals.{in-Some+in_ok-new-in-Some, in-None}
 

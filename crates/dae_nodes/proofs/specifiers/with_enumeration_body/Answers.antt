@@ -4,7 +4,7 @@ use Rattle.dae_grammar.specs.FirstPlaces.{firsts_specifier}
 use Rattle.dae_grammar.specs.Machine.{enumerators_onto}
 use Rattle.dae_nodes.proofs.Listing.{shows_enumerators}
 use Rattle.dae_tree.proofs.Laws.{view_enumeration_body}
-use Rattle.dae_nodes.proofs.Showing.{shows_absent, shows_made, shows_over}
+use Rattle.dae_parts.proofs.Laws.{shows_absent, shows_made, shows_over}
 use Rattle.dae_tree.specs.Views.{view_specifier}
 use Rattle.dae_nodes.proofs.specifiers.with_enumeration_body.Goals as goal
 use Rattle.dae_nodes.proofs.specifiers.with_enumeration_body.Goals.{in-Some, in-None}

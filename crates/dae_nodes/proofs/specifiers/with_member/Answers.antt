@@ -5,7 +5,7 @@ use Rattle.dae_grammar.specs.Frames as frames
 use Rattle.dae_grammar.specs.Machine.{declarators_onto}
 use Rattle.dae_nodes.proofs.Listing.{shows_declarators, shows_longer}
 use Rattle.dae_nodes.proofs.Making.{line_of}
-use Rattle.dae_nodes.proofs.Showing.{ap_two, shows_absent, shows_made, shows_pair}
+use Rattle.dae_parts.proofs.Laws.{ap_two, shows_absent, shows_made, shows_pair}
 use Rattle.dae_nodes.specs.Parts.{firsts_line, view_line}
 use Rattle.dae_nodes.proofs.specifiers.with_member.Goals as goal
 use Rattle.dae_nodes.proofs.specifiers.with_member.Goals.{in-Some, in-None}

@@ -2,7 +2,7 @@ use Rattle.std.proofs.Common.{None, refl}
 use Rattle.dae_tree.specs.Lists as lists
 use Rattle.dae_grammar.specs.Frames as frames
 use Rattle.dae_nodes.proofs.Listing.{shows_longer}
-use Rattle.dae_nodes.proofs.Showing.{shows_flat}
+use Rattle.dae_parts.proofs.Laws.{shows_flat}
 use Rattle.dae_nodes.specs.Parts.{firsts_entry, view_entry}
 use Rattle.dae_nodes.proofs.specifiers.with_plain_enumerator.Goals as goal
 

@@ -3,7 +3,7 @@ use Rattle.dae_tree.specs.Lists as lists
 use Rattle.dae_grammar.specs.Frames as frames
 use Rattle.dae_nodes.proofs.Listing.{shows_longer}
 use Rattle.dae_nodes.proofs.Making.{valued_entry}
-use Rattle.dae_nodes.proofs.Showing.{shows_absent, shows_made}
+use Rattle.dae_parts.proofs.Laws.{shows_absent, shows_made}
 use Rattle.dae_nodes.specs.Parts.{firsts_entry, view_entry}
 use Rattle.dae_nodes.proofs.specifiers.with_valued_enumerator.Goals as goal
 use Rattle.dae_nodes.proofs.specifiers.with_valued_enumerator.Goals.{in-Some, in-None}

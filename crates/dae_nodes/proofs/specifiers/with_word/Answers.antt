@@ -1,7 +1,7 @@
 use Rattle.std.proofs.Common.{refl}
 use Rattle.dae_tree.specs.Trees as tree
 use Rattle.dae_grammar.specs.FirstPlaces.{firsts_specifier}
-use Rattle.dae_nodes.proofs.Showing.{shows_flat}
+use Rattle.dae_parts.proofs.Laws.{shows_flat}
 use Rattle.dae_tree.specs.Views.{view_specifier}
 use Rattle.dae_nodes.proofs.specifiers.with_word.Goals as goal
 

@@ -6,7 +6,7 @@ use Rattle.dae_grammar.specs.FirstPlaces.{firsts_statement}
 use Rattle.dae_nodes.proofs.Listing.{shows_declarations}
 use Rattle.dae_nodes.proofs.Listing.{shows_statements}
 use Rattle.dae_tree.proofs.Laws.{view_block}
-use Rattle.dae_nodes.proofs.Showing.{shows_over, shows_made, shows_absent, shows_pair, ap_two}
+use Rattle.dae_parts.proofs.Laws.{shows_over, shows_made, shows_absent, shows_pair, ap_two}
 use Rattle.dae_nodes.proofs.statements.block.Goals as goal
 use Rattle.dae_nodes.proofs.statements.block.Goals.{in-Some, in-None}
 

@@ -1,7 +1,7 @@
 use Rattle.std.proofs.Common.{refl}
 use Rattle.dae_tree.specs.Trees as tree
 use Rattle.dae_grammar.specs.FirstPlaces.{firsts_statement}
-use Rattle.dae_nodes.proofs.Showing.{leaf_shown}
+use Rattle.dae_parts.proofs.Laws.{leaf_shown}
 use Rattle.dae_tree.specs.FileViews.{view_statement}
 use Rattle.dae_nodes.proofs.statements.empty_statement.Goals as goal
 

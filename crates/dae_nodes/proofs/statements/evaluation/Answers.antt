@@ -3,7 +3,7 @@ use Rattle.dae_base.specs.declared.Place.{Place}
 use Rattle.dae_tree.specs.Trees as tree
 use Rattle.dae_tree.specs.FileViews.{view_statement}
 use Rattle.dae_grammar.specs.FirstPlaces.{firsts_statement, over, firsts}
-use Rattle.dae_nodes.proofs.Showing.{shows_over, shows_made, shows_absent}
+use Rattle.dae_parts.proofs.Laws.{shows_over, shows_made, shows_absent}
 use Rattle.dae_nodes.proofs.statements.evaluation.Goals as goal
 use Rattle.dae_nodes.proofs.statements.evaluation.Goals.{in-Some, in-None}
 

@@ -5,7 +5,7 @@ use Rattle.dae_grammar.specs.FirstPlaces.{firsts_optional}
 use Rattle.dae_nodes.proofs.Making.{for_same}
 use Rattle.dae_tree.specs.FileViews.{view_statement}
 use Rattle.dae_grammar.specs.FirstPlaces.{firsts_statement, both, over}
-use Rattle.dae_nodes.proofs.Showing.{shows_over, shows_made, shows_absent, shows_pair}
+use Rattle.dae_parts.proofs.Laws.{shows_over, shows_made, shows_absent, shows_pair}
 use Rattle.dae_nodes.proofs.statements.for_statement.Goals as goal
 use Rattle.dae_nodes.proofs.statements.for_statement.Goals.{in-Some+in_ok-new-in-Some, in-None}
 

@@ -2,7 +2,7 @@ use Rattle.std.proofs.Common.{refl, ap}
 use Rattle.dae_tree.specs.Trees as tree
 use Rattle.dae_tree.specs.FileViews.{view_statement}
 use Rattle.dae_grammar.specs.FirstPlaces.{firsts_statement}
-use Rattle.dae_nodes.proofs.Showing.{shows_over, shows_made, shows_absent}
+use Rattle.dae_parts.proofs.Laws.{shows_over, shows_made, shows_absent}
 use Rattle.dae_nodes.proofs.statements.return_statement.Goals as goal
 use Rattle.dae_nodes.proofs.statements.return_statement.Goals.{in-Some, in-None}
 
