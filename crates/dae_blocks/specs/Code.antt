@@ -110,8 +110,10 @@ passes_on t x action = false
 -- the value reads the variable just once
 abbrev pub reads_once : ℕ → Value → Bool
 reads_once v (Same x) = in_operand x v
+reads_once v (Extended kind x) = in_operand x v
 reads_once v (Binary operator x y) = either_one (in_operand x v) (in_operand y v)
-reads_once v value = false
+reads_once v (Holds test) = either_one (in_operand test.left v) (in_operand test.right v)
+reads_once v (FrameAddress offset) = false
 
 -- a word that the next action alone reads, once, is not kept: that action is done with the word from the queue
 abbrev pub taken_standing : ℕ → Action → VariableSet → Standing
