@@ -3,7 +3,7 @@ use Rattle.std.proofs.Common.{◌≡◌, ◌≢◌, ◌↔◌, ◌⊎◌, inl, i
 use Rattle.std.specs.Prelude.{◌||◌, nat_lt, nat_eq, not, if◌then◌else◌, ℤ}
 use Rattle.std.specs.List.{AllByRecursion}
 use Rattle.std.proofs.lemmas.Bool.Decides.{nat_tests}
-use Rattle.dae_base.specs.Words.{word, size}
+use Rattle.dae_base.specs.Words.{word, size, minus}
 use Rattle.dae_base.specs.declared.Queue.{Queue}
 use Rattle.dae_base.specs.declared.Queue.TheVariants.{Ld, Al, Sa, Sd, Cq}
 use Rattle.dae_base.specs.declared.Width.{Width}
@@ -13,7 +13,7 @@ use Rattle.dae_base.specs.declared.LoadKind.TheVariants.{I8, U8, I16, U16, I32}
 use Rattle.dae_encode.specs.Instructions.{effect, form_of}
 use Rattle.dae_encode.specs.declared.Form.TheVariants.{Computes, Loads, Stores}
 use Rattle.dae_encode.specs.declared.Inst.{Inst}
-use Rattle.dae_encode.specs.declared.Inst.TheVariants.{Addi, Add, Andi, Beq, Bne, Bltu, Bgeu, Ecall}
+use Rattle.dae_encode.specs.declared.Inst.TheVariants.{Addi, Add, Sub, Slt, Sltu, Slti, Sltiu, Xori, Slli, Srli, Srai, Andi, Beq, Bne, Bltu, Bgeu, Ecall}
 use Rattle.dae_ir.specs.Code.{Done, Do, If, Loop}
 use Rattle.dae_ir.specs.Classes.{VariableSet}
 use Rattle.dae_ir.specs.Deeds.{told_on, heard_on}
@@ -33,7 +33,7 @@ use Rattle.dae_ir.specs.declared.stream.Branch.{Branch}
 use Rattle.dae_ir.specs.declared.stream.Branch.TheVariants.{Silent, Tells, Hears}
 use Rattle.dae_meaning.specs.declared.Operator.{Operator}
 use Rattle.dae_meaning.specs.declared.Comparison.{Comparison}
-use Rattle.dae_meaning.specs.declared.Comparison.TheVariants.{NotEqual}
+use Rattle.dae_meaning.specs.declared.Comparison.TheVariants.{Equal, NotEqual, LessSigned, AtLeastSigned, LessUnsigned, AtLeastUnsigned}
 use Rattle.dae_walks.specs.declared.Home.{Home}
 use Rattle.dae_walks.specs.declared.Home.TheVariants.{Register}
 use Rattle.dae_walks.specs.Homes.{IsHome}
@@ -41,7 +41,7 @@ use Rattle.dae_walks.specs.declared.Standing.{Standing}
 use Rattle.dae_walks.specs.declared.Standing.TheVariants.{Settled, Early, Late}
 use Rattle.dae_walks.specs.Live.{Ways, none, in_operand, live, behind, body_ways, step_ways, nowhere}
 use Rattle.dae_walks.specs.Agrees.{Plan}
-use Rattle.dae_blocks.specs.Blocks.{number_code, register_or, source, operation_code, immediate_code, exchanged_code, behind_or, combine_registers, binary_code, value_code, fetch, move_code, keep, test_code, call_number, issue_code, address_code, take_code, fail_code, over, align_code, room_code, check_code, hear_code, jump_over, jump_back, leave_code, jump_words, branch_inst, opposite, one_way, goes_by, goes_code, frames_room_code, lower, is_immediate, tell_number_code, against_zero, immediate_of}
+use Rattle.dae_blocks.specs.Blocks.{number_code, register_or, source, operation_code, immediate_code, exchanged_code, behind_or, combine_registers, binary_code, value_code, fetch, move_code, keep, test_code, call_number, issue_code, address_code, take_code, fail_code, over, align_code, room_code, check_code, hear_code, jump_over, jump_back, leave_code, jump_words, branch_inst, opposite, one_way, goes_by, goes_code, frames_room_code, lower, is_immediate, tell_number_code, against_zero, immediate_of, extend_code, compare_code, takes_number, compare_number_code, compare_registers, compare_operands}
 use Rattle.dae_blocks.specs.Code.{either_one, reads_once, with_home, early_code, late_code, standing_behind, block_code, action_code, branch_code, code_of, entry_code, function_code, finish_code, start_code, does_nothing, past_code, told_code, written_last}
 use Rattle.dae_uses.specs.Uses.{queue_in, action_queue, branch_queue, IsOfSide, AreOfSide, IsUntouched, LeavesAlone}
 use Rattle.dae_uses.proofs.Access.{IsPlain, plain, loads_for_e, loads_own, gives_address, pushes_datum, pushes_copy, pushes_message, takes_load, takes_own, takes_copy, takes_message, takes_load_left, takes_load_right, takes_copy_left, takes_copy_right, pushes_flag, sends_datum}
@@ -286,6 +286,10 @@ module _ (plan : Plan) (variables : ℕ → ℕ) (good : (f v : ℕ) → IsHome 
       low_of : (r : ℕ) (x : Operand) → r < 28 → source (plan.home f) r x < 28
       low_of r x h = source_low (variables f) (plan.home f) (good f) r x h
 
+      left_one : (b : Bool) → either_one b false ≡ true → b ≡ true
+      left_one true e = refl
+      left_one false e = absurd cc
+
       left_uses : (t : ℕ) (operator : Operator) (y : Operand) → t < 28 → Uses by_a' o (fetch (plan.home f) 6 y ++ operation_code operator t q (source (plan.home f) 6 y) ∷ [])
       left_uses t operator y low' =
           let i = operation_code operator t q (source (plan.home f) 6 y) in
@@ -303,10 +307,6 @@ module _ (plan : Plan) (variables : ℕ → ℕ) (good : (f v : ℕ) → IsHome 
           let same : nat_eq a v ≡ true = grind (arith, nat_tests) in
           rw same (by (immediate_code operator t q n) refl)
         where
-          left_one : (b : Bool) → either_one b false ≡ true → b ≡ true
-          left_one true e = refl
-          left_one false e = absurd cc
-
           by : (i : Option Inst) → immediate_code operator t q n ≡ i → Uses by_a' o (behind_or [] i (fetch (plan.home f) 6 (Number n) ++ operation_code operator t q (source (plan.home f) 6 (Number n)) ∷ []))
           by (Some i) e = first_uses by_a' o i [] (left i t 0 (immediate_form operator t q n i e) low' (omega arith)) tt
           by None e = left_uses t operator (Number n) low'
@@ -332,14 +332,75 @@ module _ (plan : Plan) (variables : ℕ → ℕ) (good : (f v : ℕ) → IsHome 
               let far : nat_eq a v ≡ false = grind (arith, nat_tests) in
               rw (same, far) (right_uses t operator (Variable a) low')
 
+      -- of what is extended or compared only the first instruction reads its sources
+      extends : (kind : LoadKind) (t : ℕ) → t < 28 → Uses by_a' o (extend_code kind t q)
+      extends I8 t low' = first_uses by_a' o (Slli t q (pos 24)) (Srai t t (pos 24) ∷ []) (left (Slli t q (pos 24)) t 0 refl low' (omega arith)) (quiet by_a' o (Srai t t (pos 24) ∷ []) ((low', low', omega arith), tt))
+      extends U8 t low' = first_uses by_a' o (Andi t q (pos 255)) [] (left (Andi t q (pos 255)) t 0 refl low' (omega arith)) tt
+      extends I16 t low' = first_uses by_a' o (Slli t q (pos 16)) (Srai t t (pos 16) ∷ []) (left (Slli t q (pos 16)) t 0 refl low' (omega arith)) (quiet by_a' o (Srai t t (pos 16) ∷ []) ((low', low', omega arith), tt))
+      extends U16 t low' = first_uses by_a' o (Slli t q (pos 16)) (Srli t t (pos 16) ∷ []) (left (Slli t q (pos 16)) t 0 refl low' (omega arith)) (quiet by_a' o (Srli t t (pos 16) ∷ []) ((low', low', omega arith), tt))
+      extends I32 t low' = first_uses by_a' o (Addi t q (pos 0)) [] (left (Addi t q (pos 0)) t 0 refl low' (omega arith)) tt
+
+      left_compares : (relation : Comparison) (t r : ℕ) → t < 28 → r < 28 → Uses by_a' o (compare_code relation t q r)
+      left_compares Equal t r low' plain = first_uses by_a' o (Sub t q r) (Sltiu t t (pos 1) ∷ []) (left (Sub t q r) t r refl low' plain) (quiet by_a' o (Sltiu t t (pos 1) ∷ []) ((low', low', omega arith), tt))
+      left_compares NotEqual t r low' plain = first_uses by_a' o (Sub t q r) (Sltu t 0 t ∷ []) (left (Sub t q r) t r refl low' plain) (quiet by_a' o (Sltu t 0 t ∷ []) ((low', omega arith, low'), tt))
+      left_compares LessSigned t r low' plain = first_uses by_a' o (Slt t q r) [] (left (Slt t q r) t r refl low' plain) tt
+      left_compares AtLeastSigned t r low' plain = first_uses by_a' o (Slt t q r) (Xori t t (pos 1) ∷ []) (left (Slt t q r) t r refl low' plain) (quiet by_a' o (Xori t t (pos 1) ∷ []) ((low', low', omega arith), tt))
+      left_compares LessUnsigned t r low' plain = first_uses by_a' o (Sltu t q r) [] (left (Sltu t q r) t r refl low' plain) tt
+      left_compares AtLeastUnsigned t r low' plain = first_uses by_a' o (Sltu t q r) (Xori t t (pos 1) ∷ []) (left (Sltu t q r) t r refl low' plain) (quiet by_a' o (Xori t t (pos 1) ∷ []) ((low', low', omega arith), tt))
+
+      right_compares : (relation : Comparison) (t r : ℕ) → t < 28 → r < 28 → Uses by_a' o (compare_code relation t r q)
+      right_compares Equal t r low' plain = first_uses by_a' o (Sub t r q) (Sltiu t t (pos 1) ∷ []) (right (Sub t r q) t r refl low' plain) (quiet by_a' o (Sltiu t t (pos 1) ∷ []) ((low', low', omega arith), tt))
+      right_compares NotEqual t r low' plain = first_uses by_a' o (Sub t r q) (Sltu t 0 t ∷ []) (right (Sub t r q) t r refl low' plain) (quiet by_a' o (Sltu t 0 t ∷ []) ((low', omega arith, low'), tt))
+      right_compares LessSigned t r low' plain = first_uses by_a' o (Slt t r q) [] (right (Slt t r q) t r refl low' plain) tt
+      right_compares AtLeastSigned t r low' plain = first_uses by_a' o (Slt t r q) (Xori t t (pos 1) ∷ []) (right (Slt t r q) t r refl low' plain) (quiet by_a' o (Xori t t (pos 1) ∷ []) ((low', low', omega arith), tt))
+      right_compares LessUnsigned t r low' plain = first_uses by_a' o (Sltu t r q) [] (right (Sltu t r q) t r refl low' plain) tt
+      right_compares AtLeastUnsigned t r low' plain = first_uses by_a' o (Sltu t r q) (Xori t t (pos 1) ∷ []) (right (Sltu t r q) t r refl low' plain) (quiet by_a' o (Xori t t (pos 1) ∷ []) ((low', low', omega arith), tt))
+
+      number_compares : (relation : Comparison) (t n : ℕ) → t < 28 → Uses by_a' o (compare_number_code relation t q n)
+      number_compares Equal t n low' = either_uses by_a' o (nat_eq n 0) (Sltiu t q (pos 1) ∷ []) (Addi t q (lower (minus 0 n)) ∷ (Sltiu t t (pos 1) ∷ [])) (first_uses by_a' o (Sltiu t q (pos 1)) [] (left (Sltiu t q (pos 1)) t 0 refl low' (omega arith)) tt) (first_uses by_a' o (Addi t q (lower (minus 0 n))) (Sltiu t t (pos 1) ∷ []) (left (Addi t q (lower (minus 0 n))) t 0 refl low' (omega arith)) (quiet by_a' o (Sltiu t t (pos 1) ∷ []) ((low', low', omega arith), tt)))
+      number_compares NotEqual t n low' = either_uses by_a' o (nat_eq n 0) (Sltu t 0 q ∷ []) (Addi t q (lower (minus 0 n)) ∷ (Sltu t 0 t ∷ [])) (first_uses by_a' o (Sltu t 0 q) [] (right (Sltu t 0 q) t 0 refl low' (omega arith)) tt) (first_uses by_a' o (Addi t q (lower (minus 0 n))) (Sltu t 0 t ∷ []) (left (Addi t q (lower (minus 0 n))) t 0 refl low' (omega arith)) (quiet by_a' o (Sltu t 0 t ∷ []) ((low', omega arith, low'), tt)))
+      number_compares LessSigned t n low' = first_uses by_a' o (Slti t q (lower n)) [] (left (Slti t q (lower n)) t 0 refl low' (omega arith)) tt
+      number_compares AtLeastSigned t n low' = first_uses by_a' o (Slti t q (lower n)) (Xori t t (pos 1) ∷ []) (left (Slti t q (lower n)) t 0 refl low' (omega arith)) (quiet by_a' o (Xori t t (pos 1) ∷ []) ((low', low', omega arith), tt))
+      number_compares LessUnsigned t n low' = first_uses by_a' o (Sltiu t q (lower n)) [] (left (Sltiu t q (lower n)) t 0 refl low' (omega arith)) tt
+      number_compares AtLeastUnsigned t n low' = first_uses by_a' o (Sltiu t q (lower n)) (Xori t t (pos 1) ∷ []) (left (Sltiu t q (lower n)) t 0 refl low' (omega arith)) (quiet by_a' o (Xori t t (pos 1) ∷ []) ((low', low', omega arith), tt))
+
+      left_test : (t : ℕ) (relation : Comparison) (y : Operand) → t < 28 → Uses by_a' o (fetch (plan.home f) 6 y ++ compare_code relation t q (source (plan.home f) 6 y))
+      left_test t relation y low' = behind_plain by_a' o (fetch (plan.home f) 6 y) _ (fetch_plain (variables f) (plan.home f) (good f) 6 y (omega arith)) (left_compares relation t (source (plan.home f) 6 y) low' (low_of 6 y (omega arith)))
+
+      right_test : (t : ℕ) (relation : Comparison) (x : Operand) → t < 28 → Uses by_a' o (fetch (plan.home f) 5 x ++ compare_code relation t (source (plan.home f) 5 x) q)
+      right_test t relation x low' = behind_plain by_a' o (fetch (plan.home f) 5 x) _ (fetches x) (right_compares relation t (source (plan.home f) 5 x) low' (low x))
+
+      early_test : (v t : ℕ) (relation : Comparison) (x y : Operand) → either_one (in_operand x v) (in_operand y v) ≡ true → t < 28 → Uses by_a' o (compare_operands (Instead v) t relation x y)
+      early_test v t relation (Number n) (Number k) one low' = absurd (let bad : false ≡ true = one in cc)
+      early_test v t relation (Variable a) (Number n) one low' =
+          let e : nat_eq v a ≡ true = left_one (nat_eq v a) one in
+          let same : nat_eq a v ≡ true = grind (arith, nat_tests) in
+          rw same (either_uses by_a' o (takes_number relation n) (compare_number_code relation t q n) (fetch (plan.home f) 6 (Number n) ++ compare_code relation t q (source (plan.home f) 6 (Number n))) (number_compares relation t n low') (left_test t relation (Number n) low'))
+      early_test v t relation (Number n) (Variable b) one low' = let same : nat_eq b v ≡ true = grind (arith, nat_tests) in rw same (right_test t relation (Number n) low')
+      early_test v t relation (Variable a) (Variable b) one low' = by (nat_eq v a) refl one
+        where
+          by : (z : Bool) → nat_eq v a ≡ z → either_one z (nat_eq v b) ≡ true → Uses by_a' o (compare_registers (Instead v) t relation (Variable a) (Variable b))
+          by true e other =
+              let same : nat_eq a v ≡ true = grind (arith, nat_tests) in
+              let far : nat_eq b v ≡ false = unlike b other in
+              rw (same, far) (left_test t relation (Variable b) low')
+            where
+              unlike : (b : ℕ) → not (nat_eq v b) ≡ true → nat_eq b v ≡ false
+              unlike b e = grind (arith, nat_tests)
+          by false e other =
+              let same : nat_eq b v ≡ true = grind (arith, nat_tests) in
+              let far : nat_eq a v ≡ false = grind (arith, nat_tests) in
+              rw (same, far) (right_test t relation (Variable a) low')
+
       early_value : (v t : ℕ) (y : Value) → reads_once v y ≡ true → t < 28 → Uses by_a' o (value_code (Instead v) t y)
       early_value v t (Same (Variable a)) once low' =
           let same : nat_eq a v ≡ true = grind (arith, nat_tests) in
           rw same (first_uses by_a' o (Addi t q (pos 0)) [] (left (Addi t q (pos 0)) t 0 refl low' (omega arith)) tt)
       early_value v t (Same (Number n)) once low' = absurd (let bad : false ≡ true = once in cc)
-      early_value v t (Extended kind x) once low' = absurd (let bad : false ≡ true = once in cc)
+      early_value v t (Extended kind (Variable a)) once low' = let same : nat_eq a v ≡ true = grind (arith, nat_tests) in rw same (extends kind t low')
+      early_value v t (Extended kind (Number n)) once low' = absurd (let bad : false ≡ true = once in cc)
       early_value v t (Binary operator x y) once low' = early_binary v t operator x y once low'
-      early_value v t (Holds test) once low' = absurd (let bad : false ≡ true = once in cc)
+      early_value v t (Holds test) once low' = early_test v t test.comparison test.left test.right once low'
       early_value v t (FrameAddress offset) once low' = absurd (let bad : false ≡ true = once in cc)
 
       early_uses : (v d : ℕ) (y : Value) → reads_once v y ≡ true → Uses by_a' o (early_code (plan.home f) q v d y)
