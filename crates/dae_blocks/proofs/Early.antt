@@ -27,7 +27,7 @@ use Rattle.dae_meaning.specs.declared.Operator.{Operator}
 use Rattle.dae_meaning.specs.declared.Comparison.{Comparison}
 use Rattle.dae_meaning.specs.declared.Comparison.TheVariants.{Equal, NotEqual, LessSigned, AtLeastSigned, LessUnsigned, AtLeastUnsigned}
 use Rattle.dae_walks.specs.declared.Home.{Home}
-use Rattle.dae_walks.specs.declared.Home.TheVariants.{Register, Slot}
+use Rattle.dae_walks.specs.declared.Home.TheVariants.{Register}
 use Rattle.dae_walks.specs.Walks.{Setting}
 use Rattle.dae_walks.specs.Live.{in_operand, in_value}
 use Rattle.dae_walks.specs.Homes.{Contents}
@@ -186,8 +186,8 @@ module _ (s : Setting) (plan : Plan) (to : ℕ → Env → Processor → Type 0)
 module _ (s : Setting) (plan : Plan) (variables : ℕ → ℕ) (fine : Fits s plan variables) (to : ℕ → Env → Processor → Type 0) (q : ℕ) (queue : Queue) (go : ℕ → Deed) (high : nat_lt q 28 ≡ false)
     (left : (t r : ℕ) → t < 28 → r < 28 → queue_use s.copies s.side (Computes t q r) ≡ Some (Takes queue)) (right : (t r : ℕ) → t < 28 → r < 28 → queue_use s.copies s.side (Computes t r q) ≡ Some (Takes queue)) where
   -- with what is computed of the word in t, and whatever in scratch registers, this runs on
-  abbrev On : VariableSet → Moment → List Inst → ℕ → (ℕ → ℕ) → Type 0
-  On live m is t f = (w : ℕ) (c : Contents) → w < 2 ^ 32 → Ready plan live m c → f w < 2 ^ 32 → Runs s plan.private to is (put t (f w) c) (go w)
+  abbrev OnWord : VariableSet → Moment → List Inst → ℕ → (ℕ → ℕ) → Type 0
+  OnWord live m is t f = (w : ℕ) (c : Contents) → w < 2 ^ 32 → Ready plan live m c → f w < 2 ^ 32 → Runs s plan.private to is (put t (f w) c) (go w)
 
   -- an instruction whose left source takes the word, and one whose right source does
   takes_left : {c : Contents} (i : Inst) (t r : ℕ) (f : ℕ → ℕ → ℕ) (is : List Inst) → effect i ≡ on_two t q r f → t < 28 → r < 28 → ((w : ℕ) → w < 2 ^ 32 → f w (c.register r) < 2 ^ 32) →
@@ -212,7 +212,7 @@ module _ (s : Setting) (plan : Plan) (variables : ℕ → ℕ) (fine : Fits s pl
 
   -- ---- the word with another operand, or with a number
 
-  left_operation : {live : VariableSet} {m : Moment} {c : Contents} (t : ℕ) (o : Operator) (y : Operand) (is : List Inst) → t < 28 → Ready plan live m c → ((u : ℕ) → in_operand y u ≡ true → live u ≡ true) → IsNumber y → On live m is t (λ w. combined o w (value y m.env)) →
+  left_operation : {live : VariableSet} {m : Moment} {c : Contents} (t : ℕ) (o : Operator) (y : Operand) (is : List Inst) → t < 28 → Ready plan live m c → ((u : ℕ) → in_operand y u ≡ true → live u ≡ true) → IsNumber y → OnWord live m is t (λ w. combined o w (value y m.env)) →
       Runs s plan.private to (fetch (plan.home m.function) 6 y ++ operation_code o t q (source (plan.home m.function) 6 y) ∷ is) c (Take queue go)
   left_operation {m = m} t o y is low h reads number run =
       let r = source (plan.home m.function) 6 y in
@@ -221,7 +221,7 @@ module _ (s : Setting) (plan : Plan) (variables : ℕ → ℕ) (fine : Fits s pl
       takes_left (operation_code o t q r) t r (combined o) is (operation_is o t q r) low (source_plain s plan variables fine to m.function 6 y (omega arith)) (λ w small. operation_fits o w (c1.register r) small (h1.fits r))
       (λ w small. let fits = operation_fits o w (c1.register r) small (h1.fits r) in rw got (run w c1 small h1 (rw got at fits))))
 
-  right_operation : {live : VariableSet} {m : Moment} {c : Contents} (t : ℕ) (o : Operator) (x : Operand) (is : List Inst) → t < 28 → Ready plan live m c → ((u : ℕ) → in_operand x u ≡ true → live u ≡ true) → IsNumber x → On live m is t (λ w. combined o (value x m.env) w) →
+  right_operation : {live : VariableSet} {m : Moment} {c : Contents} (t : ℕ) (o : Operator) (x : Operand) (is : List Inst) → t < 28 → Ready plan live m c → ((u : ℕ) → in_operand x u ≡ true → live u ≡ true) → IsNumber x → OnWord live m is t (λ w. combined o (value x m.env) w) →
       Runs s plan.private to (fetch (plan.home m.function) 5 x ++ operation_code o t (source (plan.home m.function) 5 x) q ∷ is) c (Take queue go)
   right_operation {m = m} t o x is low h reads number run =
       let r = source (plan.home m.function) 5 x in
@@ -230,28 +230,28 @@ module _ (s : Setting) (plan : Plan) (variables : ℕ → ℕ) (fine : Fits s pl
       takes_right (operation_code o t r q) t r (combined o) is (operation_is o t r q) low (source_plain s plan variables fine to m.function 5 x (omega arith)) (λ w small. operation_fits o (c1.register r) w (h1.fits r) small)
       (λ w small. let fits = operation_fits o (c1.register r) w (h1.fits r) small in rw got (run w c1 small h1 (rw got at fits))))
 
-  with_number : {live : VariableSet} {m : Moment} {c : Contents} (t : ℕ) (i : Inst) (operation : ℕ → ℕ) (is : List Inst) → t < 28 → Ready plan live m c → DoesWith i t q operation → ((a : ℕ) → a < 2 ^ 32 → operation a < 2 ^ 32) → On live m is t operation →
+  with_number : {live : VariableSet} {m : Moment} {c : Contents} (t : ℕ) (i : Inst) (operation : ℕ → ℕ) (is : List Inst) → t < 28 → Ready plan live m c → DoesWith i t q operation → ((a : ℕ) → a < 2 ^ 32 → operation a < 2 ^ 32) → OnWord live m is t operation →
       Runs s plan.private to (i ∷ is) c (Take queue go)
   with_number {c = c} t i operation is low h with' fits run =
       takes_left i t 0 (λ a b. with'.function a) is with'.does low (omega arith) (λ w small. rw (with'.same w) (fits w small)) (λ w small. rw (with'.same w) (run w c small h (fits w small)))
 
   -- ---- code of which only the first instruction reads its sources
 
-  left_splits : {live : VariableSet} {m : Moment} {c : Contents} (code : List Inst) (t r : ℕ) (operation : ℕ → ℕ → ℕ) (is : List Inst) → Splits s plan to code q r t operation → r < 28 → Ready plan live m c → ((w : ℕ) → w < 2 ^ 32 → operation w (c.register r) < 2 ^ 32) → On live m is t (λ w. operation w (c.register r)) →
+  left_splits : {live : VariableSet} {m : Moment} {c : Contents} (code : List Inst) (t r : ℕ) (operation : ℕ → ℕ → ℕ) (is : List Inst) → Splits s plan to code q r t operation → r < 28 → Ready plan live m c → ((w : ℕ) → w < 2 ^ 32 → operation w (c.register r) < 2 ^ 32) → OnWord live m is t (λ w. operation w (c.register r)) →
       Runs s plan.private to (code ++ is) c (Take queue go)
   left_splits {live} {m} {c} code t r operation is h plain ready fits run =
       subst (λ (k : List Inst). Runs s plan.private to (k ++ is) c (Take queue go)) (sym h.is)
       (takes_left h.first h.work r h.function (h.rest ++ is) h.does h.low plain (λ w small. h.fits w (c.register r) small (ready.fits r))
       (λ w small. h.ends live m c (go w) w (c.register r) is small (ready.fits r) ready (λ c1 h1. run w c1 small h1 (fits w small))))
 
-  right_splits : {live : VariableSet} {m : Moment} {c : Contents} (code : List Inst) (t r : ℕ) (operation : ℕ → ℕ → ℕ) (is : List Inst) → Splits s plan to code r q t operation → r < 28 → Ready plan live m c → ((w : ℕ) → w < 2 ^ 32 → operation (c.register r) w < 2 ^ 32) → On live m is t (λ w. operation (c.register r) w) →
+  right_splits : {live : VariableSet} {m : Moment} {c : Contents} (code : List Inst) (t r : ℕ) (operation : ℕ → ℕ → ℕ) (is : List Inst) → Splits s plan to code r q t operation → r < 28 → Ready plan live m c → ((w : ℕ) → w < 2 ^ 32 → operation (c.register r) w < 2 ^ 32) → OnWord live m is t (λ w. operation (c.register r) w) →
       Runs s plan.private to (code ++ is) c (Take queue go)
   right_splits {live} {m} {c} code t r operation is h plain ready fits run =
       subst (λ (k : List Inst). Runs s plan.private to (k ++ is) c (Take queue go)) (sym h.is)
       (takes_right h.first h.work r h.function (h.rest ++ is) h.does h.low plain (λ w small. h.fits (c.register r) w (ready.fits r) small)
       (λ w small. h.ends live m c (go w) (c.register r) w is (ready.fits r) small ready (λ c1 h1. run w c1 small h1 (fits w small))))
 
-  left_compare : {live : VariableSet} {m : Moment} {c : Contents} (t : ℕ) (relation : Comparison) (y : Operand) (is : List Inst) → 0 < t → t < 28 → Ready plan live m c → ((u : ℕ) → in_operand y u ≡ true → live u ≡ true) → IsNumber y → On live m is t (λ w. flag (compared relation w (value y m.env))) →
+  left_compare : {live : VariableSet} {m : Moment} {c : Contents} (t : ℕ) (relation : Comparison) (y : Operand) (is : List Inst) → 0 < t → t < 28 → Ready plan live m c → ((u : ℕ) → in_operand y u ≡ true → live u ≡ true) → IsNumber y → OnWord live m is t (λ w. flag (compared relation w (value y m.env))) →
       Runs s plan.private to (fetch (plan.home m.function) 6 y ++ (compare_code relation t q (source (plan.home m.function) 6 y) ++ is)) c (Take queue go)
   left_compare {m = m} t relation y is some low h reads number run =
       let r = source (plan.home m.function) 6 y in
@@ -259,7 +259,7 @@ module _ (s : Setting) (plan : Plan) (variables : ℕ → ℕ) (fine : Fits s pl
       let h1 = ready_like s plan variables fine 6 (is_scratch plan 6 (omega arith) (omega arith)) like h in
       left_splits (compare_code relation t q r) t r (λ a b. flag (compared relation a b)) is (compare_splits s plan to relation t q r some low) (source_plain s plan variables fine to m.function 6 y (omega arith)) h1 (λ w small. flag_small (compared relation w (c1.register r))) (rw got run))
 
-  right_compare : {live : VariableSet} {m : Moment} {c : Contents} (t : ℕ) (relation : Comparison) (x : Operand) (is : List Inst) → 0 < t → t < 28 → Ready plan live m c → ((u : ℕ) → in_operand x u ≡ true → live u ≡ true) → IsNumber x → On live m is t (λ w. flag (compared relation (value x m.env) w)) →
+  right_compare : {live : VariableSet} {m : Moment} {c : Contents} (t : ℕ) (relation : Comparison) (x : Operand) (is : List Inst) → 0 < t → t < 28 → Ready plan live m c → ((u : ℕ) → in_operand x u ≡ true → live u ≡ true) → IsNumber x → OnWord live m is t (λ w. flag (compared relation (value x m.env) w)) →
       Runs s plan.private to (fetch (plan.home m.function) 5 x ++ (compare_code relation t (source (plan.home m.function) 5 x) q ++ is)) c (Take queue go)
   right_compare {m = m} t relation x is some low h reads number run =
       let r = source (plan.home m.function) 5 x in
@@ -267,7 +267,7 @@ module _ (s : Setting) (plan : Plan) (variables : ℕ → ℕ) (fine : Fits s pl
       let h1 = ready_like s plan variables fine 5 (is_scratch plan 5 (omega arith) (omega arith)) like h in
       right_splits (compare_code relation t r q) t r (λ a b. flag (compared relation a b)) is (compare_splits s plan to relation t r q some low) (source_plain s plan variables fine to m.function 5 x (omega arith)) h1 (λ w small. flag_small (compared relation (c1.register r) w)) (rw got run))
 
-  number_compare : {live : VariableSet} {m : Moment} {c : Contents} (t : ℕ) (relation : Comparison) (n : ℕ) (is : List Inst) → 0 < t → t < 28 → Ready plan live m c → n < 2 ^ 32 → takes_number relation n ≡ true → On live m is t (λ w. flag (compared relation w n)) →
+  number_compare : {live : VariableSet} {m : Moment} {c : Contents} (t : ℕ) (relation : Comparison) (n : ℕ) (is : List Inst) → 0 < t → t < 28 → Ready plan live m c → n < 2 ^ 32 → takes_number relation n ≡ true → OnWord live m is t (λ w. flag (compared relation w n)) →
       Runs s plan.private to (compare_number_code relation t q n ++ is) c (Take queue go)
   number_compare {live} {m} {c} t relation n is some low h number takes run = by (number_splits s plan to relation t q n some low number takes)
     where
@@ -285,23 +285,23 @@ module _ (s : Setting) (plan : Plan) (variables : ℕ → ℕ) (fine : Fits s pl
 
   early_binary : {live : VariableSet} {m : Moment} {c : Contents} (v t : ℕ) (o : Operator) (x y : Operand) (is : List Inst) → either_one (in_operand x v) (in_operand y v) ≡ true → t < 28 → Ready plan live m c →
       ((u : ℕ) → in_operand x u ≡ true → nat_eq u v ≡ false → live u ≡ true) → ((u : ℕ) → in_operand y u ≡ true → nat_eq u v ≡ false → live u ≡ true) → IsNumber x → IsNumber y →
-      On live m is t (λ w. combined o (value x (form.put true v w m.env)) (value y (form.put true v w m.env))) → Runs s plan.private to (binary_code (Instead v m) t o x y ++ is) c (Take queue go)
+      OnWord live m is t (λ w. combined o (value x (form.put true v w m.env)) (value y (form.put true v w m.env))) → Runs s plan.private to (binary_code (Instead v m) t o x y ++ is) c (Take queue go)
   early_binary v t o (Number n) (Number k) is one low h reads_x reads_y number_x number_y run = absurd (let bad : false ≡ true = one in cc)
   early_binary {live} {m} {c} v t o (Variable a) (Number n) is one low h reads_x reads_y number_x number_y run =
       let e : nat_eq v a ≡ true = left_one (nat_eq v a) one in
       let f : nat_eq a v ≡ true = grind (arith, nat_tests) in
-      let on : On live m is t (λ w. combined o w n) = λ w c1 small h1 fits. (let same : combined o (form.put true v w m.env a) n ≡ combined o w n = rw f refl in let r = run w c1 small h1 (rw same fits) in rw same at r) in
+      let on : OnWord live m is t (λ w. combined o w n) = λ w c1 small h1 fits. (let same : combined o (form.put true v w m.env a) n ≡ combined o w n = rw f refl in let r = run w c1 small h1 (rw same fits) in rw same at r) in
       rw f (by on (immediate_code o t q n) refl)
     where
-      by : On live m is t (λ w. combined o w n) → (i : Option Inst) → immediate_code o t q n ≡ i → Runs s plan.private to (behind_or [] i (fetch (plan.home m.function) 6 (Number n) ++ operation_code o t q (source (plan.home m.function) 6 (Number n)) ∷ []) ++ is) c (Take queue go)
+      by : OnWord live m is t (λ w. combined o w n) → (i : Option Inst) → immediate_code o t q n ≡ i → Runs s plan.private to (behind_or [] i (fetch (plan.home m.function) 6 (Number n) ++ operation_code o t q (source (plan.home m.function) 6 (Number n)) ∷ []) ++ is) c (Take queue go)
       by on (Some i) e = with_number t i (λ a. combined o a n) is low h (immediate_does o t q n i number_y e) (λ a l. operation_fits o a n l number_y) on
       by on None e = rw append_assoc (left_operation t o (Number n) is low h (λ u e. absurd (let bad : false ≡ true = e in cc)) number_y on)
   early_binary {live} {m} {c} v t o (Number n) (Variable b) is one low h reads_x reads_y number_x number_y run =
       let f : nat_eq b v ≡ true = grind (arith, nat_tests) in
-      let on : On live m is t (λ w. combined o n w) = λ w c1 small h1 fits. (let same : combined o n (form.put true v w m.env b) ≡ combined o n w = rw f refl in let r = run w c1 small h1 (rw same fits) in rw same at r) in
+      let on : OnWord live m is t (λ w. combined o n w) = λ w c1 small h1 fits. (let same : combined o n (form.put true v w m.env b) ≡ combined o n w = rw f refl in let r = run w c1 small h1 (rw same fits) in rw same at r) in
       rw f (by on (exchanged_code o t q n) refl)
     where
-      by : On live m is t (λ w. combined o n w) → (i : Option Inst) → exchanged_code o t q n ≡ i → Runs s plan.private to (behind_or [] i (fetch (plan.home m.function) 5 (Number n) ++ operation_code o t (source (plan.home m.function) 5 (Number n)) q ∷ []) ++ is) c (Take queue go)
+      by : OnWord live m is t (λ w. combined o n w) → (i : Option Inst) → exchanged_code o t q n ≡ i → Runs s plan.private to (behind_or [] i (fetch (plan.home m.function) 5 (Number n) ++ operation_code o t (source (plan.home m.function) 5 (Number n)) q ∷ []) ++ is) c (Take queue go)
       by on (Some i) e = with_number t i (λ a. combined o n a) is low h (exchanged_does o t q n i number_x e) (λ a l. operation_fits o n a number_x l) on
       by on None e = rw append_assoc (right_operation t o (Number n) is low h (λ u e. absurd (let bad : false ≡ true = e in cc)) number_x on)
   early_binary {live} {m} {c} v t o (Variable a) (Variable b) is one low h reads_x reads_y number_x number_y run = by (nat_eq v a) refl one
@@ -310,7 +310,7 @@ module _ (s : Setting) (plan : Plan) (variables : ℕ → ℕ) (fine : Fits s pl
       by true e other =
           let f : nat_eq a v ≡ true = grind (arith, nat_tests) in
           let g : nat_eq b v ≡ false = unlike b other in
-          let on : On live m is t (λ w. combined o w (m.env b)) = λ w c1 small h1 fits. (let same : combined o (form.put true v w m.env a) (form.put true v w m.env b) ≡ combined o w (m.env b) = rw (f, g) refl in let r = run w c1 small h1 (rw same fits) in rw same at r) in
+          let on : OnWord live m is t (λ w. combined o w (m.env b)) = λ w c1 small h1 fits. (let same : combined o (form.put true v w m.env a) (form.put true v w m.env b) ≡ combined o w (m.env b) = rw (f, g) refl in let r = run w c1 small h1 (rw same fits) in rw same at r) in
           rw (f, g, append_assoc) (left_operation t o (Variable b) is low h (λ u e. reads_y u e (let same : u ≡ b = grind (arith, nat_tests) in rw same g)) tt on)
         where
           unlike : (b : ℕ) → not (nat_eq v b) ≡ true → nat_eq b v ≡ false
@@ -318,26 +318,26 @@ module _ (s : Setting) (plan : Plan) (variables : ℕ → ℕ) (fine : Fits s pl
       by false e other =
           let f : nat_eq b v ≡ true = grind (arith, nat_tests) in
           let g : nat_eq a v ≡ false = grind (arith, nat_tests) in
-          let on : On live m is t (λ w. combined o (m.env a) w) = λ w c1 small h1 fits. (let same : combined o (form.put true v w m.env a) (form.put true v w m.env b) ≡ combined o (m.env a) w = rw (f, g) refl in let r = run w c1 small h1 (rw same fits) in rw same at r) in
+          let on : OnWord live m is t (λ w. combined o (m.env a) w) = λ w c1 small h1 fits. (let same : combined o (form.put true v w m.env a) (form.put true v w m.env b) ≡ combined o (m.env a) w = rw (f, g) refl in let r = run w c1 small h1 (rw same fits) in rw same at r) in
           rw (f, g, append_assoc) (right_operation t o (Variable a) is low h (λ u e. reads_x u e (let same : u ≡ a = grind (arith, nat_tests) in rw same g)) tt on)
 
   early_test : {live : VariableSet} {m : Moment} {c : Contents} (v t : ℕ) (relation : Comparison) (x y : Operand) (is : List Inst) → either_one (in_operand x v) (in_operand y v) ≡ true → 0 < t → t < 28 → Ready plan live m c →
       ((u : ℕ) → in_operand x u ≡ true → nat_eq u v ≡ false → live u ≡ true) → ((u : ℕ) → in_operand y u ≡ true → nat_eq u v ≡ false → live u ≡ true) → IsNumber x → IsNumber y →
-      On live m is t (λ w. flag (compared relation (value x (form.put true v w m.env)) (value y (form.put true v w m.env)))) → Runs s plan.private to (compare_operands (Instead v m) t relation x y ++ is) c (Take queue go)
+      OnWord live m is t (λ w. flag (compared relation (value x (form.put true v w m.env)) (value y (form.put true v w m.env)))) → Runs s plan.private to (compare_operands (Instead v m) t relation x y ++ is) c (Take queue go)
   early_test v t relation (Number n) (Number k) is one some low h reads_x reads_y number_x number_y run = absurd (let bad : false ≡ true = one in cc)
   early_test {live} {m} {c} v t relation (Variable a) (Number n) is one some low h reads_x reads_y number_x number_y run =
       let e : nat_eq v a ≡ true = left_one (nat_eq v a) one in
       let f : nat_eq a v ≡ true = grind (arith, nat_tests) in
-      let on : On live m is t (λ w. flag (compared relation w n)) = λ w c1 small h1 fits. (let same : flag (compared relation (form.put true v w m.env a) n) ≡ flag (compared relation w n) = rw f refl in let r = run w c1 small h1 (rw same fits) in rw same at r) in
+      let on : OnWord live m is t (λ w. flag (compared relation w n)) = λ w c1 small h1 fits. (let same : flag (compared relation (form.put true v w m.env a) n) ≡ flag (compared relation w n) = rw f refl in let r = run w c1 small h1 (rw same fits) in rw same at r) in
       rw f (by on (takes_number relation n) refl)
     where
-      by : On live m is t (λ w. flag (compared relation w n)) → (b : Bool) → takes_number relation n ≡ b →
+      by : OnWord live m is t (λ w. flag (compared relation w n)) → (b : Bool) → takes_number relation n ≡ b →
           Runs s plan.private to ((if b then compare_number_code relation t q n else fetch (plan.home m.function) 6 (Number n) ++ compare_code relation t q (source (plan.home m.function) 6 (Number n))) ++ is) c (Take queue go)
       by on true e = number_compare t relation n is some low h number_y e on
       by on false e = rw append_assoc (left_compare t relation (Number n) is some low h (λ u e. absurd (let bad : false ≡ true = e in cc)) number_y on)
   early_test {live} {m} {c} v t relation (Number n) (Variable b) is one some low h reads_x reads_y number_x number_y run =
       let f : nat_eq b v ≡ true = grind (arith, nat_tests) in
-      let on : On live m is t (λ w. flag (compared relation n w)) = λ w c1 small h1 fits. (let same : flag (compared relation n (form.put true v w m.env b)) ≡ flag (compared relation n w) = rw f refl in let r = run w c1 small h1 (rw same fits) in rw same at r) in
+      let on : OnWord live m is t (λ w. flag (compared relation n w)) = λ w c1 small h1 fits. (let same : flag (compared relation n (form.put true v w m.env b)) ≡ flag (compared relation n w) = rw f refl in let r = run w c1 small h1 (rw same fits) in rw same at r) in
       rw (f, append_assoc) (right_compare t relation (Number n) is some low h (λ u e. absurd (let bad : false ≡ true = e in cc)) number_x on)
   early_test {live} {m} {c} v t relation (Variable a) (Variable b) is one some low h reads_x reads_y number_x number_y run = by (nat_eq v a) refl one
     where
@@ -345,7 +345,7 @@ module _ (s : Setting) (plan : Plan) (variables : ℕ → ℕ) (fine : Fits s pl
       by true e other =
           let f : nat_eq a v ≡ true = grind (arith, nat_tests) in
           let g : nat_eq b v ≡ false = unlike b other in
-          let on : On live m is t (λ w. flag (compared relation w (m.env b))) = λ w c1 small h1 fits. (let same : flag (compared relation (form.put true v w m.env a) (form.put true v w m.env b)) ≡ flag (compared relation w (m.env b)) = rw (f, g) refl in let r = run w c1 small h1 (rw same fits) in rw same at r) in
+          let on : OnWord live m is t (λ w. flag (compared relation w (m.env b))) = λ w c1 small h1 fits. (let same : flag (compared relation (form.put true v w m.env a) (form.put true v w m.env b)) ≡ flag (compared relation w (m.env b)) = rw (f, g) refl in let r = run w c1 small h1 (rw same fits) in rw same at r) in
           rw (f, g, append_assoc) (left_compare t relation (Variable b) is some low h (λ u e. reads_y u e (let same : u ≡ b = grind (arith, nat_tests) in rw same g)) tt on)
         where
           unlike : (b : ℕ) → not (nat_eq v b) ≡ true → nat_eq b v ≡ false
@@ -353,11 +353,11 @@ module _ (s : Setting) (plan : Plan) (variables : ℕ → ℕ) (fine : Fits s pl
       by false e other =
           let f : nat_eq b v ≡ true = grind (arith, nat_tests) in
           let g : nat_eq a v ≡ false = grind (arith, nat_tests) in
-          let on : On live m is t (λ w. flag (compared relation (m.env a) w)) = λ w c1 small h1 fits. (let same : flag (compared relation (form.put true v w m.env a) (form.put true v w m.env b)) ≡ flag (compared relation (m.env a) w) = rw (f, g) refl in let r = run w c1 small h1 (rw same fits) in rw same at r) in
+          let on : OnWord live m is t (λ w. flag (compared relation (m.env a) w)) = λ w c1 small h1 fits. (let same : flag (compared relation (form.put true v w m.env a) (form.put true v w m.env b)) ≡ flag (compared relation (m.env a) w) = rw (f, g) refl in let r = run w c1 small h1 (rw same fits) in rw same at r) in
           rw (f, g, append_assoc) (right_compare t relation (Variable a) is some low h (λ u e. reads_x u e (let same : u ≡ a = grind (arith, nat_tests) in rw same g)) tt on)
 
   early_value : {live : VariableSet} {m : Moment} {c : Contents} (v t : ℕ) (y : Value) (is : List Inst) → reads_once v y ≡ true → 0 < t → t < 28 → Ready plan live m c → ((u : ℕ) → in_value y u ≡ true → nat_eq u v ≡ false → live u ≡ true) → AreNumbers y →
-      On live m is t (λ w. computed y m.frame (form.put true v w m.env)) → Runs s plan.private to (value_code (Instead v m) t y ++ is) c (Take queue go)
+      OnWord live m is t (λ w. computed y m.frame (form.put true v w m.env)) → Runs s plan.private to (value_code (Instead v m) t y ++ is) c (Take queue go)
   early_value {m = m} {c = c} v t (Same (Variable a)) is once some low h reads numbers run =
       let f : nat_eq a v ≡ true = grind (arith, nat_tests) in
       rw f (takes_left (Addi t q (pos 0)) t 0 (λ x y. plus x (word (pos 0))) is refl low (omega arith) (λ w small. omega arith)
@@ -365,7 +365,7 @@ module _ (s : Setting) (plan : Plan) (variables : ℕ → ℕ) (fine : Fits s pl
   early_value v t (Same (Number n)) is once some low h reads numbers run = absurd (let bad : false ≡ true = once in cc)
   early_value {live} {m} {c} v t (Extended kind (Variable a)) is once some low h reads numbers run =
       let f : nat_eq a v ≡ true = grind (arith, nat_tests) in
-      let on : On live m is t (λ w. extended kind w) = λ w c1 small h1 fits. (let same : extended kind (form.put true v w m.env a) ≡ extended kind w = rw f refl in let r = run w c1 small h1 (rw same fits) in rw same at r) in
+      let on : OnWord live m is t (λ w. extended kind w) = λ w c1 small h1 fits. (let same : extended kind (form.put true v w m.env a) ≡ extended kind w = rw f refl in let r = run w c1 small h1 (rw same fits) in rw same at r) in
       rw f (left_splits (extend_code kind t q) t 0 (λ a b. extended kind a) is (extend_splits s plan to kind t q some low) (omega arith) h (λ w small. extended_fits kind w small) on)
   early_value v t (Extended kind (Number n)) is once some low h reads numbers run = absurd (let bad : false ≡ true = once in cc)
   early_value v t (Binary o x y) is once some low h reads numbers run =
@@ -384,8 +384,8 @@ module _ (s : Setting) (plan : Plan) (variables : ℕ → ℕ) (fine : Fits s pl
 
 module _ (s : Setting) (plan : Plan) (variables : ℕ → ℕ) (fine : Fits s plan variables) (live live' : VariableSet) (m : Moment) (v d : ℕ) (y : Value) where
   -- the processor holds what it is to hold behind the next action
-  abbrev pub Then : ℕ → Env → Processor → Type 0
-  Then k env p = Stands plan live' (with_env (form.put true d (computed y m.frame env) env) m) k p
+  abbrev pub ToNext : ℕ → Env → Processor → Type 0
+  ToNext k env p = Stands plan live' (with_env (form.put true d (computed y m.frame env) env) m) k p
 
   -- it doesn't matter that v is set, where it isn't live or is set again
   kept_same : (w x u : ℕ) → (nat_eq v d || not (live' v)) ≡ true → live' u ≡ true → form.put true d x m.env u ≡ form.put true d x (form.put true v w m.env) u
@@ -401,11 +401,11 @@ module _ (s : Setting) (plan : Plan) (variables : ℕ → ℕ) (fine : Fits s pl
       by false false e f = refl
 
   early_ends : {c : Contents} (w : ℕ) → (nat_eq v d || not (live' v)) ≡ true → Ready plan live m c → ((u : ℕ) → live' u ≡ true → u ≢ d → (live u ≡ true) × (plan.home m.function u ≢ plan.home m.function d)) → computed y m.frame (form.put true v w m.env) < 2 ^ 32 →
-      Runs s plan.private Then (keep (plan.home m.function d)) (put (register_or 5 (plan.home m.function d)) (computed y m.frame (form.put true v w m.env)) c) (Went (form.put true v w m.env))
+      Runs s plan.private ToNext (keep (plan.home m.function d)) (put (register_or 5 (plan.home m.function d)) (computed y m.frame (form.put true v w m.env)) c) (Went (form.put true v w m.env))
   early_ends w dead h apart fits =
       let x : ℕ = computed y m.frame (form.put true v w m.env) in
-      let run = runs_keep s plan variables fine Then {d = Went (form.put true v w m.env)} (plan.home m.function d) x [] h (fine.homes m.function d) fits
-      (λ c1 got. runs_nothing s plan.private Then (λ k p shows.
+      let run = runs_keep s plan variables fine ToNext {d = Went (form.put true v w m.env)} (plan.home m.function d) x [] h (fine.homes m.function d) fits
+      (λ c1 got. runs_nothing s plan.private ToNext (λ k p shows.
       let a = (ready_gets s plan variables fine d x h got apart).agrees in
       record { contents = c1; shows = shows; agrees = record { base = a.base; variables = λ u l. a.variables u l ∙ kept_same w x u dead l; pointer = a.pointer; frame = a.frame; depth = a.depth; addresses = a.addresses; waiting = a.waiting; room = a.room; within = record { depth = a.within.depth; frame = a.within.frame } } })) in
       rw append-nil at run
@@ -413,8 +413,8 @@ module _ (s : Setting) (plan : Plan) (variables : ℕ → ℕ) (fine : Fits s pl
   pub early_runs : {c : Contents} (q : ℕ) (queue : Queue) → nat_lt q 28 ≡ false →
       ((t r : ℕ) → t < 28 → r < 28 → queue_use s.copies s.side (Computes t q r) ≡ Some (Takes queue)) → ((t r : ℕ) → t < 28 → r < 28 → queue_use s.copies s.side (Computes t r q) ≡ Some (Takes queue)) →
       Ready plan live m c → reads_once v y ≡ true → (nat_eq v d || not (live' v)) ≡ true → AreNumbers y → ((u : ℕ) → in_value y u ≡ true → nat_eq u v ≡ false → live u ≡ true) →
-      ((u : ℕ) → live' u ≡ true → u ≢ d → (live u ≡ true) × (plan.home m.function u ≢ plan.home m.function d)) → Runs s plan.private Then (early_code (plan.home m.function) q v d y) c (Take queue (λ w. Went (form.put true v w m.env)))
+      ((u : ℕ) → live' u ≡ true → u ≢ d → (live u ≡ true) × (plan.home m.function u ≢ plan.home m.function d)) → Runs s plan.private ToNext (early_code (plan.home m.function) q v d y) c (Take queue (λ w. Went (form.put true v w m.env)))
   early_runs q queue high left right h once dead numbers reads apart =
       let home = plan.home m.function d in
-      early_value s plan variables fine Then q queue (λ w. Went (form.put true v w m.env)) high left right v (register_or 5 home) y (keep home) once (register_low s plan variables fine Then (variables m.function) 5 home (fine.homes m.function d) (omega arith)) (register_plain s plan variables fine Then (variables m.function) 5 home (fine.homes m.function d) (omega arith)) h reads numbers
+      early_value s plan variables fine ToNext q queue (λ w. Went (form.put true v w m.env)) high left right v (register_or 5 home) y (keep home) once (register_low s plan variables fine ToNext (variables m.function) 5 home (fine.homes m.function d) (omega arith)) (register_plain s plan variables fine ToNext (variables m.function) 5 home (fine.homes m.function d) (omega arith)) h reads numbers
       (λ w c1 small h1 fits. early_ends w dead h1 apart fits)

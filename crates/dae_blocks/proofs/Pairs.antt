@@ -31,7 +31,7 @@ use Rattle.dae_walks.specs.Layout.{CodeAt}
 use Rattle.dae_walks.specs.Agrees.{Plan, Moment, Stands}
 use Rattle.dae_walks.specs.declared.Standing.{Standing}
 use Rattle.dae_walks.specs.declared.Standing.TheVariants.{Settled, Early, Late}
-use Rattle.dae_walks.specs.Compiled.{Exit, Exits, exit, with_env, IsWorldOf, At, ActionDone}
+use Rattle.dae_walks.specs.Compiled.{Exit, Exits, exit, with_env, IsWorldOf, At, ActionDone, Standing, Settled, Early, Late}
 use Rattle.dae_walks.proofs.LawsOfWalks.{comes_here, comes_map, does_map}
 use Rattle.dae_blocks.specs.Blocks.{value_code}
 use Rattle.dae_blocks.specs.Code.{written_last, passes_on, reads_once, taken_standing, pair_standing, if_settled, standing_behind, late_code, early_code}
@@ -41,7 +41,7 @@ use Rattle.dae_blocks.proofs.Jumps.{ready, stands_less}
 use Rattle.dae_blocks.proofs.Runs.{Runs, runs_nothing}
 use Rattle.dae_blocks.proofs.Uses.{pushes_datum_of}
 use Rattle.dae_blocks.proofs.Sent.{send_value}
-use Rattle.dae_blocks.proofs.Early.{Then, early_runs}
+use Rattle.dae_blocks.proofs.Early.{ToNext, early_runs}
 use Rattle.dae_blocks.proofs.Simple.{Around, around, simple_done}
 
 -- ---- which pairs there are
@@ -306,7 +306,7 @@ module _ (s : Setting) (plan : Plan) (variables : ℕ → ℕ) (fine : Fits s pl
         (λ apart at small few.
         let run = early_runs s plan variables fine (before (Receive v) (before (Compute d y) live' w) w) live' m v d y q queue high left right (ready s plan variables fine h.1) once dead numbers
         (λ u e ne. rw (e, ne) refl) (λ u l ne. early_apart (plan.home m.function) v d y live' w u dead apart l ne) in
-        does_map s (Then s plan variables fine (before (Receive v) (before (Compute d y) live' w) w) live' m v d y (here + length (early_code (plan.home m.function) q v d y))) (λ env p. (m.function ≡ m.function) × Stands plan live' (with_env (put true d (computed y m.frame env) env) m) (here + length (early_code (plan.home m.function) q v d y)) p)
+        does_map s (ToNext s plan variables fine (before (Receive v) (before (Compute d y) live' w) w) live' m v d y (here + length (early_code (plan.home m.function) q v d y))) (λ env p. (m.function ≡ m.function) × Stands plan live' (with_env (put true d (computed y m.frame env) env) m) (here + length (early_code (plan.home m.function) q v d y)) p)
         (length (early_code (plan.home m.function) q v d y)) most few (λ env q t. (refl, t)) (Take queue (λ z. Went (put true v z m.env))) p
         (run.from here small at p h.1.shows))
         apart at small few

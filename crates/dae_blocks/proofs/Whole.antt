@@ -1,6 +1,6 @@
 -- The code of structured actions does them, wherever it stands: an induction on the actions, in which each jump is told by
 -- the lengths of what it leads over.
-use Rattle.std.proofs.Common.{◌≡◌, ℕ, ◌+◌, ◌^◌, ◌<◌, ◌≤◌, Bool, true, false, not, ◌&&◌, ◌||◌, List, [], ◌∷◌, ◌++◌, Option, length, refl, sym, ap, subst, arith, length-append}
+use Rattle.std.proofs.Common.{◌≡◌, ℕ, ◌+◌, ◌^◌, ◌<◌, ◌≤◌, Bool, true, false, not, ◌||◌, List, [], ◌∷◌, ◌++◌, Option, length, refl, sym, ap, subst, arith, length-append}
 use Rattle.std.specs.Prelude.{nat_eq, if◌then◌else◌}
 use Rattle.std.specs.List.{AllByRecursion}
 use Rattle.dae_base.specs.declared.Queue.TheVariants.{Ld, Cq}
@@ -25,8 +25,6 @@ use Rattle.dae_ir.specs.declared.stream.Branch.TheVariants.{Silent, Tells, Hears
 use Rattle.dae_walks.specs.Walks.{Setting, Comes}
 use Rattle.dae_walks.specs.Does.{Does}
 use Rattle.dae_walks.specs.Live.{Ways, behind, reads, sets, after, before, decided, live, lives, with_all, none, turn, step_ways, body_ways}
-use Rattle.dae_walks.specs.declared.Home.{Home}
-use Rattle.dae_walks.specs.Homes.{AreApart}
 use Rattle.dae_walks.specs.Agrees.{Plan, Moment, Stands}
 use Rattle.dae_walks.specs.declared.Standing.{Standing}
 use Rattle.dae_walks.specs.declared.Standing.TheVariants.{Settled, Early, Late}
@@ -36,13 +34,12 @@ use Rattle.dae_walks.specs.Layout.{CodeAt}
 use Rattle.dae_blocks.specs.Blocks.{value_code, jump_words, jump_over, jump_back}
 use Rattle.dae_blocks.specs.Code.{written_last, action_code, branch_code, does_nothing, past_code, standing_behind, early_code, block_code, code_of}
 use Rattle.dae_blocks.specs.Fits.{Fits}
-use Rattle.dae_blocks.specs.Wanted.{AreNumbers, IsWanted, IsWantedBranch, IsPlanOf, IsRight}
+use Rattle.dae_blocks.specs.Wanted.{IsWanted, IsWantedBranch, IsPlanOf, IsRight}
 use Rattle.dae_blocks.proofs.Runs.{code_take, code_drop}
-use Rattle.dae_blocks.proofs.Actions.{To}
 use Rattle.dae_blocks.proofs.Uses.{takes_load_left, takes_load_right, takes_copy_left, takes_copy_right}
 use Rattle.dae_blocks.proofs.Simple.{IsSimple, around, e_side, simple_done}
 use Rattle.dae_blocks.proofs.Pairs.{passed_on, by_pairs, entered_at, Suits, suits_behind, AreLateNumbers, late_first, late_second, late_sent, early_first, early_second}
-use Rattle.dae_blocks.proofs.Jumps.{goes_if, jump_long, back_long, hears_some, ready, leads_over, turns_over, turns_back, stands_less, silent_done, tells_done, hears_done}
+use Rattle.dae_blocks.proofs.Jumps.{goes_if, jump_long, back_long, hears_some, leads_over, turns_over, turns_back, stands_less, silent_done, tells_done, hears_done}
 
 -- parts of a list of places
 all_left : (P : VariableSet → Type 0) (xs ys : List VariableSet) → AllByRecursion P (xs ++ ys) → AllByRecursion P xs
@@ -84,8 +81,8 @@ module _ (s : Setting) (plan : Plan) (variables : ℕ → ℕ) (fine : Fits s pl
       ActionDone s plan program entries most widest f a (exit here (before a k (ways_of x))) (exit (here + length (block_of f a k leaves skips)) k) x
 
   module _ (blocks : (f : ℕ) (a : Action) (live : VariableSet) (leaves skips : List Inst) → IsSimple a → length (action_code plan variables f a live leaves skips) ≤ most)
-      (pairs : (f q v d : ℕ) (y : Value) → length (early_code (plan.home f) q v d y) ≤ most)
-      (sends : (f : ℕ) (y : Value) → length (value_code (plan.home f) 30 y) ≤ most)
+      (early_short : (f q v d : ℕ) (y : Value) → length (early_code (plan.home f) q v d y) ≤ most)
+      (sent_short : (f : ℕ) (y : Value) → length (value_code (plan.home f) 30 y) ≤ most)
       (branches : (f : ℕ) (b : Branch) (way : Bool) (n : ℕ) → length (branch_code (plan.home f) short b way n) + 2 ≤ most)
       (calls : (f g : ℕ) (v : Option ℕ) (xs : List Argument) (k : VariableSet) (x : Exits) (leaves skips here : ℕ) → Stood f (Call v g xs) k (ways_of x) leaves skips here → Done' f (Call v g xs) k x leaves skips here)
       (returns : (f : ℕ) (y : Option Operand) (k : VariableSet) (x : Exits) (leaves skips here : ℕ) → Stood f (Return y) k (ways_of x) leaves skips here → Done' f (Return y) k x leaves skips here)
@@ -145,8 +142,8 @@ module _ (s : Setting) (plan : Plan) (variables : ℕ → ℕ) (fine : Fits s pl
     -- ---- actions in their lists, alone or in pairs
 
     -- the block of an action, where things stand so before it and so behind it, does it
-    abbrev Step : ℕ → Standing → Mark → Exits → ℕ → ℕ → ℕ → Action → Actions → Standing → Type 0
-    Step f standing mark x leaves skips here a k standing' =
+    abbrev StepDone : ℕ → Standing → Mark → Exits → ℕ → ℕ → ℕ → Action → Actions → Standing → Type 0
+    StepDone f standing mark x leaves skips here a k standing' =
         Suits standing (Do mark a k) (ways_of x) → AreLateNumbers standing → AreSettled x → IsWanted plan s.copies entries a → Each (IsWanted plan s.copies entries) IsWantedBranch k →
         IsRight (plan.home f) (variables f) (with_all (before a (live k (ways_of x)) (ways_of x)) (sets a)) → AllByRecursion (IsRight (plan.home f) (variables f)) (lives k (ways_of x)) →
         CodeAt s.code here (block_code plan variables f standing a standing' (live k (ways_of x)) (jump_over short leaves) (jump_over short skips)) → lo ≤ here →
@@ -157,24 +154,24 @@ module _ (s : Setting) (plan : Plan) (variables : ℕ → ℕ) (fine : Fits s pl
         (entered_at standing' k (ways_of x) (here + length (block_code plan variables f standing a standing' (live k (ways_of x)) (jump_over short leaves) (jump_over short skips)))) x
         × AreLateNumbers standing'
 
-    late_step : (f t : ℕ) (y : Value) (d : ℕ) (mark : Mark) (k : Actions) (x : Exits) (leaves skips here : ℕ) → live k (ways_of x) t ≡ false → Step f (Late t y) mark x leaves skips here (Compute d (Same (Variable t))) k Settled
+    late_step : (f t : ℕ) (y : Value) (d : ℕ) (mark : Mark) (k : Actions) (x : Exits) (leaves skips here : ℕ) → live k (ways_of x) t ≡ false → StepDone f (Late t y) mark x leaves skips here (Compute d (Same (Variable t))) k Settled
     late_step f t y d mark k x leaves skips here dead suits numbers settled wanted more right rights at low small to_leave to_skip near close = (
       late_second s plan variables fine program is_plan entries most widest f t d y (live k (ways_of x)) (ways_of x) x here dead numbers right.apart at small (blocks f (Compute d y) (live k (ways_of x)) [] [] tt),
       tt,
     )
 
-    sent_step : (f t : ℕ) (y : Value) (mark : Mark) (k : Actions) (x : Exits) (leaves skips here : ℕ) → live k (ways_of x) t ≡ false → written_last y ≡ true → Step f (Late t y) mark x leaves skips here (Datum (Variable t)) k Settled
+    sent_step : (f t : ℕ) (y : Value) (mark : Mark) (k : Actions) (x : Exits) (leaves skips here : ℕ) → live k (ways_of x) t ≡ false → written_last y ≡ true → StepDone f (Late t y) mark x leaves skips here (Datum (Variable t)) k Settled
     sent_step f t y mark k x leaves skips here dead last suits numbers settled wanted more right rights at low small to_leave to_skip near close = (
-      late_sent s plan variables fine program is_plan entries most widest f t y (live k (ways_of x)) (ways_of x) x here (e_side s plan variables fine program is_plan entries wanted.0) last dead numbers at small (sends f y),
+      late_sent s plan variables fine program is_plan entries most widest f t y (live k (ways_of x)) (ways_of x) x here (e_side s plan variables fine program is_plan entries wanted.0) last dead numbers at small (sent_short f y),
       tt,
     )
 
-    early_step : (f v : ℕ) (y : Value) (mark : Mark) (k : Actions) (x : Exits) (leaves skips here : ℕ) → Step f (Early v y) mark x leaves skips here (Compute v y) k Settled
+    early_step : (f v : ℕ) (y : Value) (mark : Mark) (k : Actions) (x : Exits) (leaves skips here : ℕ) → StepDone f (Early v y) mark x leaves skips here (Compute v y) k Settled
     early_step f v y mark k x leaves skips here suits numbers settled wanted more right rights at low small to_leave to_skip near close = (early_second s plan variables fine program is_plan entries most widest f v y (live k (ways_of x)) x here, tt)
 
-    step_done : (f : ℕ) (standing : Standing) (mark : Mark) (a : Action) (k : Actions) (x : Exits) (leaves skips here : ℕ) → Step f standing mark x leaves skips here a k (standing_behind a k (ways_of x))
+    step_done : (f : ℕ) (standing : Standing) (mark : Mark) (a : Action) (k : Actions) (x : Exits) (leaves skips here : ℕ) → StepDone f standing mark x leaves skips here a k (standing_behind a k (ways_of x))
     step_done f Settled mark a k x leaves skips here =
-        by_pairs (Step f Settled mark x leaves skips here) (ways_of x)
+        by_pairs (StepDone f Settled mark x leaves skips here) (ways_of x)
         (λ a k suits numbers settled wanted more right rights at low small to_leave to_skip near close. (
           action_done f a (live k (ways_of x)) x leaves skips here settled to_leave to_skip low near close (record { wanted = wanted; right = right; stands = at; small = small }),
           tt,
@@ -187,23 +184,23 @@ module _ (s : Setting) (plan : Plan) (variables : ℕ → ℕ) (fine : Fits s pl
           (λ n w p h world.
               (let by_e = e_side s plan variables fine program is_plan entries wanted in
               early_first s plan variables fine program is_plan entries most widest 30 Ld refl (λ t r a b. rw by_e (takes_load_left s.copies t r a b)) (λ t r a b. rw by_e (takes_load_right s.copies t r a b))
-              f v d y (live k (ways_of x)) (ways_of x) here once dead more.0 rights.0.apart at small (pairs f 30 v d y) n p h)),
+              f v d y (live k (ways_of x)) (ways_of x) here once dead more.0 rights.0.apart at small (early_short f 30 v d y) n p h)),
           tt,
         ))
         (λ v m d y k e once dead suits numbers settled wanted more right rights at low small to_leave to_skip near close. (
           (λ n w p h world.
               (let by_e = e_side s plan variables fine program is_plan entries wanted.0 in let copies = wanted.1 in
               early_first s plan variables fine program is_plan entries most widest 28 Cq refl (λ t r a b. rw (by_e, copies) (takes_copy_left t r a b)) (λ t r a b. rw (by_e, copies) (takes_copy_right t r a b))
-              f v d y (live k (ways_of x)) (ways_of x) here once dead more.0 rights.0.apart at small (pairs f 28 v d y) n p h)),
+              f v d y (live k (ways_of x)) (ways_of x) here once dead more.0 rights.0.apart at small (early_short f 28 v d y) n p h)),
           tt,
         ))
         a k
     step_done f (Late t y) mark a k x leaves skips here = λ suits.
-        subst (λ (standing : Standing). Step f (Late t y) mark x leaves skips here a k standing) (sym suits.1)
-        (passed_on (λ (b : Action). Step f (Late t y) mark x leaves skips here b k Settled) t y a suits.0 (λ d. late_step f t y d mark k x leaves skips here suits.2) (λ last. sent_step f t y mark k x leaves skips here suits.2 last)) suits
+        subst (λ (standing : Standing). StepDone f (Late t y) mark x leaves skips here a k standing) (sym suits.1)
+        (passed_on (λ (b : Action). StepDone f (Late t y) mark x leaves skips here b k Settled) t y a suits.0 (λ d. late_step f t y d mark k x leaves skips here suits.2) (λ last. sent_step f t y mark k x leaves skips here suits.2 last)) suits
     step_done f (Early v y) mark a k x leaves skips here = λ suits.
-        subst (λ (standing : Standing). Step f (Early v y) mark x leaves skips here a k standing) (sym suits.1)
-        (subst (λ (b : Action). Step f (Early v y) mark x leaves skips here b k Settled) (sym suits.0) (early_step f v y mark k x leaves skips here)) suits
+        subst (λ (standing : Standing). StepDone f (Early v y) mark x leaves skips here a k standing) (sym suits.1)
+        (subst (λ (b : Action). StepDone f (Early v y) mark x leaves skips here b k Settled) (sym suits.0) (early_step f v y mark k x leaves skips here)) suits
 
     -- ---- branches
 

@@ -45,7 +45,7 @@ use Rattle.dae_blocks.specs.Blocks.{number_code, register_or, source, operation_
 use Rattle.dae_blocks.specs.Code.{either_one, reads_once, with_home, early_code, late_code, standing_behind, block_code, action_code, branch_code, code_of, entry_code, function_code, finish_code, start_code, does_nothing, past_code, told_code, written_last}
 use Rattle.dae_uses.specs.Uses.{queue_in, action_queue, branch_queue, IsOfSide, AreOfSide, IsUntouched, LeavesAlone}
 use Rattle.dae_uses.proofs.Access.{IsPlain, plain, loads_for_e, loads_own, gives_address, pushes_datum, pushes_copy, pushes_message, takes_load, takes_own, takes_copy, takes_message, takes_load_left, takes_load_right, takes_copy_left, takes_copy_right, pushes_flag, sends_datum}
-use Rattle.dae_uses.proofs.Quiet.{immediate_form, exchanged_form, AllPlain, plain_append, number_plain, register_low, keep_plain, source_low, fetch_plain, move_is, value_plain, system_plain, stop_plain, leave_plain, call_plain, entry_plain, finish_plain, start_plain, over_plain, past_plain, back_jump_plain, branch_form, goes_plain, test_writes, Writes, tell_number_writes}
+use Rattle.dae_uses.proofs.Quiet.{immediate_form, exchanged_form, AllPlain, plain_append, number_plain, register_low, keep_plain, source_low, fetch_plain, move_is, value_plain, system_plain, stop_plain, leave_plain, call_plain, entry_plain, finish_plain, start_plain, over_plain, past_plain, back_jump_plain, branch_form, goes_plain, test_writes, Writes, tell_number_writes, test_plain}
 use Rattle.dae_blocks.specs.Sizes.{is_short}
 use Rattle.dae_blocks.proofs.LawsOfBlocks.{operation_is, passed_on, by_pairs, Suits, suits_behind}
 
@@ -247,25 +247,25 @@ module _ (plan : Plan) (variables : ℕ → ℕ) (good : (f v : ℕ) → IsHome 
 
     -- a value that goes into the queue of store data
     module _ (is : by_a' ≡ false) where
-      sends : (i : Inst) (x y : ℕ) → form_of (effect i) ≡ Computes 30 x y → x < 28 → y < 28 → Uses by_a' (Some Sd) (i ∷ [])
-      sends i x y form h k = first_uses by_a' (Some Sd) i [] (on_e i (Some Sd) is (sends_datum i x y form h k)) tt
+      send_last : (i : Inst) (x y : ℕ) → form_of (effect i) ≡ Computes 30 x y → x < 28 → y < 28 → Uses by_a' (Some Sd) (i ∷ [])
+      send_last i x y form h k = first_uses by_a' (Some Sd) i [] (on_e i (Some Sd) is (sends_datum i x y form h k)) tt
 
       send_registers : (operator : Operator) (x y : Operand) → Uses by_a' (Some Sd) (combine_registers (plan.home f) 30 operator x y)
       send_registers operator x y =
           let a = source (plan.home f) 5 x in let b = source (plan.home f) 6 y in
           behind_plain by_a' (Some Sd) (fetch (plan.home f) 5 x) _ (fetches x) (behind_plain by_a' (Some Sd) (fetch (plan.home f) 6 y) (operation_code operator 30 a b ∷ []) (fetch_plain (variables f) (plan.home f) (good f) 6 y (omega arith))
-          (sends (operation_code operator 30 a b) a b (ap form_of (operation_is operator 30 a b)) (low x) (source_low (variables f) (plan.home f) (good f) 6 y (omega arith))))
+          (send_last (operation_code operator 30 a b) a b (ap form_of (operation_is operator 30 a b)) (low x) (source_low (variables f) (plan.home f) (good f) 6 y (omega arith))))
 
       send_binary : (operator : Operator) (x y : Operand) → Uses by_a' (Some Sd) (binary_code (plan.home f) 30 operator x y)
       send_binary operator x (Number n) = by (immediate_code operator 30 (source (plan.home f) 5 x) n) refl
         where
           by : (i : Option Inst) → immediate_code operator 30 (source (plan.home f) 5 x) n ≡ i → Uses by_a' (Some Sd) (behind_or (fetch (plan.home f) 5 x) i (combine_registers (plan.home f) 30 operator x (Number n)))
-          by (Some i) e = behind_plain by_a' (Some Sd) (fetch (plan.home f) 5 x) (i ∷ []) (fetches x) (sends i (source (plan.home f) 5 x) 0 (immediate_form operator 30 (source (plan.home f) 5 x) n i e) (low x) (omega arith))
+          by (Some i) e = behind_plain by_a' (Some Sd) (fetch (plan.home f) 5 x) (i ∷ []) (fetches x) (send_last i (source (plan.home f) 5 x) 0 (immediate_form operator 30 (source (plan.home f) 5 x) n i e) (low x) (omega arith))
           by None e = send_registers operator x (Number n)
       send_binary operator (Number n) (Variable v) = by (exchanged_code operator 30 (source (plan.home f) 5 (Variable v)) n) refl
         where
           by : (i : Option Inst) → exchanged_code operator 30 (source (plan.home f) 5 (Variable v)) n ≡ i → Uses by_a' (Some Sd) (behind_or (fetch (plan.home f) 5 (Variable v)) i (combine_registers (plan.home f) 30 operator (Number n) (Variable v)))
-          by (Some i) e = behind_plain by_a' (Some Sd) (fetch (plan.home f) 5 (Variable v)) (i ∷ []) (fetches (Variable v)) (sends i (source (plan.home f) 5 (Variable v)) 0 (exchanged_form operator 30 (source (plan.home f) 5 (Variable v)) n i e) (low (Variable v)) (omega arith))
+          by (Some i) e = behind_plain by_a' (Some Sd) (fetch (plan.home f) 5 (Variable v)) (i ∷ []) (fetches (Variable v)) (send_last i (source (plan.home f) 5 (Variable v)) 0 (exchanged_form operator 30 (source (plan.home f) 5 (Variable v)) n i e) (low (Variable v)) (omega arith))
           by None e = send_registers operator (Number n) (Variable v)
       send_binary operator (Variable u) (Variable v) = send_registers operator (Variable u) (Variable v)
 
@@ -273,8 +273,8 @@ module _ (plan : Plan) (variables : ℕ → ℕ) (good : (f v : ℕ) → IsHome 
       send_value (Same x) last = move_uses (Some Sd) 30 x (λ r imm l. on_e (Addi 30 r imm) (Some Sd) is (pushes_datum (Addi 30 r imm) r refl l))
       send_value (Binary operator x y) last = send_binary operator x y
       send_value (FrameAddress offset) last =
-          either_uses by_a' (Some Sd) (is_immediate offset) (Addi 30 3 (lower offset) ∷ []) (number_code 5 offset ++ Add 30 3 5 ∷ []) (sends (Addi 30 3 (lower offset)) 3 0 refl (omega arith) (omega arith))
-          (behind_plain by_a' (Some Sd) (number_code 5 offset) (Add 30 3 5 ∷ []) (number_plain 5 offset (omega arith)) (sends (Add 30 3 5) 3 5 refl (omega arith) (omega arith)))
+          either_uses by_a' (Some Sd) (is_immediate offset) (Addi 30 3 (lower offset) ∷ []) (number_code 5 offset ++ Add 30 3 5 ∷ []) (send_last (Addi 30 3 (lower offset)) 3 0 refl (omega arith) (omega arith))
+          (behind_plain by_a' (Some Sd) (number_code 5 offset) (Add 30 3 5 ∷ []) (number_plain 5 offset (omega arith)) (send_last (Add 30 3 5) 3 5 refl (omega arith) (omega arith)))
       send_value (Extended kind x) last = absurd (let bad : false ≡ true = last in cc)
       send_value (Holds test) last = absurd (let bad : false ≡ true = last in cc)
 
@@ -333,12 +333,12 @@ module _ (plan : Plan) (variables : ℕ → ℕ) (good : (f v : ℕ) → IsHome 
               rw (same, far) (right_uses t operator (Variable a) low')
 
       -- of what is extended or compared only the first instruction reads its sources
-      extends : (kind : LoadKind) (t : ℕ) → t < 28 → Uses by_a' o (extend_code kind t q)
-      extends I8 t low' = first_uses by_a' o (Slli t q (pos 24)) (Srai t t (pos 24) ∷ []) (left (Slli t q (pos 24)) t 0 refl low' (omega arith)) (quiet by_a' o (Srai t t (pos 24) ∷ []) ((low', low', omega arith), tt))
-      extends U8 t low' = first_uses by_a' o (Andi t q (pos 255)) [] (left (Andi t q (pos 255)) t 0 refl low' (omega arith)) tt
-      extends I16 t low' = first_uses by_a' o (Slli t q (pos 16)) (Srai t t (pos 16) ∷ []) (left (Slli t q (pos 16)) t 0 refl low' (omega arith)) (quiet by_a' o (Srai t t (pos 16) ∷ []) ((low', low', omega arith), tt))
-      extends U16 t low' = first_uses by_a' o (Slli t q (pos 16)) (Srli t t (pos 16) ∷ []) (left (Slli t q (pos 16)) t 0 refl low' (omega arith)) (quiet by_a' o (Srli t t (pos 16) ∷ []) ((low', low', omega arith), tt))
-      extends I32 t low' = first_uses by_a' o (Addi t q (pos 0)) [] (left (Addi t q (pos 0)) t 0 refl low' (omega arith)) tt
+      extend_uses : (kind : LoadKind) (t : ℕ) → t < 28 → Uses by_a' o (extend_code kind t q)
+      extend_uses I8 t low' = first_uses by_a' o (Slli t q (pos 24)) (Srai t t (pos 24) ∷ []) (left (Slli t q (pos 24)) t 0 refl low' (omega arith)) (quiet by_a' o (Srai t t (pos 24) ∷ []) ((low', low', omega arith), tt))
+      extend_uses U8 t low' = first_uses by_a' o (Andi t q (pos 255)) [] (left (Andi t q (pos 255)) t 0 refl low' (omega arith)) tt
+      extend_uses I16 t low' = first_uses by_a' o (Slli t q (pos 16)) (Srai t t (pos 16) ∷ []) (left (Slli t q (pos 16)) t 0 refl low' (omega arith)) (quiet by_a' o (Srai t t (pos 16) ∷ []) ((low', low', omega arith), tt))
+      extend_uses U16 t low' = first_uses by_a' o (Slli t q (pos 16)) (Srli t t (pos 16) ∷ []) (left (Slli t q (pos 16)) t 0 refl low' (omega arith)) (quiet by_a' o (Srli t t (pos 16) ∷ []) ((low', low', omega arith), tt))
+      extend_uses I32 t low' = first_uses by_a' o (Addi t q (pos 0)) [] (left (Addi t q (pos 0)) t 0 refl low' (omega arith)) tt
 
       left_compares : (relation : Comparison) (t r : ℕ) → t < 28 → r < 28 → Uses by_a' o (compare_code relation t q r)
       left_compares Equal t r low' plain = first_uses by_a' o (Sub t q r) (Sltiu t t (pos 1) ∷ []) (left (Sub t q r) t r refl low' plain) (quiet by_a' o (Sltiu t t (pos 1) ∷ []) ((low', low', omega arith), tt))
@@ -397,7 +397,7 @@ module _ (plan : Plan) (variables : ℕ → ℕ) (good : (f v : ℕ) → IsHome 
           let same : nat_eq a v ≡ true = grind (arith, nat_tests) in
           rw same (first_uses by_a' o (Addi t q (pos 0)) [] (left (Addi t q (pos 0)) t 0 refl low' (omega arith)) tt)
       early_value v t (Same (Number n)) once low' = absurd (let bad : false ≡ true = once in cc)
-      early_value v t (Extended kind (Variable a)) once low' = let same : nat_eq a v ≡ true = grind (arith, nat_tests) in rw same (extends kind t low')
+      early_value v t (Extended kind (Variable a)) once low' = let same : nat_eq a v ≡ true = grind (arith, nat_tests) in rw same (extend_uses kind t low')
       early_value v t (Extended kind (Number n)) once low' = absurd (let bad : false ≡ true = once in cc)
       early_value v t (Binary operator x y) once low' = early_binary v t operator x y once low'
       early_value v t (Holds test) once low' = early_test v t test.comparison test.left test.right once low'
