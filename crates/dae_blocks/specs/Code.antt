@@ -89,6 +89,7 @@ branch_code home short Hears way n = goes_code short (one_way way NotEqual) 29 0
 
 -- ---- peephole: two adjacent actions by one block
 
+-- one of the two, and not both
 abbrev pub either_one : Bool → Bool → Bool
 either_one true other = not other
 either_one false other = other
@@ -132,7 +133,8 @@ abbrev pub if_settled : Standing → Standing → Standing
 if_settled Settled standing = standing
 if_settled other standing = Settled
 
--- how things stand behind an action, before the rest of its list. An action is in one pair at most, and the last two come first
+-- how things stand behind an action, before the rest of its list. Where the next action is in a pair with the one behind it,
+-- this action is in none
 abbrev pub standing_behind : Action → Actions → Ways → Standing
 standing_behind a (Do m b k) x = if_settled (standing_behind b k x) (pair_standing a b (live k x))
 standing_behind a code x = Settled
