@@ -31,7 +31,7 @@ use Rattle.dae_walks.specs.Layout.{CodeAt}
 use Rattle.dae_walks.specs.Agrees.{Plan, Moment, Stands}
 use Rattle.dae_walks.specs.declared.Standing.{Standing}
 use Rattle.dae_walks.specs.declared.Standing.TheVariants.{Settled, Early, Late}
-use Rattle.dae_walks.specs.Compiled.{Exit, Exits, exit, with_env, IsWorldOf, At, ActionDone, Standing, Settled, Early, Late}
+use Rattle.dae_walks.specs.Compiled.{Exit, Exits, exit, with_env, IsWorldOf, At, ActionDone}
 use Rattle.dae_walks.proofs.LawsOfWalks.{comes_here, comes_map, does_map}
 use Rattle.dae_blocks.specs.Blocks.{value_code}
 use Rattle.dae_blocks.specs.Code.{written_last, passes_on, reads_once, taken_standing, pair_standing, if_settled, standing_behind, late_code, early_code}
