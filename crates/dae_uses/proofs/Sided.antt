@@ -40,12 +40,13 @@ use Rattle.dae_walks.specs.Homes.{IsHome}
 use Rattle.dae_walks.specs.declared.Standing.{Standing}
 use Rattle.dae_walks.specs.declared.Standing.TheVariants.{Settled, Early, Late}
 use Rattle.dae_walks.specs.Live.{Ways, none, in_operand, live, behind, body_ways, step_ways, nowhere}
+use Rattle.dae_walks.specs.Multiples.{unknown, is_multiple, multiples_behind, is_placed}
 use Rattle.dae_walks.specs.Agrees.{Plan}
-use Rattle.dae_blocks.specs.Blocks.{number_code, register_or, source, operation_code, immediate_code, exchanged_code, behind_or, combine_registers, binary_code, value_code, fetch, move_code, keep, test_code, call_number, issue_code, address_code, take_code, fail_code, over, align_code, room_code, check_code, hear_code, jump_over, jump_back, leave_code, jump_words, branch_inst, opposite, one_way, goes_by, goes_code, frames_room_code, lower, is_immediate, tell_number_code, against_zero, immediate_of, extend_code, compare_code, takes_number, compare_number_code, compare_registers, compare_operands}
-use Rattle.dae_blocks.specs.Code.{either_one, reads_once, with_home, early_code, late_code, standing_behind, block_code, action_code, branch_code, code_of, entry_code, function_code, finish_code, start_code, does_nothing, past_code, told_code, written_last}
+use Rattle.dae_blocks.specs.Blocks.{number_code, register_or, source, operation_code, immediate_code, exchanged_code, behind_or, combine_registers, binary_code, value_code, fetch, move_code, keep, test_code, call_number, issue_code, address_code, take_code, fail_code, over, align_code, bounds_code, room_code, check_code, hear_code, jump_over, jump_back, leave_code, jump_words, branch_inst, opposite, one_way, goes_by, goes_code, frames_room_code, lower, is_immediate, tell_number_code, against_zero, immediate_of, extend_code, compare_code, takes_number, compare_number_code, compare_registers, compare_operands}
+use Rattle.dae_blocks.specs.Code.{either_one, reads_once, with_home, early_code, late_code, standing_behind, placed_code, block_code, action_code, branch_code, code_of, entry_code, function_code, finish_code, start_code, does_nothing, past_code, told_code, written_last}
 use Rattle.dae_uses.specs.Uses.{queue_in, action_queue, branch_queue, IsOfSide, AreOfSide, IsUntouched, LeavesAlone}
 use Rattle.dae_uses.proofs.Access.{IsPlain, plain, loads_for_e, loads_own, gives_address, pushes_datum, pushes_copy, pushes_message, takes_load, takes_own, takes_copy, takes_message, takes_load_left, takes_load_right, takes_copy_left, takes_copy_right, pushes_flag, sends_datum}
-use Rattle.dae_uses.proofs.Quiet.{immediate_form, exchanged_form, AllPlain, plain_append, number_plain, register_low, keep_plain, source_low, fetch_plain, move_is, value_plain, system_plain, stop_plain, leave_plain, call_plain, entry_plain, finish_plain, start_plain, over_plain, past_plain, back_jump_plain, branch_form, goes_plain, test_writes, Writes, tell_number_writes, test_plain}
+use Rattle.dae_uses.proofs.Quiet.{immediate_form, exchanged_form, AllPlain, plain_append, number_plain, register_low, keep_plain, source_low, fetch_plain, move_is, value_plain, system_plain, stop_plain, leave_plain, call_plain, entry_plain, finish_plain, start_plain, over_plain, past_plain, back_jump_plain, branch_form, goes_plain, test_writes, Writes, tell_number_writes}
 use Rattle.dae_blocks.specs.Sizes.{is_short}
 use Rattle.dae_blocks.proofs.LawsOfBlocks.{operation_is, passed_on, by_pairs, Suits, suits_behind}
 
@@ -196,13 +197,19 @@ module _ (plan : Plan) (variables : ℕ → ℕ) (good : (f v : ℕ) → IsHome 
     take_uses : (o : Option Queue) (q v : ℕ) → queue_in (side by_a') (Addi (register_or 5 (plan.home f v)) q (pos 0)) ≡ o → Uses by_a' o (take_code q (plan.home f v))
     take_uses o q v h = first_uses by_a' o (Addi (register_or 5 (plan.home f v)) q (pos 0)) (keep (plan.home f v)) h (quiet by_a' o (keep (plan.home f v)) (keep_plain (plan.home f v)))
 
+    bounds_uses : (width : Width) (x : Operand) → Uses by_a' (Some (told_on by_a')) (bounds_code width (source (plan.home f) 5 x))
+    bounds_uses width x =
+        next_uses by_a' (Some (told_on by_a')) (Addi 6 (source (plan.home f) 5 x) (negsuc (16 - size width))) (Bltu 6 4 (pos 12) ∷ fail_code true 2) (omega arith, low x, omega arith)
+        (next_uses by_a' (Some (told_on by_a')) (Bltu 6 4 (pos 12)) (fail_code true 2) (omega arith, omega arith, omega arith) (fail_uses by_a' true 2))
+
+    placed_uses : (width : Width) (x : Operand) → Uses by_a' (Some (told_on by_a')) (placed_code (plan.home f) (Probe (Place width x)))
+    placed_uses width x = behind_plain by_a' (Some (told_on by_a')) (fetch (plan.home f) 5 x) (bounds_code width (source (plan.home f) 5 x)) (fetches x) (bounds_uses width x)
+
     check_uses : (check : Check) → Uses by_a' (Some (told_on by_a')) (check_code plan f check)
     check_uses (Place width x) =
         let r : ℕ = source (plan.home f) 5 x in
-        let last : List Inst = Bltu 6 4 (pos 12) ∷ fail_code true 2 in
-        let ends : Uses by_a' (Some (told_on by_a')) last = next_uses by_a' (Some (told_on by_a')) (Bltu 6 4 (pos 12)) (fail_code true 2) (omega arith, omega arith, omega arith) (fail_uses by_a' true 2) in
-        behind_plain by_a' (Some (told_on by_a')) (fetch (plan.home f) 5 x) (align_code width r ++ Addi 6 r (negsuc (16 - size width)) ∷ last) (fetches x)
-        (behind_only by_a' (Some (told_on by_a')) (align_code width r) (Addi 6 r (negsuc (16 - size width)) ∷ last) (align_only by_a' width r (low x)) (next_uses by_a' (Some (told_on by_a')) (Addi 6 r (negsuc (16 - size width))) last (omega arith, low x, omega arith) ends))
+        behind_plain by_a' (Some (told_on by_a')) (fetch (plan.home f) 5 x) (align_code width r ++ bounds_code width r) (fetches x)
+        (behind_only by_a' (Some (told_on by_a')) (align_code width r) (bounds_code width r) (align_only by_a' width r (low x)) (bounds_uses width x))
     check_uses (Zero x) =
         behind_plain by_a' (Some (told_on by_a')) (fetch (plan.home f) 5 x) (Bne (source (plan.home f) 5 x) 0 (over by_a') ∷ fail_code by_a' 1) (fetches x)
         (next_uses by_a' (Some (told_on by_a')) (Bne (source (plan.home f) 5 x) 0 (over by_a')) (fail_code by_a' 1) (omega arith, low x, omega arith) (fail_uses by_a' by_a' 1))
@@ -334,35 +341,35 @@ module _ (plan : Plan) (variables : ℕ → ℕ) (good : (f v : ℕ) → IsHome 
 
       -- of what is extended or compared only the first instruction reads its sources
       extend_uses : (kind : LoadKind) (t : ℕ) → t < 28 → Uses by_a' o (extend_code kind t q)
-      extend_uses I8 t low' = first_uses by_a' o (Slli t q (pos 24)) (Srai t t (pos 24) ∷ []) (left (Slli t q (pos 24)) t 0 refl low' (omega arith)) (quiet by_a' o (Srai t t (pos 24) ∷ []) ((low', low', omega arith), tt))
+      extend_uses I8 t low' = first_uses by_a' o (Slli 7 q (pos 24)) (Srai t 7 (pos 24) ∷ []) (left (Slli 7 q (pos 24)) 7 0 refl (omega arith) (omega arith)) (quiet by_a' o (Srai t 7 (pos 24) ∷ []) ((low', omega arith, omega arith), tt))
       extend_uses U8 t low' = first_uses by_a' o (Andi t q (pos 255)) [] (left (Andi t q (pos 255)) t 0 refl low' (omega arith)) tt
-      extend_uses I16 t low' = first_uses by_a' o (Slli t q (pos 16)) (Srai t t (pos 16) ∷ []) (left (Slli t q (pos 16)) t 0 refl low' (omega arith)) (quiet by_a' o (Srai t t (pos 16) ∷ []) ((low', low', omega arith), tt))
-      extend_uses U16 t low' = first_uses by_a' o (Slli t q (pos 16)) (Srli t t (pos 16) ∷ []) (left (Slli t q (pos 16)) t 0 refl low' (omega arith)) (quiet by_a' o (Srli t t (pos 16) ∷ []) ((low', low', omega arith), tt))
+      extend_uses I16 t low' = first_uses by_a' o (Slli 7 q (pos 16)) (Srai t 7 (pos 16) ∷ []) (left (Slli 7 q (pos 16)) 7 0 refl (omega arith) (omega arith)) (quiet by_a' o (Srai t 7 (pos 16) ∷ []) ((low', omega arith, omega arith), tt))
+      extend_uses U16 t low' = first_uses by_a' o (Slli 7 q (pos 16)) (Srli t 7 (pos 16) ∷ []) (left (Slli 7 q (pos 16)) 7 0 refl (omega arith) (omega arith)) (quiet by_a' o (Srli t 7 (pos 16) ∷ []) ((low', omega arith, omega arith), tt))
       extend_uses I32 t low' = first_uses by_a' o (Addi t q (pos 0)) [] (left (Addi t q (pos 0)) t 0 refl low' (omega arith)) tt
 
       left_compares : (relation : Comparison) (t r : ℕ) → t < 28 → r < 28 → Uses by_a' o (compare_code relation t q r)
-      left_compares Equal t r low' plain = first_uses by_a' o (Sub t q r) (Sltiu t t (pos 1) ∷ []) (left (Sub t q r) t r refl low' plain) (quiet by_a' o (Sltiu t t (pos 1) ∷ []) ((low', low', omega arith), tt))
-      left_compares NotEqual t r low' plain = first_uses by_a' o (Sub t q r) (Sltu t 0 t ∷ []) (left (Sub t q r) t r refl low' plain) (quiet by_a' o (Sltu t 0 t ∷ []) ((low', omega arith, low'), tt))
+      left_compares Equal t r low' plain = first_uses by_a' o (Sub 7 q r) (Sltiu t 7 (pos 1) ∷ []) (left (Sub 7 q r) 7 r refl (omega arith) plain) (quiet by_a' o (Sltiu t 7 (pos 1) ∷ []) ((low', omega arith, omega arith), tt))
+      left_compares NotEqual t r low' plain = first_uses by_a' o (Sub 7 q r) (Sltu t 0 7 ∷ []) (left (Sub 7 q r) 7 r refl (omega arith) plain) (quiet by_a' o (Sltu t 0 7 ∷ []) ((low', omega arith, omega arith), tt))
       left_compares LessSigned t r low' plain = first_uses by_a' o (Slt t q r) [] (left (Slt t q r) t r refl low' plain) tt
-      left_compares AtLeastSigned t r low' plain = first_uses by_a' o (Slt t q r) (Xori t t (pos 1) ∷ []) (left (Slt t q r) t r refl low' plain) (quiet by_a' o (Xori t t (pos 1) ∷ []) ((low', low', omega arith), tt))
+      left_compares AtLeastSigned t r low' plain = first_uses by_a' o (Slt 7 q r) (Xori t 7 (pos 1) ∷ []) (left (Slt 7 q r) 7 r refl (omega arith) plain) (quiet by_a' o (Xori t 7 (pos 1) ∷ []) ((low', omega arith, omega arith), tt))
       left_compares LessUnsigned t r low' plain = first_uses by_a' o (Sltu t q r) [] (left (Sltu t q r) t r refl low' plain) tt
-      left_compares AtLeastUnsigned t r low' plain = first_uses by_a' o (Sltu t q r) (Xori t t (pos 1) ∷ []) (left (Sltu t q r) t r refl low' plain) (quiet by_a' o (Xori t t (pos 1) ∷ []) ((low', low', omega arith), tt))
+      left_compares AtLeastUnsigned t r low' plain = first_uses by_a' o (Sltu 7 q r) (Xori t 7 (pos 1) ∷ []) (left (Sltu 7 q r) 7 r refl (omega arith) plain) (quiet by_a' o (Xori t 7 (pos 1) ∷ []) ((low', omega arith, omega arith), tt))
 
       right_compares : (relation : Comparison) (t r : ℕ) → t < 28 → r < 28 → Uses by_a' o (compare_code relation t r q)
-      right_compares Equal t r low' plain = first_uses by_a' o (Sub t r q) (Sltiu t t (pos 1) ∷ []) (right (Sub t r q) t r refl low' plain) (quiet by_a' o (Sltiu t t (pos 1) ∷ []) ((low', low', omega arith), tt))
-      right_compares NotEqual t r low' plain = first_uses by_a' o (Sub t r q) (Sltu t 0 t ∷ []) (right (Sub t r q) t r refl low' plain) (quiet by_a' o (Sltu t 0 t ∷ []) ((low', omega arith, low'), tt))
+      right_compares Equal t r low' plain = first_uses by_a' o (Sub 7 r q) (Sltiu t 7 (pos 1) ∷ []) (right (Sub 7 r q) 7 r refl (omega arith) plain) (quiet by_a' o (Sltiu t 7 (pos 1) ∷ []) ((low', omega arith, omega arith), tt))
+      right_compares NotEqual t r low' plain = first_uses by_a' o (Sub 7 r q) (Sltu t 0 7 ∷ []) (right (Sub 7 r q) 7 r refl (omega arith) plain) (quiet by_a' o (Sltu t 0 7 ∷ []) ((low', omega arith, omega arith), tt))
       right_compares LessSigned t r low' plain = first_uses by_a' o (Slt t r q) [] (right (Slt t r q) t r refl low' plain) tt
-      right_compares AtLeastSigned t r low' plain = first_uses by_a' o (Slt t r q) (Xori t t (pos 1) ∷ []) (right (Slt t r q) t r refl low' plain) (quiet by_a' o (Xori t t (pos 1) ∷ []) ((low', low', omega arith), tt))
+      right_compares AtLeastSigned t r low' plain = first_uses by_a' o (Slt 7 r q) (Xori t 7 (pos 1) ∷ []) (right (Slt 7 r q) 7 r refl (omega arith) plain) (quiet by_a' o (Xori t 7 (pos 1) ∷ []) ((low', omega arith, omega arith), tt))
       right_compares LessUnsigned t r low' plain = first_uses by_a' o (Sltu t r q) [] (right (Sltu t r q) t r refl low' plain) tt
-      right_compares AtLeastUnsigned t r low' plain = first_uses by_a' o (Sltu t r q) (Xori t t (pos 1) ∷ []) (right (Sltu t r q) t r refl low' plain) (quiet by_a' o (Xori t t (pos 1) ∷ []) ((low', low', omega arith), tt))
+      right_compares AtLeastUnsigned t r low' plain = first_uses by_a' o (Sltu 7 r q) (Xori t 7 (pos 1) ∷ []) (right (Sltu 7 r q) 7 r refl (omega arith) plain) (quiet by_a' o (Xori t 7 (pos 1) ∷ []) ((low', omega arith, omega arith), tt))
 
       number_compares : (relation : Comparison) (t n : ℕ) → t < 28 → Uses by_a' o (compare_number_code relation t q n)
-      number_compares Equal t n low' = either_uses by_a' o (nat_eq n 0) (Sltiu t q (pos 1) ∷ []) (Addi t q (lower (minus 0 n)) ∷ (Sltiu t t (pos 1) ∷ [])) (first_uses by_a' o (Sltiu t q (pos 1)) [] (left (Sltiu t q (pos 1)) t 0 refl low' (omega arith)) tt) (first_uses by_a' o (Addi t q (lower (minus 0 n))) (Sltiu t t (pos 1) ∷ []) (left (Addi t q (lower (minus 0 n))) t 0 refl low' (omega arith)) (quiet by_a' o (Sltiu t t (pos 1) ∷ []) ((low', low', omega arith), tt)))
-      number_compares NotEqual t n low' = either_uses by_a' o (nat_eq n 0) (Sltu t 0 q ∷ []) (Addi t q (lower (minus 0 n)) ∷ (Sltu t 0 t ∷ [])) (first_uses by_a' o (Sltu t 0 q) [] (right (Sltu t 0 q) t 0 refl low' (omega arith)) tt) (first_uses by_a' o (Addi t q (lower (minus 0 n))) (Sltu t 0 t ∷ []) (left (Addi t q (lower (minus 0 n))) t 0 refl low' (omega arith)) (quiet by_a' o (Sltu t 0 t ∷ []) ((low', omega arith, low'), tt)))
+      number_compares Equal t n low' = either_uses by_a' o (nat_eq n 0) (Sltiu t q (pos 1) ∷ []) (Addi 7 q (lower (minus 0 n)) ∷ (Sltiu t 7 (pos 1) ∷ [])) (first_uses by_a' o (Sltiu t q (pos 1)) [] (left (Sltiu t q (pos 1)) t 0 refl low' (omega arith)) tt) (first_uses by_a' o (Addi 7 q (lower (minus 0 n))) (Sltiu t 7 (pos 1) ∷ []) (left (Addi 7 q (lower (minus 0 n))) 7 0 refl (omega arith) (omega arith)) (quiet by_a' o (Sltiu t 7 (pos 1) ∷ []) ((low', omega arith, omega arith), tt)))
+      number_compares NotEqual t n low' = either_uses by_a' o (nat_eq n 0) (Sltu t 0 q ∷ []) (Addi 7 q (lower (minus 0 n)) ∷ (Sltu t 0 7 ∷ [])) (first_uses by_a' o (Sltu t 0 q) [] (right (Sltu t 0 q) t 0 refl low' (omega arith)) tt) (first_uses by_a' o (Addi 7 q (lower (minus 0 n))) (Sltu t 0 7 ∷ []) (left (Addi 7 q (lower (minus 0 n))) 7 0 refl (omega arith) (omega arith)) (quiet by_a' o (Sltu t 0 7 ∷ []) ((low', omega arith, omega arith), tt)))
       number_compares LessSigned t n low' = first_uses by_a' o (Slti t q (lower n)) [] (left (Slti t q (lower n)) t 0 refl low' (omega arith)) tt
-      number_compares AtLeastSigned t n low' = first_uses by_a' o (Slti t q (lower n)) (Xori t t (pos 1) ∷ []) (left (Slti t q (lower n)) t 0 refl low' (omega arith)) (quiet by_a' o (Xori t t (pos 1) ∷ []) ((low', low', omega arith), tt))
+      number_compares AtLeastSigned t n low' = first_uses by_a' o (Slti 7 q (lower n)) (Xori t 7 (pos 1) ∷ []) (left (Slti 7 q (lower n)) 7 0 refl (omega arith) (omega arith)) (quiet by_a' o (Xori t 7 (pos 1) ∷ []) ((low', omega arith, omega arith), tt))
       number_compares LessUnsigned t n low' = first_uses by_a' o (Sltiu t q (lower n)) [] (left (Sltiu t q (lower n)) t 0 refl low' (omega arith)) tt
-      number_compares AtLeastUnsigned t n low' = first_uses by_a' o (Sltiu t q (lower n)) (Xori t t (pos 1) ∷ []) (left (Sltiu t q (lower n)) t 0 refl low' (omega arith)) (quiet by_a' o (Xori t t (pos 1) ∷ []) ((low', low', omega arith), tt))
+      number_compares AtLeastUnsigned t n low' = first_uses by_a' o (Sltiu 7 q (lower n)) (Xori t 7 (pos 1) ∷ []) (left (Sltiu 7 q (lower n)) 7 0 refl (omega arith) (omega arith)) (quiet by_a' o (Xori t 7 (pos 1) ∷ []) ((low', omega arith, omega arith), tt))
 
       left_test : (t : ℕ) (relation : Comparison) (y : Operand) → t < 28 → Uses by_a' o (fetch (plan.home f) 6 y ++ compare_code relation t q (source (plan.home f) 6 y))
       left_test t relation y low' = behind_plain by_a' o (fetch (plan.home f) 6 y) _ (fetch_plain (variables f) (plan.home f) (good f) 6 y (omega arith)) (left_compares relation t (source (plan.home f) 6 y) low' (low_of 6 y (omega arith)))
@@ -406,19 +413,30 @@ module _ (plan : Plan) (variables : ℕ → ℕ) (good : (f v : ℕ) → IsHome 
       early_uses : (v d : ℕ) (y : Value) → reads_once v y ≡ true → Uses by_a' o (early_code (plan.home f) q v d y)
       early_uses v d y once = before_plain by_a' o (value_code (Instead v) (register_or 5 (plan.home f d)) y) (keep (plan.home f d)) (early_value v (register_or 5 (plan.home f d)) y once (home_low d)) (keep_plain (plan.home f d))
 
+    -- the block of an action alone
+    placed_or_not : (short placed : Bool) (width : Width) (x : Operand) (live : VariableSet) (leaves skips : ℕ) → IsOfSide by_a' (Probe (Place width x)) →
+        Uses by_a' (Some (told_on by_a')) (if placed then placed_code (plan.home f) (Probe (Place width x)) else action_code plan variables f (Probe (Place width x)) live (jump_over short leaves) (jump_over short skips))
+    placed_or_not short true width x live leaves skips is = placed_uses width x
+    placed_or_not short false width x live leaves skips is = action_uses short (Probe (Place width x)) live leaves skips is
+
+    alone_uses : (short : Bool) (known : VariableSet) (a : Action) (live : VariableSet) (leaves skips : ℕ) → IsOfSide by_a' a →
+        Uses by_a' (action_queue by_a' a) (if is_placed known a then placed_code (plan.home f) a else action_code plan variables f a live (jump_over short leaves) (jump_over short skips))
+    alone_uses short known (Probe (Place width x)) live leaves skips is = placed_or_not short (is_multiple known x) width x live leaves skips is
+    alone_uses short known a live leaves skips is = action_uses short a live leaves skips is
+
     -- the block of an action, where things stand so before it and so behind it
-    block_uses : (short : Bool) (standing : Standing) (m : Mark) (x : Ways) (leaves skips : ℕ) (a : Action) (k : Actions) → Suits standing (Do m a k) x → IsOfSide by_a' a →
-        Uses by_a' (action_queue by_a' a) (block_code plan variables f standing a (standing_behind a k x) (live k x) (jump_over short leaves) (jump_over short skips))
-    block_uses short Settled m x leaves skips a k suits is =
-        by_pairs (λ (a : Action) (k : Actions) (standing : Standing). IsOfSide by_a' a → Uses by_a' (action_queue by_a' a) (block_code plan variables f Settled a standing (live k x) (jump_over short leaves) (jump_over short skips))) x
-        (λ a k is. action_uses short a (live k x) leaves skips is)
+    block_uses : (short : Bool) (known : VariableSet) (standing : Standing) (m : Mark) (x : Ways) (leaves skips : ℕ) (a : Action) (k : Actions) → Suits standing (Do m a k) x → IsOfSide by_a' a →
+        Uses by_a' (action_queue by_a' a) (block_code plan variables f (is_placed known a) standing a (standing_behind a k x) (live k x) (jump_over short leaves) (jump_over short skips))
+    block_uses short known Settled m x leaves skips a k suits is =
+        by_pairs (λ (a : Action) (k : Actions) (standing : Standing). IsOfSide by_a' a → Uses by_a' (action_queue by_a' a) (block_code plan variables f (is_placed known a) Settled a standing (live k x) (jump_over short leaves) (jump_over short skips))) x
+        (λ a k is. alone_uses short known a (live k x) leaves skips is)
         (λ t y n b k e passes dead is. no_queue by_a' [] tt)
         (λ v n d y k e once dead is. early_uses (Some Ld) 30 (λ i t r form a b. on_e i (Some Ld) is (takes_load_left i t r form a b)) (λ i t r form a b. on_e i (Some Ld) is (takes_load_right i t r form a b)) v d y once)
         (λ v n d y k e once dead is. early_uses (Some Cq) 28 (λ i t r form a b. on_e i (Some Cq) is (takes_copy_left i t r form a b)) (λ i t r form a b. on_e i (Some Cq) is (takes_copy_right i t r form a b)) v d y once)
         a k is
-    block_uses short (Late t y) m x leaves skips a k suits is =
+    block_uses short known (Late t y) m x leaves skips a k suits is =
         passed_on (λ (b : Action). IsOfSide by_a' b → Uses by_a' (action_queue by_a' b) (late_code (plan.home f) b y)) t y a suits.0 (λ d is. action_uses short (Compute d y) none 0 0 tt) (λ last is. send_value is y last) is
-    block_uses short (Early v y) m x leaves skips a k suits is = subst (λ (b : Action). Uses by_a' (action_queue by_a' b) []) (sym suits.0) (no_queue by_a' [] tt)
+    block_uses short known (Early v y) m x leaves skips a k suits is = subst (λ (b : Action). Uses by_a' (action_queue by_a' b) []) (sym suits.0) (no_queue by_a' [] tt)
 
     -- a branch on what is heard
     hears : (t short : Bool) (relation : Comparison) (n : ℕ) → Uses by_a' (Some (heard_on by_a')) (goes_by t short relation 29 0 n)
@@ -455,30 +473,30 @@ module _ (plan : Plan) (variables : ℕ → ℕ) (good : (f v : ℕ) → IsHome 
       abbrev Both : Actions → List Inst → Type 0
       Both code is = (LeavesAlone by_a' q is → IsUntouched by_a' q code) × (IsUntouched by_a' q code → LeavesAlone by_a' q is)
 
-      code_both : (short : Bool) (standing : Standing) (code : Actions) (x : Ways) (leaves skips : ℕ) → Suits standing code x → AreOfSide by_a' code → Both code (code_of short plan variables f standing code x leaves skips)
-      code_both short standing Done x leaves skips suits is = ((λ h. tt), (λ h. tt))
-      code_both short standing (Do m a k) x leaves skips suits is =
+      code_both : (short : Bool) (standing : Standing) (known : VariableSet) (code : Actions) (x : Ways) (leaves skips : ℕ) → Suits standing code x → AreOfSide by_a' code → Both code (code_of short plan variables f standing known code x leaves skips)
+      code_both short standing known Done x leaves skips suits is = ((λ h. tt), (λ h. tt))
+      code_both short standing known (Do m a k) x leaves skips suits is =
           let standing' = standing_behind a k x in
-          let rest = code_of short plan variables f standing' k x leaves skips in
-          let here = block_code plan variables f standing a standing' (live k x) (jump_over short (length rest + leaves)) (jump_over short (length rest + skips)) in
-          let uses = block_uses short standing m x (length rest + leaves) (length rest + skips) a k suits is.0 in
-          let more = code_both short standing' k x leaves skips (suits_behind a k x) is.1 in (
+          let rest = code_of short plan variables f standing' (multiples_behind a known) k x leaves skips in
+          let here = block_code plan variables f (is_placed known a) standing a standing' (live k x) (jump_over short (length rest + leaves)) (jump_over short (length rest + skips)) in
+          let uses = block_uses short known standing m x (length rest + leaves) (length rest + skips) a k suits is.0 in
+          let more = code_both short standing' (multiples_behind a known) k x leaves skips (suits_behind a k x) is.1 in (
             (λ alone. let two = alone_split by_a' q here rest alone in ((λ e. uses.some q e two.0), more.0 two.1)),
             (λ free. alone_append by_a' q here rest (others_alone by_a' (action_queue by_a' a) q here uses.only free.0) (more.1 free.1)),
           )
-      code_both short standing (If m b p r k) x leaves skips suits is =
+      code_both short standing known (If m b p r k) x leaves skips suits is =
           let none = does_nothing p in
-          let rest = code_of short plan variables f Settled k x leaves skips in
-          let second = code_of short plan variables f Settled r (behind (live k x) x) (length rest + leaves) (length rest + skips) in
+          let rest = code_of short plan variables f Settled unknown k x leaves skips in
+          let second = code_of short plan variables f Settled unknown r (behind (live k x) x) (length rest + leaves) (length rest + skips) in
           let past = past_code short (none || does_nothing r) (length second) in
           let far = length past + length second + length rest in
-          let first = code_of short plan variables f Settled p (behind (live k x) x) (far + leaves) (far + skips) in
+          let first = code_of short plan variables f Settled unknown p (behind (live k x) x) (far + leaves) (far + skips) in
           let n = if none then length second else length first + length past in
           let decides = branch_code (plan.home f) short b none n in
           let uses = branch_uses short b none n in
-          let one = code_both short Settled p (behind (live k x) x) (far + leaves) (far + skips) tt is.1 in
-          let two = code_both short Settled r (behind (live k x) x) (length rest + leaves) (length rest + skips) tt is.2 in
-          let more = code_both short Settled k x leaves skips tt is.3 in (
+          let one = code_both short Settled unknown p (behind (live k x) x) (far + leaves) (far + skips) tt is.1 in
+          let two = code_both short Settled unknown r (behind (live k x) x) (length rest + leaves) (length rest + skips) tt is.2 in
+          let more = code_both short Settled unknown k x leaves skips tt is.3 in (
             (λ alone.
                 let a = alone_split by_a' q decides (first ++ (past ++ (second ++ rest))) alone in
                 let b = alone_split by_a' q first (past ++ (second ++ rest)) a.1 in
@@ -491,14 +509,14 @@ module _ (plan : Plan) (variables : ℕ → ℕ) (good : (f v : ℕ) → IsHome 
                 (alone_append by_a' q past (second ++ rest) (silent past (past_plain short (none || does_nothing r) (length second)))
                 (alone_append by_a' q second rest (two.1 free.2) (more.1 free.3))))),
           )
-      code_both short standing (Loop m body step k) x leaves skips suits is =
-          let rest = code_of short plan variables f Settled k x leaves skips in
-          let again = code_of short plan variables f Settled step (step_ways body step (live k x)) (jump_words short) 0 in
-          let turned = code_of short plan variables f Settled body (body_ways body step (live k x)) (length again + jump_words short) 0 in
+      code_both short standing known (Loop m body step k) x leaves skips suits is =
+          let rest = code_of short plan variables f Settled unknown k x leaves skips in
+          let again = code_of short plan variables f Settled unknown step (step_ways body step (live k x)) (jump_words short) 0 in
+          let turned = code_of short plan variables f Settled unknown body (body_ways body step (live k x)) (length again + jump_words short) 0 in
           let back = jump_back short (length turned + length again) in
-          let one = code_both short Settled body (body_ways body step (live k x)) (length again + jump_words short) 0 tt is.0 in
-          let two = code_both short Settled step (step_ways body step (live k x)) (jump_words short) 0 tt is.1 in
-          let more = code_both short Settled k x leaves skips tt is.2 in (
+          let one = code_both short Settled unknown body (body_ways body step (live k x)) (length again + jump_words short) 0 tt is.0 in
+          let two = code_both short Settled unknown step (step_ways body step (live k x)) (jump_words short) 0 tt is.1 in
+          let more = code_both short Settled unknown k x leaves skips tt is.2 in (
             (λ alone.
                 let a = alone_split by_a' q turned (again ++ (back ++ rest)) alone in
                 let b = alone_split by_a' q again (back ++ rest) a.1 in
@@ -513,9 +531,9 @@ module _ (plan : Plan) (variables : ℕ → ℕ) (good : (f v : ℕ) → IsHome 
       function_both : (code : Actions) → AreOfSide by_a' code → Both code (function_code plan variables f code)
       function_both code is =
           let enters = entry_code plan variables f (live code nowhere) in
-          let does = code_of (is_short code) plan variables f Settled code nowhere 0 0 in
+          let does = code_of (is_short code) plan variables f Settled unknown code nowhere 0 0 in
           let leaves = leave_code (plan.home f) (Some (Number 0)) in
-          let both = code_both (is_short code) Settled code nowhere 0 0 tt is in (
+          let both = code_both (is_short code) Settled unknown code nowhere 0 0 tt is in (
             (λ alone. both.0 (alone_split by_a' q does leaves (alone_split by_a' q enters (does ++ leaves) alone).1).0),
             (λ free. alone_append by_a' q enters (does ++ leaves) (silent enters (entry_plain plan variables good f (live code nowhere)))
                 (alone_append by_a' q does leaves (both.1 free) (silent leaves (leave_plain (variables f) (plan.home f) (good f) (Some (Number 0)))))),
