@@ -64,12 +64,12 @@ computed_one known frame env (FrameAddress offset) h e = absurd cc
 -- ---- actions
 
 -- a variable that gets any word
-forgotten : (known : VariableSet) (env : Env) (v y : ℕ) → AreMultiples known env → AreMultiples (λ u. not (nat_eq u v) && known u) (put true v y env)
-forgotten known env v y h u = by (nat_eq u v)
+forgotten : (known : VariableSet) (env : Env) (v y : ℕ) → AreMultiples known env → AreMultiples (λ u. known u && not (nat_eq u v)) (put true v y env)
+forgotten known env v y h u e = let two = and_true (known u) (not (nat_eq u v)) e in by (nat_eq u v) two.0 two.1
   where
-    by : (c : Bool) → (not c && known u) ≡ true → (if (true && c) then y else env u) % 4 ≡ 0
-    by true e = absurd cc
-    by false e = h u e
+    by : (c : Bool) → known u ≡ true → not c ≡ true → (if (true && c) then y else env u) % 4 ≡ 0
+    by true k n = absurd cc
+    by false k n = h u k
 
 pub deed_multiples : (p : Program) (by_a : Bool) (a : Action) (w : World) (env : Env) (known : VariableSet) → AreMultiples known env → LeavesOnly (AreMultiples (multiples_behind a known)) (deed p by_a a w env)
 deed_multiples p by_a (Compute v x) w env known h = λ u. by u (nat_eq u v)

@@ -42,9 +42,9 @@ makes_multiple known value = false
 -- those that are multiples behind an action, where these are before it. What a call leaves isn't looked at
 abbrev pub multiples_behind : Action → VariableSet → VariableSet
 multiples_behind (Compute v x) known u = if nat_eq u v then makes_multiple known x else known u
-multiples_behind (Own v kind x) known u = not (nat_eq u v) && known u
-multiples_behind (Receive v) known u = not (nat_eq u v) && known u
-multiples_behind (Accept v) known u = not (nat_eq u v) && known u
+multiples_behind (Own v kind x) known u = known u && not (nat_eq u v)
+multiples_behind (Receive v) known u = known u && not (nat_eq u v)
+multiples_behind (Accept v) known u = known u && not (nat_eq u v)
 multiples_behind (Call v f xs) known u = false
 multiples_behind a known u = known u
 
