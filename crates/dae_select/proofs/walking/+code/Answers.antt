@@ -1,5 +1,5 @@
-use Rattle.std.proofs.Common.{◌≡◌, ℕ, ◌+◌, ◌-◌, ◌*◌, ◌<◌, Bool, ◌||◌, List, length, refl, ap, ◌∙◌, subst, arith}
-use Rattle.std.specs.Prelude.{Option, drop, if◌then◌else◌}
+use Rattle.std.proofs.Common.{◌≡◌, ℕ, suc, ◌+◌, ◌-◌, ◌*◌, ◌<◌, Bool, false, ◌||◌, List, length, refl, ap, ◌∙◌, subst, arith}
+use Rattle.std.specs.Prelude.{Option, drop, slice_get, unwrap_or, if◌then◌else◌}
 use Rattle.std.proofs.lemmas.Result.{IfOk-weaker}
 use Rattle.dae_ir.specs.Classes.{VariableSet}
 use Rattle.dae_ir.specs.Streams.{actions_of}
@@ -13,7 +13,7 @@ use Rattle.dae_blocks.specs.Blocks.{jump_words}
 use Rattle.dae_blocks.specs.Code.{branch_code, does_nothing, past_code}
 use Rattle.dae_select.specs.Grown.{Grown, no_code, glue, acting, in_front}
 use Rattle.dae_walks.specs.declared.Standing.TheVariants.{Settled}
-use Rattle.dae_select.specs.Placed.{multiples_after, multiples_at}
+use Rattle.dae_select.specs.Placed.{multiples_after, is_placed_step, multiples_at}
 use Rattle.dae_select.specs.Growing.{IsCodeOf, step_before, standing_before}
 use Rattle.dae_select.specs.Layouts.{plan_of, variables_of}
 use Rattle.dae_select.proofs.Sizes.{deepest, first_in_if, second_in_if, first_in_loop, second_in_loop, list_below, step_below}
@@ -112,12 +112,15 @@ list_code-loop-index-preserved t c =
     let j = c.loop-index.index in let s = c.index-steps-index.result in
     let k = actions_of (drop j a.steps.now) in
     let known = multiples_at unknown a.steps.now (j - 1) in
+    let back : j ≡ suc (j - 1) = omega arith in
     let next : multiples_at unknown a.steps.now j ≡ multiples_after s known =
-    ap (multiples_at unknown a.steps.now) (omega arith) ∙ multiples_next unknown a.steps.now (j - 1) s (omega arith) c.index-steps-index.is in
+    ap (multiples_at unknown a.steps.now) back ∙ multiples_next unknown a.steps.now (j - 1) s (omega arith) c.index-steps-index.is in
     let so_far = subst (λ (m : VariableSet). IsCodeOf a.short (plan_of a.layouts.now) (variables_of a.layouts.now) a.function c.loop-index.after m a.code.now a.exits.now.leaves a.exits.now.skips x k c.loop-index.code c.loop-index.set) next c.loop-index.invariant.0 in
-    let test = c.flag_at-placed.ensures in
+    let test : c.flag_at-placed.result ≡ is_placed_step known s =
+    c.flag_at-placed.ensures ∙ ap (λ (flags : List Bool). unwrap_or (slice_get flags (j - 1)) false) (c.as_slice.ensures.value ∙ c.in_ok-flags.ensures)
+    ∙ ap (λ (flag : Option Bool). unwrap_or flag false) (flag_of unknown a.steps.now (j - 1) s (omega arith) c.index-steps-index.is) in
     let stood = c.loop-index.invariant.1 ∙ ap (λ (o : Option Step). standing_before o k x) (before_is a.steps.now j s (omega arith) (omega arith) c.index-steps-index.is) in (
       one_more a.short (plan_of a.layouts.now) (variables_of a.layouts.now) a.function a.exits.now known c.flag_at-placed.result a.steps.now j s a.code.now c.loop-index.code c.loop-index.set c.step_code.new.code c.in_ok-set.set (member a.next)
-          c.standing_between-before.result c.loop-index.after (omega arith) (omega arith) c.index-steps-index.is stood so_far c.in_ok-set.ensures,
+          c.standing_between-before.result c.loop-index.after (omega arith) (omega arith) c.index-steps-index.is stood so_far test c.in_ok-set.ensures,
       stands_before a.steps.now j s c.loop-index.set x c.standing_between-before.result c.loop-index.after (omega arith) (omega arith) c.index-steps-index.is stood so_far.live c.standing_between-before.ensures,
     )
