@@ -81,11 +81,7 @@ fn place_code(
 }
 
 /// The same where that address is a multiple of four.
-pub fn placed_code(
-    code: &mut Vec<Inst>,
-    homes: &[Home],
-    action: &Action,
-) -> Result<(), AllocError>
+pub fn placed_code(code: &mut Vec<Inst>, homes: &[Home], action: &Action) -> Result<(), AllocError>
     requires { AreNear homes.now }
     ensures { OnOk result (code.new.items ≡ code.old.items
         ++ placed_code (home_in homes.now) action.now) }

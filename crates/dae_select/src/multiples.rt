@@ -51,11 +51,7 @@ fn with_value(known: LiveSet, variable: u32, value: Value) -> Result<LiveSet, Al
 }
 
 /// The variables that are multiples of four behind an action, of those before it.
-fn multiples_behind(
-    alloc: Global,
-    known: LiveSet,
-    action: &Action,
-) -> Result<LiveSet, AllocError>
+fn multiples_behind(alloc: Global, known: LiveSet, action: &Action) -> Result<LiveSet, AllocError>
     ensures { IfOk result (λ set. member set ≡ multiples_behind action.now (member known)) }
 {
     let mut known = known;

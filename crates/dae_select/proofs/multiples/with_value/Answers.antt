@@ -9,8 +9,8 @@ pub returns : goal.returns
 returns c =
     let a = c.args in
     elim c.if-makes_multiple.branch [
-    | then-makes_multiple+in_ok-insert w ↦
-      ap member w.known-is ∙ w.in_ok-insert.ensures ∙ with_one (member a.known) a.variable (makes_multiple (member a.known) a.value) (sym c.makes_multiple.ensures ∙ w.if-makes_multiple.true)
-    | else-makes_multiple w ↦
-      ap member w.known-is ∙ w.remove.ensures ∙ without_one (member a.known) a.variable (makes_multiple (member a.known) a.value) (sym c.makes_multiple.ensures ∙ w.if-makes_multiple.false)
+      | then-makes_multiple+in_ok-insert w ↦
+          ap member w.known-is ∙ w.in_ok-insert.ensures ∙ with_one (member a.known) a.variable (makes_multiple (member a.known) a.value) (sym c.makes_multiple.ensures ∙ w.if-makes_multiple.true)
+      | else-makes_multiple w ↦
+          ap member w.known-is ∙ w.remove.ensures ∙ without_one (member a.known) a.variable (makes_multiple (member a.known) a.value) (sym c.makes_multiple.ensures ∙ w.if-makes_multiple.false)
     ]
