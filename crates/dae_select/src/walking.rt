@@ -182,8 +182,8 @@ fn block_code(
     requires taken { IsTakenBy after action.now }
     ensures { OnOk result (code.new.items ≡ code.old.items
         ++ block_code (plan_of layouts.now) (variables_of layouts.now) function placed before
-        action.now after (member live.now) (jump_over short (ahead + exits.now.leaves)) (jump_over short
-        (ahead + exits.now.skips))) }
+        action.now after (member live.now) (jump_over short (ahead + exits.now.leaves))
+        (jump_over short (ahead + exits.now.skips))) }
 {
     match (before, after) {
         (Standing::Late(_, value), _) => late_code(code, homes, action, value),
@@ -463,7 +463,8 @@ pub fn list_code(
     requires small { AreSmall layouts.now }
     ensures { IfOk result (λ set.
         IsCodeOf short (plan_of layouts.now)
-        (variables_of layouts.now) function IsSettled unknown code.old exits.now.leaves exits.now.skips (ways
+        (variables_of layouts.now) function IsSettled unknown code.old
+        exits.now.leaves exits.now.skips (ways
         (member next) (member exits.now.leaves_live) (member exits.now.skips_live))
         (actions_of steps.now) code.new set) }
 {
