@@ -22,13 +22,15 @@ use Rattle.dae_ir.specs.Programs.{side}
 use Rattle.dae_ir.specs.Deeds.{Plainly, WithStatus, WithTrap, Deed, Went, Take, Push, Say, Halts, told_on, heard_on, trapped, probed}
 use Rattle.dae_ir.specs.declared.form.Operand.{Operand}
 use Rattle.dae_ir.specs.declared.form.Check.TheVariants.{Place, Room, Frame, Abort}
+use Rattle.dae_ir.specs.declared.stream.Action.TheVariants.{Probe}
 use Rattle.dae_meaning.specs.declared.Spelling.{Spelling}
 use Rattle.dae_meaning.specs.declared.Spelling.TheVariants.{Byte, Signed, Unsigned, Hexadecimal}
 use Rattle.dae_walks.specs.Walks.{Setting}
 use Rattle.dae_walks.specs.Homes.{Contents}
 use Rattle.dae_walks.specs.Agrees.{Plan, Moment, depth_of, top_of}
 use Rattle.dae_walks.proofs.LawsOfWalks.{put, step_prints, step_ends, step_stops}
-use Rattle.dae_blocks.specs.Blocks.{check_code, source, fetch, number_code, fail_code, over, align_code, room_code, frames_room_code, call_number, system_code, hear_code}
+use Rattle.dae_blocks.specs.Blocks.{check_code, source, fetch, number_code, fail_code, over, align_code, bounds_code, room_code, frames_room_code, call_number, system_code, hear_code}
+use Rattle.dae_blocks.specs.Code.{placed_code}
 use Rattle.dae_blocks.specs.Fits.{Fits}
 use Rattle.dae_blocks.proofs.Plain.{computes, takes, pushes, put_other, branch_taken, branch_passed}
 use Rattle.dae_blocks.proofs.Frames.{plus_small, runs_number}
@@ -251,6 +253,28 @@ module _ (s : Setting) (plan : Plan) (variables : ℕ → ℕ) (fine : Fits s pl
         let r = source (plan.home m.function) 5 x in
         runs_one s plan variables fine t x (align_code width r ++ range_code r (size width)) h reads number (λ c1 h1 got.
         place_at width r (value x m.env) (source_plain s plan variables fine t m.function 5 x (omega arith)) (source_apart s plan variables fine t m.function 5 6 x (omega arith) (omega arith) (omega arith)) h1 got stays)
+
+    bounds_at : {c : Contents} (width : Width) (r a : ℕ) → a % 4 ≡ 0 → r < 28 → Ready plan live m c → c.register r ≡ a → Stays s plan variables fine live live' m →
+        Does' s plan variables fine live live' m (bounds_code width r) c (probed true (misplaced width a plan.memory) m.env)
+    unfolding misplaced
+    bounds_at B1 r a four plain h got stays =
+        let fits : a < 2 ^ 32 = (let f = h.fits r in rw got at f) in
+        let whole : nat_eq (a % 1) 0 ≡ true = grind (arith, nat_tests) in rw whole (range_done r a 1 plain h got (range_one a fits) stays)
+    bounds_at B2 r a four plain h got stays =
+        let fits : a < 2 ^ 32 = (let f = h.fits r in rw got at f) in
+        let even : a % 2 ≡ 0 = omega arith in let whole : nat_eq (a % 2) 0 ≡ true = grind (arith, nat_tests) in rw whole (range_done r a 2 plain h got (range_two a fits even) stays)
+    bounds_at B4 r a four plain h got stays =
+        let fits : a < 2 ^ 32 = (let f = h.fits r in rw got at f) in
+        let whole : nat_eq (a % 4) 0 ≡ true = grind (arith, nat_tests) in rw whole (range_done r a 4 plain h got (range_four a fits four) stays)
+
+    -- the same of an address that is a multiple of four
+    pub bounds_done : {c : Contents} (width : Width) (x : Operand) → value x m.env % 4 ≡ 0 → Ready plan live m c → Reads s plan variables fine live live' m x → IsNumber x → Stays s plan variables fine live live' m →
+        Does' s plan variables fine live live' m (placed_code (plan.home m.function) (Probe (Place width x))) c (probed true (misplaced width (value x m.env) plan.memory) m.env)
+    bounds_done width x four h reads number stays =
+        let t = To s plan variables fine live live' m in
+        let r = source (plan.home m.function) 5 x in
+        runs_one s plan variables fine t x (bounds_code width r) h reads number (λ c1 h1 got.
+        bounds_at width r (value x m.env) four (source_plain s plan variables fine t m.function 5 x (omega arith)) h1 got stays)
 
     -- the frame must begin at most at n
     room_done : {c : Contents} {d : Deed} (n : ℕ) (rest : List Inst) (bad : Bool) → n < 2 ^ 32 → bad ≡ nat_lt n m.frame → Ready plan live m c → (bad ≡ false → (c' : Contents) → Ready plan live m c' → Does' s plan variables fine live live' m rest c' d) → (bad ≡ true → d ≡ probed true (Some 4) m.env) →

@@ -57,7 +57,7 @@ flag_equals false = refl
 pub plus_zero : (x : ℕ) → x < 2 ^ 32 → plus x 0 ≡ x
 plus_zero x h = omega arith
 
-extended_fits : (kind : LoadKind) (x : ℕ) → x < 2 ^ 32 → extended kind x < 2 ^ 32
+pub extended_fits : (kind : LoadKind) (x : ℕ) → x < 2 ^ 32 → extended kind x < 2 ^ 32
 extended_fits I8 x h = grind (arith, nat_tests)
 extended_fits U8 x h = omega arith
 extended_fits I16 x h = grind (arith, nat_tests)

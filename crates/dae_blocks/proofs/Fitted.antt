@@ -1,5 +1,5 @@
 -- The code of a whole function, and the code that begins, have instructions whose fields their words can hold.
-use Rattle.std.proofs.Common.{◌≡◌, ℕ, ◌+◌, ◌-◌, ◌*◌, ◌%◌, ◌^◌, ◌<◌, Bool, true, false, ◌&&◌, List, [], ◌∷◌, ◌++◌, length, Option, Some, refl, arith, pos, negsuc, ◌||◌}
+use Rattle.std.proofs.Common.{ℕ, ◌+◌, ◌-◌, ◌*◌, ◌%◌, ◌^◌, ◌<◌, Bool, true, false, ◌&&◌, List, [], ◌∷◌, ◌++◌, length, Option, Some, arith, pos, negsuc, ◌||◌}
 use Rattle.std.specs.Prelude.{nat_eq, if◌then◌else◌}
 use Rattle.std.specs.List.{AllByRecursion}
 use Rattle.std.proofs.lemmas.Int.{ints}
@@ -22,11 +22,12 @@ use Rattle.dae_walks.specs.Homes.{IsHome, kept_at}
 use Rattle.dae_walks.specs.declared.Standing.{Standing}
 use Rattle.dae_walks.specs.declared.Standing.TheVariants.{Settled, Early, Late}
 use Rattle.dae_walks.specs.Live.{Ways, none, live, behind, body_ways, step_ways, nowhere}
+use Rattle.dae_walks.specs.Multiples.{unknown, multiples_behind, is_placed}
 use Rattle.dae_walks.specs.Agrees.{Plan}
-use Rattle.dae_blocks.specs.Blocks.{lower, is_immediate, more_code, less_code, is_register, number_code, register_or, source, fetch, keep, take_code, call_number, jump_over, jump_back, enter_code, argument_code, arguments_code, waits_at, store_code, save_code, restore_code, deeper_code, back_code, result_code, leave_code, jump_words}
-use Rattle.dae_blocks.specs.Code.{some_below, filtered, home_registers, registers_in, call_code, action_code, branch_code, standing_behind, with_home, early_code, late_code, block_code, code_of, entry_code, function_code, finish_code, start_code, does_nothing, past_code}
-use Rattle.dae_blocks.proofs.Ranges.{AllFit, fit_append, fit_either, lui_fits, jalr_fits, addi_fits, addi_small, sw_small, add_fits, number_fits, load_fits, store_fits, register_fits, fetch_fits, move_fits, keep_fits, jump_fits, over_fits, back_fits}
-use Rattle.dae_blocks.proofs.Fitting.{ecall_fits, issue_fits, address_fits, source_fits, value_fit, value_fits, take_fits, branch_fits, system_fits, stop_fits, leave_fits, result_fits, hear_fits, check_fits}
+use Rattle.dae_blocks.specs.Blocks.{lower, is_immediate, more_code, less_code, is_register, number_code, register_or, source, call_number, jump_over, jump_back, enter_code, arguments_code, waits_at, save_code, restore_code, deeper_code, back_code, leave_code, jump_words}
+use Rattle.dae_blocks.specs.Code.{some_below, filtered, home_registers, registers_in, call_code, action_code, branch_code, standing_behind, with_home, early_code, late_code, placed_code, block_code, code_of, entry_code, function_code, finish_code, start_code, does_nothing, past_code}
+use Rattle.dae_blocks.proofs.Ranges.{AllFit, fit_append, fit_either, lui_fits, jalr_fits, addi_fits, addi_small, sw_small, add_fits, number_fits, load_fits, store_fits, register_fits, fetch_fits, move_fits, keep_fits, over_fits, back_fits}
+use Rattle.dae_blocks.proofs.Fitting.{ecall_fits, issue_fits, address_fits, source_fits, value_fit, value_fits, take_fits, branch_fits, system_fits, stop_fits, leave_fits, result_fits, hear_fits, placed_fits, check_fits}
 use Rattle.dae_blocks.proofs.Pairs.{by_pairs}
 use Rattle.dae_blocks.specs.Sizes.{is_short}
 
@@ -146,40 +147,44 @@ module _ (plan : Plan) (variables : ℕ → ℕ) (good : (f v : ℕ) → IsHome 
     late_fits f t y (Datum z) = value_fits (variables f) (plan.home f) (good f) 30 y (omega arith)
     late_fits f t y a = tt
 
-    block_fits : (f : ℕ) (standing : Standing) (x : Ways) (l s : ℕ) (a : Action) (k : Actions) → AllFit (block_code plan variables f standing a (standing_behind a k x) (live k x) (jump_over short l) (jump_over short s))
-    block_fits f (Early v y) x l s a k = tt
-    block_fits f (Late t y) x l s a k = late_fits f t y a
-    block_fits f Settled x l s a k =
-        by_pairs (λ (a : Action) (k : Actions) (standing : Standing). AllFit (block_code plan variables f Settled a standing (live k x) (jump_over short l) (jump_over short s))) x
-        (λ a k. action_fits f a (live k x) l s) (λ t y m b k e passes dead. tt) (λ v m d y k e once dead. early_fits f 30 v d y (omega arith)) (λ v m d y k e once dead. early_fits f 28 v d y (omega arith)) a k
+    settled_fits : (f : ℕ) (placed : Bool) (a : Action) (live : VariableSet) (l s : ℕ) → AllFit (if placed then placed_code (plan.home f) a else action_code plan variables f a live (jump_over short l) (jump_over short s))
+    settled_fits f true a live l s = placed_fits (variables f) (plan.home f) (good f) a
+    settled_fits f false a live l s = action_fits f a live l s
+
+    block_fits : (f : ℕ) (known : VariableSet) (standing : Standing) (x : Ways) (l s : ℕ) (a : Action) (k : Actions) → AllFit (block_code plan variables f (is_placed known a) standing a (standing_behind a k x) (live k x) (jump_over short l) (jump_over short s))
+    block_fits f known (Early v y) x l s a k = tt
+    block_fits f known (Late t y) x l s a k = late_fits f t y a
+    block_fits f known Settled x l s a k =
+        by_pairs (λ (a : Action) (k : Actions) (standing : Standing). AllFit (block_code plan variables f (is_placed known a) Settled a standing (live k x) (jump_over short l) (jump_over short s))) x
+        (λ a k. settled_fits f (is_placed known a) a (live k x) l s) (λ t y m b k e passes dead. tt) (λ v m d y k e once dead. early_fits f 30 v d y (omega arith)) (λ v m d y k e once dead. early_fits f 28 v d y (omega arith)) a k
 
     past_fits : (none : Bool) (n : ℕ) → AllFit (past_code short none n)
     past_fits true n = tt
     past_fits false n = over_fits short n
 
-    pub code_fits : (f : ℕ) (standing : Standing) (code : Actions) (x : Ways) (leaves skips : ℕ) → AllFit (code_of short plan variables f standing code x leaves skips)
-    code_fits f standing Done x leaves skips = tt
-    code_fits f standing (Do m a k) x leaves skips = fit_append _ _ (block_fits f standing x _ _ a k) (code_fits f (standing_behind a k x) k x leaves skips)
-    code_fits f standing (If m b p q k) x leaves skips =
+    pub code_fits : (f : ℕ) (standing : Standing) (known : VariableSet) (code : Actions) (x : Ways) (leaves skips : ℕ) → AllFit (code_of short plan variables f standing known code x leaves skips)
+    code_fits f standing known Done x leaves skips = tt
+    code_fits f standing known (Do m a k) x leaves skips = fit_append _ _ (block_fits f known standing x _ _ a k) (code_fits f (standing_behind a k x) (multiples_behind a known) k x leaves skips)
+    code_fits f standing known (If m b p q k) x leaves skips =
         let none = does_nothing p in
-        let rest = code_of short plan variables f Settled k x leaves skips in
-        let second = code_of short plan variables f Settled q (behind (live k x) x) (length rest + leaves) (length rest + skips) in
+        let rest = code_of short plan variables f Settled unknown k x leaves skips in
+        let second = code_of short plan variables f Settled unknown q (behind (live k x) x) (length rest + leaves) (length rest + skips) in
         let past = past_code short (none || does_nothing q) (length second) in
         let far = length past + length second + length rest in
-        let first = code_of short plan variables f Settled p (behind (live k x) x) (far + leaves) (far + skips) in
+        let first = code_of short plan variables f Settled unknown p (behind (live k x) x) (far + leaves) (far + skips) in
         let n = if none then length second else length first + length past in
         fit_append (branch_code (plan.home f) short b none n) (first ++ (past ++ (second ++ rest))) (branch_fits (variables f) (plan.home f) (good f) short b none n)
-        (fit_append first (past ++ (second ++ rest)) (code_fits f Settled p (behind (live k x) x) (far + leaves) (far + skips))
+        (fit_append first (past ++ (second ++ rest)) (code_fits f Settled unknown p (behind (live k x) x) (far + leaves) (far + skips))
         (fit_append past (second ++ rest) (past_fits (none || does_nothing q) (length second))
-        (fit_append second rest (code_fits f Settled q (behind (live k x) x) (length rest + leaves) (length rest + skips)) (code_fits f Settled k x leaves skips))))
-    code_fits f standing (Loop m body step k) x leaves skips =
-        let rest = code_of short plan variables f Settled k x leaves skips in
-        let again = code_of short plan variables f Settled step (step_ways body step (live k x)) (jump_words short) 0 in
-        let turned = code_of short plan variables f Settled body (body_ways body step (live k x)) (length again + jump_words short) 0 in
+        (fit_append second rest (code_fits f Settled unknown q (behind (live k x) x) (length rest + leaves) (length rest + skips)) (code_fits f Settled unknown k x leaves skips))))
+    code_fits f standing known (Loop m body step k) x leaves skips =
+        let rest = code_of short plan variables f Settled unknown k x leaves skips in
+        let again = code_of short plan variables f Settled unknown step (step_ways body step (live k x)) (jump_words short) 0 in
+        let turned = code_of short plan variables f Settled unknown body (body_ways body step (live k x)) (length again + jump_words short) 0 in
         let back = jump_back short (length turned + length again) in
-        fit_append turned (again ++ (back ++ rest)) (code_fits f Settled body (body_ways body step (live k x)) (length again + jump_words short) 0)
-        (fit_append again (back ++ rest) (code_fits f Settled step (step_ways body step (live k x)) (jump_words short) 0)
-        (fit_append back rest (back_fits short (length turned + length again)) (code_fits f Settled k x leaves skips)))
+        fit_append turned (again ++ (back ++ rest)) (code_fits f Settled unknown body (body_ways body step (live k x)) (length again + jump_words short) 0)
+        (fit_append again (back ++ rest) (code_fits f Settled unknown step (step_ways body step (live k x)) (jump_words short) 0)
+        (fit_append back rest (back_fits short (length turned + length again)) (code_fits f Settled unknown k x leaves skips)))
 
   pub entry_fits : (f : ℕ) (live : VariableSet) → AllFit (entry_code plan variables f live)
   entry_fits f live = (sw_small 2 1 0 (omega arith) (omega arith) (omega arith), restore_fits _ (live_registers plan (variables f) f live))
@@ -187,7 +192,7 @@ module _ (plan : Plan) (variables : ℕ → ℕ) (good : (f v : ℕ) → IsHome 
   pub function_fits : (f : ℕ) (code : Actions) → AllFit (function_code plan variables f code)
   function_fits f code =
       fit_append (entry_code plan variables f (live code nowhere)) _ (entry_fits f (live code nowhere))
-      (fit_append (code_of (is_short code) plan variables f Settled code nowhere 0 0) (leave_code (plan.home f) (Some (Number 0))) (code_fits (is_short code) f Settled code nowhere 0 0) (leave_fits (variables f) (plan.home f) (good f) (Some (Number 0))))
+      (fit_append (code_of (is_short code) plan variables f Settled unknown code nowhere 0 0) (leave_code (plan.home f) (Some (Number 0))) (code_fits (is_short code) f Settled unknown code nowhere 0 0) (leave_fits (variables f) (plan.home f) (good f) (Some (Number 0))))
 
 pub finish_fits : (by_a : Bool) → AllFit (finish_code by_a)
 finish_fits true = (ecall_fits, tt)

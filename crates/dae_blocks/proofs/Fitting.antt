@@ -4,6 +4,8 @@ use Rattle.std.specs.Prelude.{nat_lt, nat_eq, if◌then◌else◌}
 use Rattle.std.proofs.lemmas.Option.{same_Some}
 use Rattle.dae_ir.specs.declared.form.Check.{Check}
 use Rattle.dae_ir.specs.declared.form.Check.TheVariants.{Place, Zero, Room, Frame, Abort}
+use Rattle.dae_ir.specs.declared.stream.Action.{Action}
+use Rattle.dae_ir.specs.declared.stream.Action.TheVariants.{Probe}
 use Rattle.dae_walks.specs.Agrees.{Plan}
 use Rattle.std.proofs.lemmas.Int.{ints}
 use Rattle.dae_base.specs.Words.{minus, size}
@@ -28,8 +30,8 @@ use Rattle.dae_ir.specs.declared.stream.Branch.{Branch}
 use Rattle.dae_ir.specs.declared.stream.Branch.TheVariants.{Silent, Tells, Hears}
 use Rattle.dae_walks.specs.declared.Home.{Home}
 use Rattle.dae_walks.specs.Homes.{IsHome}
-use Rattle.dae_blocks.specs.Blocks.{lower, is_immediate, number_code, register_or, source, fetch, move_code, operation_code, exponent, power_code, immediate_code, commutes, exchanged_code, behind_or, combine_registers, binary_code, extend_code, compare_code, takes_number, compare_number_code, compare_registers, compare_operands, test_code, frame_code, value_code, issue_code, address_code, take_code, fail_code, over, align_code, room_code, check_code, system_code, hear_code, stop_code, leave_code, result_code, branch_inst, opposite, one_way, goes_by, goes_code, frames_room_code, tell_number_code, against_zero, immediate_of}
-use Rattle.dae_blocks.specs.Code.{branch_code, told_code}
+use Rattle.dae_blocks.specs.Blocks.{lower, is_immediate, number_code, register_or, source, fetch, move_code, operation_code, exponent, power_code, immediate_code, commutes, exchanged_code, behind_or, combine_registers, binary_code, extend_code, compare_code, takes_number, compare_number_code, compare_registers, compare_operands, test_code, frame_code, value_code, issue_code, address_code, take_code, fail_code, over, align_code, bounds_code, room_code, check_code, system_code, hear_code, stop_code, leave_code, result_code, branch_inst, opposite, one_way, goes_by, goes_code, frames_room_code, tell_number_code, against_zero, immediate_of}
+use Rattle.dae_blocks.specs.Code.{placed_code, branch_code, told_code}
 use Rattle.dae_blocks.proofs.Ranges.{move_fit, AllFit, fit_append, fit_either, lower_fits, addi_fits, addi_small, lw_small, add_fits, number_fits, register_fits, fetch_fits, move_fits, keep_fits, over_fits}
 use Rattle.dae_blocks.proofs.Values.{power_of_two, is_some_where}
 
@@ -297,14 +299,18 @@ leads_fit : (b : Bool) (x : ℕ) → x < 32 → InRange (Bne x 0 (over b))
 leads_fit true x h = bne_fits x 0 12 h (omega arith) (omega arith) refl
 leads_fit false x h = bne_fits x 0 20 h (omega arith) (omega arith) refl
 
+bounds_fit : (w : Width) (x : ℕ) → x < 32 → AllFit (bounds_code w x)
+bounds_fit w x h = (addi_minus 6 x (16 - size w) (omega arith) h (omega arith), (bltu_fits 6 4 12 (omega arith) (omega arith) (omega arith) refl, fail_fits true 2 (omega arith)))
+
+pub placed_fits : (n : ℕ) (home : ℕ → Home) → ((v : ℕ) → IsHome n (home v)) → (a : Action) → AllFit (placed_code home a)
+placed_fits n home good (Probe (Place width x)) = fetched_fit n home good 5 x (bounds_code width (source home 5 x)) (omega arith) (bounds_fit width (source home 5 x) (source_fits n home good 5 x (omega arith)))
+placed_fits n home good a = tt
+
 pub check_fits : (plan : Plan) (n f : ℕ) (check : Check) → ((v : ℕ) → IsHome n (plan.home f v)) → AllFit (check_code plan f check)
 check_fits plan n f (Place width x) good =
     let r : ℕ = source (plan.home f) 5 x in
     let low = source_fits n (plan.home f) good 5 x (omega arith) in
-    let last : List Inst = Bltu 6 4 (pos 12) ∷ fail_code true 2 in
-    let ends : AllFit last = (bltu_fits 6 4 12 (omega arith) (omega arith) (omega arith) refl, fail_fits true 2 (omega arith)) in
-    let rest : AllFit (Addi 6 r (negsuc (16 - size width)) ∷ last) = (addi_minus 6 r (16 - size width) (omega arith) low (omega arith), ends) in
-    fetched_fit n (plan.home f) good 5 x (align_code width r ++ Addi 6 r (negsuc (16 - size width)) ∷ last) (omega arith) (fit_append (align_code width r) (Addi 6 r (negsuc (16 - size width)) ∷ last) (align_fits width r low) rest)
+    fetched_fit n (plan.home f) good 5 x (align_code width r ++ bounds_code width r) (omega arith) (fit_append (align_code width r) (bounds_code width r) (align_fits width r low) (bounds_fit width r low))
 check_fits plan n f (Zero x) good = fetched_fit n (plan.home f) good 5 x _ (omega arith) (leads_fit plan.by_a (source (plan.home f) 5 x) (source_fits n (plan.home f) good 5 x (omega arith)), fail_fits plan.by_a 1 (omega arith))
 check_fits plan n f (Room g) good =
     let frames : List Inst = frames_room_code plan.memory (plan.frame f + plan.frame g) in

@@ -19,6 +19,7 @@ use Rattle.dae_walks.specs.Walks.{Setting, Comes}
 use Rattle.dae_walks.specs.Does.{Does}
 use Rattle.dae_walks.specs.Layout.{CodeAt}
 use Rattle.dae_walks.specs.Live.{in_option, in_arguments, is, before}
+use Rattle.dae_walks.specs.Multiples.{unknown}
 use Rattle.dae_walks.specs.Homes.{Contents}
 use Rattle.dae_walks.specs.Agrees.{Plan, Moment, Stands, AreWaiting, IsWithin}
 use Rattle.dae_walks.specs.Compiled.{Exits, exit, ways_of, At, MainEnds, waiting_of, called, result_of, with_env, with_result}
@@ -64,7 +65,7 @@ module _ (s : Setting) (plan : Plan) (variables : ℕ → ℕ) (fine : Fits s pl
       runs_halt s plan.private to' (λ k w small here is r shows. step_ends s plan.private by_e w 0 (Status (value x m.env)) shows here is refl (omega arith) (λ q. refl)))))) in
       run.from plan.finish (omega arith) at q g.shows))
 
-  pub returns_done : (short : Bool) (f : ℕ) (y : Option Operand) (k : VariableSet) (x : Exits) (leaves' skips here : ℕ) → length (leave_code (plan.home f) y) + 3 ≤ most → Stood s plan variables fine program is_plan entries most widest short f (Return y) k (ways_of x) leaves' skips here → Done' s plan variables fine program is_plan entries most widest short f (Return y) k x leaves' skips here
+  pub returns_done : (short : Bool) (f : ℕ) (y : Option Operand) (k : VariableSet) (x : Exits) (leaves' skips here : ℕ) → length (leave_code (plan.home f) y) + 3 ≤ most → Stood s plan variables fine program is_plan entries most widest short f (Return y) k (ways_of x) leaves' skips here → Done' s plan variables fine program is_plan entries most widest short f unknown (Return y) k x leaves' skips here
   returns_done short f y k x leaves' skips here brief' t m p h =
       let stands : CodeAt s.code here (leave_code (plan.home m.function) y) = (let a = t.stands in rw h.0 a) in
       let small : here + length (leave_code (plan.home m.function) y) < 2 ^ 29 = (let a = t.small in rw h.0 a) in
@@ -102,7 +103,7 @@ module _ (s : Setting) (plan : Plan) (variables : ℕ → ℕ) (fine : Fits s pl
 
   pub calls_done : (short : Bool) (f g : ℕ) (v : Option ℕ) (xs : List Argument) (k : VariableSet) (x : Exits) (leaves' skips here : ℕ) →
       length (prepared_code f g xs (without v k)) + 2 + length (entry_code plan variables g (entries g)) ≤ widest + 6 * length xs → length (resumed_code f v (without v k)) ≤ 3 * most →
-      Stood s plan variables fine program is_plan entries most widest short f (Call v g xs) k (ways_of x) leaves' skips here → Done' s plan variables fine program is_plan entries most widest short f (Call v g xs) k x leaves' skips here
+      Stood s plan variables fine program is_plan entries most widest short f (Call v g xs) k (ways_of x) leaves' skips here → Done' s plan variables fine program is_plan entries most widest short f unknown (Call v g xs) k x leaves' skips here
   calls_done short f g v xs k x leaves' skips here wide brief t =
       let live : VariableSet = before (Call v g xs) k (ways_of x) in
       let prep : List Inst = prepared_code f g xs (without v k) in

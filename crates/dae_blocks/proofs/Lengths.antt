@@ -29,8 +29,8 @@ use Rattle.dae_walks.specs.declared.Home.{Home}
 use Rattle.dae_walks.specs.declared.Home.TheVariants.{Register, Slot}
 use Rattle.dae_walks.specs.Homes.{slot_at, kept_at}
 use Rattle.dae_walks.specs.Agrees.{Plan}
-use Rattle.dae_blocks.specs.Blocks.{operation_code, issue_code, address_code, call_number, over, is_register, number_code, load_code, store_code, register_or, source, fetch_home, fetch, keep, compare_code, test_code, extend_code, value_code, fail_code, align_code, room_code, check_code, take_code, hear_code, stop_code, arguments_code, save_code, restore_code, deeper_code, back_code, result_code, leave_code, waits_at, enter_code, more_code, less_code, is_immediate, move_code, immediate_code, exchanged_code, behind_or, combine_registers, binary_code, takes_number, compare_number_code, compare_registers, compare_operands, frame_code, system_code, one_way, jump_over, jump_back, goes_by, goes_code, frames_room_code, tell_number_code, against_zero, immediate_of}
-use Rattle.dae_blocks.specs.Code.{some_below, filtered, home_registers, registers_in, with_home, early_code, action_code, branch_code, entry_code, start_code, finish_code, past_code, told_code}
+use Rattle.dae_blocks.specs.Blocks.{operation_code, issue_code, address_code, call_number, over, is_register, number_code, load_code, store_code, register_or, source, fetch_home, fetch, keep, compare_code, test_code, extend_code, value_code, fail_code, align_code, bounds_code, room_code, check_code, take_code, hear_code, stop_code, arguments_code, save_code, restore_code, deeper_code, back_code, result_code, leave_code, waits_at, enter_code, more_code, less_code, is_immediate, move_code, immediate_code, exchanged_code, behind_or, combine_registers, binary_code, takes_number, compare_number_code, compare_registers, compare_operands, frame_code, system_code, one_way, jump_over, jump_back, goes_by, goes_code, frames_room_code, tell_number_code, against_zero, immediate_of}
+use Rattle.dae_blocks.specs.Code.{placed_code, some_below, filtered, home_registers, registers_in, with_home, early_code, action_code, branch_code, entry_code, start_code, finish_code, past_code, told_code}
 use Rattle.dae_blocks.proofs.Simple.{IsSimple}
 
 either_short : (b : Bool) (x y : List Inst) (n : ℕ) → length x ≤ n → length y ≤ n → length (if b then x else y) ≤ n
@@ -138,13 +138,16 @@ align_short B4 x = omega arith
 room_short : (n : ℕ) → length (room_code n) ≤ 5
 room_short n = let l = number_short 6 n in let both = length-append (number_code 6 n) (Bgeu 6 3 (pos 12) ∷ fail_code true 4) in omega arith
 
+pub placed_short : (home : ℕ → Home) (a : Action) → length (placed_code home a) ≤ 13
+placed_short home (Probe (Place width x)) = behind_short home 5 10 x (bounds_code width (source home 5 x)) (omega arith)
+placed_short home a = omega arith
+
 check_short : (plan : Plan) (f : ℕ) (check : Check) → length (check_code plan f check) ≤ 13
 check_short plan f (Place width x) =
     let r = source (plan.home f) 5 x in
-    let last : List Inst = Bltu 6 4 (pos 12) ∷ fail_code true 2 in
     let l = align_short width r in
-    let b = length-append (align_code width r) (Addi 6 r (negsuc (16 - size width)) ∷ last) in
-    behind_short (plan.home f) 5 10 x (align_code width r ++ Addi 6 r (negsuc (16 - size width)) ∷ last) (omega arith)
+    let b = length-append (align_code width r) (bounds_code width r) in
+    behind_short (plan.home f) 5 10 x (align_code width r ++ bounds_code width r) (omega arith)
 check_short plan f (Zero x) = let l = fail_short plan.by_a 1 in let a = behind_short (plan.home f) 5 5 x (Bne (source (plan.home f) 5 x) 0 (over plan.by_a) ∷ fail_code plan.by_a 1) (omega arith) in omega arith
 check_short plan f (Room g) =
     let n : ℕ = plan.memory - (plan.frame f + plan.frame g) in

@@ -41,7 +41,7 @@ use Rattle.dae_blocks.proofs.Jumps.{ready, stands_less}
 use Rattle.dae_blocks.proofs.Runs.{Runs, runs_nothing}
 use Rattle.dae_blocks.proofs.Uses.{pushes_datum_of}
 use Rattle.dae_blocks.proofs.Sent.{send_value}
-use Rattle.dae_blocks.proofs.Early.{Then, early_runs}
+use Rattle.dae_blocks.proofs.Early.{ToNext, early_runs}
 use Rattle.dae_blocks.proofs.Simple.{Around, around, simple_done}
 
 -- ---- which pairs there are
@@ -253,18 +253,18 @@ module _ (s : Setting) (plan : Plan) (variables : ℕ → ℕ) (fine : Fits s pl
       record { contents = h.contents; shows = h.shows; agrees = record { base = a.base; variables = λ v l. a.variables v l ∙ same v l; pointer = a.pointer; frame = a.frame; depth = a.depth; addresses = a.addresses; waiting = a.waiting; room = a.room; within = record { depth = a.within.depth; frame = a.within.frame } } }
 
   -- the first action of the pair has no code
-  pub late_first : (f t : ℕ) (y : Value) (live' : VariableSet) (x : Exits) (here : ℕ) → ActionDone s plan program entries most widest f (Compute t y) (exit here live') (record { word = here + 0; live = live'; standing = Late t y }) x
-  late_first f t y live' x here m w p h world =
+  pub late_first : (f t : ℕ) (y : Value) (live' known : VariableSet) (x : Exits) (here : ℕ) → ActionDone s plan program entries most widest f known (Compute t y) (exit here live') (record { word = here + 0; live = live'; standing = Late t y }) x
+  late_first f t y live' known x here m w p h world facts =
       let same : here ≡ here + 0 = omega arith in
       comes_here s (h.0, (m.env, rw world.frame refl, subst (λ (j : ℕ). Stands plan live' m j p) same h.1))
 
   -- and that of the second does both
-  pub late_second : (f t d : ℕ) (y : Value) (live' : VariableSet) (w : Ways) (x : Exits) (here : ℕ) → live' t ≡ false → AreNumbers y →
+  pub late_second : (f t d : ℕ) (y : Value) (live' known : VariableSet) (w : Ways) (x : Exits) (here : ℕ) → live' t ≡ false → AreNumbers y →
       AreApart (plan.home f) (with_all (before (Compute d (Same (Variable t))) live' w) (sets (Compute d (Same (Variable t))))) →
       CodeAt s.code here (late_code (plan.home f) (Compute d (Same (Variable t))) y) → here + length (late_code (plan.home f) (Compute d (Same (Variable t))) y) < 2 ^ 29 → length (late_code (plan.home f) (Compute d (Same (Variable t))) y) ≤ most →
-      ActionDone s plan program entries most widest f (Compute d (Same (Variable t))) (record { word = here; live = before (Compute t y) (before (Compute d (Same (Variable t))) live' w) w; standing = Late t y })
+      ActionDone s plan program entries most widest f known (Compute d (Same (Variable t))) (record { word = here; live = before (Compute t y) (before (Compute d (Same (Variable t))) live' w) w; standing = Late t y })
       (exit (here + length (late_code (plan.home f) (Compute d (Same (Variable t))) y)) live') x
-  late_second f t d y live' w x here dead numbers apart at small few m o p h world =
+  late_second f t d y live' known w x here dead numbers apart at small few m o p h world facts =
       let env : Env = h.1.0 in let is = h.1.1 in
       let code : List Inst = late_code (plan.home f) (Compute d (Same (Variable t))) y in
       let walk : Comes s most p (λ q. (m.function ≡ f) × Stands plan live' (with_env (put true d (computed y o.frame env) env) m) (here + length code) q) =
@@ -273,11 +273,11 @@ module _ (s : Setting) (plan : Plan) (variables : ℕ → ℕ) (fine : Fits s pl
       comes_map s most (omega arith) (λ q g. (g.0, stands_like m (λ u l. subst (λ (e : Env). put true d (computed y o.frame env) env u ≡ put true d (e t) e u) (sym is) (rw world.frame (late_same t d (computed y m.frame env) u env live' dead l))) g.1)) walk
 
   -- or sends it
-  pub late_sent : (f t : ℕ) (y : Value) (live' : VariableSet) (w : Ways) (x : Exits) (here : ℕ) → s.side ≡ E → written_last y ≡ true → live' t ≡ false → AreNumbers y →
+  pub late_sent : (f t : ℕ) (y : Value) (live' known : VariableSet) (w : Ways) (x : Exits) (here : ℕ) → s.side ≡ E → written_last y ≡ true → live' t ≡ false → AreNumbers y →
       CodeAt s.code here (late_code (plan.home f) (Datum (Variable t)) y) → here + length (late_code (plan.home f) (Datum (Variable t)) y) < 2 ^ 29 → length (late_code (plan.home f) (Datum (Variable t)) y) ≤ most →
-      ActionDone s plan program entries most widest f (Datum (Variable t)) (record { word = here; live = before (Compute t y) (before (Datum (Variable t)) live' w) w; standing = Late t y })
+      ActionDone s plan program entries most widest f known (Datum (Variable t)) (record { word = here; live = before (Compute t y) (before (Datum (Variable t)) live' w) w; standing = Late t y })
       (exit (here + length (late_code (plan.home f) (Datum (Variable t)) y)) live') x
-  late_sent f t y live' w x here by_e last dead numbers at small few m o p h world =
+  late_sent f t y live' known w x here by_e last dead numbers at small few m o p h world facts =
       subst (λ (g : ℕ). CodeAt s.code here (value_code (plan.home g) 30 y) → here + length (value_code (plan.home g) 30 y) < 2 ^ 29 → length (value_code (plan.home g) 30 y) ≤ most →
       Does s most (Push Sd (m.env t) (Went m.env)) (λ e p. (m.function ≡ g) × Stands plan live' (with_env e m) (here + length (value_code (plan.home g) 30 y)) p) p) h.0
       (λ at small few.
@@ -306,14 +306,14 @@ module _ (s : Setting) (plan : Plan) (variables : ℕ → ℕ) (fine : Fits s pl
         (λ apart at small few.
         let run = early_runs s plan variables fine (before (Receive v) (before (Compute d y) live' w) w) live' m v d y q queue high left right (ready s plan variables fine h.1) once dead numbers
         (λ u e ne. rw (e, ne) refl) (λ u l ne. early_apart (plan.home m.function) v d y live' w u dead apart l ne) in
-        does_map s (Then s plan variables fine (before (Receive v) (before (Compute d y) live' w) w) live' m v d y (here + length (early_code (plan.home m.function) q v d y))) (λ env p. (m.function ≡ m.function) × Stands plan live' (with_env (put true d (computed y m.frame env) env) m) (here + length (early_code (plan.home m.function) q v d y)) p)
+        does_map s (ToNext s plan variables fine (before (Receive v) (before (Compute d y) live' w) w) live' m v d y (here + length (early_code (plan.home m.function) q v d y))) (λ env p. (m.function ≡ m.function) × Stands plan live' (with_env (put true d (computed y m.frame env) env) m) (here + length (early_code (plan.home m.function) q v d y)) p)
         (length (early_code (plan.home m.function) q v d y)) most few (λ env q t. (refl, t)) (Take queue (λ z. Went (put true v z m.env))) p
         (run.from here small at p h.1.shows))
         apart at small few
 
   -- the second action was done by the block of the first: now the processor holds the variables of the moment
-  pub early_second : (f d : ℕ) (y : Value) (live' : VariableSet) (x : Exits) (here : ℕ) → ActionDone s plan program entries most widest f (Compute d y) (record { word = here; live = live'; standing = Early d y }) (exit (here + 0) live') x
-  early_second f d y live' x here m o p h world =
+  pub early_second : (f d : ℕ) (y : Value) (live' known : VariableSet) (x : Exits) (here : ℕ) → ActionDone s plan program entries most widest f known (Compute d y) (record { word = here; live = live'; standing = Early d y }) (exit (here + 0) live') x
+  early_second f d y live' known x here m o p h world facts =
       let same : here ≡ here + 0 = omega arith in
       let done : Stands plan live' (with_env (put true d (computed y o.frame m.env) m.env) m) here p = rw world.frame h.1 in
       comes_here s (h.0, subst (λ (j : ℕ). Stands plan live' (with_env (put true d (computed y o.frame m.env) m.env) m) j p) same done)

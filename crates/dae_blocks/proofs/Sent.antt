@@ -1,5 +1,5 @@
 -- A value goes into a queue by the instruction that computes it: the target of that is the register that stands for the queue.
-use Rattle.std.proofs.Common.{◌≡◌, ℕ, ◌+◌, ◌^◌, ◌<◌, Bool, true, false, ◌&&◌, ◌||◌, List, [], ◌∷◌, ◌++◌, Option, Some, None, refl, arith, append_assoc, append-nil}
+use Rattle.std.proofs.Common.{◌≡◌, ℕ, ◌+◌, ◌^◌, ◌<◌, Bool, true, false, ◌&&◌, ◌||◌, [], ◌∷◌, ◌++◌, Option, Some, None, refl, arith, append-nil}
 use Rattle.std.specs.Prelude.{nat_lt, if◌then◌else◌}
 use Rattle.dae_base.specs.Words.{plus, word}
 use Rattle.dae_base.specs.declared.Queue.{Queue}
@@ -20,12 +20,11 @@ use Rattle.dae_ir.specs.declared.form.Value.TheVariants.{Same, Extended, Binary,
 use Rattle.dae_meaning.specs.Operations.{combined}
 use Rattle.dae_meaning.specs.Variables.{Env}
 use Rattle.dae_meaning.specs.declared.Operator.{Operator}
-use Rattle.dae_walks.specs.Walks.{Setting, Acts}
-use Rattle.dae_walks.specs.Does.{event}
+use Rattle.dae_walks.specs.Walks.{Setting}
 use Rattle.dae_walks.specs.Live.{in_operand, in_value}
 use Rattle.dae_walks.specs.Homes.{Contents}
-use Rattle.dae_walks.specs.Agrees.{Plan, Moment, Shows}
-use Rattle.dae_walks.proofs.LawsOfWalks.{put, read, step}
+use Rattle.dae_walks.specs.Agrees.{Plan, Moment}
+use Rattle.dae_walks.proofs.LawsOfWalks.{read, step}
 use Rattle.dae_blocks.specs.Blocks.{lower, is_immediate, number_code, register_or, source, fetch, operation_code, immediate_code, exchanged_code, behind_or, combine_registers, binary_code, frame_code, value_code}
 use Rattle.dae_blocks.specs.Code.{written_last}
 use Rattle.dae_blocks.specs.Fits.{Fits}
@@ -42,38 +41,38 @@ use Rattle.dae_blocks.proofs.Computing.{is_scratch, source_plain, runs_one, runs
 module _ (s : Setting) (plan : Plan) (variables : ℕ → ℕ) (fine : Fits s plan variables) (to : ℕ → Env → Processor → Type 0) (q : ℕ) (queue : Queue) (high : (nat_lt 0 q && nat_lt q 28) ≡ false)
     (legal : (x y : ℕ) → x < 28 → y < 28 → queue_use s.copies s.side (Computes q x y) ≡ Some (Pushes queue)) where
   -- behind the last instruction nothing in the processor has changed but scratch registers
-  abbrev Ends : VariableSet → Moment → Deed → Type 0
-  Ends live m d = (c : Contents) → Ready plan live m c → Runs s plan.private to [] c d
+  abbrev SentOff : VariableSet → Moment → Deed → Type 0
+  SentOff live m d = (c : Contents) → Ready plan live m c → Runs s plan.private to [] c d
 
   -- an instruction on two plain registers into the queue
-  sends : {live : VariableSet} {m : Moment} {c : Contents} {d : Deed} (i : Inst) (x y : ℕ) (f : ℕ → ℕ → ℕ) (v : ℕ) → effect i ≡ on_two q x y f → x < 28 → y < 28 → f (c.register x) (c.register y) ≡ v → v < 2 ^ 32 → Ready plan live m c → Ends live m d →
+  send_last : {live : VariableSet} {m : Moment} {c : Contents} {d : Deed} (i : Inst) (x y : ℕ) (f : ℕ → ℕ → ℕ) (v : ℕ) → effect i ≡ on_two q x y f → x < 28 → y < 28 → f (c.register x) (c.register y) ≡ v → v < 2 ^ 32 → Ready plan live m c → SentOff live m d →
       Runs s plan.private to (i ∷ []) c (Push queue v d)
-  sends {c = c} i x y f v does low_x low_y same fits h ends =
+  send_last {c = c} i x y f v does low_x low_y same fits h ends =
       runs_push s plan.private to (λ k w small here is p shows.
       let ex = plain_read c 0 x low_x in let ey = plain_read c 0 y low_y in
       let value : f (read c 0 x) (read c 0 y) ≡ v = rw (ex, ey) same in
       let one = step s plan.private i q x y 0 (k + 1) w (λ pc x y. f x y) (λ pc x y. plus pc 4) (Pushes queue) shows here is does (legal x y low_x low_y) (rw value fits) (omega arith) in
       rw (value, put_nowhere q v c high) at one) fits (ends c h)
 
-  send_registers : {live : VariableSet} {m : Moment} {c : Contents} {d : Deed} (o : Operator) (x y : Operand) → Ready plan live m c → ((u : ℕ) → in_operand x u ≡ true → live u ≡ true) → ((u : ℕ) → in_operand y u ≡ true → live u ≡ true) → IsNumber x → IsNumber y → Ends live m d →
+  send_registers : {live : VariableSet} {m : Moment} {c : Contents} {d : Deed} (o : Operator) (x y : Operand) → Ready plan live m c → ((u : ℕ) → in_operand x u ≡ true → live u ≡ true) → ((u : ℕ) → in_operand y u ≡ true → live u ≡ true) → IsNumber x → IsNumber y → SentOff live m d →
       Runs s plan.private to (combine_registers (plan.home m.function) q o x y) c (Push queue (combined o (value x m.env) (value y m.env)) d)
   send_registers {m = m} o x y h reads_x reads_y number_x number_y ends =
       let a = source (plan.home m.function) 5 x in let b = source (plan.home m.function) 6 y in
       runs_two s plan variables fine to x y (operation_code o q a b ∷ []) h reads_x reads_y number_x number_y (λ c1 h1 got_x got_y.
       let fits = operation_fits o (c1.register a) (c1.register b) (h1.fits a) (h1.fits b) in
       let same : combined o (c1.register a) (c1.register b) ≡ combined o (value x m.env) (value y m.env) = rw (got_x, got_y) refl in
-      sends (operation_code o q a b) a b (combined o) (combined o (value x m.env) (value y m.env)) (operation_is o q a b) (source_plain s plan variables fine to m.function 5 x (omega arith)) (source_plain s plan variables fine to m.function 6 y (omega arith)) same (rw same at fits) h1 ends)
+      send_last (operation_code o q a b) a b (combined o) (combined o (value x m.env) (value y m.env)) (operation_is o q a b) (source_plain s plan variables fine to m.function 5 x (omega arith)) (source_plain s plan variables fine to m.function 6 y (omega arith)) same (rw same at fits) h1 ends)
 
   send_with : {live : VariableSet} {m : Moment} {c : Contents} {d : Deed} (x : Operand) (i : Inst) (operation : ℕ → ℕ) → Ready plan live m c → ((u : ℕ) → in_operand x u ≡ true → live u ≡ true) → IsNumber x →
-      DoesWith i q (source (plan.home m.function) 5 x) operation → ((a : ℕ) → a < 2 ^ 32 → operation a < 2 ^ 32) → Ends live m d → Runs s plan.private to (fetch (plan.home m.function) 5 x ++ i ∷ []) c (Push queue (operation (value x m.env)) d)
+      DoesWith i q (source (plan.home m.function) 5 x) operation → ((a : ℕ) → a < 2 ^ 32 → operation a < 2 ^ 32) → SentOff live m d → Runs s plan.private to (fetch (plan.home m.function) 5 x ++ i ∷ []) c (Push queue (operation (value x m.env)) d)
   send_with {m = m} x i operation h reads number with' fits ends =
       let r = source (plan.home m.function) 5 x in
       runs_one s plan variables fine to x (i ∷ []) h reads number (λ c1 h1 got.
       let small : value x m.env < 2 ^ 32 = (let a = h1.fits r in rw got at a) in
       let same : with'.function (c1.register r) ≡ operation (value x m.env) = rw got (with'.same (value x m.env)) in
-      sends i r 0 (λ a b. with'.function a) (operation (value x m.env)) with'.does (source_plain s plan variables fine to m.function 5 x (omega arith)) (omega arith) same (fits (value x m.env) small) h1 ends)
+      send_last i r 0 (λ a b. with'.function a) (operation (value x m.env)) with'.does (source_plain s plan variables fine to m.function 5 x (omega arith)) (omega arith) same (fits (value x m.env) small) h1 ends)
 
-  send_binary : {live : VariableSet} {m : Moment} {c : Contents} {d : Deed} (o : Operator) (x y : Operand) → Ready plan live m c → ((u : ℕ) → in_operand x u ≡ true → live u ≡ true) → ((u : ℕ) → in_operand y u ≡ true → live u ≡ true) → IsNumber x → IsNumber y → Ends live m d →
+  send_binary : {live : VariableSet} {m : Moment} {c : Contents} {d : Deed} (o : Operator) (x y : Operand) → Ready plan live m c → ((u : ℕ) → in_operand x u ≡ true → live u ≡ true) → ((u : ℕ) → in_operand y u ≡ true → live u ≡ true) → IsNumber x → IsNumber y → SentOff live m d →
       Runs s plan.private to (binary_code (plan.home m.function) q o x y) c (Push queue (combined o (value x m.env) (value y m.env)) d)
   send_binary {m = m} {c} {d} o x (Number n) h reads_x reads_y number_x number_y ends = by (immediate_code o q (source (plan.home m.function) 5 x) n) refl
     where
@@ -87,24 +86,24 @@ module _ (s : Setting) (plan : Plan) (variables : ℕ → ℕ) (fine : Fits s pl
       by None e = send_registers o (Number n) (Variable v) h reads_x reads_y number_x number_y ends
   send_binary o (Variable u) (Variable v) h reads_x reads_y number_x number_y ends = send_registers o (Variable u) (Variable v) h reads_x reads_y number_x number_y ends
 
-  send_frame : {live : VariableSet} {m : Moment} {c : Contents} {d : Deed} (offset : ℕ) → Ready plan live m c → offset < 2 ^ 32 → Ends live m d → Runs s plan.private to (frame_code q offset) c (Push queue (plus m.frame offset) d)
+  send_frame : {live : VariableSet} {m : Moment} {c : Contents} {d : Deed} (offset : ℕ) → Ready plan live m c → offset < 2 ^ 32 → SentOff live m d → Runs s plan.private to (frame_code q offset) c (Push queue (plus m.frame offset) d)
   send_frame {m = m} {c} {d} offset h number ends = by (is_immediate offset) refl
     where
       by : (b : Bool) → is_immediate offset ≡ b → Runs s plan.private to (if b then Addi q 3 (lower offset) ∷ [] else number_code 5 offset ++ Add q 3 5 ∷ []) c (Push queue (plus m.frame offset) d)
       by true e =
           let same : plus (c.register 3) (word (lower offset)) ≡ plus m.frame offset = rw (h.agrees.frame, immediate_word offset number e) refl in
-          sends (Addi q 3 (lower offset)) 3 0 (λ x y. plus x (word (lower offset))) (plus m.frame offset) refl (omega arith) (omega arith) same (plus_small m.frame offset) h ends
+          send_last (Addi q 3 (lower offset)) 3 0 (λ x y. plus x (word (lower offset))) (plus m.frame offset) refl (omega arith) (omega arith) same (plus_small m.frame offset) h ends
       by false e =
           runs_number s plan.private to 5 offset (Add q 3 5 ∷ []) h.zero (omega arith) (omega arith) number (
           let h1 = ready_like s plan variables fine 5 (is_scratch plan 5 (omega arith) (omega arith)) (like_put 5 offset c number h.fits) h in
           let same : plus (c.register 3) offset ≡ plus m.frame offset = rw h.agrees.frame refl in
-          sends (Add q 3 5) 3 5 plus (plus m.frame offset) refl (omega arith) (omega arith) same (plus_small m.frame offset) h1 ends)
+          send_last (Add q 3 5) 3 5 plus (plus m.frame offset) refl (omega arith) (omega arith) same (plus_small m.frame offset) h1 ends)
 
-  pub send_value : {live : VariableSet} {m : Moment} {c : Contents} {d : Deed} (x : Value) → written_last x ≡ true → Ready plan live m c → ((u : ℕ) → in_value x u ≡ true → live u ≡ true) → AreNumbers x → Ends live m d →
+  pub send_value : {live : VariableSet} {m : Moment} {c : Contents} {d : Deed} (x : Value) → written_last x ≡ true → Ready plan live m c → ((u : ℕ) → in_value x u ≡ true → live u ≡ true) → AreNumbers x → SentOff live m d →
       Runs s plan.private to (value_code (plan.home m.function) q x) c (Push queue (computed x m.frame m.env) d)
   send_value {m = m} {d = d} (Same x) is h reads number ends =
       let run = runs_move s plan variables fine to {d = Push queue (value x m.env) d} q x [] h reads number (λ c1 r imm like plain same small.
-      sends (Addi q r imm) r 0 (λ x y. plus x (word imm)) (value x m.env) refl plain (omega arith) same small (ready_like s plan variables fine 5 (is_scratch plan 5 (omega arith) (omega arith)) like h) ends) in
+      send_last (Addi q r imm) r 0 (λ x y. plus x (word imm)) (value x m.env) refl plain (omega arith) same small (ready_like s plan variables fine 5 (is_scratch plan 5 (omega arith) (omega arith)) like h) ends) in
       rw append-nil at run
   send_value (Binary o x y) is h reads number ends = send_binary o x y h (λ u e. reads u (rw e refl)) (λ u e. reads u (rw e (either (in_operand x u)))) number.0 number.1 ends
     where

@@ -1,8 +1,9 @@
 -- The blocks of actions that go on to the next do them, wherever they stand.
-use Rattle.std.proofs.Common.{◌≡◌, ◌≢◌, ℕ, ◌+◌, ◌^◌, ◌<◌, ◌≤◌, Bool, true, false, not, ◌&&◌, ◌||◌, List, [], Option, Some, None, length, refl, sym, ap, ◌∙◌, subst, arith}
+use Rattle.std.proofs.Common.{◌≡◌, ◌≢◌, ℕ, ◌+◌, ◌%◌, ◌^◌, ◌<◌, ◌≤◌, Bool, true, false, not, ◌&&◌, ◌||◌, List, [], Option, Some, None, length, refl, sym, ap, ◌∙◌, subst, arith}
 use Rattle.std.specs.Prelude.{nat_lt}
 use Rattle.std.proofs.lemmas.Bool.Decides.{nat_tests}
 use Rattle.dae_base.specs.declared.Side.TheVariants.{A, E}
+use Rattle.dae_base.specs.declared.Width.{Width}
 use Rattle.dae_encode.specs.declared.Inst.{Inst}
 use Rattle.dae_ir.specs.Classes.{VariableSet}
 use Rattle.dae_meaning.specs.Worlds.{World}
@@ -20,11 +21,12 @@ use Rattle.dae_walks.specs.Live.{Ways, with_all, reads, sets, in_option, after, 
 use Rattle.dae_walks.specs.Layout.{CodeAt}
 use Rattle.dae_walks.specs.declared.Home.{Home}
 use Rattle.dae_walks.specs.Homes.{Contents, AreApart}
+use Rattle.dae_walks.specs.Multiples.{AreMultiples, is_multiple}
 use Rattle.dae_walks.specs.Agrees.{Plan, Moment, Stands, depth_of, top_of}
-use Rattle.dae_walks.proofs.LawsOfWalks.{does_map}
+use Rattle.dae_walks.proofs.LawsOfWalks.{does_map, is_one}
 use Rattle.dae_meaning.specs.Operations.{misplaced, passed}
 use Rattle.dae_walks.specs.Compiled.{exit, with_env, IsWorldOf, At}
-use Rattle.dae_blocks.specs.Code.{action_code}
+use Rattle.dae_blocks.specs.Code.{placed_code, action_code}
 use Rattle.dae_blocks.specs.Blocks.{stop_code}
 use Rattle.dae_blocks.specs.Fits.{Fits}
 use Rattle.dae_blocks.specs.Wanted.{IsWanted, IsPlanOf, IsWantedStop}
@@ -32,7 +34,7 @@ use Rattle.dae_blocks.proofs.Runs.{Runs}
 use Rattle.dae_blocks.proofs.Agreement.{Ready}
 use Rattle.dae_blocks.proofs.Jumps.{ready}
 use Rattle.dae_blocks.proofs.Actions.{To, Does', set_done, issue_done, own_done, receive_done, address_done, datum_done, offer_done, accept_done, tell_done}
-use Rattle.dae_blocks.proofs.Checks.{emit_done, stop_a_done, stop_e_done, zero_done, place_done, check_room_done, frame_done, abort_done, hear_done}
+use Rattle.dae_blocks.proofs.Checks.{emit_done, stop_a_done, stop_e_done, zero_done, place_done, bounds_done, check_room_done, frame_done, abort_done, hear_done}
 
 -- the actions that take or give no way but the next
 abbrev pub IsSimple : Action → Type 0
@@ -118,6 +120,12 @@ module _ (s : Setting) (plan : Plan) (variables : ℕ → ℕ) (fine : Fits s pl
     simple_runs (Call v g xs) leaves skips is wanted round h = elim is [ ]
     simple_runs (Return x) leaves skips is wanted round h = elim is [ ]
 
+    -- and the test of a place whose address is a multiple of four
+    pub placed_runs : {c : Contents} (width : Width) (x : Operand) → IsWanted plan s.copies entries (Probe (Place width x)) → Around (plan.home m.function) (Probe (Place width x)) live live' → value x m.env % 4 ≡ 0 → Ready plan live m c →
+        Does' s plan variables fine live live' m (placed_code (plan.home m.function) (Probe (Place width x))) c (deed program plan.by_a (Probe (Place width x)) w m.env)
+    placed_runs width x wanted round four h =
+        rw world.memory (flagged (misplaced width (value x m.env) plan.memory) true wanted.0 (bounds_done s plan variables fine live live' m wanted.0 width x four h round.reads wanted.1 (λ u l. round.stays u l refl)))
+
 module _ (s : Setting) (plan : Plan) (variables : ℕ → ℕ) (fine : Fits s plan variables) (program : Program) (is_plan : IsPlanOf program plan) (entries : ℕ → VariableSet) (most widest : ℕ) where
   -- an action that goes on to the next
   pub simple_done : (f : ℕ) (a : Action) (live live' : VariableSet) (leaves skips : List Inst) (k : ℕ) → IsSimple a → IsWanted plan s.copies entries a → Around (plan.home f) a live live' →
@@ -131,5 +139,23 @@ module _ (s : Setting) (plan : Plan) (variables : ℕ → ℕ) (fine : Fits s pl
       let run = simple_runs s plan variables fine program is_plan entries live live' m w world a leaves skips simple wanted round (ready s plan variables fine h.1) in
       does_map s (To s plan variables fine live live' m (k + length (action_code plan variables m.function a live' leaves skips))) (λ env q. (m.function ≡ m.function) × Stands plan live' (with_env env m) (k + length (action_code plan variables m.function a live' leaves skips)) q)
       (length (action_code plan variables m.function a live' leaves skips)) most few (λ env q t. (refl, t)) (deed program plan.by_a a w m.env) p
+      (run.from k small at p h.1.shows))
+      round at small few
+
+  abbrev placed_block : ℕ → Width → Operand → List Inst
+  placed_block f width y = placed_code (plan.home f) (Probe (Place width y))
+
+  -- a test of a place whose address is a multiple of four
+  pub placed_done : (f : ℕ) (width : Width) (y : Operand) (live live' known : VariableSet) (k : ℕ) → IsWanted plan s.copies entries (Probe (Place width y)) → Around (plan.home f) (Probe (Place width y)) live live' → is_multiple known y ≡ true →
+      CodeAt s.code k (placed_block f width y) → k + length (placed_block f width y) < 2 ^ 29 → length (placed_block f width y) ≤ most →
+      (m : Moment) (w : World) (p : Processor) → At s plan program entries most widest f (exit k live) m p → IsWorldOf plan m w → AreMultiples known m.env →
+      Does s most (deed program plan.by_a (Probe (Place width y)) w m.env) (λ env. At s plan program entries most widest f (exit (k + length (placed_block f width y)) live') (with_env env m)) p
+  placed_done f width y live live' known k wanted round one at small few m w p h world facts =
+      subst (λ (g : ℕ). Around (plan.home g) (Probe (Place width y)) live live' → CodeAt s.code k (placed_block g width y) → k + length (placed_block g width y) < 2 ^ 29 → length (placed_block g width y) ≤ most →
+      Does s most (deed program plan.by_a (Probe (Place width y)) w m.env) (λ env q. (m.function ≡ g) × Stands plan live' (with_env env m) (k + length (placed_block g width y)) q) p) h.0
+      (λ round at small few.
+      let run = placed_runs s plan variables fine program is_plan entries live live' m w world width y wanted round (is_one known m.env y facts one) (ready s plan variables fine h.1) in
+      does_map s (To s plan variables fine live live' m (k + length (placed_block m.function width y))) (λ env q. (m.function ≡ m.function) × Stands plan live' (with_env env m) (k + length (placed_block m.function width y)) q)
+      (length (placed_block m.function width y)) most few (λ env q t. (refl, t)) (deed program plan.by_a (Probe (Place width y)) w m.env) p
       (run.from k small at p h.1.shows))
       round at small few

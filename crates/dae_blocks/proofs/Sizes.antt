@@ -1,6 +1,6 @@
 -- How long the code of actions is at most.
-use Rattle.std.proofs.Common.{◌≡◌, ℕ, ◌+◌, ◌*◌, ◌≤◌, Bool, ◌||◌, List, ◌++◌, length, refl, arith, length-append}
-use Rattle.std.specs.Prelude.{Option, not, ◌&&◌}
+use Rattle.std.proofs.Common.{◌≡◌, ℕ, ◌+◌, ◌*◌, ◌≤◌, Bool, true, false, ◌||◌, List, ◌++◌, length, refl, arith, length-append}
+use Rattle.std.specs.Prelude.{Option, not, ◌&&◌, if◌then◌else◌}
 use Rattle.dae_encode.specs.declared.Inst.{Inst}
 use Rattle.dae_ir.specs.Code.{Done, Do, If, Loop}
 use Rattle.dae_ir.specs.Classes.{VariableSet}
@@ -9,17 +9,19 @@ use Rattle.dae_ir.specs.Streams.{Actions}
 use Rattle.dae_ir.specs.declared.form.Value.{Value}
 use Rattle.dae_ir.specs.declared.stream.Argument.{Argument}
 use Rattle.dae_ir.specs.declared.stream.Action.{Action}
+use Rattle.dae_ir.specs.declared.form.Check.TheVariants.{Place}
 use Rattle.dae_ir.specs.declared.stream.Action.TheVariants.{Set as Compute, Issue, Own, Receive, Address, Datum, Offer, Accept, Emit, Probe, Tell, Hear, Stop, Break, Continue, Call, Return}
 use Rattle.dae_walks.specs.declared.Standing.{Standing}
 use Rattle.dae_walks.specs.declared.Standing.TheVariants.{Settled, Early, Late}
 use Rattle.dae_walks.specs.Live.{Ways, none, behind, live, is, step_ways, body_ways}
+use Rattle.dae_walks.specs.Multiples.{unknown, multiples_behind, is_placed}
 use Rattle.dae_walks.specs.Agrees.{Plan}
 use Rattle.dae_blocks.specs.Blocks.{arguments_code, save_code, restore_code, deeper_code, back_code, result_code, enter_code, jump_words, jump_over}
-use Rattle.dae_blocks.specs.Code.{registers_in, action_code, call_code, does_nothing, standing_behind, late_code, block_code, code_of}
+use Rattle.dae_blocks.specs.Code.{registers_in, action_code, call_code, does_nothing, standing_behind, late_code, placed_code, block_code, code_of}
 use Rattle.dae_blocks.specs.Sizes.{one_call, most_words_in}
 use Rattle.dae_blocks.proofs.Simple.{IsSimple}
 use Rattle.dae_blocks.proofs.Pairs.{by_pairs}
-use Rattle.dae_blocks.proofs.Lengths.{value_short, simple_short, early_short, branch_short, over_short, back_short, past_short, prepared_short, resumed_short, leave_short}
+use Rattle.dae_blocks.proofs.Lengths.{value_short, simple_short, early_short, branch_short, over_short, back_short, past_short, placed_short, prepared_short, resumed_short, leave_short}
 
 pub append_short : (xs ys : List Inst) (m n : ℕ) → length xs ≤ m → length ys ≤ n → length (xs ++ ys) ≤ m + n
 append_short xs ys m n h k = let l = length-append xs ys in omega arith
@@ -64,31 +66,40 @@ module _ (short : Bool) (plan : Plan) (variables : ℕ → ℕ) (f : ℕ) where
   action_length (Return x) k l s = let h = leave_short (plan.home f) x in omega arith
 
   -- a pair's block is no longer than one of its actions may be
-  abbrev BlockFits : Standing → Ways → ℕ → ℕ → Action → Actions → Standing → Type 0
-  BlockFits standing x l s a k standing' = length (block_code plan variables f standing a standing' (live k x) (jump_over short l) (jump_over short s)) ≤ 14 * action_weight a + 42 * one_call a
+  abbrev BlockFits : VariableSet → Standing → Ways → ℕ → ℕ → Action → Actions → Standing → Type 0
+  BlockFits known standing x l s a k standing' = length (block_code plan variables f (is_placed known a) standing a standing' (live k x) (jump_over short l) (jump_over short s)) ≤ 14 * action_weight a + 42 * one_call a
 
   late_length : (t : ℕ) (y : Value) (a : Action) → length (late_code (plan.home f) a y) ≤ 14 * action_weight a + 42 * one_call a
   late_length t y (Compute d z) = action_length (Compute d y) none 0 0
   late_length t y (Datum z) = let h = value_short (plan.home f) 30 y in omega arith
   late_length t y a = omega arith
 
-  block_length : (standing : Standing) (x : Ways) (l s : ℕ) (a : Action) (k : Actions) → BlockFits standing x l s a k (standing_behind a k x)
-  block_length (Early v y) x l s a k = omega arith
-  block_length (Late t y) x l s a k = late_length t y a
-  block_length Settled x l s a k =
-      by_pairs (BlockFits Settled x l s) x (λ a k. action_length a (live k x) l s) (λ t y m b k e passes dead. omega arith)
+  -- a test without that of the alignment is shorter than one with it
+  placed_length : (a : Action) → length (placed_code (plan.home f) a) ≤ 14 * action_weight a + 42 * one_call a
+  placed_length (Probe (Place width x)) = let h = placed_short (plan.home f) (Probe (Place width x)) in omega arith
+  placed_length a = omega arith
+
+  settled_length : (placed : Bool) (a : Action) (k : VariableSet) (l s : ℕ) → length (if placed then placed_code (plan.home f) a else action_code plan variables f a k (jump_over short l) (jump_over short s)) ≤ 14 * action_weight a + 42 * one_call a
+  settled_length true a k l s = placed_length a
+  settled_length false a k l s = action_length a k l s
+
+  block_length : (known : VariableSet) (standing : Standing) (x : Ways) (l s : ℕ) (a : Action) (k : Actions) → BlockFits known standing x l s a k (standing_behind a k x)
+  block_length known (Early v y) x l s a k = omega arith
+  block_length known (Late t y) x l s a k = late_length t y a
+  block_length known Settled x l s a k =
+      by_pairs (BlockFits known Settled x l s) x (λ a k. settled_length (is_placed known a) a (live k x) l s) (λ t y m b k e passes dead. omega arith)
       (λ v m d y k e once dead. (let h = early_short (plan.home f) 30 v d y in omega arith)) (λ v m d y k e once dead. (let h = early_short (plan.home f) 28 v d y in omega arith)) a k
 
-  pub code_length : (standing : Standing) (code : Actions) (x : Ways) (l s : ℕ) → length (code_of short plan variables f standing code x l s) ≤ most_words_in code
-  code_length standing Done x l s = omega arith
-  code_length standing (Do m a k) x l s =
-      let h : length (code_of short plan variables f standing (Do m a k) x l s) ≤ (14 * action_weight a + 42 * one_call a) + most_words_in k
-      = append_short _ _ _ _ (block_length standing x _ _ a k) (code_length (standing_behind a k x) k x l s) in omega arith
-  code_length standing (If m b y n k) x l s =
-      let h : length (code_of short plan variables f standing (If m b y n k) x l s) ≤ 12 + (most_words_in y + (2 + (most_words_in n + most_words_in k)))
-      = append_short _ _ 12 _ (branch_short (plan.home f) short b (does_nothing y) _) (append_short _ _ _ _ (code_length Settled y (behind (live k x) x) _ _)
-      (append_short _ _ 2 _ (past_short short (does_nothing y || does_nothing n) _) (append_short _ _ _ _ (code_length Settled n (behind (live k x) x) _ _) (code_length Settled k x l s)))) in omega arith
-  code_length standing (Loop m body step k) x l s =
-      let h : length (code_of short plan variables f standing (Loop m body step k) x l s) ≤ most_words_in body + (most_words_in step + (2 + most_words_in k))
-      = append_short _ _ _ _ (code_length Settled body (body_ways body step (live k x)) _ _) (append_short _ _ _ _ (code_length Settled step (step_ways body step (live k x)) (jump_words short) 0)
-      (append_short _ _ 2 _ (back_short short _) (code_length Settled k x l s))) in omega arith
+  pub code_length : (standing : Standing) (known : VariableSet) (code : Actions) (x : Ways) (l s : ℕ) → length (code_of short plan variables f standing known code x l s) ≤ most_words_in code
+  code_length standing known Done x l s = omega arith
+  code_length standing known (Do m a k) x l s =
+      let h : length (code_of short plan variables f standing known (Do m a k) x l s) ≤ (14 * action_weight a + 42 * one_call a) + most_words_in k
+      = append_short _ _ _ _ (block_length known standing x _ _ a k) (code_length (standing_behind a k x) (multiples_behind a known) k x l s) in omega arith
+  code_length standing known (If m b y n k) x l s =
+      let h : length (code_of short plan variables f standing known (If m b y n k) x l s) ≤ 12 + (most_words_in y + (2 + (most_words_in n + most_words_in k)))
+      = append_short _ _ 12 _ (branch_short (plan.home f) short b (does_nothing y) _) (append_short _ _ _ _ (code_length Settled unknown y (behind (live k x) x) _ _)
+      (append_short _ _ 2 _ (past_short short (does_nothing y || does_nothing n) _) (append_short _ _ _ _ (code_length Settled unknown n (behind (live k x) x) _ _) (code_length Settled unknown k x l s)))) in omega arith
+  code_length standing known (Loop m body step k) x l s =
+      let h : length (code_of short plan variables f standing known (Loop m body step k) x l s) ≤ most_words_in body + (most_words_in step + (2 + most_words_in k))
+      = append_short _ _ _ _ (code_length Settled unknown body (body_ways body step (live k x)) _ _) (append_short _ _ _ _ (code_length Settled unknown step (step_ways body step (live k x)) (jump_words short) 0)
+      (append_short _ _ 2 _ (back_short short _) (code_length Settled unknown k x l s))) in omega arith

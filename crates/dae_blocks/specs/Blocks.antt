@@ -262,12 +262,14 @@ align_code B4 x = Andi 6 x (pos 3) ∷ (Beq 6 0 (pos 12) ∷ fail_code true 3)
 abbrev pub room_code : ℕ → List Inst
 room_code n = number_code 6 n ++ Bgeu 6 3 (pos 12) ∷ fail_code true 4
 
--- an address is good for an access of this width: aligned, and between the first byte of common memory and its end. From the
--- last byte of the access 16 are taken away, so that one comparison does for both ends: an aligned address below 16 wraps
+-- an address is between the first byte of common memory and its end, for an access of this width. From the last byte of the
+-- access 16 are taken away, so that one comparison does for both ends: an aligned address below 16 wraps
+abbrev pub bounds_code : Width → ℕ → List Inst
+bounds_code width x = Addi 6 x (negsuc (16 - size width)) ∷ (Bltu 6 4 (pos 12) ∷ fail_code true 2)
+
+-- an address is good for an access of this width: aligned, and within these bounds
 abbrev pub place_code : (ℕ → Home) → Width → Operand → List Inst
-place_code home width x =
-    fetch home 5 x ++ (align_code width (source home 5 x)
-    ++ Addi 6 (source home 5 x) (negsuc (16 - size width)) ∷ (Bltu 6 4 (pos 12) ∷ fail_code true 2))
+place_code home width x = fetch home 5 x ++ (align_code width (source home 5 x) ++ bounds_code width (source home 5 x))
 
 abbrev pub zero_code : Bool → (ℕ → Home) → Operand → List Inst
 zero_code by_a home x = fetch home 5 x ++ Bne (source home 5 x) 0 (over by_a) ∷ fail_code by_a 1

@@ -10,6 +10,7 @@ use Rattle.dae_ir.specs.declared.form.Operand.TheVariants.{Variable, Number}
 use Rattle.dae_ir.specs.declared.form.Value.{Value}
 use Rattle.dae_ir.specs.declared.form.Value.TheVariants.{Same, Binary, Extended, Holds, FrameAddress}
 use Rattle.dae_ir.specs.declared.form.Test.{Test}
+use Rattle.dae_ir.specs.declared.form.Check.TheVariants.{Place}
 use Rattle.dae_ir.specs.declared.stream.Argument.{Argument}
 use Rattle.dae_ir.specs.declared.stream.Action.{Action}
 use Rattle.dae_ir.specs.declared.stream.Action.TheVariants.{Set as Compute, Issue, Own, Receive, Address, Datum, Offer, Accept, Emit, Probe, Tell, Hear, Stop, Break, Continue, Call, Return}
@@ -19,10 +20,11 @@ use Rattle.dae_meaning.specs.declared.Comparison.TheVariants.{NotEqual}
 use Rattle.dae_walks.specs.declared.Home.{Home}
 use Rattle.dae_walks.specs.declared.Home.TheVariants.{Register}
 use Rattle.dae_walks.specs.Live.{Ways, in_operand, behind, live, is, nowhere, step_ways, body_ways}
+use Rattle.dae_walks.specs.Multiples.{unknown, multiples_behind, is_placed}
 use Rattle.dae_walks.specs.Agrees.{Plan}
 use Rattle.dae_walks.specs.declared.Standing.{Standing}
 use Rattle.dae_walks.specs.declared.Standing.TheVariants.{Settled, Early, Late}
-use Rattle.dae_blocks.specs.Blocks.{number_code, register_or, source, fetch, keep, value_code, issue_code, address_code, take_code, own_code, move_code, call_number, system_code, hear_code, stop_code, check_code, test_code, jump_over, jump_back, enter_code, arguments_code, is_register, save_code, restore_code, deeper_code, back_code, result_code, leave_code, jump_words, one_way, goes_code, tell_number_code, against_zero, immediate_of}
+use Rattle.dae_blocks.specs.Blocks.{number_code, register_or, source, fetch, keep, value_code, issue_code, address_code, take_code, own_code, move_code, call_number, system_code, hear_code, stop_code, check_code, bounds_code, test_code, jump_over, jump_back, enter_code, arguments_code, is_register, save_code, restore_code, deeper_code, back_code, result_code, leave_code, jump_words, one_way, goes_code, tell_number_code, against_zero, immediate_of}
 use Rattle.dae_blocks.specs.Sizes.{is_short}
 
 -- ---- the registers that a call keeps
@@ -89,6 +91,7 @@ branch_code home short Hears way n = goes_code short (one_way way NotEqual) 29 0
 
 -- ---- peephole: two adjacent actions by one block
 
+-- one of the two, and not both
 abbrev pub either_one : Bool → Bool → Bool
 either_one true other = not other
 either_one false other = other
@@ -110,8 +113,10 @@ passes_on t x action = false
 -- the value reads the variable just once
 abbrev pub reads_once : ℕ → Value → Bool
 reads_once v (Same x) = in_operand x v
+reads_once v (Extended kind x) = in_operand x v
 reads_once v (Binary operator x y) = either_one (in_operand x v) (in_operand y v)
-reads_once v value = false
+reads_once v (Holds test) = either_one (in_operand test.left v) (in_operand test.right v)
+reads_once v (FrameAddress offset) = false
 
 -- a word that the next action alone reads, once, is not kept: that action is done with the word from the queue
 abbrev pub taken_standing : ℕ → Action → VariableSet → Standing
@@ -130,7 +135,8 @@ abbrev pub if_settled : Standing → Standing → Standing
 if_settled Settled standing = standing
 if_settled other standing = Settled
 
--- how things stand behind an action, before the rest of its list. An action is in one pair at most, and the last two come first
+-- how things stand behind an action, before the rest of its list. Where the next action is in a pair with the one behind it,
+-- this action is in none
 abbrev pub standing_behind : Action → Actions → Ways → Standing
 standing_behind a (Do m b k) x = if_settled (standing_behind b k x) (pair_standing a b (live k x))
 standing_behind a code x = Settled
@@ -155,13 +161,18 @@ taking_code home (Receive v) d x = early_code home 30 v d x
 taking_code home (Accept v) d x = early_code home 28 v d x
 taking_code home action d x = []
 
--- the block of an action, where things stand so before it and so behind it
-abbrev pub block_code : Plan → (ℕ → ℕ) → ℕ → Standing → Action → Standing → VariableSet → List Inst → List Inst → List Inst
-block_code plan variables f (Late t x) a standing live leaves skips = late_code (plan.home f) a x
-block_code plan variables f (Early v x) a standing live leaves skips = []
-block_code plan variables f Settled a (Late t x) live leaves skips = []
-block_code plan variables f Settled a (Early d x) live leaves skips = taking_code (plan.home f) a d x
-block_code plan variables f Settled a Settled live leaves skips = action_code plan variables f a live leaves skips
+-- the test of a place whose address is a multiple of four
+abbrev pub placed_code : (ℕ → Home) → Action → List Inst
+placed_code home (Probe (Place width x)) = fetch home 5 x ++ bounds_code width (source home 5 x)
+placed_code home a = []
+
+-- the block of an action, where things stand so before it and so behind it; placed says whether it is such a test
+abbrev pub block_code : Plan → (ℕ → ℕ) → ℕ → Bool → Standing → Action → Standing → VariableSet → List Inst → List Inst → List Inst
+block_code plan variables f placed (Late t x) a standing live leaves skips = late_code (plan.home f) a x
+block_code plan variables f placed (Early v x) a standing live leaves skips = []
+block_code plan variables f placed Settled a (Late t x) live leaves skips = []
+block_code plan variables f placed Settled a (Early d x) live leaves skips = taking_code (plan.home f) a d x
+block_code plan variables f placed Settled a Settled live leaves skips = if placed then placed_code (plan.home f) a else action_code plan variables f a live leaves skips
 
 -- ---- structured code
 
@@ -195,20 +206,21 @@ loop_code short body step rest =
     let turn = body (length step + jump_words short) 0 in
     turn ++ (step ++ (jump_back short (length turn + length step) ++ rest))
 
--- short says whether jumps are to be; and so things stand before the list. Before a branch or a loop they are settled
-abbrev pub code_of : Bool → Plan → (ℕ → ℕ) → ℕ → Standing → Actions → Ways → ℕ → ℕ → List Inst
-code_of short plan variables f standing Done x leaves skips = []
-code_of short plan variables f standing (Do m a k) x leaves skips =
-    followed short (block_code plan variables f standing a (standing_behind a k x) (live k x))
-    (code_of short plan variables f (standing_behind a k x) k x leaves skips) leaves skips
-code_of short plan variables f standing (If m b p q k) x leaves skips =
+-- short says whether jumps are to be; so things stand before the list, and these variables are multiples of four there. Before a branch
+-- or a loop things are settled, and in it and behind it no multiples are known
+abbrev pub code_of : Bool → Plan → (ℕ → ℕ) → ℕ → Standing → VariableSet → Actions → Ways → ℕ → ℕ → List Inst
+code_of short plan variables f standing known Done x leaves skips = []
+code_of short plan variables f standing known (Do m a k) x leaves skips =
+    followed short (block_code plan variables f (is_placed known a) standing a (standing_behind a k x) (live k x))
+    (code_of short plan variables f (standing_behind a k x) (multiples_behind a known) k x leaves skips) leaves skips
+code_of short plan variables f standing known (If m b p q k) x leaves skips =
     if_code short (does_nothing p) (does_nothing q) (branch_code (plan.home f) short b)
-    (code_of short plan variables f Settled p (behind (live k x) x)) (code_of short plan variables f Settled q (behind (live k x) x))
-    (code_of short plan variables f Settled k x leaves skips) leaves skips
-code_of short plan variables f standing (Loop m body step k) x leaves skips =
-    loop_code short (code_of short plan variables f Settled body (body_ways body step (live k x)))
-    (code_of short plan variables f Settled step (step_ways body step (live k x)) (jump_words short) 0)
-    (code_of short plan variables f Settled k x leaves skips)
+    (code_of short plan variables f Settled unknown p (behind (live k x) x)) (code_of short plan variables f Settled unknown q (behind (live k x) x))
+    (code_of short plan variables f Settled unknown k x leaves skips) leaves skips
+code_of short plan variables f standing known (Loop m body step k) x leaves skips =
+    loop_code short (code_of short plan variables f Settled unknown body (body_ways body step (live k x)))
+    (code_of short plan variables f Settled unknown step (step_ways body step (live k x)) (jump_words short) 0)
+    (code_of short plan variables f Settled unknown k x leaves skips)
 
 -- ---- functions
 
@@ -219,7 +231,7 @@ entry_code plan variables f live = Sw 2 1 (pos 0) ∷ restore_code (registers_in
 
 abbrev pub function_code : Plan → (ℕ → ℕ) → ℕ → Actions → List Inst
 function_code plan variables f code =
-    entry_code plan variables f (live code nowhere) ++ (code_of (is_short code) plan variables f Settled code nowhere 0 0 ++ leave_code (plan.home f) (Some (Number 0)))
+    entry_code plan variables f (live code nowhere) ++ (code_of (is_short code) plan variables f Settled unknown code nowhere 0 0 ++ leave_code (plan.home f) (Some (Number 0)))
 
 -- where main returns to: A halts, and E halts with the result
 abbrev pub finish_code : Bool → List Inst

@@ -13,6 +13,7 @@ use Rattle.dae_walks.specs.Homes.{IsHome}
 use Rattle.dae_walks.specs.Walks.{Setting, Comes}
 use Rattle.dae_walks.specs.Layout.{CodeAt}
 use Rattle.dae_walks.specs.Live.{nowhere, none, live, lives}
+use Rattle.dae_walks.specs.Multiples.{unknown}
 use Rattle.dae_walks.specs.Agrees.{Plan, Stands as Stands'}
 use Rattle.dae_walks.specs.declared.Standing.TheVariants.{Settled}
 use Rattle.dae_walks.specs.Compiled.{exit, exits, ActionDone, CodeDone}
@@ -26,16 +27,16 @@ use Rattle.dae_blocks.specs.Wanted.{IsWanted, IsWantedBranch, IsPlanOf, IsLinked
 pub record Stands (s : Setting) (plan : Plan) (variables : ℕ → ℕ) (entries : ℕ → VariableSet) (f : ℕ) (code : Actions) : Type 0 where
   pub wanted : Each (IsWanted plan s.copies entries) IsWantedBranch code
   pub right : AllByRecursion (IsRight (plan.home f) (variables f)) (lives code nowhere)
-  pub there : CodeAt s.code (plan.start f) (code_of (is_short code) plan variables f Settled code nowhere 0 0 ++ leave_code (plan.home f) (Some (Number 0)))
-  pub small : plan.start f + length (code_of (is_short code) plan variables f Settled code nowhere 0 0 ++ leave_code (plan.home f) (Some (Number 0))) < 2 ^ 29
+  pub there : CodeAt s.code (plan.start f) (code_of (is_short code) plan variables f Settled unknown code nowhere 0 0 ++ leave_code (plan.home f) (Some (Number 0)))
+  pub small : plan.start f + length (code_of (is_short code) plan variables f Settled unknown code nowhere 0 0 ++ leave_code (plan.home f) (Some (Number 0))) < 2 ^ 29
 
 -- then it does them, action by action, in at most 14 instructions an action, 46 a call and 6 more an argument
 abbrev pub CodeDoes : Type 0
 CodeDoes =
     (s : Setting) (plan : Plan) (variables : ℕ → ℕ) (program : Program) (entries : ℕ → VariableSet) → Fits s plan variables → IsPlanOf program plan → IsLinked s plan variables entries
     → (f : ℕ) (code : Actions) → Stands s plan variables entries f code
-    → (end : ℕ) × CodeDone s plan program entries 14 46 f code (exit (plan.start f) (live code nowhere)) (exits (exit end none) (exit end none) (exit end none))
-    × ActionDone s plan program entries 14 46 f (Return (Some (Number 0))) (exit end none) (exit end none) (exits (exit end none) (exit end none) (exit end none))
+    → (end : ℕ) × CodeDone s plan program entries 14 46 f unknown code (exit (plan.start f) (live code nowhere)) (exits (exit end none) (exit end none) (exit end none))
+    × ActionDone s plan program entries 14 46 f unknown (Return (Some (Number 0))) (exit end none) (exit end none) (exits (exit end none) (exit end none) (exit end none))
 
 -- with homes in their ranges the code of a function is of instructions that have words
 abbrev pub CodeInRange : Type 0

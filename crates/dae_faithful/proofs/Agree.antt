@@ -12,6 +12,7 @@ use Rattle.dae_ir.specs.Streams.{Actions}
 use Rattle.dae_rounds.specs.Spots.{Behind, Ends, After, Body, Turn, Spot, Waiting}
 use Rattle.dae_walks.specs.Walks.{Setting, Comes}
 use Rattle.dae_walks.specs.Live.{live, nowhere}
+use Rattle.dae_walks.specs.Multiples.{AreMultiples, unknown}
 use Rattle.dae_walks.specs.Agrees.{Plan, Moment, Waiting as Waiting', IsWithin}
 use Rattle.dae_walks.specs.Compiled.{Exit, Exits, exits, with_result, IsAnswered, Lands, At as At', CodeDone, Turns}
 use Rattle.dae_faithful.specs.Made.{IsFit, AnyBranch, IsTight, IsClosed, setting_of}
@@ -64,8 +65,12 @@ module _ (setup : Setup) (plan : Plan) (p : Program) (body : ℕ → Actions) (m
   abbrev pub GoesOn : ℕ → Exit → Moment → Processor → Type 0
   GoesOn f x m q = At' s plan p entries most widest f x m q
 
+  -- the code of a list is done where these variables are multiples of four, or none is known to be one
+  abbrev pub CodeWith : ℕ → VariableSet → Actions → Exit → Exits → Type 0
+  CodeWith f known code here x = CodeDone s plan p entries most widest f known code here x
+
   abbrev pub CodeAt : ℕ → Actions → Exit → Exits → Type 0
-  CodeAt f code here x = CodeDone s plan p entries most widest f code here x
+  CodeAt f code here x = CodeWith f unknown code here x
 
   abbrev pub TurnsAt : ℕ → Exit → Exit → Type 0
   TurnsAt f x y = Turns s plan p entries most widest f x y
@@ -92,9 +97,9 @@ module _ (setup : Setup) (plan : Plan) (p : Program) (body : ℕ → Actions) (m
   BehindDone f (Body x y k b) e = (l : Around) × (z : Exits) × (e ≡ body_exits l) × LoopDone f x y k l z × BehindDone f b z
   BehindDone f (Turn x y k b) e = (l : Around) × (z : Exits) × (e ≡ step_exits l) × LoopDone f x y k l z × BehindDone f b z
 
-  -- a point of the function f that goes on at a place
-  pub record Placed (f : ℕ) (code : Actions) (behind : Behind) (here : Exit) (x : Exits) : Type 0 where
-    pub done : CodeAt f code here x
+  -- a point of the function f that goes on at a place, where these variables are multiples of four
+  pub record Placed (f : ℕ) (known : VariableSet) (code : Actions) (behind : Behind) (here : Exit) (x : Exits) : Type 0 where
+    pub done : CodeWith f known code here x
     pub next : BehindDone f behind x
     pub fits : FitsCode f code
     pub fits_next : FitsBehind f behind
@@ -108,7 +113,7 @@ module _ (setup : Setup) (plan : Plan) (p : Program) (body : ℕ → Actions) (m
   pub record Waits (f : ℕ) (c : Waiting) (w : Waiting') (ws : List Waiting') : Type 0 where
     pub here : Exit
     pub exits' : Exits
-    pub placed : Placed w.function c.point.code c.point.behind here exits'
+    pub placed : Placed w.function unknown c.point.code c.point.behind here exits'
     pub env : w.env ≡ c.env
     pub frame : w.frame ≡ c.frame
     pub top : c.top ≡ w.frame + plan.frame w.function
@@ -129,7 +134,9 @@ module _ (setup : Setup) (plan : Plan) (p : Program) (body : ℕ → Actions) (m
     pub waiting : List Waiting'
     pub here : Exit
     pub exits' : Exits
-    pub placed : Placed function at'.point.code at'.point.behind here exits'
+    pub known : VariableSet
+    pub placed : Placed function known at'.point.code at'.point.behind here exits'
+    pub multiples : AreMultiples known at'.env
     pub stands : GoesOn function here (moment function at'.env at'.frame waiting) q
     pub top : at'.top ≡ at'.frame + plan.frame function
     pub depth : at'.depth ≡ length waiting + 1

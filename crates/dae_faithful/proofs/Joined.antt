@@ -19,6 +19,7 @@ use Rattle.dae_rounds.specs.Sides.{Implements}
 use Rattle.dae_runs.specs.Promises.{Begins, DoesForm}
 use Rattle.dae_runs.proofs.Laws.{does_form}
 use Rattle.dae_walks.specs.Live.{none, live, nowhere}
+use Rattle.dae_walks.specs.Multiples.{unknown}
 use Rattle.dae_walks.specs.Agrees.{Moment, Stands}
 use Rattle.dae_walks.specs.Compiled.{exit, exits}
 use Rattle.dae_blocks.specs.Laws.{opened_with}
@@ -74,6 +75,8 @@ module _ (by_a : Bool) (p : Program) (body : ℕ → Actions) (parameters : ℕ 
         here = exit (c.plan.start main) (live (body main) nowhere);
         exits' = exits (exit d.0 none) (exit d.0 none) (exit d.0 none);
         placed = record { done = d.1; next = tt; fits = whole.fits main there; fits_next = tt; tight = whole.tight main there; closed = whole.closed main there };
+        known = unknown;
+        multiples = λ v e. absurd (let z : false ≡ true = e in cc);
         stands = (refl, subst (λ (t : ℕ). Stands c.plan (live (body main) nowhere) (record { function = main; env = (λ _. 0); frame = t; waiting = [] }) (c.plan.start main) q) (sym top) g);
         top = (omega arith);
         depth = (omega arith);

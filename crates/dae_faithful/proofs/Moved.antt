@@ -12,7 +12,7 @@ use Rattle.dae_meaning.specs.Variables.{Env, put}
 use Rattle.dae_ir.specs.Form.{Program, value, holds, deeper}
 use Rattle.dae_ir.specs.Classes.{VariableSet}
 use Rattle.dae_ir.specs.Streams.{Actions}
-use Rattle.dae_ir.specs.Deeds.{deed, told_on, heard_on}
+use Rattle.dae_ir.specs.Deeds.{Deed, deed, told_on, heard_on}
 use Rattle.dae_ir.specs.declared.form.Operand.{Operand}
 use Rattle.dae_ir.specs.declared.form.Test.{Test}
 use Rattle.dae_ir.specs.declared.stream.Mark.{Mark}
@@ -22,12 +22,14 @@ use Rattle.dae_ir.specs.declared.stream.Action.TheVariants.{Set as Compute, Issu
 use Rattle.dae_ir.specs.declared.stream.Branch.TheVariants.{Silent, Tells, Hears}
 use Rattle.dae_machine.specs.Uses.{Use, Pushes}
 use Rattle.dae_machine.specs.Uses.{Takes}
-use Rattle.dae_rounds.specs.Follows.{IsFit as IsFitUse, Outcome, Leaves, Quits, Follows, halts}
+use Rattle.dae_rounds.specs.Follows.{IsFit as IsFitUse, Outcome, Leaves, Quits, Follows, went, takes, pushes, reserves, sends, says, halts}
 use Rattle.dae_rounds.specs.Spots.{Behind, Ends, After, Body, Turn, Point, point, left, skipped, Spot, spot, Waiting, waits, put_some, resumed, given, with_result, weight, Came, came, Moves, acts, goes_behind, ends_body, ends_step, breaks, continues, branches, tells, hears, enters, calls_it, returns, goes_back}
 use Rattle.dae_rounds.specs.Sides.{Walked, Agrees, Implements}
 use Rattle.dae_walks.specs.Walks.{Comes}
 use Rattle.dae_walks.specs.Does.{Does}
 use Rattle.dae_walks.specs.Live.{none}
+use Rattle.dae_walks.specs.Multiples.{AreMultiples, LeavesOnly, unknown, multiples_behind}
+use Rattle.dae_walks.proofs.LawsOfWalks.{deed_multiples}
 use Rattle.dae_walks.specs.Agrees.{Plan, Moment, Waiting as Waiting', IsWithin, top_of}
 use Rattle.dae_walks.specs.declared.Standing.{Standing}
 use Rattle.dae_walks.specs.declared.Standing.TheVariants.{Settled, Early, Late}
@@ -39,6 +41,19 @@ use Rattle.dae_faithful.proofs.Agree.{Around, body_exits, step_exits, TightAt, C
 use Rattle.dae_faithful.proofs.Ways.{tight_map, closed_map, agrees_at, Leads_to, left_leads, skipped_leads}
 
 -- ---- small facts
+
+none_known : (env : Env) → AreMultiples unknown env
+none_known env v e = absurd (let z : false ≡ true = e in cc)
+
+-- what a deed leaves, whatever words the queues give
+follows_only : {d : Deed} {uses : List Use} {o : Outcome} (P : Env → Type 0) → Follows d uses o → LeavesOnly P d → (e : Env) → o ≡ Leaves e → P e
+follows_only P (went {env}) h e same = let left : env ≡ e = cc in subst P left h
+follows_only P (takes x f) h e same = follows_only P f (h x) e same
+follows_only P (pushes f) h e same = follows_only P f h e same
+follows_only P (reserves f) h e same = follows_only P f h e same
+follows_only P (sends f) h e same = follows_only P f h e same
+follows_only P (says f) h e same = follows_only P f h e same
+follows_only P halts h e same = absurd cc
 
 -- there is room where the check of it doesn't fail
 room_is : (a b c d : ℕ) → passed (nat_lt a b || nat_lt c d) ≡ None → (b ≤ a) × (d ≤ c)
@@ -118,6 +133,8 @@ module _ (setup : Setup) (plan : Plan) (p : Program) (body : ℕ → Actions) (n
         here = exit (plan.start f) (entries setup plan p body n widest functions answered f);
         exits' = exits (exit body_done.0 none) (exit body_done.0 none) (exit body_done.0 none);
         placed = record { done = body_done.1; next = tt; fits = d.whole.fits f fits.0.0; fits_next = tt; tight = d.whole.tight f fits.0.0; closed = d.whole.closed f fits.0.0 };
+        known = unknown;
+        multiples = none_known _;
         stands = stands_as (exit (plan.start f) (entries setup plan p body n widest functions answered f)) r same g;
         top = (omega arith);
         depth = (omega arith);
@@ -182,6 +199,8 @@ module _ (setup : Setup) (plan : Plan) (p : Program) (body : ℕ → Actions) (n
         here = w.here;
         exits' = w.exits';
         placed = w.placed;
+        known = unknown;
+        multiples = none_known _;
         stands = stands_as w.here r same g;
         top = (omega arith);
         depth = w.depth;
@@ -197,9 +216,9 @@ module _ (setup : Setup) (plan : Plan) (p : Program) (body : ℕ → Actions) (n
       → On f (if t then first else second) (moment setup plan p body n widest functions answered f env w.frame ws) q
       → A (spot (point (if t then x else y) (After k b)) env w calls) q
   chosen {f} x y k b env calls w ws first second next z true q dx dy dk db fx fy fk fb tx ty tk ck top depth ac g =
-      agrees_at setup plan p body n widest functions answered x (After k b) env w.frame w.top w.depth calls q (record { function = f; waiting = ws; here = first; exits' = record z { next = next }; placed = record { done = dx; next = (next, z, refl, dk, db); fits = fx; fits_next = (fk, fb); tight = (tx, tk); closed = ck }; stands = g; top = top; depth = depth; calls = ac })
+      agrees_at setup plan p body n widest functions answered x (After k b) env w.frame w.top w.depth calls q (record { function = f; waiting = ws; here = first; exits' = record z { next = next }; placed = record { done = dx; next = (next, z, refl, dk, db); fits = fx; fits_next = (fk, fb); tight = (tx, tk); closed = ck }; known = unknown; multiples = none_known _; stands = g; top = top; depth = depth; calls = ac })
   chosen {f} x y k b env calls w ws first second next z false q dx dy dk db fx fy fk fb tx ty tk ck top depth ac g =
-      agrees_at setup plan p body n widest functions answered y (After k b) env w.frame w.top w.depth calls q (record { function = f; waiting = ws; here = second; exits' = record z { next = next }; placed = record { done = dy; next = (next, z, refl, dk, db); fits = fy; fits_next = (fk, fb); tight = (ty, tk); closed = ck }; stands = g; top = top; depth = depth; calls = ac })
+      agrees_at setup plan p body n widest functions answered y (After k b) env w.frame w.top w.depth calls q (record { function = f; waiting = ws; here = second; exits' = record z { next = next }; placed = record { done = dy; next = (next, z, refl, dk, db); fits = fy; fits_next = (fk, fb); tight = (ty, tk); closed = ck }; known = unknown; multiples = none_known _; stands = g; top = top; depth = depth; calls = ac })
 
   silent_moved : (q : Processor) {m : Mark} {t : Test} {x y k : Actions} {b : Behind} {env : Env} {calls : List Waiting} (w : World) → S (spot (point (If m (Silent t) x y k) b) env w calls) q → To 0 n q [] (A (spot (point (if holds t env then x else y) (After k b)) env w calls))
   silent_moved q {m} {t} {x} {y} {k} {b} {env} {calls} w h =
@@ -254,6 +273,8 @@ module _ (setup : Setup) (plan : Plan) (p : Program) (body : ℕ → Actions) (n
         here = l.begin;
         exits' = body_exits l;
         placed = record { done = d.5; next = (l, z, refl, loop, h.placed.next); fits = fits.0; fits_next = (fits.0, fits.1, fits.2, h.placed.fits_next); tight = tight_map (Loop m x y k) k b (λ u. u) h.placed.tight; closed = closed_map (Loop m x y k) k b (λ u. u) h.placed.closed };
+        known = unknown;
+        multiples = none_known _;
         stands = c;
         top = h.top;
         depth = h.depth;
@@ -267,7 +288,7 @@ module _ (setup : Setup) (plan : Plan) (p : Program) (body : ℕ → Actions) (n
       → (q : Processor) → On f from (moment setup plan p body n widest functions answered f env w.frame ws) q → To 0 2 q [] (A (spot at' env w calls))
   led {f} at' env w calls ws l top depth ac q h =
       just_comes setup plan.by_a (l.walks (moment setup plan p body n widest functions answered f env w.frame ws) q h) (λ r g.
-      agrees_at setup plan p body n widest functions answered at'.code at'.behind env w.frame w.top w.depth calls r (record { function = f; waiting = ws; here = l.here; exits' = l.exits'; placed = l.placed; stands = g; top = top; depth = depth; calls = ac })) (omega arith)
+      agrees_at setup plan p body n widest functions answered at'.code at'.behind env w.frame w.top w.depth calls r (record { function = f; waiting = ws; here = l.here; exits' = l.exits'; placed = l.placed; known = unknown; multiples = none_known _; stands = g; top = top; depth = depth; calls = ac })) (omega arith)
 
   behind_moved : (q : Processor) {k : Actions} {b : Behind} {env : Env} {calls : List Waiting} (w : World) → S (spot (point Done (After k b)) env w calls) q → To 0 2 q [] (A (spot (point k b) env w calls))
   behind_moved q {k} {b} {env} {calls} w h =
@@ -276,7 +297,7 @@ module _ (setup : Setup) (plan : Plan) (p : Program) (body : ℕ → Actions) (n
       let g = h.placed.next in
       let fits = h.placed.fits_next in
       just_comes setup plan.by_a (h.placed.done M q h.stands) (λ r c.
-      agrees_at setup plan p body n widest functions answered k b env w.frame w.top w.depth calls r (record { function = h.function; waiting = h.waiting; here = g.0; exits' = g.1; placed = record { done = g.3; next = g.4; fits = fits.0; fits_next = fits.1; tight = h.placed.tight.1; closed = h.placed.closed }; stands = subst (λ (e : Exits). On h.function e.next M r) g.2 c; top = h.top; depth = h.depth; calls = h.calls })) (omega arith)
+      agrees_at setup plan p body n widest functions answered k b env w.frame w.top w.depth calls r (record { function = h.function; waiting = h.waiting; here = g.0; exits' = g.1; placed = record { done = g.3; next = g.4; fits = fits.0; fits_next = fits.1; tight = h.placed.tight.1; closed = h.placed.closed }; known = unknown; multiples = none_known _; stands = subst (λ (e : Exits). On h.function e.next M r) g.2 c; top = h.top; depth = h.depth; calls = h.calls })) (omega arith)
 
   body_moved : (q : Processor) {x y k : Actions} {b : Behind} {env : Env} {calls : List Waiting} (w : World) → S (spot (point Done (Body x y k b)) env w calls) q → To 0 2 q [] (A (spot (point y (Turn x y k b)) env w calls))
   body_moved q {x} {y} {k} {b} {env} {calls} w h =
@@ -284,7 +305,7 @@ module _ (setup : Setup) (plan : Plan) (p : Program) (body : ℕ → Actions) (n
       let g = h.placed.next in
       let fits = h.placed.fits_next in
       just_comes setup plan.by_a (h.placed.done M q h.stands) (λ r c.
-      agrees_at setup plan p body n widest functions answered y (Turn x y k b) env w.frame w.top w.depth calls r (record { function = h.function; waiting = h.waiting; here = g.0.again; exits' = step_exits g.0; placed = record { done = g.3.in_step; next = (g.0, g.1, refl, g.3, g.4); fits = fits.1; fits_next = fits; tight = h.placed.tight; closed = h.placed.closed }; stands = subst (λ (e : Exits). On h.function e.next M r) g.2 c; top = h.top; depth = h.depth; calls = h.calls })) (omega arith)
+      agrees_at setup plan p body n widest functions answered y (Turn x y k b) env w.frame w.top w.depth calls r (record { function = h.function; waiting = h.waiting; here = g.0.again; exits' = step_exits g.0; placed = record { done = g.3.in_step; next = (g.0, g.1, refl, g.3, g.4); fits = fits.1; fits_next = fits; tight = h.placed.tight; closed = h.placed.closed }; known = unknown; multiples = none_known _; stands = subst (λ (e : Exits). On h.function e.next M r) g.2 c; top = h.top; depth = h.depth; calls = h.calls })) (omega arith)
 
   step_moved : (q : Processor) {x y k : Actions} {b : Behind} {env : Env} {calls : List Waiting} (w : World) → S (spot (point Done (Turn x y k b)) env w calls) q → To 1 4 q [] (A (spot (point x (Body x y k b)) env w calls))
   step_moved q {x} {y} {k} {b} {env} {calls} w h =
@@ -301,6 +322,8 @@ module _ (setup : Setup) (plan : Plan) (p : Program) (body : ℕ → Actions) (n
         here = l.begin;
         exits' = body_exits l;
         placed = record { done = g.3.in_body; next = (l, z, refl, g.3, g.4); fits = fits.0; fits_next = fits; tight = h.placed.tight; closed = h.placed.closed };
+        known = unknown;
+        multiples = none_known _;
         stands = i;
         top = h.top;
         depth = h.depth;
@@ -324,7 +347,7 @@ module _ (setup : Setup) (plan : Plan) (p : Program) (body : ℕ → Actions) (n
 
   acted : (q : Processor) {m : Mark} (x : Action) {k : Actions} {b : Behind} {env : Env} {calls : List Waiting} {uses : List Use} {o : Outcome} (w : World) → IsDone → length w.memory ≡ setup.memory → Follows (deed p plan.by_a x w env) uses o → AllByRecursion (IsFitUse setup.memory) uses
       → (h : S (spot (point (Do m x k) b) env w calls) q)
-      → ((M : Moment) (w : World) (r : Processor) → On h.function h.here M r → IsWorldOf plan M w → Does (s setup plan p body n widest functions answered) n (deed p plan.by_a x w M.env) (λ e. On h.function h.placed.done.0 (with_env e M)) r)
+      → ((M : Moment) (w : World) (r : Processor) → On h.function h.here M r → IsWorldOf plan M w → AreMultiples h.known M.env → Does (s setup plan p body n widest functions answered) n (deed p plan.by_a x w M.env) (λ e. On h.function h.placed.done.0 (with_env e M)) r)
       → (is_leaving o ≡ true → (IsTight (Do m x k) → IsTight k) × (IsClosed (Do m x k) → IsClosed k))
       → To 0 n q uses (Agrees A (came o (λ (e : Env). spot (point k b) e w calls)))
   acted q {m} x {k} {b} {env} {calls} {uses} {o} w d size follows fit h done ways =
@@ -332,12 +355,13 @@ module _ (setup : Setup) (plan : Plan) (p : Program) (body : ℕ → Actions) (n
       let top = h.top in let depth = h.depth in let memory = d.memory in
       let world : IsWorldOf plan M w = record { frame = refl; top = h.top; depth = h.depth; memory = (omega arith) } in
       let to : Env → Processor → Type 0 = λ e. On h.function h.placed.done.0 (with_env e M) in
-      let r = does_walks setup plan.by_a n to (deed p plan.by_a x w env) q (done M w q h.stands world) follows fit in
-      record { after = r.after; steps = r.steps; walks = r.walks; holds = by o r.after ways r.holds; some = omega arith; few = r.few; words = r.words }
+      let r = does_walks setup plan.by_a n to (deed p plan.by_a x w env) q (done M w q h.stands world h.multiples) follows fit in
+      record { after = r.after; steps = r.steps; walks = r.walks; holds = by o r.after ways r.holds (follows_only (AreMultiples (multiples_behind x h.known)) follows (deed_multiples p plan.by_a x w env h.known h.multiples)); some = omega arith; few = r.few; words = r.words }
     where
       by : (o : Outcome) (r : Processor) → (is_leaving o ≡ true → (IsTight (Do m x k) → IsTight k) × (IsClosed (Do m x k) → IsClosed k)) → Ended setup plan.by_a o (λ e. On h.function h.placed.done.0 (with_env e (moment setup plan p body n widest functions answered h.function env w.frame h.waiting))) r
+          → ((e : Env) → o ≡ Leaves e → AreMultiples (multiples_behind x h.known) e)
           → Agrees A (came o (λ (e : Env). spot (point k b) e w calls)) r
-      by (Leaves e) r f g =
+      by (Leaves e) r f g only =
           let fit = f refl in
           agrees_at setup plan p body n widest functions answered k b e w.frame w.top w.depth calls r (record {
             function = h.function;
@@ -345,12 +369,14 @@ module _ (setup : Setup) (plan : Plan) (p : Program) (body : ℕ → Actions) (n
             here = h.placed.done.0;
             exits' = h.exits';
             placed = record { done = h.placed.done.2; next = h.placed.next; fits = h.placed.fits.1; fits_next = h.placed.fits_next; tight = tight_map (Do m x k) k b fit.0 h.placed.tight; closed = closed_map (Do m x k) k b fit.1 h.placed.closed };
+            known = multiples_behind x h.known;
+            multiples = only e refl;
             stands = g;
             top = h.top;
             depth = h.depth;
             calls = h.calls;
           })
-      by (Quits quit) r f g = g
+      by (Quits quit) r f g only = g
 
   -- ---- all moves
 

@@ -8,6 +8,7 @@ use Rattle.dae_ir.specs.Form.{Program}
 use Rattle.dae_ir.specs.Streams.{Actions}
 use Rattle.dae_rounds.specs.Spots.{Behind, Ends, After, Body, Turn, Point, point, left, skipped, Spot, Waiting}
 use Rattle.dae_walks.specs.Walks.{Comes}
+use Rattle.dae_walks.specs.Multiples.{unknown}
 use Rattle.dae_walks.specs.Agrees.{Plan, Moment}
 use Rattle.dae_walks.specs.Compiled.{Exit, Exits}
 use Rattle.dae_walks.proofs.LawsOfWalks.{comes_here, comes_more}
@@ -31,7 +32,7 @@ module _ (setup : Setup) (plan : Plan) (p : Program) (body : ℕ → Actions) (m
   Stands_at at' q = StandsAt setup plan p body most widest functions answered at' q
 
   abbrev pub Placed_at : ℕ → Actions → Behind → Exit → Exits → Type 0
-  Placed_at f code b here x = Placed setup plan p body most widest functions answered f code b here x
+  Placed_at f code b here x = Placed setup plan p body most widest functions answered f unknown code b here x
 
   abbrev pub Goes_on : ℕ → Exit → Moment → Processor → Type 0
   Goes_on f x m q = GoesOn setup plan p body most widest functions answered f x m q

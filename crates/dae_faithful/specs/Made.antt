@@ -31,6 +31,7 @@ use Rattle.dae_walks.specs.Walks.{Setting}
 use Rattle.dae_walks.specs.Layout.{CodeAt}
 use Rattle.dae_walks.specs.Homes.{AreApart}
 use Rattle.dae_walks.specs.Live.{live, lives, nowhere}
+use Rattle.dae_walks.specs.Multiples.{unknown}
 use Rattle.dae_walks.specs.Agrees.{Plan}
 use Rattle.dae_blocks.specs.Blocks.{leave_code}
 use Rattle.dae_walks.specs.declared.Standing.TheVariants.{Settled}
@@ -83,8 +84,8 @@ setting_of setup by_a = record { side = side by_a; copies = setup.copies; code =
 -- the code of a function stands where it starts, and what is live at each of its places are its variables, in homes apart
 pub record HasCode (s : Setting) (plan : Plan) (variables : ℕ → ℕ) (f : ℕ) (code : Actions) : Type 0 where
   pub right : AllByRecursion (IsRight (plan.home f) (variables f)) (lives code nowhere)
-  pub there : CodeAt s.code (plan.start f) (code_of (is_short code) plan variables f Settled code nowhere 0 0 ++ leave_code (plan.home f) (Some (Number 0)))
-  pub small : plan.start f + length (code_of (is_short code) plan variables f Settled code nowhere 0 0 ++ leave_code (plan.home f) (Some (Number 0))) < 2 ^ 29
+  pub there : CodeAt s.code (plan.start f) (code_of (is_short code) plan variables f Settled unknown code nowhere 0 0 ++ leave_code (plan.home f) (Some (Number 0)))
+  pub small : plan.start f + length (code_of (is_short code) plan variables f Settled unknown code nowhere 0 0 ++ leave_code (plan.home f) (Some (Number 0))) < 2 ^ 29
 
 -- the code that begins stands at word 0, and there is room for the deepest calls
 pub record HasStart (s : Setting) (plan : Plan) (main frames : ℕ) : Type 0 where

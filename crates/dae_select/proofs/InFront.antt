@@ -4,10 +4,12 @@ use Rattle.std.proofs.lemmas.List.{append-nil, map-append, reverse-append}
 use Rattle.dae_base.specs.declared.Place.{Place}
 use Rattle.dae_encode.specs.declared.Inst.{Inst}
 use Rattle.dae_ir.specs.Code.{Done, Do, If, Loop}
+use Rattle.dae_ir.specs.Classes.{VariableSet}
 use Rattle.dae_ir.specs.Streams.{Actions}
 use Rattle.dae_walks.specs.Agrees.{Plan}
 use Rattle.dae_walks.specs.declared.Standing.{Standing}
 use Rattle.dae_walks.specs.declared.Standing.TheVariants.{Settled}
+use Rattle.dae_walks.specs.Multiples.{unknown, multiples_behind, is_placed}
 use Rattle.dae_walks.specs.Live.{Ways, behind, live, step_ways, body_ways}
 use Rattle.dae_blocks.specs.Blocks.{jump_words, jump_back}
 use Rattle.dae_blocks.specs.Code.{standing_behind, block_code, branch_code, does_nothing, past_code, either_code, code_of, followed}
@@ -62,41 +64,41 @@ reverse_map {X} {Y} f (x ∷ xs) =
 
 module _ (short : Bool) (plan : Plan) (variables : ℕ → ℕ) (f : ℕ) where
   abbrev code : Actions → Ways → ℕ → ℕ → List Inst
-  code = code_of short plan variables f Settled
+  code = code_of short plan variables f Settled unknown
 
   abbrev marked : Actions → Ways → ℕ → ℕ → Grown
-  marked = marked_code short plan variables f Settled
+  marked = marked_code short plan variables f Settled unknown
 
   abbrev turned : List Inst → List Inst → List Inst → List Inst
   turned body step rest = body ++ (step ++ (jump_back short (length body + length step) ++ rest))
 
-  pub same_code : (g : Standing) (c : Actions) (x : Ways) (l s : ℕ) → (marked_code short plan variables f g c x l s).code ≡ code_of short plan variables f g c x l s
-  same_code g' Done x l s = refl
-  same_code g' (Do m a k) x l s =
+  pub same_code : (g : Standing) (known : VariableSet) (c : Actions) (x : Ways) (l s : ℕ) → (marked_code short plan variables f g known c x l s).code ≡ code_of short plan variables f g known c x l s
+  same_code g' known Done x l s = refl
+  same_code g' known (Do m a k) x l s =
       let next = standing_behind a k x in
-      ap (λ (rest : List Inst). followed short (block_code plan variables f g' a next (live k x)) rest l s) (same_code next k x l s)
-  same_code g' (If m b p q k) x l s =
+      ap (λ (rest : List Inst). followed short (block_code plan variables f (is_placed known a) g' a next (live k x)) rest l s) (same_code next (multiples_behind a known) k x l s)
+  same_code g' known (If m b p q k) x l s =
       let y = behind (live k x) x in let none = does_nothing p in
       let branch : Bool → ℕ → List Inst = branch_code (plan.home f) short b in
       let past : ℕ → List Inst = past_code short (none || does_nothing q) in
       let whole : List Inst → List Inst → List Inst → List Inst = λ g d r. either_code none branch g (past (length d)) d r in
       let far : List Inst → List Inst → ℕ = λ d r. length (past (length d)) + length d + length r in
       let r = (marked k x l s).code in let rest = code k x l s in
-      let er : r ≡ rest = same_code Settled k x l s in
+      let er : r ≡ rest = same_code Settled unknown k x l s in
       let d = (marked q y (length r + l) (length r + s)).code in let second = code q y (length rest + l) (length rest + s) in
-      let ed : d ≡ second = same_code Settled q y (length r + l) (length r + s) ∙ ap (λ (c : List Inst). code q y (length c + l) (length c + s)) er in
+      let ed : d ≡ second = same_code Settled unknown q y (length r + l) (length r + s) ∙ ap (λ (c : List Inst). code q y (length c + l) (length c + s)) er in
       let n = far d r in let g = (marked p y (n + l) (n + s)).code in
       let first = code p y (far second rest + l) (far second rest + s) in
-      let eg : g ≡ first = same_code Settled p y (n + l) (n + s) ∙ ap (λ (c : List Inst). code p y (far c r + l) (far c r + s)) ed ∙ ap (λ (c : List Inst). code p y (far second c + l) (far second c + s)) er in
+      let eg : g ≡ first = same_code Settled unknown p y (n + l) (n + s) ∙ ap (λ (c : List Inst). code p y (far c r + l) (far c r + s)) ed ∙ ap (λ (c : List Inst). code p y (far second c + l) (far second c + s)) er in
       ap (λ (c : List Inst). whole g d c) er ∙ ap (λ (c : List Inst). whole g c rest) ed ∙ ap (λ (c : List Inst). whole c second rest) eg
-  same_code g' (Loop m body step k) x l s =
+  same_code g' known (Loop m body step k) x l s =
       let n = live k x in
       let r = (marked k x l s).code in let rest = code k x l s in
-      let er : r ≡ rest = same_code Settled k x l s in
+      let er : r ≡ rest = same_code Settled unknown k x l s in
       let d = (marked step (step_ways body step n) (jump_words short) 0).code in let again = code step (step_ways body step n) (jump_words short) 0 in
-      let ed : d ≡ again = same_code Settled step (step_ways body step n) (jump_words short) 0 in
+      let ed : d ≡ again = same_code Settled unknown step (step_ways body step n) (jump_words short) 0 in
       let g = (marked body (body_ways body step n) (length d + jump_words short) 0).code in let turn = code body (body_ways body step n) (length again + jump_words short) 0 in
-      let eg : g ≡ turn = same_code Settled body (body_ways body step n) (length d + jump_words short) 0 ∙ ap (λ (c : List Inst). code body (body_ways body step n) (length c + jump_words short) 0) ed in
+      let eg : g ≡ turn = same_code Settled unknown body (body_ways body step n) (length d + jump_words short) 0 ∙ ap (λ (c : List Inst). code body (body_ways body step n) (length c + jump_words short) 0) ed in
       ap (λ (c : List Inst). turned g d c) er ∙ ap (λ (c : List Inst). turned g c rest) ed ∙ ap (λ (c : List Inst). turned c again rest) eg
 
   -- what does nothing has no code

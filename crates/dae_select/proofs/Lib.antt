@@ -2,6 +2,7 @@ mod Counted
 mod Distances
 mod Listed
 mod Stacked
+mod Known
 mod Sizes
 mod InFront
 mod Powers

@@ -12,6 +12,7 @@ use Rattle.dae_ir.specs.declared.form.Value.{Value}
 use Rattle.dae_ir.specs.declared.stream.Branch.{Branch}
 use Rattle.dae_ir.specs.declared.stream.Step.{Step, Act, If', Loop'}
 use Rattle.dae_ir.specs.declared.stream.Step.TheVariants as step
+use Rattle.dae_walks.specs.Multiples.{unknown, multiples_behind, is_placed}
 use Rattle.dae_walks.specs.Agrees.{Plan}
 use Rattle.dae_walks.specs.declared.Standing.{Standing}
 use Rattle.dae_walks.specs.declared.Standing.TheVariants.{Settled, Early, Late}
@@ -23,6 +24,7 @@ use Rattle.dae_blocks.proofs.LawsOfBlocks.{by_pairs}
 use Rattle.dae_blocks.specs.Blocks.{jump_words, jump_over, jump_back}
 use Rattle.dae_blocks.specs.Code.{reads_once, standing_behind, if_settled, pair_standing, block_code, branch_code, does_nothing, past_code}
 use Rattle.dae_select.specs.Grown.{Grown, no_code, glue, acting, in_front}
+use Rattle.dae_select.specs.Placed.{multiples_after, is_placed_step, placed_flags, multiples_at}
 use Rattle.dae_select.specs.Growing.{marked_code, IsCodeOf, standing_after, standing_between, step_before, standing_before, IsTakenBy, IsTakenByStep, IsStepCode}
 use Rattle.dae_select.proofs.InFront.{front_of_none, front_assoc, nothing_marked}
 use Rattle.dae_select.specs.declared.walking.Exits.{Exits}
@@ -32,26 +34,29 @@ module _ (short : Bool) (plan : Plan) (variables : ℕ → ℕ) (f : ℕ) where
   longer : (rest base : Grown) (more : ℕ) → length (in_front rest base).code + more ≡ length rest.code + (length base.code + more)
   longer rest base more = (let e = length-append rest.code base.code in omega arith)
 
-  pub acted : (exits : Exits) (s : Step) (m : Mark) (a : Action) (first last : Standing) (old : Grown) (next : List Bool) (new : Grown) (set : List Bool) → s ≡ step.Act m a
-      → new ≡ in_front (acting m.place (block_code plan variables f first a last (member next) (jump_over short (length old.code + exits.leaves)) (jump_over short (length old.code + exits.skips)))) old
+  pub acted : (exits : Exits) (placed : Bool) (s : Step) (m : Mark) (a : Action) (first last : Standing) (old : Grown) (next : List Bool) (new : Grown) (set : List Bool) → s ≡ step.Act m a
+      → new ≡ in_front (acting m.place (block_code plan variables f placed first a last (member next) (jump_over short (length old.code + exits.leaves)) (jump_over short (length old.code + exits.skips)))) old
       → ((n : VariableSet) → member set ≡ before a (member next) (ways n (member exits.leaves_live) (member exits.skips_live)))
-      → IsStepCode short plan variables f first last exits s old next new set
-  acted exits s m a first last old next new set is made lives base k n stood h =
+      → IsStepCode short plan variables f placed first last exits s old next new set
+  acted exits placed s m a first last old next new set is made lives known base k n test stood h0 =
       let x = ways n (member exits.leaves_live) (member exits.skips_live) in
-      let code : Standing → Grown = λ g. marked_code short plan variables f g k x (length base.code + exits.leaves) (length base.code + exits.skips) in
+      let later : VariableSet = multiples_behind a known in
+      let h = subst (λ (z : Step). IsCodeOf short plan variables f last (multiples_after z known) base exits.leaves exits.skips x k old next) is h0 in
+      let code : Standing → Grown = λ g. marked_code short plan variables f g later k x (length base.code + exits.leaves) (length base.code + exits.skips) in
       let rest = code last in
-      let block : Standing → VariableSet → ℕ → ℕ → Grown = λ g l i j. acting m.place (block_code plan variables f first a g l (jump_over short i) (jump_over short j)) in
+      let block : Standing → VariableSet → ℕ → ℕ → Grown = λ g l i j. acting m.place (block_code plan variables f (is_placed known a) first a g l (jump_over short i) (jump_over short j)) in
       let to : length old.code + exits.leaves ≡ length rest.code + (length base.code + exits.leaves) = ap (λ (g : Grown). length g.code + exits.leaves) h.code ∙ longer rest base exits.leaves in
       let on : length old.code + exits.skips ≡ length rest.code + (length base.code + exits.skips) = ap (λ (g : Grown). length g.code + exits.skips) h.code ∙ longer rest base exits.skips in
       let here : Standing → Grown = λ g. block g (live k x) (length (code g).code + (length base.code + exits.leaves)) (length (code g).code + (length base.code + exits.skips)) in
+      let tested : placed ≡ is_placed known a = test ∙ ap (λ (z : Step). is_placed_step known z) is in
       let inner : new ≡ in_front (in_front (here last) rest) base =
-      made ∙ ap (λ (l : VariableSet). in_front (block last l (length old.code + exits.leaves) (length old.code + exits.skips)) old) h.live
+      made ∙ ap (λ (t : Bool). in_front (acting m.place (block_code plan variables f t first a last (member next) (jump_over short (length old.code + exits.leaves)) (jump_over short (length old.code + exits.skips)))) old) tested ∙ ap (λ (l : VariableSet). in_front (block last l (length old.code + exits.leaves) (length old.code + exits.skips)) old) h.live
       ∙ ap (λ (l : ℕ). in_front (block last (live k x) l (length old.code + exits.skips)) old) to ∙ ap (λ (l : ℕ). in_front (block last (live k x) (length rest.code + (length base.code + exits.leaves)) l) old) on
       ∙ ap (λ (g : Grown). in_front (here last) g) h.code ∙ sym (front_assoc (here last) rest base) in
       let stands : last ≡ standing_behind a k x = stood ∙ ap (λ (z : Step). standing_after z k x) is in
       let lived : member set ≡ live (Do m a k) x = lives n ∙ ap (λ (l : VariableSet). before a l x) h.live in
       record {
-        code = inner ∙ ap (λ (g : Standing). in_front (in_front (here g) (code g)) base) stands ∙ sym (ap (λ (z : Step). in_front (marked_code short plan variables f first (step_onto z k) x (length base.code + exits.leaves) (length base.code + exits.skips)) base) is);
+        code = inner ∙ ap (λ (g : Standing). in_front (in_front (here g) (code g)) base) stands ∙ sym (ap (λ (z : Step). in_front (marked_code short plan variables f first known (step_onto z k) x (length base.code + exits.leaves) (length base.code + exits.skips)) base) is);
         live = lived ∙ sym (ap (λ (z : Step). live (step_onto z k) x) is);
       }
 
@@ -68,20 +73,21 @@ module _ (short : Bool) (plan : Plan) (variables : ℕ → ℕ) (f : ℕ) where
   led true all first past second old over is whole empty = (let no_words = empty refl in omega arith)
   led false all first past second old over is whole empty = omega arith
 
-  pub branched : (exits : Exits) (g g' : Standing) (s : Step) (m : Mark) (b : Branch) (p q : Vec Step Global) (old : Grown) (next : List Bool) (set one other : List Bool) (c1 c2 c3 c4 : Grown) → s ≡ step.If m b p q
-      → IsCodeOf short plan variables f Settled old exits.leaves exits.skips (ways (member next) (member exits.leaves_live) (member exits.skips_live)) (actions_of q.items) c1 other
+  pub branched : (exits : Exits) (placed : Bool) (g g' : Standing) (s : Step) (m : Mark) (b : Branch) (p q : Vec Step Global) (old : Grown) (next : List Bool) (set one other : List Bool) (c1 c2 c3 c4 : Grown) → s ≡ step.If m b p q
+      → IsCodeOf short plan variables f Settled unknown old exits.leaves exits.skips (ways (member next) (member exits.leaves_live) (member exits.skips_live)) (actions_of q.items) c1 other
       → c2 ≡ in_front (glue (past_code short (does_nothing (actions_of p.items) || does_nothing (actions_of q.items)) (length c1.code - length old.code))) c1
-      → IsCodeOf short plan variables f Settled c2 exits.leaves exits.skips (ways (member next) (member exits.leaves_live) (member exits.skips_live)) (actions_of p.items) c3 one
+      → IsCodeOf short plan variables f Settled unknown c2 exits.leaves exits.skips (ways (member next) (member exits.leaves_live) (member exits.skips_live)) (actions_of p.items) c3 one
       → c4 ≡ in_front (acting m.place (branch_code (plan.home f) short b (does_nothing (actions_of p.items)) (length c3.code - (if does_nothing (actions_of p.items) then length old.code else length c1.code)))) c3
       → member set ≡ with_all (decided b) (with_all (member one) (member other))
-      → IsStepCode short plan variables f g g' exits s old next c4 set
-  branched exits g g' s m b p q old next set one other c1 c2 c3 c4 is second e2 first e4 lives base k n stood h0 =
+      → IsStepCode short plan variables f placed g g' exits s old next c4 set
+  branched exits placed g g' s m b p q old next set one other c1 c2 c3 c4 is second e2 first e4 lives known base k n test stood h0 =
       let lv = exits.leaves in let sk = exits.skips in
       let x = ways n (member exits.leaves_live) (member exits.skips_live) in
-      let h = subst (λ (st : Standing). IsCodeOf short plan variables f st base exits.leaves exits.skips x k old next) (stood ∙ ap (λ (z : Step). standing_after z k x) is) h0 in
+      let h = subst (λ (z : Step). IsCodeOf short plan variables f Settled (multiples_after z known) base exits.leaves exits.skips x k old next) is
+      (subst (λ (st : Standing). IsCodeOf short plan variables f st (multiples_after s known) base exits.leaves exits.skips x k old next) (stood ∙ ap (λ (z : Step). standing_after z k x) is) h0) in
       let none = does_nothing (actions_of p.items) in let none' = none || does_nothing (actions_of q.items) in
-      let rest = marked_code short plan variables f Settled k x (length base.code + lv) (length base.code + sk) in
-      let code : Actions → VariableSet → ℕ → ℕ → Grown = λ c l. marked_code short plan variables f Settled c (ways l (member exits.leaves_live) (member exits.skips_live)) in
+      let rest = marked_code short plan variables f Settled unknown k x (length base.code + lv) (length base.code + sk) in
+      let code : Actions → VariableSet → ℕ → ℕ → Grown = λ c l. marked_code short plan variables f Settled unknown c (ways l (member exits.leaves_live) (member exits.skips_live)) in
       let past : ℕ → Grown = λ w. glue (past_code short none' w) in
       let test : ℕ → Grown = λ w. acting m.place (branch_code (plan.home f) short b none w) in
       let Q = code (actions_of q.items) (live k x) (length rest.code + (length base.code + lv)) (length rest.code + (length base.code + sk)) in
@@ -115,81 +121,82 @@ module _ (short : Bool) (plan : Plan) (variables : ℕ → ℕ) (f : ℕ) where
       let whole : step_onto s k ≡ If m b (actions_of p.items) (actions_of q.items) k = ap (λ (z : Step). step_onto z k) is ∙ onto_if m b p q k in
       let lived : member set ≡ live (If m b (actions_of p.items) (actions_of q.items) k) x = rw (lives, first.live, second.live, h.live) refl in
       record {
-        code = all ∙ five (test n) P J Q rest base ∙ sym (ap (λ (c : Actions). in_front (marked_code short plan variables f g c x (length base.code + lv) (length base.code + sk)) base) whole);
+        code = all ∙ five (test n) P J Q rest base ∙ sym (ap (λ (c : Actions). in_front (marked_code short plan variables f g known c x (length base.code + lv) (length base.code + sk)) base) whole);
         live = lived ∙ sym (ap (λ (c : Actions). live c x) whole);
       }
 
   four : (a b j r base : Grown) → in_front a (in_front b (in_front j (in_front r base))) ≡ in_front (in_front a (in_front b (in_front j r))) base
   four a b j r base = sym (front_assoc a _ base ∙ ap (λ (g : Grown). in_front a g) (front_assoc b _ base ∙ ap (λ (g : Grown). in_front b g) (front_assoc j r base)))
 
-  pub looped : (exits : Exits) (g g' : Standing) (s : Step) (m : Mark) (p q : Vec Step Global) (old : Grown) (next turned again set : List Bool) (c1 c2 new : Grown) → s ≡ step.Loop m p q
+  pub looped : (exits : Exits) (placed : Bool) (g g' : Standing) (s : Step) (m : Mark) (p q : Vec Step Global) (old : Grown) (next turned again set : List Bool) (c1 c2 new : Grown) → s ≡ step.Loop m p q
       → member turned ≡ turn (actions_of p.items) (actions_of q.items) (member next)
-      → IsCodeOf short plan variables f Settled no_code (jump_words short) 0 (ways (member turned) (member next) (member turned)) (actions_of q.items) c1 again
-      → IsCodeOf short plan variables f Settled no_code (length c1.code + jump_words short) 0 (ways (member again) (member next) (member again)) (actions_of p.items) c2 set
+      → IsCodeOf short plan variables f Settled unknown no_code (jump_words short) 0 (ways (member turned) (member next) (member turned)) (actions_of q.items) c1 again
+      → IsCodeOf short plan variables f Settled unknown no_code (length c1.code + jump_words short) 0 (ways (member again) (member next) (member again)) (actions_of p.items) c2 set
       → new ≡ in_front c2 (in_front c1 (in_front (glue (jump_back short (length c2.code + length c1.code))) old))
-      → IsStepCode short plan variables f g g' exits s old next new set
-  looped exits g g' s m p q old next turned again set c1 c2 new is first step body made base k n stood h0 =
+      → IsStepCode short plan variables f placed g g' exits s old next new set
+  looped exits placed g g' s m p q old next turned again set c1 c2 new is first step body made known base k n test stood h0 =
       let x = ways n (member exits.leaves_live) (member exits.skips_live) in
-      let h = subst (λ (st : Standing). IsCodeOf short plan variables f st base exits.leaves exits.skips x k old next) (stood ∙ ap (λ (z : Step). standing_after z k x) is) h0 in
-      let rest = marked_code short plan variables f Settled k x (length base.code + exits.leaves) (length base.code + exits.skips) in
+      let h = subst (λ (z : Step). IsCodeOf short plan variables f Settled (multiples_after z known) base exits.leaves exits.skips x k old next) is
+      (subst (λ (st : Standing). IsCodeOf short plan variables f st (multiples_after s known) base exits.leaves exits.skips x k old next) (stood ∙ ap (λ (z : Step). standing_after z k x) is) h0) in
+      let rest = marked_code short plan variables f Settled unknown k x (length base.code + exits.leaves) (length base.code + exits.skips) in
       let B = actions_of p.items in let S = actions_of q.items in let N : VariableSet = live k x in
       let back : ℕ → Grown → Grown = λ w g. in_front (glue (jump_back short w)) g in
       let T : member turned ≡ turn B S N = first ∙ ap (turn B S) h.live in
       let steps : VariableSet → VariableSet → Ways = λ t u. ways t u t in
       let again_ways : ways (member turned) (member next) (member turned) ≡ step_ways B S N = ap (λ (t : VariableSet). steps t (member next)) T ∙ ap (λ (u : VariableSet). steps (turn B S N) u) h.live in
-      let step_made = marked_code short plan variables f Settled S (step_ways B S N) (jump_words short) 0 in
+      let step_made = marked_code short plan variables f Settled unknown S (step_ways B S N) (jump_words short) 0 in
       let zero : 0 + jump_words short ≡ jump_words short = omega arith in
-      let is1 : c1 ≡ step_made = step.code ∙ front_of_none _ ∙ ap (λ (l : ℕ). marked_code short plan variables f Settled S (ways (member turned) (member next) (member turned)) l 0) zero ∙ ap (λ (y : Ways). marked_code short plan variables f Settled S y (jump_words short) 0) again_ways in
+      let is1 : c1 ≡ step_made = step.code ∙ front_of_none _ ∙ ap (λ (l : ℕ). marked_code short plan variables f Settled unknown S (ways (member turned) (member next) (member turned)) l 0) zero ∙ ap (λ (y : Ways). marked_code short plan variables f Settled unknown S y (jump_words short) 0) again_ways in
       let step_live : member again ≡ live S (step_ways B S N) = step.live ∙ ap (live S) again_ways in
       let turn_ways : ways (member again) (member next) (member again) ≡ body_ways B S N = ap (λ (t : VariableSet). steps t (member next)) step_live ∙ ap (λ (u : VariableSet). steps (live S (step_ways B S N)) u) h.live in
-      let body_made = marked_code short plan variables f Settled B (body_ways B S N) (length step_made.code + jump_words short) 0 in
+      let body_made = marked_code short plan variables f Settled unknown B (body_ways B S N) (length step_made.code + jump_words short) 0 in
       let none : 0 + (length c1.code + jump_words short) ≡ length step_made.code + jump_words short = ap (λ (g : Grown). 0 + (length g.code + jump_words short)) is1 ∙ omega arith in
-      let is2 : c2 ≡ body_made = body.code ∙ front_of_none _ ∙ ap (λ (y : Ways). marked_code short plan variables f Settled B y (0 + (length c1.code + jump_words short)) 0) turn_ways ∙ ap (λ (l : ℕ). marked_code short plan variables f Settled B (body_ways B S N) l 0) none in
+      let is2 : c2 ≡ body_made = body.code ∙ front_of_none _ ∙ ap (λ (y : Ways). marked_code short plan variables f Settled unknown B y (0 + (length c1.code + jump_words short)) 0) turn_ways ∙ ap (λ (l : ℕ). marked_code short plan variables f Settled unknown B (body_ways B S N) l 0) none in
       let body_live : member set ≡ turn B S N = body.live ∙ ap (live B) turn_ways ∙ turn_again B S N in
       let all : new ≡ in_front body_made (in_front step_made (back (length body_made.code + length step_made.code) (in_front rest base))) =
       made ∙ ap (λ (g : Grown). in_front g (in_front c1 (back (length g.code + length c1.code) old))) is2 ∙ ap (λ (g : Grown). in_front body_made (in_front g (back (length body_made.code + length g.code) old))) is1
       ∙ ap (λ (g : Grown). in_front body_made (in_front step_made (back (length body_made.code + length step_made.code) g))) h.code in
       let whole : step_onto s k ≡ Loop m B S k = ap (λ (z : Step). step_onto z k) is ∙ onto_loop m p q k in
       record {
-        code = all ∙ four body_made step_made (glue (jump_back short (length body_made.code + length step_made.code))) rest base ∙ sym (ap (λ (c : Actions). in_front (marked_code short plan variables f g c x (length base.code + exits.leaves) (length base.code + exits.skips)) base) whole);
+        code = all ∙ four body_made step_made (glue (jump_back short (length body_made.code + length step_made.code))) rest base ∙ sym (ap (λ (c : Actions). in_front (marked_code short plan variables f g known c x (length base.code + exits.leaves) (length base.code + exits.skips)) base) whole);
         live = body_live ∙ sym (ap (λ (c : Actions). live c x) whole);
       }
 
   -- ---- a list of steps
 
-  pub none_done : (g : Standing) (steps : List Step) (base : Grown) (leaves skips : ℕ) (next : List Bool) (lv sk : VariableSet) → IsCodeOf short plan variables f g base leaves skips (ways (member next) lv sk) (actions_of (drop (length steps) steps)) base next
-  none_done g steps base leaves skips next lv sk =
+  pub none_done : (g : Standing) (known : VariableSet) (steps : List Step) (base : Grown) (leaves skips : ℕ) (next : List Bool) (lv sk : VariableSet) → IsCodeOf short plan variables f g known base leaves skips (ways (member next) lv sk) (actions_of (drop (length steps) steps)) base next
+  none_done g known steps base leaves skips next lv sk =
       let none : drop (length steps) steps ≡ [] = drop_all (length steps) steps (omega arith) in
       rw none (record { code = refl; live = refl })
 
-  pub one_more : (exits : Exits) (steps : List Step) (j : ℕ) (s : Step) (base old : Grown) (next : List Bool) (new : Grown) (set : List Bool) (n : VariableSet) (g g' : Standing) → 0 < j → j ≤ length steps → s ≡ get_or steps (j - 1) s
+  pub one_more : (exits : Exits) (known : VariableSet) (placed : Bool) (steps : List Step) (j : ℕ) (s : Step) (base old : Grown) (next : List Bool) (new : Grown) (set : List Bool) (n : VariableSet) (g g' : Standing) → 0 < j → j ≤ length steps → s ≡ get_or steps (j - 1) s
       → g' ≡ standing_after s (actions_of (drop j steps)) (ways n (member exits.leaves_live) (member exits.skips_live))
-      → IsCodeOf short plan variables f g' base exits.leaves exits.skips (ways n (member exits.leaves_live) (member exits.skips_live)) (actions_of (drop j steps)) old next
-      → IsStepCode short plan variables f g g' exits s old next new set
-      → IsCodeOf short plan variables f g base exits.leaves exits.skips (ways n (member exits.leaves_live) (member exits.skips_live)) (actions_of (drop (j - 1) steps)) new set
-  one_more exits steps j s base old next new set n g g' some le is stood so_far h =
+      → IsCodeOf short plan variables f g' (multiples_after s known) base exits.leaves exits.skips (ways n (member exits.leaves_live) (member exits.skips_live)) (actions_of (drop j steps)) old next
+      → placed ≡ is_placed_step known s → IsStepCode short plan variables f placed g g' exits s old next new set
+      → IsCodeOf short plan variables f g known base exits.leaves exits.skips (ways n (member exits.leaves_live) (member exits.skips_live)) (actions_of (drop (j - 1) steps)) new set
+  one_more exits known placed steps j s base old next new set n g g' some le is stood so_far test h =
       let back : j - 1 + 1 ≡ j = omega arith in
       let here : drop (j - 1) steps ≡ s ∷ drop j steps = drop_at steps (j - 1) s (omega arith) is ∙ ap (λ (i : ℕ). s ∷ drop i steps) back in
-      rw here (h base (actions_of (drop j steps)) n stood so_far)
+      rw here (h known base (actions_of (drop j steps)) n test stood so_far)
 
   -- the same of what is the same
-  pub moved_code : (st : Standing) (base base' : Grown) (l l' k k' : ℕ) (n lv lv' sk sk' : List Bool) (xs xs' : List Step) (new : Grown) (set : List Bool) → base ≡ base' → l ≡ l' → k ≡ k' → lv ≡ lv' → sk ≡ sk' → xs ≡ xs'
-      → IsCodeOf short plan variables f st base l k (ways (member n) (member lv) (member sk)) (actions_of xs) new set → IsCodeOf short plan variables f st base' l' k' (ways (member n) (member lv') (member sk')) (actions_of xs') new set
-  moved_code st base base' l l' k k' n lv lv' sk sk' xs xs' new set a b c d e g h = rw (← a, ← b, ← c, ← d, ← e, ← g) h
+  pub moved_code : (st : Standing) (known : VariableSet) (base base' : Grown) (l l' k k' : ℕ) (n lv lv' sk sk' : List Bool) (xs xs' : List Step) (new : Grown) (set : List Bool) → base ≡ base' → l ≡ l' → k ≡ k' → lv ≡ lv' → sk ≡ sk' → xs ≡ xs'
+      → IsCodeOf short plan variables f st known base l k (ways (member n) (member lv) (member sk)) (actions_of xs) new set → IsCodeOf short plan variables f st known base' l' k' (ways (member n) (member lv') (member sk')) (actions_of xs') new set
+  moved_code st known base base' l l' k k' n lv lv' sk sk' xs xs' new set a b c d e g h = rw (← a, ← b, ← c, ← d, ← e, ← g) h
 
   -- a whole function's actions
   pub bare : (old new : Grown) (next lv sk set : List Bool) (c : Actions) → old ≡ no_code → member next ≡ none → member lv ≡ none → member sk ≡ none
-      → IsCodeOf short plan variables f Settled old 0 0 (ways (member next) (member lv) (member sk)) c new set → (new ≡ marked_code short plan variables f Settled c nowhere 0 0) × (member set ≡ live c nowhere)
+      → IsCodeOf short plan variables f Settled unknown old 0 0 (ways (member next) (member lv) (member sk)) c new set → (new ≡ marked_code short plan variables f Settled unknown c nowhere 0 0) × (member set ≡ live c nowhere)
   bare old new next lv sk set c a b d e h =
-      let one = subst (λ (o : Grown). IsCodeOf short plan variables f Settled o 0 0 (ways (member next) (member lv) (member sk)) c new set) a h in
-      let two = subst (λ (n : VariableSet). IsCodeOf short plan variables f Settled no_code 0 0 (ways n (member lv) (member sk)) c new set) b one in
-      let three = subst (λ (n : VariableSet). IsCodeOf short plan variables f Settled no_code 0 0 (ways none n (member sk)) c new set) d two in
-      let h' = subst (λ (n : VariableSet). IsCodeOf short plan variables f Settled no_code 0 0 (ways none none n) c new set) e three in
+      let one = subst (λ (o : Grown). IsCodeOf short plan variables f Settled unknown o 0 0 (ways (member next) (member lv) (member sk)) c new set) a h in
+      let two = subst (λ (n : VariableSet). IsCodeOf short plan variables f Settled unknown no_code 0 0 (ways n (member lv) (member sk)) c new set) b one in
+      let three = subst (λ (n : VariableSet). IsCodeOf short plan variables f Settled unknown no_code 0 0 (ways none n (member sk)) c new set) d two in
+      let h' = subst (λ (n : VariableSet). IsCodeOf short plan variables f Settled unknown no_code 0 0 (ways none none n) c new set) e three in
       (h'.code ∙ front_of_none _, h'.live)
 
 -- the same of the same flag
-pub told_so : {short short' : Bool} (plan : Plan) (variables : ℕ → ℕ) (f : ℕ) (old new : Grown) (x : Ways) (c : Actions) (set : List Bool) → short ≡ short' → IsCodeOf short plan variables f Settled old 0 0 x c new set → IsCodeOf short' plan variables f Settled old 0 0 x c new set
-told_so plan variables f old new x c set e h = subst (λ (b : Bool). IsCodeOf b plan variables f Settled old 0 0 x c new set) e h
+pub told_so : {short short' : Bool} (plan : Plan) (variables : ℕ → ℕ) (f : ℕ) (old new : Grown) (x : Ways) (c : Actions) (set : List Bool) → short ≡ short' → IsCodeOf short plan variables f Settled unknown old 0 0 x c new set → IsCodeOf short' plan variables f Settled unknown old 0 0 x c new set
+told_so plan variables f old new x c set e h = subst (λ (b : Bool). IsCodeOf b plan variables f Settled unknown old 0 0 x c new set) e h
 
 -- ---- how things stand
 
@@ -238,3 +245,15 @@ stands_before steps j s set x g g' some le is stood lives e =
     let here : drop (j - 1) steps ≡ s ∷ drop j steps = drop_at steps (j - 1) s (omega arith) is ∙ ap (λ (i : ℕ). s ∷ drop i steps) back in
     e ∙ ap (λ (l : VariableSet). standing_between (step_before steps (j - 1)) s l g') lives ∙ between_before (step_before steps (j - 1)) s (actions_of (drop j steps)) x g' stood
     ∙ sym (ap (λ (l : List Step). standing_before (step_before steps (j - 1)) (actions_of l) x) here)
+
+-- ---- which tests are of multiples of four
+
+pub multiples_next : (known : VariableSet) (steps : List Step) (i : ℕ) (s : Step) → i < length steps → s ≡ get_or steps i s → multiples_at known steps (suc i) ≡ multiples_after s (multiples_at known steps i)
+multiples_next known [] i s h is = absurd (omega arith)
+multiples_next known (x ∷ xs) zero s h is = sym (ap (λ (z : Step). multiples_after z known) is)
+multiples_next known (x ∷ xs) (suc i) s h is = multiples_next (multiples_after x known) xs i s (omega arith) is
+
+pub flag_of : (known : VariableSet) (steps : List Step) (i : ℕ) (s : Step) → i < length steps → s ≡ get_or steps i s → slice_get (placed_flags known steps) i ≡ Some (is_placed_step (multiples_at known steps i) s)
+flag_of known [] i s h is = absurd (omega arith)
+flag_of known (x ∷ xs) zero s h is = ap (λ (z : Step). Some (is_placed_step known z)) (sym is)
+flag_of known (x ∷ xs) (suc i) s h is = flag_of (multiples_after x known) xs i s (omega arith) is

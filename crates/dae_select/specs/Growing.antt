@@ -7,6 +7,7 @@ use Rattle.dae_ir.specs.declared.stream.Action.{Action}
 use Rattle.dae_ir.specs.declared.stream.Action.TheVariants.{Receive, Accept}
 use Rattle.dae_ir.specs.declared.stream.Step.{Step, Act, If', Loop'}
 use Rattle.dae_walks.specs.Live.{Ways, ways, behind, live, nowhere, step_ways, body_ways}
+use Rattle.dae_walks.specs.Multiples.{unknown, multiples_behind, is_placed}
 use Rattle.dae_walks.specs.Agrees.{Plan}
 use Rattle.dae_walks.specs.declared.Standing.{Standing}
 use Rattle.dae_walks.specs.declared.Standing.TheVariants.{Settled, Early}
@@ -15,40 +16,41 @@ use Rattle.dae_blocks.specs.Blocks.{jump_words, jump_over, jump_back}
 use Rattle.dae_blocks.specs.Code.{reads_once, standing_behind, pair_standing, if_settled, block_code, branch_code, does_nothing, past_code, entry_code}
 use Rattle.dae_blocks.specs.Sizes.{is_short}
 use Rattle.dae_select.specs.Grown.{Grown, no_code, glue, acting, in_front, from_front}
+use Rattle.dae_select.specs.Placed.{multiples_after, is_placed_step}
 use Rattle.dae_select.specs.declared.growing.PlacedWord.{PlacedWord}
 use Rattle.dae_select.specs.declared.walking.Exits.{Exits}
 
 -- the code of actions, block by block
-abbrev pub marked_code : Bool → Plan → (ℕ → ℕ) → ℕ → Standing → Actions → Ways → ℕ → ℕ → Grown
-marked_code short plan variables f standing Done x leaves skips = no_code
-marked_code short plan variables f standing (Do m a k) x leaves skips =
+abbrev pub marked_code : Bool → Plan → (ℕ → ℕ) → ℕ → Standing → VariableSet → Actions → Ways → ℕ → ℕ → Grown
+marked_code short plan variables f standing known Done x leaves skips = no_code
+marked_code short plan variables f standing known (Do m a k) x leaves skips =
     let next = standing_behind a k x in
-    let rest = marked_code short plan variables f next k x leaves skips in
-    in_front (acting m.place (block_code plan variables f standing a next (live k x) (jump_over short (length rest.code + leaves)) (jump_over short (length rest.code + skips)))) rest
-marked_code short plan variables f standing (If m b p q k) x leaves skips =
-    let rest = marked_code short plan variables f Settled k x leaves skips in
-    let second = marked_code short plan variables f Settled q (behind (live k x) x) (length rest.code + leaves) (length rest.code + skips) in
+    let rest = marked_code short plan variables f next (multiples_behind a known) k x leaves skips in
+    in_front (acting m.place (block_code plan variables f (is_placed known a) standing a next (live k x) (jump_over short (length rest.code + leaves)) (jump_over short (length rest.code + skips)))) rest
+marked_code short plan variables f standing known (If m b p q k) x leaves skips =
+    let rest = marked_code short plan variables f Settled unknown k x leaves skips in
+    let second = marked_code short plan variables f Settled unknown q (behind (live k x) x) (length rest.code + leaves) (length rest.code + skips) in
     let past = past_code short (does_nothing p || does_nothing q) (length second.code) in
     let far = length past + length second.code + length rest.code in
-    let first = marked_code short plan variables f Settled p (behind (live k x) x) (far + leaves) (far + skips) in
+    let first = marked_code short plan variables f Settled unknown p (behind (live k x) x) (far + leaves) (far + skips) in
     let n = if does_nothing p then length second.code else length first.code + length past in
     in_front (acting m.place (branch_code (plan.home f) short b (does_nothing p) n)) (in_front first (in_front (glue past) (in_front second rest)))
-marked_code short plan variables f standing (Loop m body step k) x leaves skips =
-    let rest = marked_code short plan variables f Settled k x leaves skips in
-    let again = marked_code short plan variables f Settled step (step_ways body step (live k x)) (jump_words short) 0 in
-    let turn = marked_code short plan variables f Settled body (body_ways body step (live k x)) (length again.code + jump_words short) 0 in
+marked_code short plan variables f standing known (Loop m body step k) x leaves skips =
+    let rest = marked_code short plan variables f Settled unknown k x leaves skips in
+    let again = marked_code short plan variables f Settled unknown step (step_ways body step (live k x)) (jump_words short) 0 in
+    let turn = marked_code short plan variables f Settled unknown body (body_ways body step (live k x)) (length again.code + jump_words short) 0 in
     in_front turn (in_front again (in_front (glue (jump_back short (length turn.code + length again.code))) rest))
 
 -- the words of a function's code at which its actions begin
 abbrev pub function_places : Plan → (ℕ → ℕ) → ℕ → Actions → List PlacedWord
 function_places plan variables f code =
-    let actions = marked_code (is_short code) plan variables f Settled code nowhere 0 0 in
+    let actions = marked_code (is_short code) plan variables f Settled unknown code nowhere 0 0 in
     from_front (length (entry_code plan variables f (live code nowhere)) + length actions.code) actions.places
 
--- in front of this code stands the code of a function's actions, before which things stand so, and these variables are live
--- before it. A Break's way from its end is so much longer than what stands there, and a Continue's
-pub record IsCodeOf (short : Bool) (plan : Plan) (variables : ℕ → ℕ) (f : ℕ) (standing : Standing) (base : Grown) (leaves skips : ℕ) (x : Ways) (actions : Actions) (new : Grown) (set : List Bool) : Type 0 where
-  pub code : new ≡ in_front (marked_code short plan variables f standing actions x (length base.code + leaves) (length base.code + skips)) base
+-- in front of this code stands the code of a function's actions, before which things stand so and these variables are multiples of
+-- four, and these variables are live before it. A Break's way from its end is so much longer than what stands there, and a Continue's
+pub record IsCodeOf (short : Bool) (plan : Plan) (variables : ℕ → ℕ) (f : ℕ) (standing : Standing) (known : VariableSet) (base : Grown) (leaves skips : ℕ) (x : Ways) (actions : Actions) (new : Grown) (set : List Bool) : Type 0 where
+  pub code : new ≡ in_front (marked_code short plan variables f standing known actions x (length base.code + leaves) (length base.code + skips)) base
   pub live : member set ≡ live actions x
 
 -- ---- steps
@@ -84,10 +86,11 @@ abbrev pub standing_before : Option Step → Actions → Ways → Standing
 standing_before None k x = Settled
 standing_before (Some step) k x = standing_after step k x
 
--- with a step before whatever stands there
-abbrev pub IsStepCode : Bool → Plan → (ℕ → ℕ) → ℕ → Standing → Standing → Exits → Step → Grown → List Bool → Grown → List Bool → Type 0
-IsStepCode short plan variables f before after exits step old next new set =
-    (base : Grown) (k : Actions) (n : VariableSet)
+-- with a step before whatever stands there, which may be a test of a place whose address is a multiple of four
+abbrev pub IsStepCode : Bool → Plan → (ℕ → ℕ) → ℕ → Bool → Standing → Standing → Exits → Step → Grown → List Bool → Grown → List Bool → Type 0
+IsStepCode short plan variables f placed before after exits step old next new set =
+    (known : VariableSet) (base : Grown) (k : Actions) (n : VariableSet)
+    → placed ≡ is_placed_step known step
     → after ≡ standing_after step k (ways n (member exits.leaves_live) (member exits.skips_live))
-    → IsCodeOf short plan variables f after base exits.leaves exits.skips (ways n (member exits.leaves_live) (member exits.skips_live)) k old next
-    → IsCodeOf short plan variables f before base exits.leaves exits.skips (ways n (member exits.leaves_live) (member exits.skips_live)) (step_onto step k) new set
+    → IsCodeOf short plan variables f after (multiples_after step known) base exits.leaves exits.skips (ways n (member exits.leaves_live) (member exits.skips_live)) k old next
+    → IsCodeOf short plan variables f before known base exits.leaves exits.skips (ways n (member exits.leaves_live) (member exits.skips_live)) (step_onto step k) new set

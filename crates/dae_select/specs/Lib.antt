@@ -3,3 +3,4 @@ pub mod Layouts
 pub mod Growing
 pub mod Grown
 pub mod Counting
+pub mod Placed

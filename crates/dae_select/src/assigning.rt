@@ -101,7 +101,7 @@ fn binary_code(
 }
 
 /// What a load gets from a word, by x7.
-fn extend(code: &mut Vec<Inst>, kind: LoadKind, target: u8, from: u8) -> Result<(), AllocError>
+pub fn extend(code: &mut Vec<Inst>, kind: LoadKind, target: u8, from: u8) -> Result<(), AllocError>
     ensures { OnOk result (code.new.items ≡ code.old.items ++ extend_code kind target from) }
 {
     match kind {
@@ -120,7 +120,7 @@ fn extend(code: &mut Vec<Inst>, kind: LoadKind, target: u8, from: u8) -> Result<
 }
 
 /// A comparison of two registers, by x7: only its last instruction writes the target, which may stand for a queue.
-fn compare(
+pub fn compare(
     code: &mut Vec<Inst>,
     comparison: Comparison,
     target: u8,

@@ -1,7 +1,8 @@
 // The blocks of checks.
 
 ghost use Rattle.std.specs.Prelude.{◌≡◌, ℕ, ◌+◌, ◌-◌, ◌++◌, ◌∷◌, [], ◌<◌, ◌^◌, nat_lt, if◌then◌else◌, OnOk};
-ghost use Rattle.dae_blocks.specs.Blocks.{fail_code, over, align_code, room_code, place_code, zero_code, depth_code, frames_room_code, call_room_code, frame_room_code, check_code};
+ghost use Rattle.dae_blocks.specs.Blocks.{fail_code, over, align_code, bounds_code, room_code, place_code, zero_code, depth_code, frames_room_code, call_room_code, frame_room_code, check_code};
+ghost use Rattle.dae_blocks.specs.Code.{placed_code};
 ghost use Rattle.dae_select.specs.Layouts.{is_a, plan_of, homes_at};
 ghost use Rattle.dae_walks.specs.Homes.{home_in};
 ghost use Rattle.dae_select.specs.Tables.{AreNear};
@@ -10,7 +11,7 @@ use crate::fetching::{fetch, number_code, source};
 use crate::layouts::Layouts;
 use dae_base::{Side, Width};
 use dae_encode::Inst;
-use dae_ir::{Check, Operand};
+use dae_ir::{Action, Check, Operand};
 use dae_walks::Home;
 use std::alloc::AllocError;
 
@@ -50,8 +51,19 @@ fn room_code(code: &mut Vec<Inst>, most: u32) -> Result<(), AllocError>
     fail_code(code, Side::A, 4)
 }
 
-/// The address that an operand is must be good for an access of a width. From the last byte of the access 16 are taken away, and
-/// what is left is compared with the addresses that common memory has.
+/// An address must be between the first byte of common memory and its end, for an access of a width. From the last byte of the
+/// access 16 are taken away, and what is left is compared with the addresses that common memory has.
+fn bounds_code(code: &mut Vec<Inst>, width: Width, register: u8) -> Result<(), AllocError>
+    ensures { OnOk result (code.new.items ≡ code.old.items ++ bounds_code width register) }
+{
+    code.extend_from_slice(&[
+        Inst::Addi(6, register, i32::from(width.bytes()) - 17),
+        Inst::Bltu(6, 4, 12),
+    ])?;
+    fail_code(code, Side::A, 2)
+}
+
+/// The address that an operand is must be good for an access of a width.
 fn place_code(
     code: &mut Vec<Inst>,
     homes: &[Home],
@@ -65,11 +77,22 @@ fn place_code(
     fetch(code, homes, 5, operand)?;
     let register = source(homes, 5, operand);
     align_code(code, width, register)?;
-    code.extend_from_slice(&[
-        Inst::Addi(6, register, i32::from(width.bytes()) - 17),
-        Inst::Bltu(6, 4, 12),
-    ])?;
-    fail_code(code, Side::A, 2)
+    bounds_code(code, width, register)
+}
+
+/// The same where that address is a multiple of four.
+pub fn placed_code(code: &mut Vec<Inst>, homes: &[Home], action: &Action) -> Result<(), AllocError>
+    requires { AreNear homes.now }
+    ensures { OnOk result (code.new.items ≡ code.old.items
+        ++ placed_code (home_in homes.now) action.now) }
+{
+    match action {
+        Action::Probe(Check::Place(width, operand)) => {
+            fetch(code, homes, 5, *operand)?;
+            bounds_code(code, *width, source(homes, 5, *operand))
+        }
+        _ => Ok(()),
+    }
 }
 
 fn zero_code(

@@ -2,6 +2,7 @@
 
 ghost use Rattle.std.specs.Prelude.{◌≡◌, ℕ, length, IfOk, OnOk};
 ghost use Rattle.dae_walks.specs.Live.{live, nowhere};
+ghost use Rattle.dae_walks.specs.Multiples.{unknown};
 ghost use Rattle.dae_live.specs.Members.{member};
 ghost use Rattle.dae_walks.specs.declared.Standing.TheVariants.{Settled as IsSettled};
 ghost use Rattle.dae_ir.specs.Streams.{actions_of};
@@ -33,7 +34,7 @@ fn body_code(
     requires empty { code.old ≡ no_code }
     ensures code { OnOk result (code.new
         ≡ marked_code (is_short (actions_of body.now)) (plan_of layouts.now)
-        (variables_of layouts.now) function IsSettled (actions_of body.now) nowhere 0 0) }
+        (variables_of layouts.now) function IsSettled unknown (actions_of body.now) nowhere 0 0) }
     ensures live { IfOk result (λ set. member set ≡ live (actions_of body.now) nowhere) }
 {
     let leaves = LiveSet::new(alloc);

@@ -17,6 +17,7 @@ mod functions;
 mod growing;
 mod jumping;
 mod layouts;
+mod multiples;
 mod numbers;
 mod opening;
 mod pairing;

@@ -9,15 +9,15 @@ ghost use Rattle.dae_blocks.specs.Blocks.{value_code};
 ghost use Rattle.dae_blocks.specs.Code.{either_one, written_last, passes_on, reads_once, taken_standing, pair_standing, with_home, late_code, early_code, taking_code};
 ghost use Rattle.dae_walks.specs.declared.Standing.TheVariants.{Early as IsEarly};
 ghost use Rattle.dae_walks.specs.declared.Home.TheVariants.{Register as IsRegister};
-ghost use Rattle.dae_ir.specs.declared.form.Value.TheVariants.{Binary as IsBinary};
+ghost use Rattle.dae_ir.specs.declared.form.Value.TheVariants.{Binary as IsBinary, Holds as IsHolds};
 ghost use Rattle.dae_select.specs.Growing.{standing_between, step_before, IsTakenBy};
 ghost use Rattle.dae_select.specs.Tables.{AreNear};
 
-use crate::assigning::{operation, set_code, value_code};
+use crate::assigning::{compare, extend, operation, set_code, value_code};
 use crate::fetching::{fetch, home_of, keep, register_or, source};
-use crate::numbers::{exchanged, immediate};
+use crate::numbers::{compare_number, exchanged, immediate, takes_number};
 use dae_encode::Inst;
-use dae_ir::{Action, Operand, Step, Value};
+use dae_ir::{Action, Operand, Step, Test, Value};
 use dae_live::LiveSet;
 use dae_meaning::Operator;
 use dae_walks::{Home, Standing};
@@ -71,9 +71,10 @@ fn reads_once(variable: u32, value: Value) -> bool
     ensures { result ≡ reads_once variable value }
 {
     match value {
-        Value::Same(operand) => is_variable(operand, variable),
+        Value::Same(operand) | Value::Extended(_, operand) => is_variable(operand, variable),
         Value::Binary(_, left, right) => is_one(variable, left, right),
-        Value::Extended(_, _) | Value::Holds(_) | Value::FrameAddress(_) => false,
+        Value::Holds(test) => is_one(variable, test.left, test.right),
+        Value::FrameAddress(_) => false,
     }
 }
 
@@ -208,6 +209,39 @@ fn taken_binary(
     }
 }
 
+/// A test of the word at the front of a queue, for which this variable stands, and something else.
+fn taken_test(
+    code: &mut Vec<Inst>,
+    homes: &[Home],
+    queue: u8,
+    variable: u32,
+    target: u8,
+    test: Test,
+) -> Result<(), AllocError>
+    requires near { AreNear homes.now }
+    requires once { reads_once variable (IsHolds test) ≡ true }
+    ensures { OnOk result (code.new.items ≡ code.old.items
+        ++ value_code (with_home variable (IsRegister queue) (home_in homes.now)) target
+        (IsHolds test)) }
+{
+    if is_variable(test.left, variable) {
+        let number = match test.right {
+            Operand::Number(number) => takes_number(test.comparison, number).then_some(number),
+            Operand::Variable(_) => None,
+        };
+        if let Some(number) = number {
+            return compare_number(code, test.comparison, target, queue, number);
+        }
+        fetch(code, homes, 6, test.right)?;
+        let right = source(homes, 6, test.right);
+        compare(code, test.comparison, target, queue, right)
+    } else {
+        fetch(code, homes, 5, test.left)?;
+        let left = source(homes, 5, test.left);
+        compare(code, test.comparison, target, left, queue)
+    }
+}
+
 /// The block of an action that takes a word from a queue into a variable, with which the next action is done: it computes
 /// this value of that word into the target.
 fn early_code(
@@ -227,12 +261,14 @@ fn early_code(
     let register = register_or(5, home);
     match value {
         Value::Same(_) => code.extend_from_slice(&[Inst::Addi(register, queue, 0)])?,
+        Value::Extended(kind, _) => extend(code, kind, register, queue)?,
         Value::Binary(operator, left, right) => {
             taken_binary(
                 code, homes, queue, variable, register, operator, left, right,
             )?;
         }
-        Value::Extended(_, _) | Value::Holds(_) | Value::FrameAddress(_) => (),
+        Value::Holds(test) => taken_test(code, homes, queue, variable, register, test)?,
+        Value::FrameAddress(_) => (),
     }
     keep(code, home)
 }

@@ -5,6 +5,7 @@ ghost use Rattle.dae_encode.specs.declared.Inst.{Inst as AnInst};
 ghost use Rattle.dae_ir.specs.Classes.{VariableSet};
 ghost use Rattle.dae_ir.specs.Streams.{Actions, actions_of, step_onto};
 ghost use Rattle.dae_walks.specs.Live.{ways, is};
+ghost use Rattle.dae_walks.specs.Multiples.{unknown};
 ghost use Rattle.dae_live.specs.Members.{member};
 ghost use Rattle.dae_blocks.specs.Blocks.{take_code, own_code, jump_words, jump_over, jump_back};
 ghost use Rattle.dae_blocks.specs.Code.{action_code, block_code, call_code, branch_code};
@@ -21,11 +22,12 @@ use crate::accessing::{
 };
 use crate::assigning::set_code;
 use crate::calling::{Callee, call_code, leave_code};
-use crate::checking::check_code;
+use crate::checking::{check_code, placed_code};
 use crate::fetching::{home_of, move_code};
 use crate::growing::GrowingCode;
 use crate::jumping::{branch_code, jump_back, jump_over, jump_words, past_code};
 use crate::layouts::Layouts;
+use crate::multiples::{flag_at, placed_flags};
 use crate::pairing::{late_code, standing_between, taking_code};
 use dae_base::{LoadKind, Place};
 use dae_encode::Inst;
@@ -157,7 +159,8 @@ fn action_code(
     }
 }
 
-/// The block of an action, where things stand so before it and so behind it, as `action_code` has the rest.
+/// The block of an action, where things stand so before it and so behind it, as `action_code` has the rest; or of a test of a
+/// place whose address is a multiple of four.
 fn block_code(
     alloc: Global,
     code: &mut Vec<Inst>,
@@ -165,6 +168,7 @@ fn block_code(
     function: u32,
     homes: &[Home],
     short: bool,
+    placed: bool,
     before: Standing,
     action: &Action,
     after: Standing,
@@ -177,9 +181,9 @@ fn block_code(
     requires small { AreSmall layouts.now }
     requires taken { IsTakenBy after action.now }
     ensures { OnOk result (code.new.items ≡ code.old.items
-        ++ block_code (plan_of layouts.now) (variables_of layouts.now) function before action.now
-        after (member live.now) (jump_over short (ahead + exits.now.leaves)) (jump_over short
-        (ahead + exits.now.skips))) }
+        ++ block_code (plan_of layouts.now) (variables_of layouts.now) function placed before
+        action.now after (member live.now) (jump_over short (ahead + exits.now.leaves))
+        (jump_over short (ahead + exits.now.skips))) }
 {
     match (before, after) {
         (Standing::Late(_, value), _) => late_code(code, homes, action, value),
@@ -188,6 +192,7 @@ fn block_code(
         (Standing::Settled, Standing::Early(target, value)) => {
             taking_code(code, homes, action, target, value)
         }
+        (Standing::Settled, Standing::Settled) if placed => placed_code(code, homes, action),
         (Standing::Settled, Standing::Settled) => action_code(
             alloc, code, layouts, function, homes, short, action, live, ahead, exits,
         ),
@@ -267,6 +272,7 @@ fn put_action(
     homes: &[Home],
     place: Place,
     short: bool,
+    placed: bool,
     before: Standing,
     action: &Action,
     after: Standing,
@@ -279,15 +285,15 @@ fn put_action(
     requires taken { IsTakenBy after action.now }
     ensures { OnOk result (code.new
         ≡ in_front (acting place (block_code (plan_of layouts.now)
-        (variables_of layouts.now) function before action.now after (member live.now)
+        (variables_of layouts.now) function placed before action.now after (member live.now)
         (jump_over short (length code.old.code + exits.now.leaves))
         (jump_over short (length code.old.code + exits.now.skips)))) code.old) }
 {
     let mut block = Vec::new(alloc);
     let ahead = code.len() as u64;
     block_code(
-        alloc, &mut block, layouts, function, homes, short, before, action, after, live, ahead,
-        exits,
+        alloc, &mut block, layouts, function, homes, short, placed, before, action, after, live,
+        ahead, exits,
     )?;
     code.put_action(place, block.as_slice())
 }
@@ -359,6 +365,7 @@ fn step_code(
     function: u32,
     homes: &[Home],
     short: bool,
+    placed: bool,
     before: Standing,
     step: &Step,
     after: Standing,
@@ -370,14 +377,14 @@ fn step_code(
     requires small { AreSmall layouts.now }
     requires taken { IsTakenByStep after step.now }
     ensures { IfOk result (λ set.
-        IsStepCode short (plan_of layouts.now) (variables_of layouts.now) function
+        IsStepCode short (plan_of layouts.now) (variables_of layouts.now) function placed
         before after exits.now step.now code.old next code.new set) }
 {
     match step {
         Step::Act(mark, action) => {
             put_action(
-                alloc, code, layouts, function, homes, mark.place, short, before, action, after,
-                &next, exits,
+                alloc, code, layouts, function, homes, mark.place, short, placed, before, action,
+                after, &next, exits,
             )?;
             live_before_action(alloc, action, next, &exits.leaves_live, &exits.skips_live)
         }
@@ -456,17 +463,20 @@ pub fn list_code(
     requires small { AreSmall layouts.now }
     ensures { IfOk result (λ set.
         IsCodeOf short (plan_of layouts.now)
-        (variables_of layouts.now) function IsSettled code.old exits.now.leaves exits.now.skips (ways
+        (variables_of layouts.now) function IsSettled unknown code.old
+        exits.now.leaves exits.now.skips (ways
         (member next) (member exits.now.leaves_live) (member exits.now.skips_live))
         (actions_of steps.now) code.new set) }
 {
+    let flags = placed_flags(alloc, steps)?;
     let mut set = next;
     let mut after = Standing::Settled;
     for index in (0..steps.len()).rev() {
         let step = &steps[index];
         let before = standing_between(steps, index, step, &set, after);
+        let placed = flag_at(flags.as_slice(), index);
         set = step_code(
-            alloc, code, layouts, function, homes, short, before, step, after, set, exits,
+            alloc, code, layouts, function, homes, short, placed, before, step, after, set, exits,
         )?;
         after = before;
     }

@@ -11,12 +11,13 @@ use Rattle.dae_ir.specs.declared.stream.Argument.{Argument}
 use Rattle.dae_ir.specs.declared.stream.Action.{Action}
 use Rattle.dae_ir.specs.declared.stream.Action.TheVariants.{Set as Compute, Issue, Own, Receive, Address, Datum, Offer, Accept, Emit, Probe, Tell, Hear, Stop, Break, Continue, Call, Return}
 use Rattle.dae_walks.specs.Live.{Ways, behind, live, nowhere, step_ways, body_ways}
+use Rattle.dae_walks.specs.Multiples.{unknown, multiples_behind, is_placed}
 use Rattle.dae_walks.specs.Agrees.{Plan}
 use Rattle.dae_blocks.specs.Blocks.{arguments_code, argument_code, save_code, deeper_code, check_code, enter_code, jump_words, jump_over, jump_back}
 use Rattle.dae_blocks.specs.Sizes.{is_short}
 use Rattle.dae_walks.specs.declared.Standing.{Standing}
 use Rattle.dae_walks.specs.declared.Standing.TheVariants.{Settled, Early, Late}
-use Rattle.dae_blocks.specs.Code.{registers_in, standing_behind, block_code, action_code, branch_code, does_nothing, past_code, call_code, code_of, function_code, entry_code}
+use Rattle.dae_blocks.specs.Code.{registers_in, standing_behind, placed_code, block_code, action_code, branch_code, does_nothing, past_code, call_code, code_of, function_code, entry_code}
 
 -- lists with parts that are as long are as long
 pub both_long : (xs xs' ys ys' : List Inst) → length xs ≡ length xs' → length ys ≡ length ys' → length (xs ++ ys) ≡ length (xs' ++ ys')
@@ -89,43 +90,47 @@ module _ (p : Plan) (entry start : ℕ → ℕ) (finish : ℕ) (variables : ℕ 
     action_long (Call v g xs) k l s m t = call_long v g xs _
     action_long (Return x) k l s m t = refl
 
-    block_long : (g : Standing) (a : Action) (g' : Standing) (k : VariableSet) (l s m t : ℕ) → length (block_code q variables f g a g' k (jump_over short l) (jump_over short s)) ≡ length (block_code p variables f g a g' k (jump_over short m) (jump_over short t))
-    block_long Settled a Settled k l s m t = action_long a k l s m t
-    block_long Settled a (Early v x) k l s m t = refl
-    block_long Settled a (Late v x) k l s m t = refl
-    block_long (Early v x) a g' k l s m t = refl
-    block_long (Late v x) a g' k l s m t = refl
+    settled_long : (placed : Bool) (a : Action) (k : VariableSet) (l s m t : ℕ) → length (if placed then placed_code (p.home f) a else action_code q variables f a k (jump_over short l) (jump_over short s)) ≡ length (if placed then placed_code (p.home f) a else action_code p variables f a k (jump_over short m) (jump_over short t))
+    settled_long true a k l s m t = refl
+    settled_long false a k l s m t = action_long a k l s m t
 
-    code_long : (g : Standing) (code : Actions) (x : Ways) (l s m t : ℕ) → length (code_of short q variables f g code x l s) ≡ length (code_of short p variables f g code x m t)
-    code_long g Done x l s m t = refl
-    code_long g (Do mark a k) x l s m t = both_long _ _ _ _ (block_long g a (standing_behind a k x) (live k x) _ _ _ _) (code_long (standing_behind a k x) k x l s m t)
-    code_long g (If mark b y n k) x l s m t =
+    block_long : (placed : Bool) (g : Standing) (a : Action) (g' : Standing) (k : VariableSet) (l s m t : ℕ) → length (block_code q variables f placed g a g' k (jump_over short l) (jump_over short s)) ≡ length (block_code p variables f placed g a g' k (jump_over short m) (jump_over short t))
+    block_long placed Settled a Settled k l s m t = settled_long placed a k l s m t
+    block_long placed Settled a (Early v x) k l s m t = refl
+    block_long placed Settled a (Late v x) k l s m t = refl
+    block_long placed (Early v x) a g' k l s m t = refl
+    block_long placed (Late v x) a g' k l s m t = refl
+
+    code_long : (g : Standing) (known : VariableSet) (code : Actions) (x : Ways) (l s m t : ℕ) → length (code_of short q variables f g known code x l s) ≡ length (code_of short p variables f g known code x m t)
+    code_long g known Done x l s m t = refl
+    code_long g known (Do mark a k) x l s m t = both_long _ _ _ _ (block_long (is_placed known a) g a (standing_behind a k x) (live k x) _ _ _ _) (code_long (standing_behind a k x) (multiples_behind a known) k x l s m t)
+    code_long g known (If mark b y n k) x l s m t =
         let none = does_nothing y in let none' = none || does_nothing n in
-        let rest = code_of short q variables f Settled k x l s in let rest' = code_of short p variables f Settled k x m t in
-        let second = code_of short q variables f Settled n (behind (live k x) x) (length rest + l) (length rest + s) in
-        let second' = code_of short p variables f Settled n (behind (live k x) x) (length rest' + m) (length rest' + t) in
-        let two : length second ≡ length second' = code_long Settled n (behind (live k x) x) _ _ _ _ in
+        let rest = code_of short q variables f Settled unknown k x l s in let rest' = code_of short p variables f Settled unknown k x m t in
+        let second = code_of short q variables f Settled unknown n (behind (live k x) x) (length rest + l) (length rest + s) in
+        let second' = code_of short p variables f Settled unknown n (behind (live k x) x) (length rest' + m) (length rest' + t) in
+        let two : length second ≡ length second' = code_long Settled unknown n (behind (live k x) x) _ _ _ _ in
         let past = past_code short none' (length second) in let past' = past_code short none' (length second') in
         let over : length past ≡ length past' = ap (λ (w : ℕ). length (past_code short none' w)) two in
         let far = length past + length second + length rest in let far' = length past' + length second' + length rest' in
-        let first = code_of short q variables f Settled y (behind (live k x) x) (far + l) (far + s) in
-        let first' = code_of short p variables f Settled y (behind (live k x) x) (far' + m) (far' + t) in
-        let one : length first ≡ length first' = code_long Settled y (behind (live k x) x) _ _ _ _ in
+        let first = code_of short q variables f Settled unknown y (behind (live k x) x) (far + l) (far + s) in
+        let first' = code_of short p variables f Settled unknown y (behind (live k x) x) (far' + m) (far' + t) in
+        let one : length first ≡ length first' = code_long Settled unknown y (behind (live k x) x) _ _ _ _ in
         let led : (if none then length second else length first + length past) ≡ (if none then length second' else length first' + length past') =
         ap (λ (w : ℕ). if none then w else length first + length past) two ∙ ap (λ (w : ℕ). if none then length second' else w + length past) one ∙ ap (λ (w : ℕ). if none then length second' else length first' + w) over in
         both_long (branch_code (p.home f) short b none (if none then length second else length first + length past)) (branch_code (p.home f) short b none (if none then length second' else length first' + length past')) _ _
         (ap (λ (w : ℕ). length (branch_code (p.home f) short b none w)) led)
-        (both_long first first' _ _ one (both_long past past' _ _ over (both_long second second' _ _ two (code_long Settled k x l s m t))))
-    code_long g (Loop mark body step k) x l s m t =
-        let rest = code_of short q variables f Settled k x l s in let rest' = code_of short p variables f Settled k x m t in
-        let again = code_of short q variables f Settled step (step_ways body step (live k x)) (jump_words short) 0 in
-        let again' = code_of short p variables f Settled step (step_ways body step (live k x)) (jump_words short) 0 in
-        let turned = code_of short q variables f Settled body (body_ways body step (live k x)) (length again + jump_words short) 0 in
-        let turned' = code_of short p variables f Settled body (body_ways body step (live k x)) (length again' + jump_words short) 0 in
+        (both_long first first' _ _ one (both_long past past' _ _ over (both_long second second' _ _ two (code_long Settled unknown k x l s m t))))
+    code_long g known (Loop mark body step k) x l s m t =
+        let rest = code_of short q variables f Settled unknown k x l s in let rest' = code_of short p variables f Settled unknown k x m t in
+        let again = code_of short q variables f Settled unknown step (step_ways body step (live k x)) (jump_words short) 0 in
+        let again' = code_of short p variables f Settled unknown step (step_ways body step (live k x)) (jump_words short) 0 in
+        let turned = code_of short q variables f Settled unknown body (body_ways body step (live k x)) (length again + jump_words short) 0 in
+        let turned' = code_of short p variables f Settled unknown body (body_ways body step (live k x)) (length again' + jump_words short) 0 in
         let back = jump_back short (length turned + length again) in let back' = jump_back short (length turned' + length again') in
-        both_long turned turned' (again ++ (back ++ rest)) (again' ++ (back' ++ rest')) (code_long Settled body (body_ways body step (live k x)) (length again + jump_words short) 0 (length again' + jump_words short) 0)
-        (both_long again again' (back ++ rest) (back' ++ rest') (code_long Settled step (step_ways body step (live k x)) (jump_words short) 0 (jump_words short) 0)
-        (both_long back back' rest rest' (back_long short (length turned + length again) (length turned' + length again')) (code_long Settled k x l s m t)))
+        both_long turned turned' (again ++ (back ++ rest)) (again' ++ (back' ++ rest')) (code_long Settled unknown body (body_ways body step (live k x)) (length again + jump_words short) 0 (length again' + jump_words short) 0)
+        (both_long again again' (back ++ rest) (back' ++ rest') (code_long Settled unknown step (step_ways body step (live k x)) (jump_words short) 0 (jump_words short) 0)
+        (both_long back back' rest rest' (back_long short (length turned + length again) (length turned' + length again')) (code_long Settled unknown k x l s m t)))
 
   pub function_long : (code : Actions) → length (function_code q variables f code) ≡ length (function_code p variables f code)
-  function_long code = both_long (entry_code p variables f (live code nowhere)) (entry_code p variables f (live code nowhere)) _ _ refl (both_long _ _ _ _ (code_long (is_short code) Settled code nowhere 0 0 0 0) refl)
+  function_long code = both_long (entry_code p variables f (live code nowhere)) (entry_code p variables f (live code nowhere)) _ _ refl (both_long _ _ _ _ (code_long (is_short code) Settled unknown code nowhere 0 0 0 0) refl)

@@ -19,6 +19,7 @@ use Rattle.dae_ir.specs.declared.stream.StreamFunction.{StreamFunction}
 use Rattle.dae_walks.specs.Homes.{IsHome, frame_words, home_in}
 use Rattle.dae_walks.specs.Layout.{CodeAt}
 use Rattle.dae_walks.specs.Live.{live, nowhere}
+use Rattle.dae_walks.specs.Multiples.{unknown}
 use Rattle.dae_walks.specs.Agrees.{Plan}
 use Rattle.dae_walks.specs.declared.Home.{Home}
 use Rattle.dae_blocks.specs.Blocks.{leave_code, number_code, enter_code}
@@ -232,7 +233,7 @@ module _ (stream : Stream) (old : Layouts) (unplaced : AreUnplaced stream old) w
       starts g lt = start_behind P variables fs old.functions first 0 g g long lt (omega arith)
 
       abbrev own_code : ℕ → List Inst
-      own_code g = code_of (is_short (body g)) Q variables g Settled (body g) nowhere 0 0 ++ leave_code (Q.home g) (Some (Number 0))
+      own_code g = code_of (is_short (body g)) Q variables g Settled unknown (body g) nowhere 0 0 ++ leave_code (Q.home g) (Some (Number 0))
 
       end_low : (g : ℕ) → g < length fs → Q.start g + length (own_code g) ≤ 2 ^ 25
       end_low g lt =

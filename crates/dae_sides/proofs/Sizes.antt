@@ -4,6 +4,7 @@ use Rattle.std.specs.Prelude.{Some}
 use Rattle.dae_ir.specs.Streams.{Actions, actions_of}
 use Rattle.dae_ir.specs.declared.form.Operand.TheVariants.{Number}
 use Rattle.dae_ir.specs.declared.stream.StreamFunction.{StreamFunction}
+use Rattle.dae_walks.specs.Multiples.{unknown}
 use Rattle.dae_walks.specs.Live.{live, nowhere}
 use Rattle.dae_walks.specs.Agrees.{Plan}
 use Rattle.dae_blocks.specs.Blocks.{leave_code}
@@ -18,8 +19,8 @@ module _ (plan : Plan) (variables : ℕ → ℕ) (f : ℕ) where
   function_length : (code : Actions) → length (function_code plan variables f code) ≤ most_words_in code + 25
   function_length code =
       let h : length (function_code plan variables f code) ≤ 19 + (most_words_in code + 6)
-      = append_short (entry_code plan variables f (live code nowhere)) (code_of (is_short code) plan variables f Settled code nowhere 0 0 ++ leave_code (plan.home f) (Some (Number 0))) 19 (most_words_in code + 6) (entry_short plan variables f (live code nowhere))
-      (append_short (code_of (is_short code) plan variables f Settled code nowhere 0 0) (leave_code (plan.home f) (Some (Number 0))) (most_words_in code) 6 (code_length (is_short code) plan variables f Settled code nowhere 0 0) (leave_short (plan.home f) (Some (Number 0)))) in omega arith
+      = append_short (entry_code plan variables f (live code nowhere)) (code_of (is_short code) plan variables f Settled unknown code nowhere 0 0 ++ leave_code (plan.home f) (Some (Number 0))) 19 (most_words_in code + 6) (entry_short plan variables f (live code nowhere))
+      (append_short (code_of (is_short code) plan variables f Settled unknown code nowhere 0 0) (leave_code (plan.home f) (Some (Number 0))) (most_words_in code) 6 (code_length (is_short code) plan variables f Settled unknown code nowhere 0 0) (leave_short (plan.home f) (Some (Number 0)))) in omega arith
 
 pub functions_length : (plan : Plan) (variables : ℕ → ℕ) (fs : List StreamFunction) (k : ℕ) → length (functions_code plan variables k fs) ≤ most_of_functions fs
 functions_length plan variables [] k = omega arith

@@ -3,7 +3,7 @@ use Rattle.std.proofs.Common.{◌≡◌, ◌≢◌, ◌↔◌, ◌⊎◌, inl, i
 use Rattle.std.specs.Prelude.{◌||◌, nat_lt, nat_eq, not, if◌then◌else◌, ℤ}
 use Rattle.std.specs.List.{AllByRecursion}
 use Rattle.std.proofs.lemmas.Bool.Decides.{nat_tests}
-use Rattle.dae_base.specs.Words.{word, size}
+use Rattle.dae_base.specs.Words.{word, size, minus}
 use Rattle.dae_base.specs.declared.Queue.{Queue}
 use Rattle.dae_base.specs.declared.Queue.TheVariants.{Ld, Al, Sa, Sd, Cq}
 use Rattle.dae_base.specs.declared.Width.{Width}
@@ -13,7 +13,7 @@ use Rattle.dae_base.specs.declared.LoadKind.TheVariants.{I8, U8, I16, U16, I32}
 use Rattle.dae_encode.specs.Instructions.{effect, form_of}
 use Rattle.dae_encode.specs.declared.Form.TheVariants.{Computes, Loads, Stores}
 use Rattle.dae_encode.specs.declared.Inst.{Inst}
-use Rattle.dae_encode.specs.declared.Inst.TheVariants.{Addi, Add, Andi, Beq, Bne, Bltu, Bgeu, Ecall}
+use Rattle.dae_encode.specs.declared.Inst.TheVariants.{Addi, Add, Sub, Slt, Sltu, Slti, Sltiu, Xori, Slli, Srli, Srai, Andi, Beq, Bne, Bltu, Bgeu, Ecall}
 use Rattle.dae_ir.specs.Code.{Done, Do, If, Loop}
 use Rattle.dae_ir.specs.Classes.{VariableSet}
 use Rattle.dae_ir.specs.Deeds.{told_on, heard_on}
@@ -33,16 +33,17 @@ use Rattle.dae_ir.specs.declared.stream.Branch.{Branch}
 use Rattle.dae_ir.specs.declared.stream.Branch.TheVariants.{Silent, Tells, Hears}
 use Rattle.dae_meaning.specs.declared.Operator.{Operator}
 use Rattle.dae_meaning.specs.declared.Comparison.{Comparison}
-use Rattle.dae_meaning.specs.declared.Comparison.TheVariants.{NotEqual}
+use Rattle.dae_meaning.specs.declared.Comparison.TheVariants.{Equal, NotEqual, LessSigned, AtLeastSigned, LessUnsigned, AtLeastUnsigned}
 use Rattle.dae_walks.specs.declared.Home.{Home}
 use Rattle.dae_walks.specs.declared.Home.TheVariants.{Register}
 use Rattle.dae_walks.specs.Homes.{IsHome}
 use Rattle.dae_walks.specs.declared.Standing.{Standing}
 use Rattle.dae_walks.specs.declared.Standing.TheVariants.{Settled, Early, Late}
 use Rattle.dae_walks.specs.Live.{Ways, none, in_operand, live, behind, body_ways, step_ways, nowhere}
+use Rattle.dae_walks.specs.Multiples.{unknown, is_multiple, multiples_behind, is_placed}
 use Rattle.dae_walks.specs.Agrees.{Plan}
-use Rattle.dae_blocks.specs.Blocks.{number_code, register_or, source, operation_code, immediate_code, exchanged_code, behind_or, combine_registers, binary_code, value_code, fetch, move_code, keep, test_code, call_number, issue_code, address_code, take_code, fail_code, over, align_code, room_code, check_code, hear_code, jump_over, jump_back, leave_code, jump_words, branch_inst, opposite, one_way, goes_by, goes_code, frames_room_code, lower, is_immediate, tell_number_code, against_zero, immediate_of}
-use Rattle.dae_blocks.specs.Code.{either_one, reads_once, with_home, early_code, late_code, standing_behind, block_code, action_code, branch_code, code_of, entry_code, function_code, finish_code, start_code, does_nothing, past_code, told_code, written_last}
+use Rattle.dae_blocks.specs.Blocks.{number_code, register_or, source, operation_code, immediate_code, exchanged_code, behind_or, combine_registers, binary_code, value_code, fetch, move_code, keep, test_code, call_number, issue_code, address_code, take_code, fail_code, over, align_code, bounds_code, room_code, check_code, hear_code, jump_over, jump_back, leave_code, jump_words, branch_inst, opposite, one_way, goes_by, goes_code, frames_room_code, lower, is_immediate, tell_number_code, against_zero, immediate_of, extend_code, compare_code, takes_number, compare_number_code, compare_registers, compare_operands}
+use Rattle.dae_blocks.specs.Code.{either_one, reads_once, with_home, early_code, late_code, standing_behind, placed_code, block_code, action_code, branch_code, code_of, entry_code, function_code, finish_code, start_code, does_nothing, past_code, told_code, written_last}
 use Rattle.dae_uses.specs.Uses.{queue_in, action_queue, branch_queue, IsOfSide, AreOfSide, IsUntouched, LeavesAlone}
 use Rattle.dae_uses.proofs.Access.{IsPlain, plain, loads_for_e, loads_own, gives_address, pushes_datum, pushes_copy, pushes_message, takes_load, takes_own, takes_copy, takes_message, takes_load_left, takes_load_right, takes_copy_left, takes_copy_right, pushes_flag, sends_datum}
 use Rattle.dae_uses.proofs.Quiet.{immediate_form, exchanged_form, AllPlain, plain_append, number_plain, register_low, keep_plain, source_low, fetch_plain, move_is, value_plain, system_plain, stop_plain, leave_plain, call_plain, entry_plain, finish_plain, start_plain, over_plain, past_plain, back_jump_plain, branch_form, goes_plain, test_writes, Writes, tell_number_writes}
@@ -196,13 +197,19 @@ module _ (plan : Plan) (variables : ℕ → ℕ) (good : (f v : ℕ) → IsHome 
     take_uses : (o : Option Queue) (q v : ℕ) → queue_in (side by_a') (Addi (register_or 5 (plan.home f v)) q (pos 0)) ≡ o → Uses by_a' o (take_code q (plan.home f v))
     take_uses o q v h = first_uses by_a' o (Addi (register_or 5 (plan.home f v)) q (pos 0)) (keep (plan.home f v)) h (quiet by_a' o (keep (plan.home f v)) (keep_plain (plan.home f v)))
 
+    bounds_uses : (width : Width) (x : Operand) → Uses by_a' (Some (told_on by_a')) (bounds_code width (source (plan.home f) 5 x))
+    bounds_uses width x =
+        next_uses by_a' (Some (told_on by_a')) (Addi 6 (source (plan.home f) 5 x) (negsuc (16 - size width))) (Bltu 6 4 (pos 12) ∷ fail_code true 2) (omega arith, low x, omega arith)
+        (next_uses by_a' (Some (told_on by_a')) (Bltu 6 4 (pos 12)) (fail_code true 2) (omega arith, omega arith, omega arith) (fail_uses by_a' true 2))
+
+    placed_uses : (width : Width) (x : Operand) → Uses by_a' (Some (told_on by_a')) (placed_code (plan.home f) (Probe (Place width x)))
+    placed_uses width x = behind_plain by_a' (Some (told_on by_a')) (fetch (plan.home f) 5 x) (bounds_code width (source (plan.home f) 5 x)) (fetches x) (bounds_uses width x)
+
     check_uses : (check : Check) → Uses by_a' (Some (told_on by_a')) (check_code plan f check)
     check_uses (Place width x) =
         let r : ℕ = source (plan.home f) 5 x in
-        let last : List Inst = Bltu 6 4 (pos 12) ∷ fail_code true 2 in
-        let ends : Uses by_a' (Some (told_on by_a')) last = next_uses by_a' (Some (told_on by_a')) (Bltu 6 4 (pos 12)) (fail_code true 2) (omega arith, omega arith, omega arith) (fail_uses by_a' true 2) in
-        behind_plain by_a' (Some (told_on by_a')) (fetch (plan.home f) 5 x) (align_code width r ++ Addi 6 r (negsuc (16 - size width)) ∷ last) (fetches x)
-        (behind_only by_a' (Some (told_on by_a')) (align_code width r) (Addi 6 r (negsuc (16 - size width)) ∷ last) (align_only by_a' width r (low x)) (next_uses by_a' (Some (told_on by_a')) (Addi 6 r (negsuc (16 - size width))) last (omega arith, low x, omega arith) ends))
+        behind_plain by_a' (Some (told_on by_a')) (fetch (plan.home f) 5 x) (align_code width r ++ bounds_code width r) (fetches x)
+        (behind_only by_a' (Some (told_on by_a')) (align_code width r) (bounds_code width r) (align_only by_a' width r (low x)) (bounds_uses width x))
     check_uses (Zero x) =
         behind_plain by_a' (Some (told_on by_a')) (fetch (plan.home f) 5 x) (Bne (source (plan.home f) 5 x) 0 (over by_a') ∷ fail_code by_a' 1) (fetches x)
         (next_uses by_a' (Some (told_on by_a')) (Bne (source (plan.home f) 5 x) 0 (over by_a')) (fail_code by_a' 1) (omega arith, low x, omega arith) (fail_uses by_a' by_a' 1))
@@ -247,25 +254,25 @@ module _ (plan : Plan) (variables : ℕ → ℕ) (good : (f v : ℕ) → IsHome 
 
     -- a value that goes into the queue of store data
     module _ (is : by_a' ≡ false) where
-      sends : (i : Inst) (x y : ℕ) → form_of (effect i) ≡ Computes 30 x y → x < 28 → y < 28 → Uses by_a' (Some Sd) (i ∷ [])
-      sends i x y form h k = first_uses by_a' (Some Sd) i [] (on_e i (Some Sd) is (sends_datum i x y form h k)) tt
+      send_last : (i : Inst) (x y : ℕ) → form_of (effect i) ≡ Computes 30 x y → x < 28 → y < 28 → Uses by_a' (Some Sd) (i ∷ [])
+      send_last i x y form h k = first_uses by_a' (Some Sd) i [] (on_e i (Some Sd) is (sends_datum i x y form h k)) tt
 
       send_registers : (operator : Operator) (x y : Operand) → Uses by_a' (Some Sd) (combine_registers (plan.home f) 30 operator x y)
       send_registers operator x y =
           let a = source (plan.home f) 5 x in let b = source (plan.home f) 6 y in
           behind_plain by_a' (Some Sd) (fetch (plan.home f) 5 x) _ (fetches x) (behind_plain by_a' (Some Sd) (fetch (plan.home f) 6 y) (operation_code operator 30 a b ∷ []) (fetch_plain (variables f) (plan.home f) (good f) 6 y (omega arith))
-          (sends (operation_code operator 30 a b) a b (ap form_of (operation_is operator 30 a b)) (low x) (source_low (variables f) (plan.home f) (good f) 6 y (omega arith))))
+          (send_last (operation_code operator 30 a b) a b (ap form_of (operation_is operator 30 a b)) (low x) (source_low (variables f) (plan.home f) (good f) 6 y (omega arith))))
 
       send_binary : (operator : Operator) (x y : Operand) → Uses by_a' (Some Sd) (binary_code (plan.home f) 30 operator x y)
       send_binary operator x (Number n) = by (immediate_code operator 30 (source (plan.home f) 5 x) n) refl
         where
           by : (i : Option Inst) → immediate_code operator 30 (source (plan.home f) 5 x) n ≡ i → Uses by_a' (Some Sd) (behind_or (fetch (plan.home f) 5 x) i (combine_registers (plan.home f) 30 operator x (Number n)))
-          by (Some i) e = behind_plain by_a' (Some Sd) (fetch (plan.home f) 5 x) (i ∷ []) (fetches x) (sends i (source (plan.home f) 5 x) 0 (immediate_form operator 30 (source (plan.home f) 5 x) n i e) (low x) (omega arith))
+          by (Some i) e = behind_plain by_a' (Some Sd) (fetch (plan.home f) 5 x) (i ∷ []) (fetches x) (send_last i (source (plan.home f) 5 x) 0 (immediate_form operator 30 (source (plan.home f) 5 x) n i e) (low x) (omega arith))
           by None e = send_registers operator x (Number n)
       send_binary operator (Number n) (Variable v) = by (exchanged_code operator 30 (source (plan.home f) 5 (Variable v)) n) refl
         where
           by : (i : Option Inst) → exchanged_code operator 30 (source (plan.home f) 5 (Variable v)) n ≡ i → Uses by_a' (Some Sd) (behind_or (fetch (plan.home f) 5 (Variable v)) i (combine_registers (plan.home f) 30 operator (Number n) (Variable v)))
-          by (Some i) e = behind_plain by_a' (Some Sd) (fetch (plan.home f) 5 (Variable v)) (i ∷ []) (fetches (Variable v)) (sends i (source (plan.home f) 5 (Variable v)) 0 (exchanged_form operator 30 (source (plan.home f) 5 (Variable v)) n i e) (low (Variable v)) (omega arith))
+          by (Some i) e = behind_plain by_a' (Some Sd) (fetch (plan.home f) 5 (Variable v)) (i ∷ []) (fetches (Variable v)) (send_last i (source (plan.home f) 5 (Variable v)) 0 (exchanged_form operator 30 (source (plan.home f) 5 (Variable v)) n i e) (low (Variable v)) (omega arith))
           by None e = send_registers operator (Number n) (Variable v)
       send_binary operator (Variable u) (Variable v) = send_registers operator (Variable u) (Variable v)
 
@@ -273,8 +280,8 @@ module _ (plan : Plan) (variables : ℕ → ℕ) (good : (f v : ℕ) → IsHome 
       send_value (Same x) last = move_uses (Some Sd) 30 x (λ r imm l. on_e (Addi 30 r imm) (Some Sd) is (pushes_datum (Addi 30 r imm) r refl l))
       send_value (Binary operator x y) last = send_binary operator x y
       send_value (FrameAddress offset) last =
-          either_uses by_a' (Some Sd) (is_immediate offset) (Addi 30 3 (lower offset) ∷ []) (number_code 5 offset ++ Add 30 3 5 ∷ []) (sends (Addi 30 3 (lower offset)) 3 0 refl (omega arith) (omega arith))
-          (behind_plain by_a' (Some Sd) (number_code 5 offset) (Add 30 3 5 ∷ []) (number_plain 5 offset (omega arith)) (sends (Add 30 3 5) 3 5 refl (omega arith) (omega arith)))
+          either_uses by_a' (Some Sd) (is_immediate offset) (Addi 30 3 (lower offset) ∷ []) (number_code 5 offset ++ Add 30 3 5 ∷ []) (send_last (Addi 30 3 (lower offset)) 3 0 refl (omega arith) (omega arith))
+          (behind_plain by_a' (Some Sd) (number_code 5 offset) (Add 30 3 5 ∷ []) (number_plain 5 offset (omega arith)) (send_last (Add 30 3 5) 3 5 refl (omega arith) (omega arith)))
       send_value (Extended kind x) last = absurd (let bad : false ≡ true = last in cc)
       send_value (Holds test) last = absurd (let bad : false ≡ true = last in cc)
 
@@ -285,6 +292,10 @@ module _ (plan : Plan) (variables : ℕ → ℕ) (good : (f v : ℕ) → IsHome 
 
       low_of : (r : ℕ) (x : Operand) → r < 28 → source (plan.home f) r x < 28
       low_of r x h = source_low (variables f) (plan.home f) (good f) r x h
+
+      left_one : (b : Bool) → either_one b false ≡ true → b ≡ true
+      left_one true e = refl
+      left_one false e = absurd cc
 
       left_uses : (t : ℕ) (operator : Operator) (y : Operand) → t < 28 → Uses by_a' o (fetch (plan.home f) 6 y ++ operation_code operator t q (source (plan.home f) 6 y) ∷ [])
       left_uses t operator y low' =
@@ -303,10 +314,6 @@ module _ (plan : Plan) (variables : ℕ → ℕ) (good : (f v : ℕ) → IsHome 
           let same : nat_eq a v ≡ true = grind (arith, nat_tests) in
           rw same (by (immediate_code operator t q n) refl)
         where
-          left_one : (b : Bool) → either_one b false ≡ true → b ≡ true
-          left_one true e = refl
-          left_one false e = absurd cc
-
           by : (i : Option Inst) → immediate_code operator t q n ≡ i → Uses by_a' o (behind_or [] i (fetch (plan.home f) 6 (Number n) ++ operation_code operator t q (source (plan.home f) 6 (Number n)) ∷ []))
           by (Some i) e = first_uses by_a' o i [] (left i t 0 (immediate_form operator t q n i e) low' (omega arith)) tt
           by None e = left_uses t operator (Number n) low'
@@ -332,32 +339,104 @@ module _ (plan : Plan) (variables : ℕ → ℕ) (good : (f v : ℕ) → IsHome 
               let far : nat_eq a v ≡ false = grind (arith, nat_tests) in
               rw (same, far) (right_uses t operator (Variable a) low')
 
+      -- of what is extended or compared only the first instruction reads its sources
+      extend_uses : (kind : LoadKind) (t : ℕ) → t < 28 → Uses by_a' o (extend_code kind t q)
+      extend_uses I8 t low' = first_uses by_a' o (Slli 7 q (pos 24)) (Srai t 7 (pos 24) ∷ []) (left (Slli 7 q (pos 24)) 7 0 refl (omega arith) (omega arith)) (quiet by_a' o (Srai t 7 (pos 24) ∷ []) ((low', omega arith, omega arith), tt))
+      extend_uses U8 t low' = first_uses by_a' o (Andi t q (pos 255)) [] (left (Andi t q (pos 255)) t 0 refl low' (omega arith)) tt
+      extend_uses I16 t low' = first_uses by_a' o (Slli 7 q (pos 16)) (Srai t 7 (pos 16) ∷ []) (left (Slli 7 q (pos 16)) 7 0 refl (omega arith) (omega arith)) (quiet by_a' o (Srai t 7 (pos 16) ∷ []) ((low', omega arith, omega arith), tt))
+      extend_uses U16 t low' = first_uses by_a' o (Slli 7 q (pos 16)) (Srli t 7 (pos 16) ∷ []) (left (Slli 7 q (pos 16)) 7 0 refl (omega arith) (omega arith)) (quiet by_a' o (Srli t 7 (pos 16) ∷ []) ((low', omega arith, omega arith), tt))
+      extend_uses I32 t low' = first_uses by_a' o (Addi t q (pos 0)) [] (left (Addi t q (pos 0)) t 0 refl low' (omega arith)) tt
+
+      left_compares : (relation : Comparison) (t r : ℕ) → t < 28 → r < 28 → Uses by_a' o (compare_code relation t q r)
+      left_compares Equal t r low' plain = first_uses by_a' o (Sub 7 q r) (Sltiu t 7 (pos 1) ∷ []) (left (Sub 7 q r) 7 r refl (omega arith) plain) (quiet by_a' o (Sltiu t 7 (pos 1) ∷ []) ((low', omega arith, omega arith), tt))
+      left_compares NotEqual t r low' plain = first_uses by_a' o (Sub 7 q r) (Sltu t 0 7 ∷ []) (left (Sub 7 q r) 7 r refl (omega arith) plain) (quiet by_a' o (Sltu t 0 7 ∷ []) ((low', omega arith, omega arith), tt))
+      left_compares LessSigned t r low' plain = first_uses by_a' o (Slt t q r) [] (left (Slt t q r) t r refl low' plain) tt
+      left_compares AtLeastSigned t r low' plain = first_uses by_a' o (Slt 7 q r) (Xori t 7 (pos 1) ∷ []) (left (Slt 7 q r) 7 r refl (omega arith) plain) (quiet by_a' o (Xori t 7 (pos 1) ∷ []) ((low', omega arith, omega arith), tt))
+      left_compares LessUnsigned t r low' plain = first_uses by_a' o (Sltu t q r) [] (left (Sltu t q r) t r refl low' plain) tt
+      left_compares AtLeastUnsigned t r low' plain = first_uses by_a' o (Sltu 7 q r) (Xori t 7 (pos 1) ∷ []) (left (Sltu 7 q r) 7 r refl (omega arith) plain) (quiet by_a' o (Xori t 7 (pos 1) ∷ []) ((low', omega arith, omega arith), tt))
+
+      right_compares : (relation : Comparison) (t r : ℕ) → t < 28 → r < 28 → Uses by_a' o (compare_code relation t r q)
+      right_compares Equal t r low' plain = first_uses by_a' o (Sub 7 r q) (Sltiu t 7 (pos 1) ∷ []) (right (Sub 7 r q) 7 r refl (omega arith) plain) (quiet by_a' o (Sltiu t 7 (pos 1) ∷ []) ((low', omega arith, omega arith), tt))
+      right_compares NotEqual t r low' plain = first_uses by_a' o (Sub 7 r q) (Sltu t 0 7 ∷ []) (right (Sub 7 r q) 7 r refl (omega arith) plain) (quiet by_a' o (Sltu t 0 7 ∷ []) ((low', omega arith, omega arith), tt))
+      right_compares LessSigned t r low' plain = first_uses by_a' o (Slt t r q) [] (right (Slt t r q) t r refl low' plain) tt
+      right_compares AtLeastSigned t r low' plain = first_uses by_a' o (Slt 7 r q) (Xori t 7 (pos 1) ∷ []) (right (Slt 7 r q) 7 r refl (omega arith) plain) (quiet by_a' o (Xori t 7 (pos 1) ∷ []) ((low', omega arith, omega arith), tt))
+      right_compares LessUnsigned t r low' plain = first_uses by_a' o (Sltu t r q) [] (right (Sltu t r q) t r refl low' plain) tt
+      right_compares AtLeastUnsigned t r low' plain = first_uses by_a' o (Sltu 7 r q) (Xori t 7 (pos 1) ∷ []) (right (Sltu 7 r q) 7 r refl (omega arith) plain) (quiet by_a' o (Xori t 7 (pos 1) ∷ []) ((low', omega arith, omega arith), tt))
+
+      number_compares : (relation : Comparison) (t n : ℕ) → t < 28 → Uses by_a' o (compare_number_code relation t q n)
+      number_compares Equal t n low' = either_uses by_a' o (nat_eq n 0) (Sltiu t q (pos 1) ∷ []) (Addi 7 q (lower (minus 0 n)) ∷ (Sltiu t 7 (pos 1) ∷ [])) (first_uses by_a' o (Sltiu t q (pos 1)) [] (left (Sltiu t q (pos 1)) t 0 refl low' (omega arith)) tt) (first_uses by_a' o (Addi 7 q (lower (minus 0 n))) (Sltiu t 7 (pos 1) ∷ []) (left (Addi 7 q (lower (minus 0 n))) 7 0 refl (omega arith) (omega arith)) (quiet by_a' o (Sltiu t 7 (pos 1) ∷ []) ((low', omega arith, omega arith), tt)))
+      number_compares NotEqual t n low' = either_uses by_a' o (nat_eq n 0) (Sltu t 0 q ∷ []) (Addi 7 q (lower (minus 0 n)) ∷ (Sltu t 0 7 ∷ [])) (first_uses by_a' o (Sltu t 0 q) [] (right (Sltu t 0 q) t 0 refl low' (omega arith)) tt) (first_uses by_a' o (Addi 7 q (lower (minus 0 n))) (Sltu t 0 7 ∷ []) (left (Addi 7 q (lower (minus 0 n))) 7 0 refl (omega arith) (omega arith)) (quiet by_a' o (Sltu t 0 7 ∷ []) ((low', omega arith, omega arith), tt)))
+      number_compares LessSigned t n low' = first_uses by_a' o (Slti t q (lower n)) [] (left (Slti t q (lower n)) t 0 refl low' (omega arith)) tt
+      number_compares AtLeastSigned t n low' = first_uses by_a' o (Slti 7 q (lower n)) (Xori t 7 (pos 1) ∷ []) (left (Slti 7 q (lower n)) 7 0 refl (omega arith) (omega arith)) (quiet by_a' o (Xori t 7 (pos 1) ∷ []) ((low', omega arith, omega arith), tt))
+      number_compares LessUnsigned t n low' = first_uses by_a' o (Sltiu t q (lower n)) [] (left (Sltiu t q (lower n)) t 0 refl low' (omega arith)) tt
+      number_compares AtLeastUnsigned t n low' = first_uses by_a' o (Sltiu 7 q (lower n)) (Xori t 7 (pos 1) ∷ []) (left (Sltiu 7 q (lower n)) 7 0 refl (omega arith) (omega arith)) (quiet by_a' o (Xori t 7 (pos 1) ∷ []) ((low', omega arith, omega arith), tt))
+
+      left_test : (t : ℕ) (relation : Comparison) (y : Operand) → t < 28 → Uses by_a' o (fetch (plan.home f) 6 y ++ compare_code relation t q (source (plan.home f) 6 y))
+      left_test t relation y low' = behind_plain by_a' o (fetch (plan.home f) 6 y) _ (fetch_plain (variables f) (plan.home f) (good f) 6 y (omega arith)) (left_compares relation t (source (plan.home f) 6 y) low' (low_of 6 y (omega arith)))
+
+      right_test : (t : ℕ) (relation : Comparison) (x : Operand) → t < 28 → Uses by_a' o (fetch (plan.home f) 5 x ++ compare_code relation t (source (plan.home f) 5 x) q)
+      right_test t relation x low' = behind_plain by_a' o (fetch (plan.home f) 5 x) _ (fetches x) (right_compares relation t (source (plan.home f) 5 x) low' (low x))
+
+      early_test : (v t : ℕ) (relation : Comparison) (x y : Operand) → either_one (in_operand x v) (in_operand y v) ≡ true → t < 28 → Uses by_a' o (compare_operands (Instead v) t relation x y)
+      early_test v t relation (Number n) (Number k) one low' = absurd (let bad : false ≡ true = one in cc)
+      early_test v t relation (Variable a) (Number n) one low' =
+          let e : nat_eq v a ≡ true = left_one (nat_eq v a) one in
+          let same : nat_eq a v ≡ true = grind (arith, nat_tests) in
+          rw same (either_uses by_a' o (takes_number relation n) (compare_number_code relation t q n) (fetch (plan.home f) 6 (Number n) ++ compare_code relation t q (source (plan.home f) 6 (Number n))) (number_compares relation t n low') (left_test t relation (Number n) low'))
+      early_test v t relation (Number n) (Variable b) one low' = let same : nat_eq b v ≡ true = grind (arith, nat_tests) in rw same (right_test t relation (Number n) low')
+      early_test v t relation (Variable a) (Variable b) one low' = by (nat_eq v a) refl one
+        where
+          by : (z : Bool) → nat_eq v a ≡ z → either_one z (nat_eq v b) ≡ true → Uses by_a' o (compare_registers (Instead v) t relation (Variable a) (Variable b))
+          by true e other =
+              let same : nat_eq a v ≡ true = grind (arith, nat_tests) in
+              let far : nat_eq b v ≡ false = unlike b other in
+              rw (same, far) (left_test t relation (Variable b) low')
+            where
+              unlike : (b : ℕ) → not (nat_eq v b) ≡ true → nat_eq b v ≡ false
+              unlike b e = grind (arith, nat_tests)
+          by false e other =
+              let same : nat_eq b v ≡ true = grind (arith, nat_tests) in
+              let far : nat_eq a v ≡ false = grind (arith, nat_tests) in
+              rw (same, far) (right_test t relation (Variable a) low')
+
       early_value : (v t : ℕ) (y : Value) → reads_once v y ≡ true → t < 28 → Uses by_a' o (value_code (Instead v) t y)
       early_value v t (Same (Variable a)) once low' =
           let same : nat_eq a v ≡ true = grind (arith, nat_tests) in
           rw same (first_uses by_a' o (Addi t q (pos 0)) [] (left (Addi t q (pos 0)) t 0 refl low' (omega arith)) tt)
       early_value v t (Same (Number n)) once low' = absurd (let bad : false ≡ true = once in cc)
-      early_value v t (Extended kind x) once low' = absurd (let bad : false ≡ true = once in cc)
+      early_value v t (Extended kind (Variable a)) once low' = let same : nat_eq a v ≡ true = grind (arith, nat_tests) in rw same (extend_uses kind t low')
+      early_value v t (Extended kind (Number n)) once low' = absurd (let bad : false ≡ true = once in cc)
       early_value v t (Binary operator x y) once low' = early_binary v t operator x y once low'
-      early_value v t (Holds test) once low' = absurd (let bad : false ≡ true = once in cc)
+      early_value v t (Holds test) once low' = early_test v t test.comparison test.left test.right once low'
       early_value v t (FrameAddress offset) once low' = absurd (let bad : false ≡ true = once in cc)
 
       early_uses : (v d : ℕ) (y : Value) → reads_once v y ≡ true → Uses by_a' o (early_code (plan.home f) q v d y)
       early_uses v d y once = before_plain by_a' o (value_code (Instead v) (register_or 5 (plan.home f d)) y) (keep (plan.home f d)) (early_value v (register_or 5 (plan.home f d)) y once (home_low d)) (keep_plain (plan.home f d))
 
+    -- the block of an action alone
+    placed_or_not : (short placed : Bool) (width : Width) (x : Operand) (live : VariableSet) (leaves skips : ℕ) → IsOfSide by_a' (Probe (Place width x)) →
+        Uses by_a' (Some (told_on by_a')) (if placed then placed_code (plan.home f) (Probe (Place width x)) else action_code plan variables f (Probe (Place width x)) live (jump_over short leaves) (jump_over short skips))
+    placed_or_not short true width x live leaves skips is = placed_uses width x
+    placed_or_not short false width x live leaves skips is = action_uses short (Probe (Place width x)) live leaves skips is
+
+    alone_uses : (short : Bool) (known : VariableSet) (a : Action) (live : VariableSet) (leaves skips : ℕ) → IsOfSide by_a' a →
+        Uses by_a' (action_queue by_a' a) (if is_placed known a then placed_code (plan.home f) a else action_code plan variables f a live (jump_over short leaves) (jump_over short skips))
+    alone_uses short known (Probe (Place width x)) live leaves skips is = placed_or_not short (is_multiple known x) width x live leaves skips is
+    alone_uses short known a live leaves skips is = action_uses short a live leaves skips is
+
     -- the block of an action, where things stand so before it and so behind it
-    block_uses : (short : Bool) (standing : Standing) (m : Mark) (x : Ways) (leaves skips : ℕ) (a : Action) (k : Actions) → Suits standing (Do m a k) x → IsOfSide by_a' a →
-        Uses by_a' (action_queue by_a' a) (block_code plan variables f standing a (standing_behind a k x) (live k x) (jump_over short leaves) (jump_over short skips))
-    block_uses short Settled m x leaves skips a k suits is =
-        by_pairs (λ (a : Action) (k : Actions) (standing : Standing). IsOfSide by_a' a → Uses by_a' (action_queue by_a' a) (block_code plan variables f Settled a standing (live k x) (jump_over short leaves) (jump_over short skips))) x
-        (λ a k is. action_uses short a (live k x) leaves skips is)
+    block_uses : (short : Bool) (known : VariableSet) (standing : Standing) (m : Mark) (x : Ways) (leaves skips : ℕ) (a : Action) (k : Actions) → Suits standing (Do m a k) x → IsOfSide by_a' a →
+        Uses by_a' (action_queue by_a' a) (block_code plan variables f (is_placed known a) standing a (standing_behind a k x) (live k x) (jump_over short leaves) (jump_over short skips))
+    block_uses short known Settled m x leaves skips a k suits is =
+        by_pairs (λ (a : Action) (k : Actions) (standing : Standing). IsOfSide by_a' a → Uses by_a' (action_queue by_a' a) (block_code plan variables f (is_placed known a) Settled a standing (live k x) (jump_over short leaves) (jump_over short skips))) x
+        (λ a k is. alone_uses short known a (live k x) leaves skips is)
         (λ t y n b k e passes dead is. no_queue by_a' [] tt)
         (λ v n d y k e once dead is. early_uses (Some Ld) 30 (λ i t r form a b. on_e i (Some Ld) is (takes_load_left i t r form a b)) (λ i t r form a b. on_e i (Some Ld) is (takes_load_right i t r form a b)) v d y once)
         (λ v n d y k e once dead is. early_uses (Some Cq) 28 (λ i t r form a b. on_e i (Some Cq) is (takes_copy_left i t r form a b)) (λ i t r form a b. on_e i (Some Cq) is (takes_copy_right i t r form a b)) v d y once)
         a k is
-    block_uses short (Late t y) m x leaves skips a k suits is =
+    block_uses short known (Late t y) m x leaves skips a k suits is =
         passed_on (λ (b : Action). IsOfSide by_a' b → Uses by_a' (action_queue by_a' b) (late_code (plan.home f) b y)) t y a suits.0 (λ d is. action_uses short (Compute d y) none 0 0 tt) (λ last is. send_value is y last) is
-    block_uses short (Early v y) m x leaves skips a k suits is = subst (λ (b : Action). Uses by_a' (action_queue by_a' b) []) (sym suits.0) (no_queue by_a' [] tt)
+    block_uses short known (Early v y) m x leaves skips a k suits is = subst (λ (b : Action). Uses by_a' (action_queue by_a' b) []) (sym suits.0) (no_queue by_a' [] tt)
 
     -- a branch on what is heard
     hears : (t short : Bool) (relation : Comparison) (n : ℕ) → Uses by_a' (Some (heard_on by_a')) (goes_by t short relation 29 0 n)
@@ -394,30 +473,30 @@ module _ (plan : Plan) (variables : ℕ → ℕ) (good : (f v : ℕ) → IsHome 
       abbrev Both : Actions → List Inst → Type 0
       Both code is = (LeavesAlone by_a' q is → IsUntouched by_a' q code) × (IsUntouched by_a' q code → LeavesAlone by_a' q is)
 
-      code_both : (short : Bool) (standing : Standing) (code : Actions) (x : Ways) (leaves skips : ℕ) → Suits standing code x → AreOfSide by_a' code → Both code (code_of short plan variables f standing code x leaves skips)
-      code_both short standing Done x leaves skips suits is = ((λ h. tt), (λ h. tt))
-      code_both short standing (Do m a k) x leaves skips suits is =
+      code_both : (short : Bool) (standing : Standing) (known : VariableSet) (code : Actions) (x : Ways) (leaves skips : ℕ) → Suits standing code x → AreOfSide by_a' code → Both code (code_of short plan variables f standing known code x leaves skips)
+      code_both short standing known Done x leaves skips suits is = ((λ h. tt), (λ h. tt))
+      code_both short standing known (Do m a k) x leaves skips suits is =
           let standing' = standing_behind a k x in
-          let rest = code_of short plan variables f standing' k x leaves skips in
-          let here = block_code plan variables f standing a standing' (live k x) (jump_over short (length rest + leaves)) (jump_over short (length rest + skips)) in
-          let uses = block_uses short standing m x (length rest + leaves) (length rest + skips) a k suits is.0 in
-          let more = code_both short standing' k x leaves skips (suits_behind a k x) is.1 in (
+          let rest = code_of short plan variables f standing' (multiples_behind a known) k x leaves skips in
+          let here = block_code plan variables f (is_placed known a) standing a standing' (live k x) (jump_over short (length rest + leaves)) (jump_over short (length rest + skips)) in
+          let uses = block_uses short known standing m x (length rest + leaves) (length rest + skips) a k suits is.0 in
+          let more = code_both short standing' (multiples_behind a known) k x leaves skips (suits_behind a k x) is.1 in (
             (λ alone. let two = alone_split by_a' q here rest alone in ((λ e. uses.some q e two.0), more.0 two.1)),
             (λ free. alone_append by_a' q here rest (others_alone by_a' (action_queue by_a' a) q here uses.only free.0) (more.1 free.1)),
           )
-      code_both short standing (If m b p r k) x leaves skips suits is =
+      code_both short standing known (If m b p r k) x leaves skips suits is =
           let none = does_nothing p in
-          let rest = code_of short plan variables f Settled k x leaves skips in
-          let second = code_of short plan variables f Settled r (behind (live k x) x) (length rest + leaves) (length rest + skips) in
+          let rest = code_of short plan variables f Settled unknown k x leaves skips in
+          let second = code_of short plan variables f Settled unknown r (behind (live k x) x) (length rest + leaves) (length rest + skips) in
           let past = past_code short (none || does_nothing r) (length second) in
           let far = length past + length second + length rest in
-          let first = code_of short plan variables f Settled p (behind (live k x) x) (far + leaves) (far + skips) in
+          let first = code_of short plan variables f Settled unknown p (behind (live k x) x) (far + leaves) (far + skips) in
           let n = if none then length second else length first + length past in
           let decides = branch_code (plan.home f) short b none n in
           let uses = branch_uses short b none n in
-          let one = code_both short Settled p (behind (live k x) x) (far + leaves) (far + skips) tt is.1 in
-          let two = code_both short Settled r (behind (live k x) x) (length rest + leaves) (length rest + skips) tt is.2 in
-          let more = code_both short Settled k x leaves skips tt is.3 in (
+          let one = code_both short Settled unknown p (behind (live k x) x) (far + leaves) (far + skips) tt is.1 in
+          let two = code_both short Settled unknown r (behind (live k x) x) (length rest + leaves) (length rest + skips) tt is.2 in
+          let more = code_both short Settled unknown k x leaves skips tt is.3 in (
             (λ alone.
                 let a = alone_split by_a' q decides (first ++ (past ++ (second ++ rest))) alone in
                 let b = alone_split by_a' q first (past ++ (second ++ rest)) a.1 in
@@ -430,14 +509,14 @@ module _ (plan : Plan) (variables : ℕ → ℕ) (good : (f v : ℕ) → IsHome 
                 (alone_append by_a' q past (second ++ rest) (silent past (past_plain short (none || does_nothing r) (length second)))
                 (alone_append by_a' q second rest (two.1 free.2) (more.1 free.3))))),
           )
-      code_both short standing (Loop m body step k) x leaves skips suits is =
-          let rest = code_of short plan variables f Settled k x leaves skips in
-          let again = code_of short plan variables f Settled step (step_ways body step (live k x)) (jump_words short) 0 in
-          let turned = code_of short plan variables f Settled body (body_ways body step (live k x)) (length again + jump_words short) 0 in
+      code_both short standing known (Loop m body step k) x leaves skips suits is =
+          let rest = code_of short plan variables f Settled unknown k x leaves skips in
+          let again = code_of short plan variables f Settled unknown step (step_ways body step (live k x)) (jump_words short) 0 in
+          let turned = code_of short plan variables f Settled unknown body (body_ways body step (live k x)) (length again + jump_words short) 0 in
           let back = jump_back short (length turned + length again) in
-          let one = code_both short Settled body (body_ways body step (live k x)) (length again + jump_words short) 0 tt is.0 in
-          let two = code_both short Settled step (step_ways body step (live k x)) (jump_words short) 0 tt is.1 in
-          let more = code_both short Settled k x leaves skips tt is.2 in (
+          let one = code_both short Settled unknown body (body_ways body step (live k x)) (length again + jump_words short) 0 tt is.0 in
+          let two = code_both short Settled unknown step (step_ways body step (live k x)) (jump_words short) 0 tt is.1 in
+          let more = code_both short Settled unknown k x leaves skips tt is.2 in (
             (λ alone.
                 let a = alone_split by_a' q turned (again ++ (back ++ rest)) alone in
                 let b = alone_split by_a' q again (back ++ rest) a.1 in
@@ -452,9 +531,9 @@ module _ (plan : Plan) (variables : ℕ → ℕ) (good : (f v : ℕ) → IsHome 
       function_both : (code : Actions) → AreOfSide by_a' code → Both code (function_code plan variables f code)
       function_both code is =
           let enters = entry_code plan variables f (live code nowhere) in
-          let does = code_of (is_short code) plan variables f Settled code nowhere 0 0 in
+          let does = code_of (is_short code) plan variables f Settled unknown code nowhere 0 0 in
           let leaves = leave_code (plan.home f) (Some (Number 0)) in
-          let both = code_both (is_short code) Settled code nowhere 0 0 tt is in (
+          let both = code_both (is_short code) Settled unknown code nowhere 0 0 tt is in (
             (λ alone. both.0 (alone_split by_a' q does leaves (alone_split by_a' q enters (does ++ leaves) alone).1).0),
             (λ free. alone_append by_a' q enters (does ++ leaves) (silent enters (entry_plain plan variables good f (live code nowhere)))
                 (alone_append by_a' q does leaves (both.1 free) (silent leaves (leave_plain (variables f) (plan.home f) (good f) (Some (Number 0)))))),

@@ -4,4 +4,5 @@ mod Steps
 mod Lives
 mod Paths
 mod SetBefore
+mod Multiples
 pub mod LawsOfWalks

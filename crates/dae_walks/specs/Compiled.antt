@@ -21,6 +21,7 @@ use Rattle.dae_walks.specs.declared.Standing.TheVariants.{Settled, Early, Late}
 use Rattle.dae_walks.specs.Walks.{Setting, Comes, Nears, Acts}
 use Rattle.dae_walks.specs.Does.{Does, event}
 use Rattle.dae_walks.specs.Live.{Ways, ways, behind, live, is, turn, step_ways}
+use Rattle.dae_walks.specs.Multiples.{AreMultiples, unknown, multiples_behind}
 use Rattle.dae_walks.specs.Homes.{Contents}
 use Rattle.dae_walks.specs.Agrees.{Plan, Moment, Waiting, depth_of, top_of, IsWithin, AreWaiting, Shows, Stands}
 
@@ -128,22 +129,23 @@ module _ (s : Setting) (plan : Plan) (program : Program) (entries : ℕ → Vari
   abbrev pub Turns : ℕ → Exit → Exit → Type 0
   Turns f here there = (m : Moment) (p : Processor) → At f here m p → (v : ℕ) × Acts s p (event Nothing v 0 []) (λ q. Comes s 1 q (At f there m))
 
-  -- from each processor that agrees with a moment before the action there is a walk to one that agrees with it after
-  abbrev pub ActionDone : ℕ → Action → Exit → Exit → Exits → Type 0
-  ActionDone f Break here next x = Leads f here x.leaves
-  ActionDone f Continue here next x = Turns f here x.skips
-  ActionDone f (Call v g xs) here next x =
+  -- from each processor that agrees with a moment before the action there is a walk to one that agrees with it after, where
+  -- these variables are multiples of four before it
+  abbrev pub ActionDone : ℕ → VariableSet → Action → Exit → Exit → Exits → Type 0
+  ActionDone f known Break here next x = Leads f here x.leaves
+  ActionDone f known Continue here next x = Turns f here x.skips
+  ActionDone f known (Call v g xs) here next x =
       (back : ℕ)
       × ((m : Moment) (p : Processor) → At f here m p → IsWithin plan (called plan g xs (waiting_of v next.live back m) m)
       → Comes s (widest + 6 * length xs) p (At g (exit (plan.start g) (entries g)) (called plan g xs (waiting_of v next.live back m) m)))
       × ((m : Moment) (result : Option ℕ) (p : Processor) → m.function ≡ f → IsWithin plan m → IsAnswered v result → Lands plan (waiting_of v next.live back m) m.waiting result p
       → Comes s (3 * most) p (At f next (with_env (with_result v result m.env) m)))
-  ActionDone f (Return y) here next x =
+  ActionDone f known (Return y) here next x =
       (m : Moment) (p : Processor) → At f here m p
       → ((m.waiting ≡ []) → MainEnds plan.by_a y m.env (λ quit. Does s most (Halts quit) (λ env q. ⊥) p))
       × ((w : Waiting) (ws : List Waiting) → m.waiting ≡ w ∷ ws → Comes s most p (Lands plan w ws (result_of y m.env)))
-  ActionDone f a here next x =
-      (m : Moment) (w : World) (p : Processor) → At f here m p → IsWorldOf plan m w
+  ActionDone f known a here next x =
+      (m : Moment) (w : World) (p : Processor) → At f here m p → IsWorldOf plan m w → AreMultiples known m.env
       → Does s most (deed program plan.by_a a w m.env) (λ env. At f next (with_env env m)) p
 
   -- the same of a branch: it goes to the first list where its test holds, or where it hears a number other than 0
@@ -160,17 +162,18 @@ module _ (s : Setting) (plan : Plan) (program : Program) (entries : ℕ → Vari
       (m : Moment) (p : Processor) → At f here m p
       → Nears s most p (λ l q. (x : ℕ) → x < 2 ^ 32 → (put : ℕ) × Acts s q (event (Takes (heard_on plan.by_a)) put x []) (λ r. Comes s l r (Chosen f first second (not (nat_eq x 0)) m)))
 
-  -- the code does a list of actions of the function f, from one place up to where it goes on
-  abbrev pub CodeDone : ℕ → Actions → Exit → Exits → Type 0
-  CodeDone f Done here x = Leads f here x.next
-  CodeDone f (Do mark a k) here x = (next : Exit) × ActionDone f a here next x × CodeDone f k next x
-  CodeDone f (If mark b p q k) here x =
+  -- the code does a list of actions of the function f, from one place up to where it goes on, where these variables are
+  -- multiples of four at that place
+  abbrev pub CodeDone : ℕ → VariableSet → Actions → Exit → Exits → Type 0
+  CodeDone f known Done here x = Leads f here x.next
+  CodeDone f known (Do mark a k) here x = (next : Exit) × ActionDone f known a here next x × CodeDone f (multiples_behind a known) k next x
+  CodeDone f known (If mark b p q k) here x =
       (first : Exit) × (second : Exit) × (next : Exit)
       × BranchDone f b here first second
-      × CodeDone f p first (record x { next = next }) × CodeDone f q second (record x { next = next }) × CodeDone f k next x
-  CodeDone f (Loop mark body step k) here x =
+      × CodeDone f unknown p first (record x { next = next }) × CodeDone f unknown q second (record x { next = next }) × CodeDone f unknown k next x
+  CodeDone f known (Loop mark body step k) here x =
       (begin : Exit) × (again : Exit) × (end : Exit) × (next : Exit)
       × Leads f here begin
-      × CodeDone f body begin (exits again next again) × CodeDone f step again (exits end next end)
+      × CodeDone f unknown body begin (exits again next again) × CodeDone f unknown step again (exits end next end)
       × Turns f end begin
-      × CodeDone f k next x
+      × CodeDone f unknown k next x

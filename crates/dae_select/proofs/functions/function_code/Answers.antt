@@ -6,6 +6,7 @@ use Rattle.dae_ir.specs.declared.form.Operand.TheVariants.{Number}
 use Rattle.std.specs.Prelude.{Some}
 use Rattle.dae_walks.specs.declared.Home.{Home}
 use Rattle.dae_walks.specs.Live.{live, nowhere}
+use Rattle.dae_walks.specs.Multiples.{unknown}
 use Rattle.dae_live.specs.Members.{member}
 use Rattle.dae_blocks.specs.Blocks.{leave_code}
 use Rattle.dae_blocks.specs.Code.{code_of, entry_code}
@@ -24,10 +25,10 @@ returns-clause-code c =
     let last : (ℕ → Home) → List Inst = λ home. leave_code home (Some (Number 0)) in
     let entry : VariableSet → List Inst = λ l. entry_code P V f l in
     let first = c.in_ok-entry_code.ensures ∙ ap (λ (l : List Inst). l ++ entry (member c.in_ok-live.live)) c.new-code.ensures.items ∙ ap entry c.in_ok-live.ensures.live in
-    let middle = c.as_slice.ensures.value ∙ c.into_vec.ensures ∙ ap (λ (g : Grown). g.code) c.in_ok-live.ensures.code ∙ same_code (is_short (actions_of a.body.now)) P V f Settled (actions_of a.body.now) nowhere 0 0 in
+    let middle = c.as_slice.ensures.value ∙ c.into_vec.ensures ∙ ap (λ (g : Grown). g.code) c.in_ok-live.ensures.code ∙ same_code (is_short (actions_of a.body.now)) P V f Settled unknown (actions_of a.body.now) nowhere 0 0 in
     c.in_ok-leave_code.ensures ∙ ap (λ (home : ℕ → Home). c.extend_from_slice.new.self.items ++ last home) c.homes-homes.ensures.homes
     ∙ ap (λ (l : List Inst). l ++ last (P.home f)) (c.in_ok-extend_from_slice.ensures.items ∙ ap (λ (l : List Inst). l ++ c.as_slice.result.now) first ∙ ap (λ (l : List Inst). entry (live (actions_of a.body.now) nowhere) ++ l) middle)
-    ∙ append_assoc (entry (live (actions_of a.body.now) nowhere)) (code_of (is_short (actions_of a.body.now)) P V f Settled (actions_of a.body.now) nowhere 0 0) (last (P.home f))
+    ∙ append_assoc (entry (live (actions_of a.body.now) nowhere)) (code_of (is_short (actions_of a.body.now)) P V f Settled unknown (actions_of a.body.now) nowhere 0 0) (last (P.home f))
 
 pub returns-clause-entry : goal.returns-clause-entry
 returns-clause-entry c =
@@ -43,7 +44,7 @@ returns-clause-places c =
     let a = c.args in
     let P = plan_of a.layouts.now in let V = variables_of a.layouts.now in let f = a.function in
     let entry : VariableSet → List Inst = λ l. entry_code P V f l in
-    let actions = marked_code (is_short (actions_of a.body.now)) P V f Settled (actions_of a.body.now) nowhere 0 0 in
+    let actions = marked_code (is_short (actions_of a.body.now)) P V f Settled unknown (actions_of a.body.now) nowhere 0 0 in
     let first = c.in_ok-entry_code.ensures ∙ ap (λ (l : List Inst). l ++ entry (member c.in_ok-live.live)) c.new-code.ensures.items ∙ ap entry c.in_ok-live.ensures.live in
     let l = c.len-entry.ensures in
     let long : c.len-entry.result ≡ length c.entry_code.new.code.items = omega arith in
