@@ -2,38 +2,13 @@
 // top call's, which is generic over where texts come from and where bytes go.
 #![tactic(auto)]
 
+use dae_command::dae_main;
 use dae_drive::noted;
 use dae_io::{DirShelf, StdSink};
 use std::alloc::{AllocError, Global};
 use std::env;
 use std::io::ErrorKind;
 use std::process::ExitCode;
-
-#[cfg(test)]
-mod calls;
-mod compile;
-#[cfg(test)]
-mod cut_tests;
-mod exec;
-#[cfg(test)]
-mod exec_tests;
-mod fetching;
-#[cfg(test)]
-mod files;
-#[cfg(test)]
-mod images;
-mod job;
-mod laws;
-mod names;
-mod options;
-mod refusals;
-#[cfg(test)]
-mod rows;
-mod run;
-mod sources;
-#[cfg(test)]
-mod tests;
-mod top;
 
 // The words after the program's name.
 fn words_of(alloc: Global, all: env::Args<Global>) -> Result<Vec<String>, AllocError> {
@@ -51,7 +26,7 @@ fn main(rt: HostRuntime) -> ExitCode {
     let mut note = StdSink::new(rt.stderr());
     let status = match env::args(&rt) {
         Ok(all) => match words_of(alloc, all) {
-            Ok(words) => top::dae_main(alloc, words.as_slice(), &mut shelf, &mut out, &mut note),
+            Ok(words) => dae_main(alloc, words.as_slice(), &mut shelf, &mut out, &mut note),
             Err(_) => noted(&mut note, b"memory\n", 7),
         },
         // A word that is no UTF-8 spells no job.

@@ -1,5 +1,0 @@
-use Rattle.dae_cli.proofs.OneDue.{one_of_words}
-use Rattle.dae_cli.proofs.laws.one_answer_for_words.Goals as goal
-
-pub returns : goal.returns
-returns c = λ words s status a b whole d e m n. one_of_words words s status whole a b d e m n

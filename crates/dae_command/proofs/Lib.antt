@@ -1,0 +1,10 @@
+mod NoImage
+mod Fetched
+mod OnWay
+mod Longest
+mod Early
+mod Keeping
+mod Stopped
+mod Runs
+mod OneDue
+mod NeverStuck

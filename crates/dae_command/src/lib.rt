@@ -1,0 +1,15 @@
+// The work of the program, over any shelf of files and any two sinks: it takes the words after the program's name, does the job
+// that they spell, and gives the status. An answer is due by the words and by what the shelf tells, and its puts are given in their
+// order, or up to the first that fails.
+#![tactic(auto)]
+
+pub use laws::{never_stuck, one_answer_for_words, runs_keep_meaning};
+pub use top::{answer_calmly, dae_main};
+
+mod compile;
+mod exec;
+mod fetching;
+mod laws;
+mod run;
+mod sources;
+mod top;
