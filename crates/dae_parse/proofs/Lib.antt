@@ -1,18 +1,8 @@
-mod LeftBehind
-mod ByKind
-mod TypesFound
-mod Stacks
-mod Popped
-mod Otherwise
-mod OtherwiseDeclarators
-mod OtherwiseDeclarations
-mod OtherwiseStatements
-mod Structures
-mod Inner
-mod Below
-mod Counts
 mod Bottoms
 mod Reaching
 mod Others
-mod Files
+mod Popped
 mod Doings
+mod Files
+mod Stuck
+pub mod Laws
