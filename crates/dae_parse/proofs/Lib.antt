@@ -5,4 +5,3 @@ mod Popped
 mod Doings
 mod Files
 mod Stuck
-pub mod Laws

@@ -9,7 +9,7 @@ use Rattle.dae_tree.specs.Names.{Names}
 use Rattle.dae_tree.specs.Reading.{Reading}
 use Rattle.dae_base.specs.declared.Place.{Place}
 use Rattle.dae_tree.specs.Statements.{IsTreeOf}
-use Rattle.dae_tree.specs.Trees.{External}
+use Rattle.dae_tree.specs.Trees.{Expression, External}
 use Rattle.dae_grammar.specs.Frames as plain
 use Rattle.dae_grammar.specs.Frames.{Frame, State, state}
 use Rattle.dae_grammar.specs.Machine.{step, begun}
@@ -29,10 +29,13 @@ left_behind_operand a l (plain.operated e k) s names [] h = refl
 left_behind_operand a l (plain.operated e k) s names (t ∷ ts) h = omega arith
 left_behind_operand a l _ s names ts h = absurd h
 
+no_operand : (g : Doing) (e : Expression) (k : ℕ) → ShowsDoing g (plain.operated e k) → ((a : _) (l : _) → g ≡ doing.Operated a l → ⊥) → ⊥
+no_operand (doing.Operated a l) e k h n = n a l refl
+no_operand _ e k h n = h
+
 pub left_elsewhere : (g : Doing) (d : plain.Doing) (s : List Frame) (names : Names) (ts : List Mark) → ShowsDoing g d → ((a : _) (l : _) → g ≡ doing.Operated a l → ⊥) → length ts ≡ length (stuck (state d s names ts))
-left_elsewhere (doing.Operated a l) d s names ts h k = absurd (k a l refl)
-left_elsewhere _ (plain.operated e k) s names ts h n = absurd h
-left_elsewhere _ _ s names ts h k = refl
+left_elsewhere g (plain.operated e k) s names ts h n = absurd (no_operand g e k h n)
+left_elsewhere g _ s names ts h n = refl
 
 -- ---- the tokens up to the one where it is stuck
 
