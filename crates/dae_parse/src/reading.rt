@@ -5,7 +5,7 @@ ghost use Rattle.dae_tree.specs.Trees.{External};
 ghost use Rattle.dae_tree.specs.Reading.{IsReading};
 ghost use Rattle.dae_parse.specs.Reached.{Comes};
 ghost use Rattle.dae_parse.specs.declared.run.Outcome.TheVariants as outcomes;
-ghost use Rattle.dae_parse.specs.Parsed.{Answers, IsWithinLimits, place_from};
+ghost use Rattle.dae_parse.specs.Parsed.{Answers, IsRefused, IsWithinLimits, place_from};
 ghost use Rattle.dae_parse.specs.declared.error.ParseError.TheVariants as errors;
 
 use crate::error::ParseError;
@@ -29,9 +29,17 @@ pub fn parse(alloc: Global, tokens: &Tokens<'_>) -> Result<File, ParseError>
 {
     match run(alloc, tokens.tokens()) {
         Ok(Outcome::Whole(before)) => whole(alloc, tokens, before),
-        Ok(Outcome::Stopped(at)) => Err(ParseError::Syntax(place_at(tokens, at))),
+        Ok(Outcome::Stopped(at)) => Err(refusal_at(tokens, at)),
         Err(_) => Err(ParseError::Memory),
     }
+}
+
+/// The refusal of tokens that go no further at the one with this number.
+fn refusal_at(tokens: &Tokens<'_>, at: usize) -> ParseError
+    requires { Comes tokens.now.tokens (outcomes.Stopped at) }
+    ensures { IsRefused tokens.now result }
+{
+    ParseError::Syntax(place_at(tokens, at))
 }
 
 /// The place of the token with this number, or the end of the text.
