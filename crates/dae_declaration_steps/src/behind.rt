@@ -16,6 +16,7 @@ use dae_nodes::{
     Declared, Operand, Specified, grouped, pointer, sized_array, sizeof_type, with_declarator,
     with_member, with_valued_enumerator,
 };
+use dae_parts::{CAST, Read};
 use dae_states::{Body, Doing, Frame, Machine, Manner};
 use dae_tree::{Declarator, Enumerator, Member, Name, Sign};
 use std::alloc::AllocError;
@@ -110,7 +111,7 @@ pub fn of_cast(
         return Ok(None);
     }
     machine.push(Frame::BehindCast(place, specified, declared, level))?;
-    Ok(Some(Doing::Seek(3)))
+    Ok(Some(Doing::Seek(CAST)))
 }
 
 /// Behind the type in `sizeof` (C90 6.3.3.4).

@@ -16,6 +16,7 @@ use dae_nodes::{
     Specified, has_members, no_enumerators, no_members, no_specifiers, with_enumeration,
     with_enumeration_body, with_plain_enumerator, with_structure, with_structure_body,
 };
+use dae_parts::{CONDITIONAL, Read};
 use dae_states::{Body, Doing, Frame, Machine};
 use dae_tree::{Enumerator, Member, Name, Seen, Sign};
 use std::alloc::{AllocError, Global};
@@ -178,7 +179,7 @@ pub fn read_enumerator_value(
 {
     if let Some(place) = machine.rest.take_sign(Sign::Assign) {
         machine.push(Frame::InEnumerator(body, list, name, place))?;
-        return Ok(Some(Doing::Seek(14)));
+        return Ok(Some(Doing::Seek(CONDITIONAL)));
     }
     machine.scope.bind(name.number, false)?;
     let list = with_plain_enumerator(machine.alloc, list, name)?;

@@ -18,6 +18,7 @@ use dae_nodes::{
     Declared, Specified, declaration, declared_external, has_items, no_declarations, no_items,
     no_specifiers, with_declaration, with_external, with_plain_item, with_valued_item,
 };
+use dae_parts::Read;
 use dae_states::{Before, Doing, Frame, Inside, Machine, Manner};
 use dae_tree::{Declaration, Initialiser, Item, Seen, Sign};
 use std::alloc::AllocError;

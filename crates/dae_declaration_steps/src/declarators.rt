@@ -17,6 +17,7 @@ use dae_base::Place;
 use dae_nodes::{
     Declared, absent, empty_function, named, no_parameters, no_specifiers, unsized_array,
 };
+use dae_parts::CONDITIONAL;
 use dae_scope::Scope;
 use dae_states::{Doing, Frame, Machine, Manner, Open, Rest, begins_specifiers};
 use dae_tree::{Keyword, Seen, Sign};
@@ -196,7 +197,7 @@ pub fn read_size(
         return Ok(Some(Doing::Suffixing(manner, whole)));
     }
     machine.push(Frame::InSize(declared, place, manner))?;
-    Ok(Some(Doing::Seek(14)))
+    Ok(Some(Doing::Seek(CONDITIONAL)))
 }
 
 /// Behind the parenthesis of a function, whose parameters have a scope of their own (C90 6.5.4.3 and 6.1.2.1).

@@ -10,7 +10,7 @@ ghost use Rattle.dae_states.specs.States.{Steps};
 
 use dae_base::Place;
 use dae_nodes::{Operand, initialiser_list, no_initialisers, value, with_initialiser};
-use dae_parts::Read;
+use dae_parts::{ASSIGNMENT, Read};
 use dae_states::{Doing, Frame, Machine};
 use dae_tree::{Initialiser, Sign};
 use std::alloc::AllocError;
@@ -25,7 +25,7 @@ pub fn read_initialiser(machine: &mut Machine<'_>) -> Result<Option<Doing>, Allo
         return Ok(Some(Doing::Initialising));
     }
     machine.push(Frame::InValue)?;
-    Ok(Some(Doing::Seek(15)))
+    Ok(Some(Doing::Seek(ASSIGNMENT)))
 }
 
 /// Behind the comma in a list of initialisers.

@@ -5,7 +5,10 @@ ghost use Rattle.dae_nodes.specs.Parts.{ShowsOperand, ShowsArguments, ShowsSpeci
 
 use crate::values::{Declared, Operand, Specified};
 use dae_base::Place;
-use dae_parts::{Read, beside, flat, longer, over, strength};
+use dae_parts::{
+    ASSIGNMENT, CAST, COMMA, CONDITIONAL, POSTFIX, PRIMARY, Read, UNARY, beside, flat, longer,
+    over, strength,
+};
 use dae_tree::{
     AssignmentOperator, BinaryOperator, Constant, Expression, MemberOperator, Name,
     PostfixOperator, PrefixOperator, TypeName,
@@ -20,7 +23,7 @@ pub fn identifier(alloc: Global, name: Name) -> Result<Operand, AllocError>
     let read = over(alloc, place, flat(alloc, Expression::Identifier(name)))?;
     Ok(Operand {
         read,
-        level: 0,
+        level: PRIMARY,
         place,
     })
 }
@@ -36,7 +39,7 @@ pub fn constant(alloc: Global, place: Place, constant: Constant) -> Result<Opera
     )?;
     Ok(Operand {
         read,
-        level: 0,
+        level: PRIMARY,
         place,
     })
 }
@@ -52,7 +55,7 @@ pub fn literal(alloc: Global, place: Place, number: u32) -> Result<Operand, Allo
     )?;
     Ok(Operand {
         read,
-        level: 0,
+        level: PRIMARY,
         place,
     })
 }
@@ -68,7 +71,7 @@ pub fn parenthesised(alloc: Global, place: Place, inner: Operand) -> Result<Oper
     };
     Ok(Operand {
         read: Read { tree, depths },
-        level: 0,
+        level: PRIMARY,
         place,
     })
 }
@@ -91,7 +94,7 @@ pub fn index(
     };
     Ok(Operand {
         read: Read { tree, depths },
-        level: 1,
+        level: POSTFIX,
         place: first,
     })
 }
@@ -128,7 +131,7 @@ pub fn call(
     };
     Ok(Operand {
         read: Read { tree, depths },
-        level: 1,
+        level: POSTFIX,
         place: first,
     })
 }
@@ -151,7 +154,7 @@ pub fn member(
     };
     Ok(Operand {
         read: Read { tree, depths },
-        level: 1,
+        level: POSTFIX,
         place: first,
     })
 }
@@ -173,7 +176,7 @@ pub fn postfix(
     };
     Ok(Operand {
         read: Read { tree, depths },
-        level: 1,
+        level: POSTFIX,
         place: first,
     })
 }
@@ -194,7 +197,7 @@ pub fn prefix(
     };
     Ok(Operand {
         read: Read { tree, depths },
-        level: 2,
+        level: UNARY,
         place,
     })
 }
@@ -214,7 +217,7 @@ pub fn sizeof_expression(
     };
     Ok(Operand {
         read: Read { tree, depths },
-        level: 2,
+        level: UNARY,
         place,
     })
 }
@@ -243,7 +246,7 @@ pub fn sizeof_type(
     };
     Ok(Operand {
         read: Read { tree, depths },
-        level: 2,
+        level: UNARY,
         place,
     })
 }
@@ -274,7 +277,7 @@ pub fn cast(
     };
     Ok(Operand {
         read: Read { tree, depths },
-        level: 3,
+        level: CAST,
         place,
     })
 }
@@ -336,7 +339,7 @@ pub fn conditional(
     };
     Ok(Operand {
         read: Read { tree, depths },
-        level: 14,
+        level: CONDITIONAL,
         place: first,
     })
 }
@@ -365,7 +368,7 @@ pub fn assignment(
     };
     Ok(Operand {
         read: Read { tree, depths },
-        level: 15,
+        level: ASSIGNMENT,
         place: first,
     })
 }
@@ -383,7 +386,7 @@ pub fn comma(alloc: Global, left: Operand, right: Operand) -> Result<Operand, Al
     };
     Ok(Operand {
         read: Read { tree, depths },
-        level: 16,
+        level: COMMA,
         place: first,
     })
 }

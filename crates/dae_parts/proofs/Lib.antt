@@ -1,2 +1,3 @@
 mod Holding
+mod Levels
 pub mod Laws

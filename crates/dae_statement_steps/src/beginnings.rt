@@ -16,6 +16,7 @@ use dae_nodes::{
     Loop, Operand, block, break_statement, continue_statement, do_statement, empty_statement,
     no_declarations, no_specifiers, no_statements, return_statement,
 };
+use dae_parts::{COMMA, CONDITIONAL, Read};
 use dae_states::{Doing, Frame, Head, Inside, Machine, begins_specifiers};
 use dae_tree::{Keyword, Seen, Sign, Statement};
 use std::alloc::AllocError;
@@ -96,7 +97,7 @@ fn begin_evaluation(machine: &mut Machine<'_>) -> Result<Option<Doing>, AllocErr
     ensures { Steps machine.old result machine.new evaluation_begun }
 {
     machine.push(Frame::InEvaluation)?;
-    Ok(Some(Doing::Seek(16)))
+    Ok(Some(Doing::Seek(COMMA)))
 }
 
 /// Before a word that may begin a statement (C90 6.6.1 and 6.6.4 to 6.6.6).
@@ -118,7 +119,7 @@ fn read_statement_word(
         Keyword::Case => {
             machine.rest.skip();
             machine.push(Frame::InCase(place))?;
-            Ok(Some(Doing::Seek(14)))
+            Ok(Some(Doing::Seek(CONDITIONAL)))
         }
         Keyword::If => begin(machine, Doing::Opening(Head::If(place))),
         Keyword::While => begin(machine, Doing::Opening(Head::While(place))),
@@ -153,7 +154,7 @@ pub fn read_test(machine: &mut Machine<'_>, head: Head) -> Result<Option<Doing>,
         return Ok(None);
     };
     machine.push(Frame::InTest(head, paren))?;
-    Ok(Some(Doing::Seek(16)))
+    Ok(Some(Doing::Seek(COMMA)))
 }
 
 /// Behind `for`.
@@ -190,7 +191,7 @@ pub fn read_loop_test(
         })));
     }
     machine.push(Frame::InLoopTest(word, paren, start, first))?;
-    Ok(Some(Doing::Seek(16)))
+    Ok(Some(Doing::Seek(COMMA)))
 }
 
 /// Behind the second semicolon of a `for`.
@@ -204,7 +205,7 @@ pub fn read_loop_step(machine: &mut Machine<'_>, parts: Loop) -> Result<Option<D
         return Ok(Some(Doing::Stating));
     }
     machine.push(Frame::InStep(parts))?;
-    Ok(Some(Doing::Seek(16)))
+    Ok(Some(Doing::Seek(COMMA)))
 }
 
 /// Behind `default`.
@@ -232,7 +233,7 @@ pub fn read_loop_start(
         return Ok(Some(Doing::Testing(word, paren, None, first)));
     }
     machine.push(Frame::InStart(word, paren))?;
-    Ok(Some(Doing::Seek(16)))
+    Ok(Some(Doing::Seek(COMMA)))
 }
 
 /// Behind the test of a `do` (C90 6.6.5.2).
@@ -265,7 +266,7 @@ pub fn read_return(machine: &mut Machine<'_>, place: Place) -> Result<Option<Doi
         return Ok(Some(Doing::GaveStatement(whole, false)));
     }
     machine.push(Frame::InReturn(place))?;
-    Ok(Some(Doing::Seek(16)))
+    Ok(Some(Doing::Seek(COMMA)))
 }
 
 /// Behind `break` (C90 6.6.6.3).

@@ -14,6 +14,7 @@ use dae_nodes::{
     Loop, Operand, case_statement, default_statement, for_statement, if_else_statement,
     if_statement, switch_statement, while_statement, with_statement,
 };
+use dae_parts::Read;
 use dae_states::{Doing, Frame, Head, Inside, Machine};
 use dae_tree::{Keyword, Statement};
 use std::alloc::AllocError;

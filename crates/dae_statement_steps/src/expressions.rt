@@ -12,6 +12,7 @@ use dae_nodes::{
     Declared, Operand, Specified, assignment, binary, call, cast, comma, conditional, index,
     parenthesised, prefix, sizeof_expression, with_argument,
 };
+use dae_parts::{ASSIGNMENT, CONDITIONAL, Read};
 use dae_states::{Doing, Frame, Machine};
 use dae_tree::{AssignmentOperator, BinaryOperator, Expression, PrefixOperator, Sign};
 use std::alloc::AllocError;
@@ -98,7 +99,7 @@ pub fn behind_question(
         return Ok(None);
     }
     machine.push(Frame::BehindColon(test, place, a, level))?;
-    Ok(Some(Doing::Seek(14)))
+    Ok(Some(Doing::Seek(CONDITIONAL)))
 }
 
 /// Behind an argument.
@@ -119,7 +120,7 @@ pub fn in_arguments(
     let arguments = with_argument(before, a)?;
     if machine.rest.take_sign(Sign::Comma).is_some() {
         machine.push(Frame::InArguments(callee, place, arguments, level))?;
-        return Ok(Some(Doing::Seek(15)));
+        return Ok(Some(Doing::Seek(ASSIGNMENT)));
     }
     if machine.rest.take_sign(Sign::RightParen).is_none() {
         return Ok(None);

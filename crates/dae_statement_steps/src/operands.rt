@@ -13,6 +13,7 @@ ghost use Rattle.dae_states.specs.States.{Steps};
 use crate::operations::{operand_level, prefix_operator};
 use dae_base::Place;
 use dae_nodes::{Operand, call, constant, identifier, literal, no_arguments, no_specifiers};
+use dae_parts::{ASSIGNMENT, CAST, COMMA, UNARY};
 use dae_states::{Doing, Frame, Machine, begins_specifiers, is_type};
 use dae_tree::{Keyword, Kind, Name, Seen, Sign};
 use std::alloc::AllocError;
@@ -87,13 +88,13 @@ fn seek_parenthesis(
         Steps machine.old result machine.new (sought_of level) }
 {
     machine.rest.skip();
-    if level >= 3 && begins_specifiers(&machine.scope, &machine.rest) {
+    if level >= CAST && begins_specifiers(&machine.scope, &machine.rest) {
         machine.push(Frame::ForCast(place, level))?;
         let before = no_specifiers(machine.alloc);
         return Ok(Some(Doing::Specifying(Seen::nothing(), before)));
     }
     machine.push(Frame::InParentheses(place, level))?;
-    Ok(Some(Doing::Seek(16)))
+    Ok(Some(Doing::Seek(COMMA)))
 }
 
 /// Behind `sizeof` (C90 6.3.3.4).
@@ -113,7 +114,7 @@ pub fn read_sizeof(
         }
     }
     machine.push(Frame::BehindSizeof(place, level))?;
-    Ok(Some(Doing::Seek(2)))
+    Ok(Some(Doing::Seek(UNARY)))
 }
 
 /// Behind the parenthesis of a call (C90 6.3.2.2).
@@ -132,5 +133,5 @@ pub fn read_call(
         return Ok(Some(Doing::Operated(whole, level)));
     }
     machine.push(Frame::InArguments(callee, place, none, level))?;
-    Ok(Some(Doing::Seek(15)))
+    Ok(Some(Doing::Seek(ASSIGNMENT)))
 }

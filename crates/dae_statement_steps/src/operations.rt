@@ -10,7 +10,9 @@ ghost use Rattle.dae_grammar.specs.Frames.{Frame};
 ghost use Rattle.dae_grammar.specs.Machine.{operation as operation_at, reach as reach_of, left_level as left_level_of, sought};
 ghost use Rattle.dae_statement_steps.specs.Operations.{operation_of, prefixed_by};
 
-use dae_parts::strength;
+use dae_parts::{
+    ASSIGNMENT, CAST, CONDITIONAL, LOGICAL_OR, NONE, POSTFIX, PRIMARY, UNARY, strength,
+};
 use dae_tree::{
     AssignmentOperator, BinaryOperator, MemberOperator, PostfixOperator, PrefixOperator, Sign,
 };
@@ -78,11 +80,12 @@ pub fn reach(operation: Operation) -> u8
     ensures { result ≡ reach_of (operation_of operation) }
 {
     match operation {
-        Operation::Subscript | Operation::Call | Operation::Member(_) | Operation::Step(_) => 1,
+        Operation::Subscript | Operation::Call | Operation::Member(_) | Operation::Step(_) =>
+            POSTFIX,
         Operation::Binary(operator) => strength(operator),
-        Operation::Choice => 14,
-        Operation::Assignment(_) => 15,
-        Operation::Ends => 17,
+        Operation::Choice => CONDITIONAL,
+        Operation::Assignment(_) => ASSIGNMENT,
+        Operation::Ends => NONE,
     }
 }
 
@@ -91,11 +94,12 @@ pub fn left_level(operation: Operation) -> u8
     ensures { result ≡ left_level_of (operation_of operation) }
 {
     match operation {
-        Operation::Subscript | Operation::Call | Operation::Member(_) | Operation::Step(_) => 1,
+        Operation::Subscript | Operation::Call | Operation::Member(_) | Operation::Step(_) =>
+            POSTFIX,
         Operation::Binary(operator) => strength(operator),
-        Operation::Choice => 13,
-        Operation::Assignment(_) => 2,
-        Operation::Ends => 0,
+        Operation::Choice => LOGICAL_OR,
+        Operation::Assignment(_) => UNARY,
+        Operation::Ends => PRIMARY,
     }
 }
 
@@ -123,7 +127,7 @@ pub fn operand_level(operator: PrefixOperator) -> u8
     ensures { result ≡ level_below operator }
 {
     match operator {
-        PrefixOperator::Increment | PrefixOperator::Decrement => 2,
-        _ => 3,
+        PrefixOperator::Increment | PrefixOperator::Decrement => UNARY,
+        _ => CAST,
     }
 }

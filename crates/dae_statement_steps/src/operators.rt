@@ -13,7 +13,7 @@ ghost use Rattle.dae_states.specs.States.{Steps};
 use crate::operations::{Operation, begun_by, left_level, reach};
 use dae_base::Place;
 use dae_nodes::{Operand, member, postfix};
-use dae_parts::under;
+use dae_parts::{ASSIGNMENT, COMMA, under};
 use dae_states::{Doing, Frame, Machine};
 use dae_tree::{Kind, MemberOperator, Sign};
 use std::alloc::AllocError;
@@ -49,12 +49,12 @@ fn read_comma(
     ensures { (e : Tree) → machine.old.rest ≡ part comma ∷ behind machine.old.rest
         → ShowsOperand operand e → Steps machine.old result machine.new (operated_at e level) }
 {
-    if level < 16 {
+    if level < COMMA {
         return Ok(Some(Doing::Gave(operand)));
     }
     machine.rest.skip();
     machine.push(Frame::BehindComma(operand, level))?;
-    Ok(Some(Doing::Seek(15)))
+    Ok(Some(Doing::Seek(ASSIGNMENT)))
 }
 
 /// Before a sign that may be an operator.
@@ -90,7 +90,7 @@ fn operate(
     match operation {
         Operation::Subscript => {
             machine.push(Frame::InIndex(operand, place, level))?;
-            Ok(Some(Doing::Seek(16)))
+            Ok(Some(Doing::Seek(COMMA)))
         }
         Operation::Call => Ok(Some(Doing::Calling(operand, place, level))),
         Operation::Member(operator) => read_member_name(machine, operand, place, operator, level),
@@ -104,11 +104,11 @@ fn operate(
         }
         Operation::Choice => {
             machine.push(Frame::BehindQuestion(operand, place, level))?;
-            Ok(Some(Doing::Seek(16)))
+            Ok(Some(Doing::Seek(COMMA)))
         }
         Operation::Assignment(operator) => {
             machine.push(Frame::BehindAssignment(operand, place, operator, level))?;
-            Ok(Some(Doing::Seek(15)))
+            Ok(Some(Doing::Seek(ASSIGNMENT)))
         }
         Operation::Ends => Ok(None),
     }
