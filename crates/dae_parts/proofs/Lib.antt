@@ -1,3 +1,3 @@
 mod Holding
-mod Levels
+mod Strengths
 pub mod Laws

@@ -65,7 +65,7 @@ pub fn strength(operator: BinaryOperator) -> u8
 }
 
 /// The highest level of its right operand, one below its own, since these operators go to the left.
-#[tactic(auto, using(crate::proofs::Levels::one_below))]
+#[tactic(auto, using(crate::proofs::Strengths::one_below))]
 pub fn under(operator: BinaryOperator) -> u8
     ensures { result ≡ operators.under operator }
 {
