@@ -44,7 +44,8 @@ impl<'t> Machine<'t> {
     /// Adds the name that a declarator declares, if it does.
     pub fn bind(&mut self, name: Option<u32>, is_type: bool) -> Result<(), AllocError>
         ensures names { (d : Declarator) → name ≡ number_of (declared_name d)
-            → IfOk result (λ _. self.new.scope.names ≡ with_declarator is_type d self.old.scope.names) }
+            → IfOk result
+            (λ _. self.new.scope.names ≡ with_declarator is_type d self.old.scope.names) }
         ensures outside { IfOk result (λ _. self.new.scope.outside ≡ self.old.scope.outside) }
         ensures stack { frames_of self.new ≡ frames_of self.old }
         ensures rest { self.new.rest ≡ self.old.rest }
