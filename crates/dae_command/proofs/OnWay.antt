@@ -1,5 +1,6 @@
 -- What is due for the files that are fetched in order, by what each fetch gave.
-use Rattle.std.proofs.Common.{◌≡◌, ◌⊎◌, inl, inr, ℕ, zero, suc, ◌+◌, ◌-◌, ◌<◌, ◌≤◌, List, [], ◌∷◌, ◌++◌, length, take, refl, ap, sym, ◌∙◌, subst, append_assoc, append-nil, arith}
+use Rattle.std.proofs.Common.{◌≡◌, ◌⊎◌, inl, inr, ℕ, zero, suc, ◌+◌, ◌-◌, ◌<◌, ◌≤◌, List, [], ◌∷◌, ◌++◌, length, take, refl, ap, sym, ◌∙◌, subst, append_assoc, append-nil, arith, drop, get_or, map}
+use Rattle.std.proofs.lemmas.List.{at_drop_more}
 use Rattle.std.specs.Prelude.{Option, Some, None, IfSome}
 use Rattle.std.specs.List.{AllByRecursion}
 use Rattle.dae_io.specs.Faults.{FetchFailed, Rose, ShelfFault}
@@ -9,6 +10,10 @@ use Rattle.dae_drive.specs.Puts.{Answer, told}
 use Rattle.dae_command.specs.Fetching.{AreFetched, IsFirstNotFetched, IsNotFetched, not_got, too_long}
 use Rattle.dae_refusals.specs.Refusals.{too_long_line}
 use Rattle.dae_command.specs.Shelves.{IsTold, ShelfSeen, shelf_seen}
+
+-- the texts from the next one on
+pub texts_from : {X : Type 0} (text : X → List ℕ) (all : List X) (i : ℕ) (x : X) → i < length all → x ≡ get_or all i x → map text (drop i all) ≡ text x ∷ map text (drop (i + 1) all)
+texts_from text all i x h e = at_drop_more (map text) all i x h ∙ ap (λ y. text y ∷ map text (drop (i + 1) all)) (sym e)
 
 -- memory was wanting
 abbrev pub answer_of_memory : Answer

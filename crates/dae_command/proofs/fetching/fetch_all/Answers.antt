@@ -3,21 +3,20 @@ use Rattle.std.proofs.lemmas.List.{at_drop_all, map-append}
 use Rattle.std.proofs.lemmas.Result.{err_from_is_err_and}
 use Rattle.dae_sources.specs.Read.{texts_in}
 use Rattle.dae_command.specs.Fetching.{most_source}
-use Rattle.dae_jobs.proofs.Choosing.{words_from}
-use Rattle.dae_command.proofs.OnWay.{IsOnWay, way_begins, way_ends, way_same, way_stops, way_told}
+use Rattle.dae_command.proofs.OnWay.{IsOnWay, texts_from, way_begins, way_ends, way_same, way_stops, way_told}
 use Rattle.dae_command.proofs.fetching.fetch_all.Goals as goal
 
 pub returns-in_err-text-clause-err : goal.returns-in_err-text-clause-err
 returns-in_err-text-clause-err g c =
     let p = err_from_is_err_and c.from_residual.result c.from_residual.ensures.1 in
-    let e = words_from string_bytes c.args.names.now c.loop-name.name-index c.name-item.result (omega arith) c.name-item.is in
+    let e = texts_from string_bytes c.args.names.now c.loop-name.name-index c.name-item.result (omega arith) c.name-item.is in
     let way = rw e at c.loop-name.invariant.way in
     let stop = rw c.as_str.ensures.value at c.in_err-text.ensures.err in
     rw (p.1, p.2) (way_stops _ c.loop-name.invariant.held c.loop-name.invariant.counted way stop)
 
 pub loop-name-preserved : goal.loop-name-preserved
 loop-name-preserved g c =
-    let e = words_from string_bytes c.args.names.now c.loop-name.name-index c.name-item.result (omega arith) c.name-item.is in
+    let e = texts_from string_bytes c.args.names.now c.loop-name.name-index c.name-item.result (omega arith) c.name-item.is in
     let way = rw e at c.loop-name.invariant.way in
     let few = c.loop-name.invariant.few in
     let counted = c.loop-name.invariant.counted in

@@ -2,13 +2,13 @@ use Rattle.std.proofs.Common.{◌≡◌, ◌++◌, ◌∷◌, [], map, string_by
 use Rattle.std.specs.Str.{is_utf8}
 use Rattle.std.proofs.lemmas.List.{at_drop_all}
 use Rattle.std.proofs.lemmas.Str.{is_utf8-from_IsUtf8}
-use Rattle.dae_jobs.proofs.Choosing.{words_from}
+use Rattle.dae_command.proofs.OnWay.{texts_from}
 use Rattle.dae_command.proofs.Stopped.{all_with_last}
 use Rattle.dae_command.proofs.sources.listed.Goals as goal
 
 pub loop-name-preserved : goal.loop-name-preserved
 loop-name-preserved c =
-    let e = words_from string_bytes c.args.names.now c.loop-name.name-index c.name-item.result (omega arith) c.name-item.is in
+    let e = texts_from string_bytes c.args.names.now c.loop-name.name-index c.name-item.result (omega arith) c.name-item.is in
     let all = rw e at c.loop-name.invariant.names in
     let utf8 : is_utf8 (string_bytes c.name-item.result) ≡ true = rw c.as_str-name.ensures.value at (is_utf8-from_IsUtf8 _ c.as_str-name.utf8) in
     let pushed : c.push.new.self.items ≡ c.loop-name.listed.items ++ (string_bytes c.name-item.result ∷ []) = search rules in
