@@ -23,7 +23,8 @@ pub trait Ports {
     ghost can_count: { Self → Type 0 };
 
     /// A take doesn't use the word that goes in.
-    ghost take_uses_no_word: { (q : Self) (queue : Queue) (v w : ℕ) → after q (Take queue) v ≡ after q (Take queue) w };
+    ghost take_uses_no_word: { (q : Self) (queue : Queue) (v w : ℕ) → after q (Take queue) v
+        ≡ after q (Take queue) w };
 
     /// The word that this access would give now, 0 where it takes none, or None exactly where it can't be made now. An
     /// instruction that makes none is never held up.

@@ -38,9 +38,21 @@ impl Model for Core {
 
     ghost Value = { HeldCore };
 
-    ghost view = { λ c. record { side = c.side; copies = c.copies; code = c.words.items; processor = record { registers = c.registers; counter = c.counter; private = c.private.items; halt = c.halted } } };
+    ghost view = { λ c.
+        record {
+          side = c.side;
+          copies = c.copies;
+          code = c.words.items;
+          processor = record {
+            registers = c.registers;
+            counter = c.counter;
+            private = c.private.items;
+            halt = c.halted;
+          };
+        } };
 
-    ghost invariant = { λ c. (length c.private.items < 2 ^ 32) × (c.code.items ≡ map (legal_word c.copies c.side) c.words.items) };
+    ghost invariant = { λ c. (length c.private.items < 2 ^ 32)
+        × (c.code.items ≡ map (legal_word c.copies c.side) c.words.items) };
 }
 
 impl Core {
@@ -54,7 +66,14 @@ impl Core {
         copies: bool,
         code: &[u32],
     ) -> Result<Core, AllocError>
-        ensures { IfOk result (λ core. core ≡ record { side = side; copies = copies; code = code.now; processor = fresh entry private }) }
+        ensures { IfOk result
+            (λ core. core
+            ≡ record {
+              side = side;
+              copies = copies;
+              code = code.now;
+              processor = fresh entry private;
+            }) }
     {
         let private = vec![in alloc; 0; private as usize]?;
         let words = Vec::from_slice(alloc, code)?;
@@ -206,14 +225,26 @@ impl Core {
     }
 
     fn put(&mut self, width: Width, addr: u32, word: u32)
-        ensures { self.new ≡ record self.old { processor = record self.old.processor { counter = plus self.old.processor.counter 4; private = stored width addr word self.old.processor.private } } }
+        ensures { self.new
+            ≡ record self.old {
+              processor = record self.old.processor {
+                counter = plus self.old.processor.counter 4;
+                private = stored width addr word self.old.processor.private;
+              };
+            } }
     {
         store(&mut self.private, width, addr, word);
         self.counter = self.counter.wrapping_add(4);
     }
 
     fn go_on(&mut self, rd: u8, word: u32, next: u32)
-        ensures { self.new ≡ record self.old { processor = record self.old.processor { registers = with_result rd word self.old.processor.registers; counter = next } } }
+        ensures { self.new
+            ≡ record self.old {
+              processor = record self.old.processor {
+                registers = with_result rd word self.old.processor.registers;
+                counter = next;
+              };
+            } }
     {
         if 0 < rd && rd < 28 {
             self.registers[rd as usize] = word;
@@ -323,7 +354,17 @@ impl Core {
 
     fn finish_store(&mut self, access: QueueUse, width: Width, addr: u32, datum: u32) -> Option<u32>
         ensures held { IsSame self.old self.new }
-        ensures came { came_to self.new.processor (said_nothing (is_some result)) ≡ (if is_shared access then goes_on self.old.processor 0 0 (plus self.old.processor.counter 4) else (if is_good_private self.old.processor width addr then Some (record self.old.processor { counter = plus self.old.processor.counter 4; private = stored width addr datum self.old.processor.private }, []) else None)) }
+        ensures came { came_to self.new.processor (said_nothing (is_some result))
+            ≡ (if is_shared access
+            then goes_on self.old.processor 0 0 (plus self.old.processor.counter 4)
+            else (if is_good_private self.old.processor width addr
+            then Some (
+              record self.old.processor {
+                counter = plus self.old.processor.counter 4;
+                private = stored width addr datum self.old.processor.private;
+              },
+              [],
+            ) else None)) }
         ensures word { IfSome result (λ word. word ≡ addr) }
         ensures none { result ≡ None → self.new ≡ self.old }
     {
@@ -364,7 +405,10 @@ impl Core {
         ensures answer { result
             ≡ answered_by P.is_ready P.front self.old.side self.old.processor ports.old
             (request self.old.copies self.old.side self.old.code memory self.old.processor) }
-        ensures told { Tells result (granted_by P.is_ready P.front P.after self.old.side self.old.processor ports.old (request self.old.copies self.old.side self.old.code memory self.old.processor)) self.old.processor ports.old self.new.processor ports.new }
+        ensures told { Tells result
+            (granted_by P.is_ready P.front P.after self.old.side self.old.processor ports.old
+            (request self.old.copies self.old.side self.old.code memory self.old.processor))
+            self.old.processor ports.old self.new.processor ports.new }
     {
         if self.is_halted() {
             return CoreAnswer::Halted;
@@ -383,7 +427,10 @@ impl Core {
         ensures answer { result
             ≡ answered_by P.is_ready P.front self.old.side self.old.processor ports.old
             (asked self.old.side memory self.old.processor legal.now) }
-        ensures told { Tells result (granted_by P.is_ready P.front P.after self.old.side self.old.processor ports.old (asked self.old.side memory self.old.processor legal.now)) self.old.processor ports.old self.new.processor ports.new }
+        ensures told { Tells result
+            (granted_by P.is_ready P.front P.after self.old.side self.old.processor ports.old
+            (asked self.old.side memory self.old.processor legal.now)) self.old.processor ports.old
+            self.new.processor ports.new }
     {
         let access = legal.access;
         if let Some(fault) = self.early_fault(memory, access, &legal.form) {

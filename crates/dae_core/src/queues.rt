@@ -26,7 +26,26 @@ pub struct Queues {
 impl Model for Queues {
     ghost Value = { HeldQueues };
 
-    ghost view = { λ q. record { depths = record { ld = q.ld.depth; al = q.al.depth; sa = q.stores.sa_depth; sd = q.stores.sd_depth; ab = q.ab.depth; eb = q.eb.depth; cq = q.cq.depth }; queues = record { ld = q.ld.held; al = q.al.held; stores = q.stores.held; ab = q.ab.held; eb = q.eb.held; cq = q.cq.held } } };
+    ghost view = { λ q.
+        record {
+          depths = record {
+            ld = q.ld.depth;
+            al = q.al.depth;
+            sa = q.stores.sa_depth;
+            sd = q.stores.sd_depth;
+            ab = q.ab.depth;
+            eb = q.eb.depth;
+            cq = q.cq.depth;
+          };
+          queues = record {
+            ld = q.ld.held;
+            al = q.al.held;
+            stores = q.stores.held;
+            ab = q.ab.held;
+            eb = q.eb.held;
+            cq = q.cq.held;
+          };
+        } };
 }
 
 impl Queues {
@@ -131,7 +150,12 @@ impl Queues {
     fn push_address(&mut self, width: Width, addr: u32)
         requires count { CanCount self.old.queues }
         requires room { nat_lt (count Queue.Sa self.old.queues) self.old.depths.sa ≡ true }
-        ensures { self.new ≡ record self.old { queues = record self.old.queues { stores = with_address width addr self.old.queues.stores } } }
+        ensures { self.new
+            ≡ record self.old {
+              queues = record self.old.queues {
+                stores = with_address width addr self.old.queues.stores;
+              };
+            } }
     {
         let _ = self.stores.push_address(addr, width);
     }
@@ -259,7 +283,10 @@ impl Queues {
     /// Takes the oldest store out with its datum.
     pub fn drain(&mut self)
         requires some { IsSome (next_store self.old.queues.stores.sa self.old.queues.stores.sd) }
-        ensures { self.new ≡ record self.old { queues = record self.old.queues { stores = without_store self.old.queues.stores } } }
+        ensures { self.new
+            ≡ record self.old {
+              queues = record self.old.queues { stores = without_store self.old.queues.stores };
+            } }
     {
         let _ = self.stores.drain();
     }

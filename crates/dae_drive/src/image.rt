@@ -102,7 +102,8 @@ fn tell_end<N: Sink>(
 ) -> u8
     requires whole { driven ≢ Driven.SinkFailed }
     ensures { GivesNotes
-        (answer (status_of driven) (end_puts driven machine.now.setup machine.now.state show)) result
+        (answer (status_of driven)
+        (end_puts driven machine.now.setup machine.now.state show)) result
         (N.seen note.old) (N.seen note.new) }
 {
     match note_end(machine, driven, show, line, note) {

@@ -45,5 +45,19 @@ pub struct Image {
     pub content: Items<u8>,
     pub lines: Items<LineMark>,
     pub names: Items<Text>,
-    pub ghost fits: { Fits (record { budget = budget; memory = memory; calls = calls; private_a = private_a; private_e = private_e; entry_a = entry_a; entry_e = entry_e; code_a = code_a; code_e = code_e; content = content; lines = lines; names = names }) },
+    pub ghost fits: { Fits
+        (record {
+          budget = budget;
+          memory = memory;
+          calls = calls;
+          private_a = private_a;
+          private_e = private_e;
+          entry_a = entry_a;
+          entry_e = entry_e;
+          code_a = code_a;
+          code_e = code_e;
+          content = content;
+          lines = lines;
+          names = names;
+        }) },
 }

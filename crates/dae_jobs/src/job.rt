@@ -41,7 +41,8 @@ fn job_of<'w>(command: &str, middle: &'w [String], files: &'w [String]) -> Optio
     requires dashed { AreDashed (map string_bytes middle.now) }
     requires files { AreFiles (map string_bytes files.now) }
     ensures { (words : List (List ℕ))
-        → words ≡ command.now ∷ (map string_bytes middle.entry.now ++ map string_bytes files.entry.now)
+        → words ≡ command.now
+        ∷ (map string_bytes middle.entry.now ++ map string_bytes files.entry.now)
         → MatchOption result (SpellsNone words) (SpellsJob words) }
 {
     match command {

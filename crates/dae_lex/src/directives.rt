@@ -248,7 +248,9 @@ fn define<'j>(
     body: Vec<Piece<'j>>,
 ) -> Result<(), LexError>
     ensures settles { (s : State) → Settles s result
-        (settle s (conflict_items (known_as macros.old (record { name = name.entry.now; body = map cut_of body.entry.items })) hash)) }
+        (settle s (conflict_items
+        (known_as macros.old
+        (record { name = name.entry.now; body = map cut_of body.entry.items })) hash)) }
     ensures macros { OnOk result
         (macros.new
         ≡ with_definition macros.old
@@ -328,7 +330,9 @@ fn define_pieces<'j>(
     rest: &[Piece<'j>],
 ) -> Result<(), LexError>
     ensures settles { (s : State) → Settles s result
-        (settle s (definition_items hash macros.old (record { name = name.entry.spelling.now; body = marks_of (map cut_of rest.now) } ∷ []))) }
+        (settle s (definition_items hash macros.old
+        (record { name = name.entry.spelling.now; body = marks_of (map cut_of rest.now) }
+        ∷ []))) }
     ensures macros { OnOk result
         (macros.new
         ≡ with_definition macros.old
@@ -346,7 +350,8 @@ fn take_text<'j>(
     out: &mut Output<'j>,
 ) -> Result<(), LexError>
     ensures settles { (n : ℕ) → out.old.room.replacements ≤ n →
-        Settles (state_of out.new) result (settle (state_of out.old) (replaced_text n macros.now (map cut_of pieces.now))) }
+        Settles (state_of out.new) result
+        (settle (state_of out.old) (replaced_text n macros.now (map cut_of pieces.now))) }
     ensures left { OnOk result (out.new.room.replacements ≤ out.old.room.replacements) }
 {
     for piece in pieces {
@@ -366,7 +371,9 @@ fn take_line<'j>(
     out: &mut Output<'j>,
 ) -> Result<Option<Header>, LexError>
     ensures settles { (n : ℕ) → out.old.room.replacements ≤ n →
-        Settles (state_of out.new) result (settle (state_of out.old) (line_items n macros.old (line_of (map cut_of pieces.now)))) }
+        Settles (state_of out.new) result
+        (settle (state_of out.old)
+        (line_items n macros.old (line_of (map cut_of pieces.now)))) }
     ensures macros { OnOk result
         (macros.new ≡ macros_after macros.old (line_of (map cut_of pieces.now))) }
     ensures left { OnOk result (out.new.room.replacements ≤ out.old.room.replacements) }
@@ -433,8 +440,10 @@ pub fn take_lines<'j>(
     out: &mut Output<'j>,
 ) -> Result<Includes, LexError>
     ensures settles { Settles (state_of out.new) result
-        (settle (state_of out.old) (replaced_lines out.old.room.replacements [] (lines_of (map cut_of pieces.now)))) }
-    ensures headers { IfOk result (λ seen. (seen.stdio ≡ includes Stdio (lines_of (map cut_of pieces.now)))
+        (settle (state_of out.old)
+        (replaced_lines out.old.room.replacements [] (lines_of (map cut_of pieces.now)))) }
+    ensures headers { IfOk result
+        (λ seen. (seen.stdio ≡ includes Stdio (lines_of (map cut_of pieces.now)))
         × (seen.stdlib ≡ includes Stdlib (lines_of (map cut_of pieces.now)))) }
 {
     let mut macros = Macros::new(alloc);

@@ -223,7 +223,8 @@ fn step<'j>(
     requires names { length builder.old.names.keys < 2 ^ 32 - 1 }
     requires literals { length builder.old.literals.items < 2 ^ 32 }
     ensures ok { IfOk result (λ after. (rest : List Read) →
-        finished (built_of builder.new) (waiting after rest) ≡ finished (built_of builder.old) (waiting held (before (read_of read.entry) rest))) }
+        finished (built_of builder.new) (waiting after rest)
+        ≡ finished (built_of builder.old) (waiting held (before (read_of read.entry) rest))) }
     ensures names { OnOk result
         (length builder.new.names.keys ≤ length builder.old.names.keys + 1) }
     ensures literals { OnOk result

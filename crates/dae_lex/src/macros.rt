@@ -24,7 +24,8 @@ impl<'j> Model for Macros<'j> {
 
     ghost Value = { List Definition };
 
-    ghost view = { λ m. map (λ e. record { name = e.0.now; body = map cut_of e.1.items }) m.bodies.entries };
+    ghost view = { λ m.
+        map (λ e. record { name = e.0.now; body = map cut_of e.1.items }) m.bodies.entries };
 }
 
 impl<'j> Macros<'j> {

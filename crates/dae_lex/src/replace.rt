@@ -30,7 +30,8 @@ impl<'m, 'j> Model for Stack<'m, 'j> {
 
     ghost Value = { List Frame };
 
-    ghost view = { λ s. map (λ e. record { name = e.0.now; rest = map cut_of e.1.now }) s.frames.entries };
+    ghost view = { λ s.
+        map (λ e. record { name = e.0.now; rest = map cut_of e.1.now }) s.frames.entries };
 }
 
 impl<'m, 'j> Stack<'m, 'j> {
@@ -166,7 +167,9 @@ pub fn replace_piece<'m, 'j>(
 ) -> Result<(), LexError>
     ensures left { OnOk result (out.new.room.replacements ≤ out.old.room.replacements) }
     ensures settles { (n : ℕ) → out.old.room.replacements ≤ n →
-        Settles (state_of out.new) result (settle (state_of out.old) (expand n macros.now [] (cut_of piece.entry) (cut_of piece.entry))) }
+        Settles (state_of out.new) result
+        (settle (state_of out.old)
+        (expand n macros.now [] (cut_of piece.entry) (cut_of piece.entry))) }
 {
     let mut stack = Stack::new(alloc);
     let Some(body) = replacement_of(macros, &stack, piece) else {

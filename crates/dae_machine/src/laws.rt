@@ -89,15 +89,18 @@ pub fn schedules_run()
 /// A walk of a processor whose uses the queues grant is a run of the machine; and what waits stays words where words are
 /// pushed.
 pub fn walks_run()
-    ensures access { (setup : Setup) (s : State) (steps fills : ℕ) (uses : List Use) (p : Processor) (q : Queues)
+    ensures access { (setup : Setup) (s : State) (steps fills : ℕ) (uses : List Use) (p : Processor)
+        (q : Queues)
         → Walks setup A s.a uses steps p
         → Grants setup.depths A s.memory fills s.queues uses q
         → RanA setup s steps fills p q }
-    ensures execute { (setup : Setup) (s : State) (steps fills : ℕ) (uses : List Use) (p : Processor) (q : Queues)
+    ensures execute { (setup : Setup) (s : State) (steps fills : ℕ) (uses : List Use)
+        (p : Processor) (q : Queues)
         → Walks setup E s.e uses steps p
         → Grants setup.depths E s.memory fills s.queues uses q
         → RanE setup s steps p q (texts uses) }
-    ensures words { (d : Depths) (on : Side) (memory : List ℕ) (fills : ℕ) (q last : Queues) (uses : List Use)
+    ensures words { (d : Depths) (on : Side) (memory : List ℕ) (fills : ℕ) (q last : Queues)
+        (uses : List Use)
         → Grants d on memory fills q uses last
         → AllByRecursion PushesWord uses → WordsWait q → WordsWait last }
 {}

@@ -61,7 +61,14 @@ pub fn common_memory(alloc: Global, image: &Image) -> Result<Vec<u8>, AllocError
 
 /// The access processor of an image before its first instruction.
 pub fn core_a(alloc: Global, image: &Image, copies: bool) -> Result<Core, AllocError>
-    ensures { IfOk result (λ core. core ≡ record { side = A; copies = copies; code = image.now.code_a; processor = fresh image.now.entry_a image.now.private_a }) }
+    ensures { IfOk result
+        (λ core. core
+        ≡ record {
+          side = A;
+          copies = copies;
+          code = image.now.code_a;
+          processor = fresh image.now.entry_a image.now.private_a;
+        }) }
 {
     let code = image.code_a.as_slice();
     Core::open(alloc, Side::A, image.entry_a, image.private_a, copies, code)
@@ -69,7 +76,14 @@ pub fn core_a(alloc: Global, image: &Image, copies: bool) -> Result<Core, AllocE
 
 /// The execute processor of an image before its first instruction.
 pub fn core_e(alloc: Global, image: &Image, copies: bool) -> Result<Core, AllocError>
-    ensures { IfOk result (λ core. core ≡ record { side = E; copies = copies; code = image.now.code_e; processor = fresh image.now.entry_e image.now.private_e }) }
+    ensures { IfOk result
+        (λ core. core
+        ≡ record {
+          side = E;
+          copies = copies;
+          code = image.now.code_e;
+          processor = fresh image.now.entry_e image.now.private_e;
+        }) }
 {
     let code = image.code_e.as_slice();
     Core::open(alloc, Side::E, image.entry_e, image.private_e, copies, code)

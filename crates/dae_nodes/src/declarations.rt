@@ -17,7 +17,8 @@ use std::alloc::{AllocError, Global};
 
 /// An expression as an initialiser.
 pub fn value(operand: Operand) -> Read<Initialiser>
-    ensures { (e : tree.Expression) → ShowsOperand operand e → ShowsInitialiser result (tree.Value e) }
+    ensures { (e : tree.Expression) → ShowsOperand operand e
+        → ShowsInitialiser result (tree.Value e) }
 {
     let Read { tree, depths } = operand.read;
     let tree = match tree {
@@ -32,7 +33,8 @@ pub fn with_initialiser(
     before: Read<Vec<Initialiser>>,
     initialiser: Read<Initialiser>,
 ) -> Result<Read<Vec<Initialiser>>, AllocError>
-    ensures { (xs : List tree.Initialiser) (x : tree.Initialiser) → ShowsInitialisers before xs → ShowsInitialiser initialiser x → IfOk result (λ r. ShowsInitialisers r (x ∷ xs)) }
+    ensures { (xs : List tree.Initialiser) (x : tree.Initialiser) → ShowsInitialisers before xs
+        → ShowsInitialiser initialiser x → IfOk result (λ r. ShowsInitialisers r (x ∷ xs)) }
 {
     longer(before, initialiser)
 }
@@ -44,7 +46,10 @@ pub fn initialiser_list(
     list: Read<Vec<Initialiser>>,
     comma: bool,
 ) -> Result<Read<Initialiser>, AllocError>
-    ensures { (xs : List tree.Initialiser) → ShowsInitialisers list xs → IfOk result (λ r. ShowsInitialiser r (tree.Listed place (initialisers_onto xs tree.no_initialisers) comma)) }
+    ensures { (xs : List tree.Initialiser) → ShowsInitialisers list xs
+        → IfOk result
+        (λ r. ShowsInitialiser r
+        (tree.Listed place (initialisers_onto xs tree.no_initialisers) comma)) }
 {
     let Read { tree, depths } = over(alloc, place, list)?;
     let tree = match tree {
@@ -59,7 +64,9 @@ pub fn with_plain_item(
     before: Read<Vec<Item>>,
     declared: Declared,
 ) -> Result<Read<Vec<Item>>, AllocError>
-    ensures { (items : List tree.Item) (d : tree.Declarator) → ShowsItems before items → ShowsDeclared declared d → IfOk result (λ r. ShowsItems r (record { declarator = d; initialiser = None } ∷ items)) }
+    ensures { (items : List tree.Item) (d : tree.Declarator) → ShowsItems before items
+        → ShowsDeclared declared d
+        → IfOk result (λ r. ShowsItems r (record { declarator = d; initialiser = None } ∷ items)) }
 {
     let Read { tree, depths } = declared.read;
     let tree = match tree {
@@ -79,7 +86,10 @@ pub fn with_valued_item(
     place: Place,
     value: Read<Initialiser>,
 ) -> Result<Read<Vec<Item>>, AllocError>
-    ensures { (items : List tree.Item) (d : tree.Declarator) (x : tree.Initialiser) → ShowsItems before items → ShowsDeclared declared d → ShowsInitialiser value x → IfOk result (λ r. ShowsItems r (record { declarator = d; initialiser = Some (place, x) } ∷ items)) }
+    ensures { (items : List tree.Item) (d : tree.Declarator) (x : tree.Initialiser)
+        → ShowsItems before items → ShowsDeclared declared d → ShowsInitialiser value x
+        → IfOk result
+        (λ r. ShowsItems r (record { declarator = d; initialiser = Some (place, x) } ∷ items)) }
 {
     let Read { tree, depths } = beside(declared.read, value)?;
     let tree = match tree {
@@ -99,7 +109,10 @@ pub fn declaration(
     items: Read<Vec<Item>>,
     end: Place,
 ) -> Result<Read<Declaration>, AllocError>
-    ensures { (ws : tree.Specifiers) (is : List tree.Item) → ShowsSpecified specified ws → ShowsItems items is → IfOk result (λ r. ShowsDeclaration r (record { specifiers = ws; items = onto is []; end = end })) }
+    ensures { (ws : tree.Specifiers) (is : List tree.Item) → ShowsSpecified specified ws
+        → ShowsItems items is
+        → IfOk result
+        (λ r. ShowsDeclaration r (record { specifiers = ws; items = onto is []; end = end })) }
 {
     let first = specified.place.unwrap_or(end);
     let parts = beside(specified.read, items)?;
@@ -120,14 +133,16 @@ pub fn with_declaration(
     before: Read<Vec<Declaration>>,
     declaration: Read<Declaration>,
 ) -> Result<Read<Vec<Declaration>>, AllocError>
-    ensures { (ds : List tree.Declaration) (d : tree.Declaration) → ShowsDeclarations before ds → ShowsDeclaration declaration d → IfOk result (λ r. ShowsDeclarations r (d ∷ ds)) }
+    ensures { (ds : List tree.Declaration) (d : tree.Declaration) → ShowsDeclarations before ds
+        → ShowsDeclaration declaration d → IfOk result (λ r. ShowsDeclarations r (d ∷ ds)) }
 {
     longer(before, declaration)
 }
 
 /// A declaration at file scope.
 pub fn declared_external(declaration: Read<Declaration>) -> Read<External>
-    ensures { (d : tree.Declaration) → ShowsDeclaration declaration d → ShowsExternal result (tree.Declared d) }
+    ensures { (d : tree.Declaration) → ShowsDeclaration declaration d
+        → ShowsExternal result (tree.Declared d) }
 {
     let Read { tree, depths } = declaration;
     let tree = match tree {
@@ -142,7 +157,8 @@ pub fn with_external(
     before: Read<Vec<External>>,
     external: Read<External>,
 ) -> Result<Read<Vec<External>>, AllocError>
-    ensures { (xs : List tree.External) (x : tree.External) → ShowsExternals before xs → ShowsExternal external x → IfOk result (λ r. ShowsExternals r (x ∷ xs)) }
+    ensures { (xs : List tree.External) (x : tree.External) → ShowsExternals before xs
+        → ShowsExternal external x → IfOk result (λ r. ShowsExternals r (x ∷ xs)) }
 {
     longer(before, external)
 }
@@ -150,7 +166,8 @@ pub fn with_external(
 /// The block that a statement is.
 fn block_of(statement: Statement) -> Option<Block>
     ensures some { (b : Block) → result ≡ Some b → statement ≡ statements.Block b }
-    ensures none { (p : Place) (ds : List tree.Declaration) (ss : tree.Statements) → view_statement statement ≡ tree.Block p ds ss → result ≢ None }
+    ensures none { (p : Place) (ds : List tree.Declaration) (ss : tree.Statements)
+        → view_statement statement ≡ tree.Block p ds ss → result ≢ None }
 {
     match statement {
         Statement::Block(block) => Some(block),
@@ -166,7 +183,10 @@ fn definition_at(
     declared: Declared,
     body: Read<Statement>,
 ) -> Result<Read<External>, AllocError>
-    ensures { (ws : tree.Specifiers) (d : tree.Declarator) (p : Place) (ds : List tree.Declaration) (ss : tree.Statements) → ShowsSpecified specified ws → ShowsDeclared declared d → ShowsStatement body (tree.Block p ds ss) → place ≡ place_of_specifiers ws p → IfOk result (λ r. ShowsExternal r (tree.Defined ws d p ds ss)) }
+    ensures { (ws : tree.Specifiers) (d : tree.Declarator) (p : Place) (ds : List tree.Declaration)
+        (ss : tree.Statements) → ShowsSpecified specified ws → ShowsDeclared declared d
+        → ShowsStatement body (tree.Block p ds ss) → place ≡ place_of_specifiers ws p
+        → IfOk result (λ r. ShowsExternal r (tree.Defined ws d p ds ss)) }
 {
     let rest = beside(declared.read, body)?;
     let parts = beside(specified.read, rest)?;
@@ -191,7 +211,10 @@ pub fn definition(
     declared: Declared,
     body: Read<Statement>,
 ) -> Result<Read<External>, AllocError>
-    ensures { (ws : tree.Specifiers) (d : tree.Declarator) (p : Place) (ds : List tree.Declaration) (ss : tree.Statements) → ShowsSpecified specified ws → ShowsDeclared declared d → ShowsStatement body (tree.Block p ds ss) → IfOk result (λ r. ShowsExternal r (tree.Defined ws d p ds ss)) }
+    ensures { (ws : tree.Specifiers) (d : tree.Declarator) (p : Place) (ds : List tree.Declaration)
+        (ss : tree.Statements) → ShowsSpecified specified ws → ShowsDeclared declared d
+        → ShowsStatement body (tree.Block p ds ss)
+        → IfOk result (λ r. ShowsExternal r (tree.Defined ws d p ds ss)) }
 {
     match specified.place {
         Some(place) => definition_at(alloc, place, specified, declared, body),

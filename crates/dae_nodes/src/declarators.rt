@@ -50,7 +50,8 @@ pub fn pointer(
     qualifiers: Vec<Place>,
     declared: Declared,
 ) -> Result<Declared, AllocError>
-    ensures { (d : tree.Declarator) → ShowsDeclared declared d → IfOk result (λ r. ShowsDeclared r (tree.Pointer place qualifiers.items d)) }
+    ensures { (d : tree.Declarator) → ShowsDeclared declared d
+        → IfOk result (λ r. ShowsDeclared r (tree.Pointer place qualifiers.items d)) }
 {
     let Declared {
         read,
@@ -75,7 +76,8 @@ pub fn pointer(
 
 /// A declarator in parentheses.
 pub fn grouped(alloc: Global, place: Place, declared: Declared) -> Result<Declared, AllocError>
-    ensures { (d : tree.Declarator) → ShowsDeclared declared d → IfOk result (λ r. ShowsDeclared r (tree.Grouped place d)) }
+    ensures { (d : tree.Declarator) → ShowsDeclared declared d
+        → IfOk result (λ r. ShowsDeclared r (tree.Grouped place d)) }
 {
     let Declared {
         read,
@@ -104,7 +106,8 @@ pub fn unsized_array(
     declared: Declared,
     place: Place,
 ) -> Result<Declared, AllocError>
-    ensures { (d : tree.Declarator) → ShowsDeclared declared d → IfOk result (λ r. ShowsDeclared r (tree.Unsized d place)) }
+    ensures { (d : tree.Declarator) → ShowsDeclared declared d
+        → IfOk result (λ r. ShowsDeclared r (tree.Unsized d place)) }
 {
     let Declared {
         read,
@@ -135,7 +138,8 @@ pub fn sized_array(
     place: Place,
     size: Operand,
 ) -> Result<Declared, AllocError>
-    ensures { (d : tree.Declarator) (e : tree.Expression) → ShowsDeclared declared d → ShowsOperand size e → IfOk result (λ r. ShowsDeclared r (tree.Sized d place e)) }
+    ensures { (d : tree.Declarator) (e : tree.Expression) → ShowsDeclared declared d
+        → ShowsOperand size e → IfOk result (λ r. ShowsDeclared r (tree.Sized d place e)) }
 {
     let Declared {
         read,
@@ -170,7 +174,8 @@ pub fn empty_function(
     declared: Declared,
     place: Place,
 ) -> Result<Declared, AllocError>
-    ensures { (d : tree.Declarator) → ShowsDeclared declared d → IfOk result (λ r. ShowsDeclared r (tree.Empty d place)) }
+    ensures { (d : tree.Declarator) → ShowsDeclared declared d
+        → IfOk result (λ r. ShowsDeclared r (tree.Empty d place)) }
 {
     let Declared {
         read,
@@ -201,7 +206,8 @@ fn void_function(
     place: Place,
     void: Place,
 ) -> Result<Declared, AllocError>
-    ensures { (d : tree.Declarator) → ShowsDeclared declared d → IfOk result (λ r. ShowsDeclared r (tree.Void d place void)) }
+    ensures { (d : tree.Declarator) → ShowsDeclared declared d
+        → IfOk result (λ r. ShowsDeclared r (tree.Void d place void)) }
 {
     let Declared {
         read,
@@ -233,7 +239,13 @@ fn parameter_function(
     list: Read<Vec<Parameter>>,
     inner: Vec<Binding<bool>>,
 ) -> Result<Declared, AllocError>
-    ensures { (d : tree.Declarator) (ps : List lists.Parameter) → ShowsDeclared declared d → ShowsParameterList list ps → (is_bare d ≡ true → (names : Names) → after_parameters (parameters_onto ps tree.no_parameters) names ≡ bound_all inner.items names) → IfOk result (λ r. ShowsDeclared r (tree.Function d place (parameters_onto ps tree.no_parameters))) }
+    ensures { (d : tree.Declarator) (ps : List lists.Parameter) → ShowsDeclared declared d
+        → ShowsParameterList list ps
+        → (is_bare d ≡ true → (names : Names)
+        → after_parameters (parameters_onto ps tree.no_parameters) names
+        ≡ bound_all inner.items names)
+        → IfOk result
+        (λ r. ShowsDeclared r (tree.Function d place (parameters_onto ps tree.no_parameters))) }
 {
     let Declared {
         read,
@@ -268,7 +280,15 @@ pub fn function(
     list: ParameterList,
     inner: Vec<Binding<bool>>,
 ) -> Result<Declared, AllocError>
-    ensures { (d : tree.Declarator) (ps : List lists.Parameter) → ShowsDeclared declared d → ShowsParameters list ps → (is_bare d ≡ true → (names : Names) → after_parameters (parameters_onto ps tree.no_parameters) names ≡ bound_all inner.items names) → IfOk result (λ r. ShowsDeclared r (closed_by (void_alone (parameters_onto ps tree.no_parameters)) d place (parameters_onto ps tree.no_parameters))) }
+    ensures { (d : tree.Declarator) (ps : List lists.Parameter) → ShowsDeclared declared d
+        → ShowsParameters list ps
+        → (is_bare d ≡ true → (names : Names)
+        → after_parameters (parameters_onto ps tree.no_parameters) names
+        ≡ bound_all inner.items names)
+        → IfOk result
+        (λ r. ShowsDeclared r
+        (closed_by (void_alone (parameters_onto ps tree.no_parameters)) d place
+        (parameters_onto ps tree.no_parameters))) }
 {
     let ParameterList { read, any: _, void } = list;
     match void {
@@ -301,7 +321,9 @@ pub fn with_parameter(
     specified: Specified,
     declared: Declared,
 ) -> Result<ParameterList, AllocError>
-    ensures { (ps : List lists.Parameter) (ws : tree.Specifiers) (d : tree.Declarator) → ShowsParameters before ps → ShowsSpecified specified ws → ShowsDeclared declared d → IfOk result (λ r. ShowsParameters r (record { specifiers = ws; declarator = d } ∷ ps)) }
+    ensures { (ps : List lists.Parameter) (ws : tree.Specifiers) (d : tree.Declarator)
+        → ShowsParameters before ps → ShowsSpecified specified ws → ShowsDeclared declared d
+        → IfOk result (λ r. ShowsParameters r (record { specifiers = ws; declarator = d } ∷ ps)) }
 {
     let void = unless(before.any, declared.present, specified.void);
     let Read { tree, depths } = beside(specified.read, declared.read)?;

@@ -5,7 +5,10 @@ ghost use Rattle.dae_nodes.specs.Parts.{ShowsOperand, ShowsArguments, ShowsSpeci
 
 use crate::values::{Declared, Operand, Specified};
 use dae_base::Place;
-use dae_parts::{Read, beside, flat, longer, over, strength};
+use dae_parts::{
+    ASSIGNMENT, CAST, COMMA, CONDITIONAL, POSTFIX, PRIMARY, Read, UNARY, beside, flat, longer,
+    over, strength,
+};
 use dae_tree::{
     AssignmentOperator, BinaryOperator, Constant, Expression, MemberOperator, Name,
     PostfixOperator, PrefixOperator, TypeName,
@@ -20,7 +23,7 @@ pub fn identifier(alloc: Global, name: Name) -> Result<Operand, AllocError>
     let read = over(alloc, place, flat(alloc, Expression::Identifier(name)))?;
     Ok(Operand {
         read,
-        level: 0,
+        level: PRIMARY,
         place,
     })
 }
@@ -36,7 +39,7 @@ pub fn constant(alloc: Global, place: Place, constant: Constant) -> Result<Opera
     )?;
     Ok(Operand {
         read,
-        level: 0,
+        level: PRIMARY,
         place,
     })
 }
@@ -52,14 +55,15 @@ pub fn literal(alloc: Global, place: Place, number: u32) -> Result<Operand, Allo
     )?;
     Ok(Operand {
         read,
-        level: 0,
+        level: PRIMARY,
         place,
     })
 }
 
 /// An expression in parentheses.
 pub fn parenthesised(alloc: Global, place: Place, inner: Operand) -> Result<Operand, AllocError>
-    ensures { (e : tree.Expression) → ShowsOperand inner e → IfOk result (λ r. ShowsOperand r (tree.Parenthesised place e)) }
+    ensures { (e : tree.Expression) → ShowsOperand inner e
+        → IfOk result (λ r. ShowsOperand r (tree.Parenthesised place e)) }
 {
     let Read { tree, depths } = over(alloc, place, inner.read)?;
     let tree = match tree {
@@ -68,7 +72,7 @@ pub fn parenthesised(alloc: Global, place: Place, inner: Operand) -> Result<Oper
     };
     Ok(Operand {
         read: Read { tree, depths },
-        level: 0,
+        level: PRIMARY,
         place,
     })
 }
@@ -80,7 +84,8 @@ pub fn index(
     place: Place,
     subscript: Operand,
 ) -> Result<Operand, AllocError>
-    ensures { (a b : tree.Expression) → ShowsOperand base a → ShowsOperand subscript b → IfOk result (λ r. ShowsOperand r (tree.Index a place b)) }
+    ensures { (a b : tree.Expression) → ShowsOperand base a → ShowsOperand subscript b
+        → IfOk result (λ r. ShowsOperand r (tree.Index a place b)) }
 {
     let first = base.place;
     let parts = beside(base.read, subscript.read)?;
@@ -91,7 +96,7 @@ pub fn index(
     };
     Ok(Operand {
         read: Read { tree, depths },
-        level: 1,
+        level: POSTFIX,
         place: first,
     })
 }
@@ -101,7 +106,8 @@ pub fn with_argument(
     before: Read<Vec<Expression>>,
     argument: Operand,
 ) -> Result<Read<Vec<Expression>>, AllocError>
-    ensures { (es : List tree.Expression) (e : tree.Expression) → ShowsArguments before es → ShowsOperand argument e → IfOk result (λ r. ShowsArguments r (e ∷ es)) }
+    ensures { (es : List tree.Expression) (e : tree.Expression) → ShowsArguments before es
+        → ShowsOperand argument e → IfOk result (λ r. ShowsArguments r (e ∷ es)) }
 {
     longer(before, argument.read)
 }
@@ -113,7 +119,10 @@ pub fn call(
     place: Place,
     arguments: Read<Vec<Expression>>,
 ) -> Result<Operand, AllocError>
-    ensures { (f : tree.Expression) (es : List tree.Expression) → ShowsOperand callee f → ShowsArguments arguments es → IfOk result (λ r. ShowsOperand r (tree.Call f place (arguments_onto es tree.no_expressions))) }
+    ensures { (f : tree.Expression) (es : List tree.Expression) → ShowsOperand callee f
+        → ShowsArguments arguments es
+        → IfOk result
+        (λ r. ShowsOperand r (tree.Call f place (arguments_onto es tree.no_expressions))) }
 {
     let first = callee.place;
     let parts = beside(callee.read, arguments)?;
@@ -128,7 +137,7 @@ pub fn call(
     };
     Ok(Operand {
         read: Read { tree, depths },
-        level: 1,
+        level: POSTFIX,
         place: first,
     })
 }
@@ -141,7 +150,8 @@ pub fn member(
     operator: MemberOperator,
     name: Name,
 ) -> Result<Operand, AllocError>
-    ensures { (a : tree.Expression) → ShowsOperand base a → IfOk result (λ r. ShowsOperand r (tree.Member a place operator name)) }
+    ensures { (a : tree.Expression) → ShowsOperand base a
+        → IfOk result (λ r. ShowsOperand r (tree.Member a place operator name)) }
 {
     let first = base.place;
     let Read { tree, depths } = over(alloc, first, base.read)?;
@@ -151,7 +161,7 @@ pub fn member(
     };
     Ok(Operand {
         read: Read { tree, depths },
-        level: 1,
+        level: POSTFIX,
         place: first,
     })
 }
@@ -163,7 +173,8 @@ pub fn postfix(
     place: Place,
     operator: PostfixOperator,
 ) -> Result<Operand, AllocError>
-    ensures { (a : tree.Expression) → ShowsOperand base a → IfOk result (λ r. ShowsOperand r (tree.Postfix a place operator)) }
+    ensures { (a : tree.Expression) → ShowsOperand base a
+        → IfOk result (λ r. ShowsOperand r (tree.Postfix a place operator)) }
 {
     let first = base.place;
     let Read { tree, depths } = over(alloc, first, base.read)?;
@@ -173,7 +184,7 @@ pub fn postfix(
     };
     Ok(Operand {
         read: Read { tree, depths },
-        level: 1,
+        level: POSTFIX,
         place: first,
     })
 }
@@ -185,7 +196,8 @@ pub fn prefix(
     operator: PrefixOperator,
     operand: Operand,
 ) -> Result<Operand, AllocError>
-    ensures { (a : tree.Expression) → ShowsOperand operand a → IfOk result (λ r. ShowsOperand r (tree.Prefix place operator a)) }
+    ensures { (a : tree.Expression) → ShowsOperand operand a
+        → IfOk result (λ r. ShowsOperand r (tree.Prefix place operator a)) }
 {
     let Read { tree, depths } = over(alloc, place, operand.read)?;
     let tree = match tree {
@@ -194,7 +206,7 @@ pub fn prefix(
     };
     Ok(Operand {
         read: Read { tree, depths },
-        level: 2,
+        level: UNARY,
         place,
     })
 }
@@ -205,7 +217,8 @@ pub fn sizeof_expression(
     place: Place,
     operand: Operand,
 ) -> Result<Operand, AllocError>
-    ensures { (a : tree.Expression) → ShowsOperand operand a → IfOk result (λ r. ShowsOperand r (tree.SizeofExpression place a)) }
+    ensures { (a : tree.Expression) → ShowsOperand operand a
+        → IfOk result (λ r. ShowsOperand r (tree.SizeofExpression place a)) }
 {
     let Read { tree, depths } = over(alloc, place, operand.read)?;
     let tree = match tree {
@@ -214,7 +227,7 @@ pub fn sizeof_expression(
     };
     Ok(Operand {
         read: Read { tree, depths },
-        level: 2,
+        level: UNARY,
         place,
     })
 }
@@ -227,7 +240,9 @@ pub fn sizeof_type(
     specified: Specified,
     declared: Declared,
 ) -> Result<Operand, AllocError>
-    ensures { (ws : tree.Specifiers) (d : tree.Declarator) → ShowsSpecified specified ws → ShowsDeclared declared d → IfOk result (λ r. ShowsOperand r (tree.SizeofType place paren ws d)) }
+    ensures { (ws : tree.Specifiers) (d : tree.Declarator) → ShowsSpecified specified ws
+        → ShowsDeclared declared d
+        → IfOk result (λ r. ShowsOperand r (tree.SizeofType place paren ws d)) }
 {
     let parts = beside(specified.read, declared.read)?;
     let Read { tree, depths } = over(alloc, place, parts)?;
@@ -243,7 +258,7 @@ pub fn sizeof_type(
     };
     Ok(Operand {
         read: Read { tree, depths },
-        level: 2,
+        level: UNARY,
         place,
     })
 }
@@ -256,7 +271,9 @@ pub fn cast(
     declared: Declared,
     operand: Operand,
 ) -> Result<Operand, AllocError>
-    ensures { (ws : tree.Specifiers) (d : tree.Declarator) (e : tree.Expression) → ShowsSpecified specified ws → ShowsDeclared declared d → ShowsOperand operand e → IfOk result (λ r. ShowsOperand r (tree.Cast place ws d e)) }
+    ensures { (ws : tree.Specifiers) (d : tree.Declarator) (e : tree.Expression)
+        → ShowsSpecified specified ws → ShowsDeclared declared d → ShowsOperand operand e
+        → IfOk result (λ r. ShowsOperand r (tree.Cast place ws d e)) }
 {
     let rest = beside(declared.read, operand.read)?;
     let parts = beside(specified.read, rest)?;
@@ -274,7 +291,7 @@ pub fn cast(
     };
     Ok(Operand {
         read: Read { tree, depths },
-        level: 3,
+        level: CAST,
         place,
     })
 }
@@ -287,7 +304,8 @@ pub fn binary(
     operator: BinaryOperator,
     right: Operand,
 ) -> Result<Operand, AllocError>
-    ensures { (a b : tree.Expression) → ShowsOperand left a → ShowsOperand right b → IfOk result (λ r. ShowsOperand r (tree.Binary a place operator b)) }
+    ensures { (a b : tree.Expression) → ShowsOperand left a → ShowsOperand right b
+        → IfOk result (λ r. ShowsOperand r (tree.Binary a place operator b)) }
 {
     let first = left.place;
     let parts = beside(left.read, right.read)?;
@@ -316,7 +334,8 @@ pub fn conditional(
     then: Operand,
     other: Operand,
 ) -> Result<Operand, AllocError>
-    ensures { (a b c : tree.Expression) → ShowsOperand test a → ShowsOperand then b → ShowsOperand other c → IfOk result (λ r. ShowsOperand r (tree.Conditional a place b c)) }
+    ensures { (a b c : tree.Expression) → ShowsOperand test a → ShowsOperand then b
+        → ShowsOperand other c → IfOk result (λ r. ShowsOperand r (tree.Conditional a place b c)) }
 {
     let first = test.place;
     let rest = beside(then.read, other.read)?;
@@ -336,7 +355,7 @@ pub fn conditional(
     };
     Ok(Operand {
         read: Read { tree, depths },
-        level: 14,
+        level: CONDITIONAL,
         place: first,
     })
 }
@@ -349,7 +368,8 @@ pub fn assignment(
     operator: AssignmentOperator,
     right: Operand,
 ) -> Result<Operand, AllocError>
-    ensures { (a b : tree.Expression) → ShowsOperand left a → ShowsOperand right b → IfOk result (λ r. ShowsOperand r (tree.Assignment a place operator b)) }
+    ensures { (a b : tree.Expression) → ShowsOperand left a → ShowsOperand right b
+        → IfOk result (λ r. ShowsOperand r (tree.Assignment a place operator b)) }
 {
     let first = left.place;
     let parts = beside(left.read, right.read)?;
@@ -365,14 +385,15 @@ pub fn assignment(
     };
     Ok(Operand {
         read: Read { tree, depths },
-        level: 15,
+        level: ASSIGNMENT,
         place: first,
     })
 }
 
 /// Two expressions with a comma between them (C90 6.3.17).
 pub fn comma(alloc: Global, left: Operand, right: Operand) -> Result<Operand, AllocError>
-    ensures { (a b : tree.Expression) → ShowsOperand left a → ShowsOperand right b → IfOk result (λ r. ShowsOperand r (tree.Comma a b)) }
+    ensures { (a b : tree.Expression) → ShowsOperand left a → ShowsOperand right b
+        → IfOk result (λ r. ShowsOperand r (tree.Comma a b)) }
 {
     let first = left.place;
     let parts = beside(left.read, right.read)?;
@@ -383,7 +404,7 @@ pub fn comma(alloc: Global, left: Operand, right: Operand) -> Result<Operand, Al
     };
     Ok(Operand {
         read: Read { tree, depths },
-        level: 16,
+        level: COMMA,
         place: first,
     })
 }

@@ -34,7 +34,11 @@ fn with_specifier(
     is_typedef: bool,
     void: Option<Place>,
 ) -> Result<Specified, AllocError>
-    ensures { (ws : List tree.Specifier) (w : tree.Specifier) → ShowsSpecified before (specifiers_onto ws tree.no_specifiers) → ShowsSpecifier specifier w → place ≡ place_of_specifier w → is_typedef ≡ is_typedef_specifier w → void ≡ void_word (tree.specifier_then w tree.no_specifiers) → IfOk result (λ r. ShowsSpecified r (specifiers_onto (w ∷ ws) tree.no_specifiers)) }
+    ensures { (ws : List tree.Specifier) (w : tree.Specifier)
+        → ShowsSpecified before (specifiers_onto ws tree.no_specifiers) → ShowsSpecifier specifier w
+        → place ≡ place_of_specifier w → is_typedef ≡ is_typedef_specifier w
+        → void ≡ void_word (tree.specifier_then w tree.no_specifiers)
+        → IfOk result (λ r. ShowsSpecified r (specifiers_onto (w ∷ ws) tree.no_specifiers)) }
 {
     let Specified {
         read,
@@ -89,7 +93,10 @@ pub fn with_word(
     place: Place,
     word: Keyword,
 ) -> Result<Specified, AllocError>
-    ensures { (ws : List tree.Specifier) → ShowsSpecified before (specifiers_onto ws tree.no_specifiers) → IfOk result (λ r. ShowsSpecified r (specifiers_onto (tree.Word place word ∷ ws) tree.no_specifiers)) }
+    ensures { (ws : List tree.Specifier)
+        → ShowsSpecified before (specifiers_onto ws tree.no_specifiers)
+        → IfOk result
+        (λ r. ShowsSpecified r (specifiers_onto (tree.Word place word ∷ ws) tree.no_specifiers)) }
 {
     let read = flat(alloc, Specifier::Word(place, word));
     let void = void_at(place, word);
@@ -98,7 +105,10 @@ pub fn with_word(
 
 /// A name of a type more (C90 6.5.6).
 pub fn with_type_name(alloc: Global, before: Specified, name: Name) -> Result<Specified, AllocError>
-    ensures { (ws : List tree.Specifier) → ShowsSpecified before (specifiers_onto ws tree.no_specifiers) → IfOk result (λ r. ShowsSpecified r (specifiers_onto (tree.TypeName name ∷ ws) tree.no_specifiers)) }
+    ensures { (ws : List tree.Specifier)
+        → ShowsSpecified before (specifiers_onto ws tree.no_specifiers)
+        → IfOk result
+        (λ r. ShowsSpecified r (specifiers_onto (tree.TypeName name ∷ ws) tree.no_specifiers)) }
 {
     let place = name.place;
     let read = flat(alloc, Specifier::TypeName(name));
@@ -112,7 +122,11 @@ pub fn with_structure(
     place: Place,
     name: Name,
 ) -> Result<Specified, AllocError>
-    ensures { (ws : List tree.Specifier) → ShowsSpecified before (specifiers_onto ws tree.no_specifiers) → IfOk result (λ r. ShowsSpecified r (specifiers_onto (tree.Structure place name ∷ ws) tree.no_specifiers)) }
+    ensures { (ws : List tree.Specifier)
+        → ShowsSpecified before (specifiers_onto ws tree.no_specifiers)
+        → IfOk result
+        (λ r. ShowsSpecified r
+        (specifiers_onto (tree.Structure place name ∷ ws) tree.no_specifiers)) }
 {
     let read = flat(alloc, Specifier::Structure(place, name));
     with_specifier(before, read, place, false, None)
@@ -125,7 +139,11 @@ pub fn with_enumeration(
     place: Place,
     name: Name,
 ) -> Result<Specified, AllocError>
-    ensures { (ws : List tree.Specifier) → ShowsSpecified before (specifiers_onto ws tree.no_specifiers) → IfOk result (λ r. ShowsSpecified r (specifiers_onto (tree.Enumeration place name ∷ ws) tree.no_specifiers)) }
+    ensures { (ws : List tree.Specifier)
+        → ShowsSpecified before (specifiers_onto ws tree.no_specifiers)
+        → IfOk result
+        (λ r. ShowsSpecified r
+        (specifiers_onto (tree.Enumeration place name ∷ ws) tree.no_specifiers)) }
 {
     let read = flat(alloc, Specifier::Enumeration(place, name));
     with_specifier(before, read, place, false, None)
@@ -140,7 +158,13 @@ pub fn with_structure_body(
     brace: Place,
     members: Read<Vec<Member>>,
 ) -> Result<Specified, AllocError>
-    ensures { (ws : List tree.Specifier) (ms : List lists.MemberLine) → ShowsSpecified before (specifiers_onto ws tree.no_specifiers) → ShowsMembers members ms → IfOk result (λ r. ShowsSpecified r (specifiers_onto (tree.StructureBody place tag brace (members_onto ms tree.no_members) ∷ ws) tree.no_specifiers)) }
+    ensures { (ws : List tree.Specifier) (ms : List lists.MemberLine)
+        → ShowsSpecified before (specifiers_onto ws tree.no_specifiers) → ShowsMembers members ms
+        → IfOk result
+        (λ r. ShowsSpecified r
+        (specifiers_onto
+        (tree.StructureBody place tag brace (members_onto ms tree.no_members)
+        ∷ ws) tree.no_specifiers)) }
 {
     let Read { tree, depths } = over(alloc, place, members)?;
     let tree = match tree {
@@ -160,7 +184,14 @@ pub fn with_enumeration_body(
     enumerators: Read<Vec<Enumerator>>,
     comma: bool,
 ) -> Result<Specified, AllocError>
-    ensures { (ws : List tree.Specifier) (es : List lists.Entry) → ShowsSpecified before (specifiers_onto ws tree.no_specifiers) → ShowsEnumerators enumerators es → IfOk result (λ r. ShowsSpecified r (specifiers_onto (tree.EnumerationBody place tag brace (enumerators_onto es tree.no_enumerators) comma ∷ ws) tree.no_specifiers)) }
+    ensures { (ws : List tree.Specifier) (es : List lists.Entry)
+        → ShowsSpecified before (specifiers_onto ws tree.no_specifiers)
+        → ShowsEnumerators enumerators es
+        → IfOk result
+        (λ r. ShowsSpecified r
+        (specifiers_onto
+        (tree.EnumerationBody place tag brace (enumerators_onto es tree.no_enumerators) comma
+        ∷ ws) tree.no_specifiers)) }
 {
     let Read { tree, depths } = over(alloc, place, enumerators)?;
     let tree = match tree {
@@ -181,7 +212,8 @@ pub fn with_declarator(
     before: Read<Vec<Declarator>>,
     declared: Declared,
 ) -> Result<Read<Vec<Declarator>>, AllocError>
-    ensures { (ds : List tree.Declarator) (d : tree.Declarator) → ShowsDeclarators before ds → ShowsDeclared declared d → IfOk result (λ r. ShowsDeclarators r (d ∷ ds)) }
+    ensures { (ds : List tree.Declarator) (d : tree.Declarator) → ShowsDeclarators before ds
+        → ShowsDeclared declared d → IfOk result (λ r. ShowsDeclarators r (d ∷ ds)) }
 {
     longer(before, declared.read)
 }
@@ -193,7 +225,15 @@ pub fn with_member(
     declarators: Read<Vec<Declarator>>,
     end: Place,
 ) -> Result<Read<Vec<Member>>, AllocError>
-    ensures { (ms : List lists.MemberLine) (ws : tree.Specifiers) (ds : List tree.Declarator) → ShowsMembers before ms → ShowsSpecified specified ws → ShowsDeclarators declarators ds → IfOk result (λ r. ShowsMembers r (record { specifiers = ws; declarators = declarators_onto ds tree.no_declarators; end = end } ∷ ms)) }
+    ensures { (ms : List lists.MemberLine) (ws : tree.Specifiers) (ds : List tree.Declarator)
+        → ShowsMembers before ms → ShowsSpecified specified ws → ShowsDeclarators declarators ds
+        → IfOk result
+        (λ r. ShowsMembers r
+        (record {
+          specifiers = ws;
+          declarators = declarators_onto ds tree.no_declarators;
+          end = end;
+        } ∷ ms)) }
 {
     let Read { tree, depths } = beside(specified.read, declarators)?;
     let tree = match tree {
@@ -213,7 +253,8 @@ pub fn with_plain_enumerator(
     before: Read<Vec<Enumerator>>,
     name: Name,
 ) -> Result<Read<Vec<Enumerator>>, AllocError>
-    ensures { (es : List lists.Entry) → ShowsEnumerators before es → IfOk result (λ r. ShowsEnumerators r (record { name = name; value = None } ∷ es)) }
+    ensures { (es : List lists.Entry) → ShowsEnumerators before es
+        → IfOk result (λ r. ShowsEnumerators r (record { name = name; value = None } ∷ es)) }
 {
     longer(before, flat(alloc, Enumerator::Plain(name)))
 }
@@ -225,7 +266,10 @@ pub fn with_valued_enumerator(
     place: Place,
     value: Operand,
 ) -> Result<Read<Vec<Enumerator>>, AllocError>
-    ensures { (es : List lists.Entry) (e : tree.Expression) → ShowsEnumerators before es → ShowsOperand value e → IfOk result (λ r. ShowsEnumerators r (record { name = name; value = Some (place, e) } ∷ es)) }
+    ensures { (es : List lists.Entry) (e : tree.Expression) → ShowsEnumerators before es
+        → ShowsOperand value e
+        → IfOk result
+        (λ r. ShowsEnumerators r (record { name = name; value = Some (place, e) } ∷ es)) }
 {
     let Read { tree, depths } = value.read;
     let tree = match tree {

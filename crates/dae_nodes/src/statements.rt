@@ -18,7 +18,8 @@ pub fn with_statement(
     before: Read<Vec<Statement>>,
     statement: Read<Statement>,
 ) -> Result<Read<Vec<Statement>>, AllocError>
-    ensures { (ss : List tree.Statement) (s : tree.Statement) → ShowsStatements before ss → ShowsStatement statement s → IfOk result (λ r. ShowsStatements r (s ∷ ss)) }
+    ensures { (ss : List tree.Statement) (s : tree.Statement) → ShowsStatements before ss
+        → ShowsStatement statement s → IfOk result (λ r. ShowsStatements r (s ∷ ss)) }
 {
     longer(before, statement)
 }
@@ -30,7 +31,11 @@ pub fn block(
     declarations: Read<Vec<Declaration>>,
     statements: Read<Vec<Statement>>,
 ) -> Result<Read<Statement>, AllocError>
-    ensures { (ds : List tree.Declaration) (ss : List tree.Statement) → ShowsDeclarations declarations ds → ShowsStatements statements ss → IfOk result (λ r. ShowsStatement r (tree.Block place (onto ds []) (statements_onto ss tree.no_statements))) }
+    ensures { (ds : List tree.Declaration) (ss : List tree.Statement)
+        → ShowsDeclarations declarations ds → ShowsStatements statements ss
+        → IfOk result
+        (λ r. ShowsStatement r
+        (tree.Block place (onto ds []) (statements_onto ss tree.no_statements))) }
 {
     let parts = beside(declarations, statements)?;
     let Read { tree, depths } = over(alloc, place, parts)?;
@@ -58,7 +63,8 @@ pub fn evaluation(
     operand: Operand,
     end: Place,
 ) -> Result<Read<Statement>, AllocError>
-    ensures { (e : tree.Expression) → ShowsOperand operand e → IfOk result (λ r. ShowsStatement r (tree.Evaluate e end)) }
+    ensures { (e : tree.Expression) → ShowsOperand operand e
+        → IfOk result (λ r. ShowsStatement r (tree.Evaluate e end)) }
 {
     let Read { tree, depths } = over(alloc, operand.place, operand.read)?;
     let tree = match tree {
@@ -76,7 +82,8 @@ pub fn if_statement(
     test: Operand,
     body: Read<Statement>,
 ) -> Result<Read<Statement>, AllocError>
-    ensures { (e : tree.Expression) (s : tree.Statement) → ShowsOperand test e → ShowsStatement body s → IfOk result (λ r. ShowsStatement r (tree.If place paren e s)) }
+    ensures { (e : tree.Expression) (s : tree.Statement) → ShowsOperand test e
+        → ShowsStatement body s → IfOk result (λ r. ShowsStatement r (tree.If place paren e s)) }
 {
     let parts = beside(test.read, body)?;
     let Read { tree, depths } = over(alloc, place, parts)?;
@@ -103,7 +110,9 @@ pub fn if_else_statement(
     then: Read<Statement>,
     other: Read<Statement>,
 ) -> Result<Read<Statement>, AllocError>
-    ensures { (e : tree.Expression) (s u : tree.Statement) → ShowsOperand test e → ShowsStatement then s → ShowsStatement other u → IfOk result (λ r. ShowsStatement r (tree.IfElse place paren e s u)) }
+    ensures { (e : tree.Expression) (s u : tree.Statement) → ShowsOperand test e
+        → ShowsStatement then s → ShowsStatement other u
+        → IfOk result (λ r. ShowsStatement r (tree.IfElse place paren e s u)) }
 {
     let rest = beside(then, other)?;
     let parts = beside(test.read, rest)?;
@@ -130,7 +139,9 @@ pub fn switch_statement(
     test: Operand,
     body: Read<Statement>,
 ) -> Result<Read<Statement>, AllocError>
-    ensures { (e : tree.Expression) (s : tree.Statement) → ShowsOperand test e → ShowsStatement body s → IfOk result (λ r. ShowsStatement r (tree.Switch place paren e s)) }
+    ensures { (e : tree.Expression) (s : tree.Statement) → ShowsOperand test e
+        → ShowsStatement body s
+        → IfOk result (λ r. ShowsStatement r (tree.Switch place paren e s)) }
 {
     let parts = beside(test.read, body)?;
     let Read { tree, depths } = over(alloc, place, parts)?;
@@ -156,7 +167,8 @@ pub fn while_statement(
     test: Operand,
     body: Read<Statement>,
 ) -> Result<Read<Statement>, AllocError>
-    ensures { (e : tree.Expression) (s : tree.Statement) → ShowsOperand test e → ShowsStatement body s → IfOk result (λ r. ShowsStatement r (tree.While place paren e s)) }
+    ensures { (e : tree.Expression) (s : tree.Statement) → ShowsOperand test e
+        → ShowsStatement body s → IfOk result (λ r. ShowsStatement r (tree.While place paren e s)) }
 {
     let parts = beside(test.read, body)?;
     let Read { tree, depths } = over(alloc, place, parts)?;
@@ -184,7 +196,9 @@ pub fn do_statement(
     test: Operand,
     end: Place,
 ) -> Result<Read<Statement>, AllocError>
-    ensures { (s : tree.Statement) (e : tree.Expression) → ShowsStatement body s → ShowsOperand test e → IfOk result (λ r. ShowsStatement r (tree.Do place s word paren e end)) }
+    ensures { (s : tree.Statement) (e : tree.Expression) → ShowsStatement body s
+        → ShowsOperand test e
+        → IfOk result (λ r. ShowsStatement r (tree.Do place s word paren e end)) }
 {
     let parts = beside(body, test.read)?;
     let Read { tree, depths } = over(alloc, place, parts)?;
@@ -206,7 +220,8 @@ pub fn do_statement(
 
 /// An operand that may be lacking, as a part.
 fn optional(alloc: Global, operand: Option<Operand>) -> Read<Option<Expression>>
-    ensures { (e : Option tree.Expression) → ShowsOptional operand e → Shows view_optional firsts_optional result e }
+    ensures { (e : Option tree.Expression) → ShowsOptional operand e
+        → Shows view_optional firsts_optional result e }
 {
     match operand {
         Some(operand) => {
@@ -228,7 +243,9 @@ pub fn for_statement(
     step: Option<Operand>,
     body: Read<Statement>,
 ) -> Result<Read<Statement>, AllocError>
-    ensures { (l : frames.Loop) (e : Option tree.Expression) (s : tree.Statement) → ShowsLoop parts l → ShowsOptional step e → ShowsStatement body s → IfOk result (λ r. ShowsStatement r (for_of l e s)) }
+    ensures { (l : frames.Loop) (e : Option tree.Expression) (s : tree.Statement)
+        → ShowsLoop parts l → ShowsOptional step e → ShowsStatement body s
+        → IfOk result (λ r. ShowsStatement r (for_of l e s)) }
 {
     let Loop {
         word,
@@ -292,7 +309,8 @@ pub fn return_statement(
     value: Option<Operand>,
     end: Place,
 ) -> Result<Read<Statement>, AllocError>
-    ensures { (e : Option tree.Expression) → ShowsOptional value e → IfOk result (λ r. ShowsStatement r (tree.Return place e end)) }
+    ensures { (e : Option tree.Expression) → ShowsOptional value e
+        → IfOk result (λ r. ShowsStatement r (tree.Return place e end)) }
 {
     let Read { tree, depths } = over(alloc, place, optional(alloc, value))?;
     let tree = match tree {
@@ -309,7 +327,8 @@ pub fn case_statement(
     value: Operand,
     body: Read<Statement>,
 ) -> Result<Read<Statement>, AllocError>
-    ensures { (e : tree.Expression) (s : tree.Statement) → ShowsOperand value e → ShowsStatement body s → IfOk result (λ r. ShowsStatement r (tree.Case place e s)) }
+    ensures { (e : tree.Expression) (s : tree.Statement) → ShowsOperand value e
+        → ShowsStatement body s → IfOk result (λ r. ShowsStatement r (tree.Case place e s)) }
 {
     let parts = beside(value.read, body)?;
     let Read { tree, depths } = over(alloc, place, parts)?;
@@ -326,7 +345,8 @@ pub fn default_statement(
     place: Place,
     body: Read<Statement>,
 ) -> Result<Read<Statement>, AllocError>
-    ensures { (s : tree.Statement) → ShowsStatement body s → IfOk result (λ r. ShowsStatement r (tree.Default place s)) }
+    ensures { (s : tree.Statement) → ShowsStatement body s
+        → IfOk result (λ r. ShowsStatement r (tree.Default place s)) }
 {
     let Read { tree, depths } = over(alloc, place, body)?;
     let tree = match tree {

@@ -24,11 +24,12 @@ use Rattle.dae_grammar.specs.Machine.{onto}
 use Rattle.dae_grammar.proofs.Laws.{unique, first_deep}
 use Rattle.dae_parts.specs.Shown.{firsts_list}
 use Rattle.dae_parts.proofs.Laws.{seen_at}
-use Rattle.dae_parse.specs.declared.frames.Before.{Before}
-use Rattle.dae_parse.specs.Frames.{ShowsFile}
+use Rattle.dae_states.specs.declared.frames.Before.{Before}
+use Rattle.dae_states.specs.Frames.{ShowsFile}
 use Rattle.dae_parse.specs.declared.error.ParseError.{ParseError}
 use Rattle.dae_parse.specs.declared.error.ParseError.TheVariants as errors
 use Rattle.dae_parse.specs.Parsed.{IsWithinLimits, IsFileOf, IsRefused, IsCause, AreAlike, Answers}
+use Rattle.dae_parse.proofs.Stuck.{one_place}
 
 firsts_files : (xs : List tree.External) (i : ℕ) → firsts_file xs i ≡ firsts_list firsts_external xs i
 firsts_files [] i = refl
@@ -126,7 +127,7 @@ none_refused r f errors.Memory h c k = absurd c
 pub refused_once : (r : Reading) (d e : ParseError) → IsRefused r d → IsRefused r e → AreAlike d e
 refused_once r errors.Memory e h k = tt
 refused_once r (errors.Syntax p) errors.Memory h k = tt
-refused_once r (errors.Syntax p) (errors.Syntax q) h k = tt
+refused_once r (errors.Syntax p) (errors.Syntax q) h k = one_place r p q h.1 k.1
 refused_once r (errors.Syntax p) (errors.TooDeep q) h k = absurd (h.0 k.0 k.1)
 refused_once r (errors.Syntax p) (errors.FunctionTooLong q) h k = absurd (h.0 k.0 k.1)
 refused_once r (errors.TooDeep p) errors.Memory h k = tt

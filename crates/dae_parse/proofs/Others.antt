@@ -4,9 +4,9 @@ use Rattle.dae_tree.specs.Marks.{Mark}
 use Rattle.dae_tree.specs.Names.{Names}
 use Rattle.dae_grammar.specs.Frames as plain
 use Rattle.dae_grammar.specs.Machine.{given, specifiers_taken, declarator_taken, initialiser_taken, declaration_taken, statement_taken}
-use Rattle.dae_parse.specs.declared.frames.Frame.{Frame}
-use Rattle.dae_parse.specs.declared.frames.Frame.TheVariants as frame
-use Rattle.dae_parse.specs.Frames.{ShowsStack}
+use Rattle.dae_states.specs.declared.frames.Frame.{Frame}
+use Rattle.dae_states.specs.declared.frames.Frame.TheVariants as frame
+use Rattle.dae_states.specs.Frames.{ShowsStack}
 use Rattle.dae_parse.proofs.Popped.{popped_in_parentheses, popped_in_index, popped_in_arguments, popped_behind_prefix, popped_behind_sizeof, popped_behind_cast, popped_behind_binary, popped_behind_question, popped_behind_colon, popped_behind_assignment, popped_behind_comma, popped_in_size, popped_in_enumerator, popped_in_value, popped_in_evaluation, popped_in_test, popped_in_start, popped_in_loop_test, popped_in_step, popped_in_return, popped_in_case, popped_for_cast, popped_for_sizeof, popped_for_parameter, popped_for_member, popped_for_declaration, popped_behind_star, popped_in_group, popped_of_cast, popped_of_sizeof, popped_of_parameter, popped_of_member, popped_of_item, popped_in_list, popped_of_value, popped_in_file, popped_in_block, popped_then_branch, popped_else_branch, popped_while_body, popped_switch_body, popped_do_body, popped_for_body, popped_case_body, popped_default_body, popped_in_statements, popped_in_definition}
 
 pub other_expression : (top : Frame) (below : List Frame) (stack : List plain.Frame) (e : _) (names : Names) (ts : List Mark) → ShowsStack (top ∷ below) stack

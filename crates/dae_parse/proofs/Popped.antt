@@ -2,9 +2,9 @@
 use Rattle.std.proofs.Common.{◌≡◌, List, [], ◌∷◌}
 use Rattle.dae_nodes.specs.Parts.{ShowsOperand, ShowsArguments, ShowsOptional, ShowsSpecified, ShowsMembers, ShowsEnumerators, ShowsDeclared, ShowsDeclarators, ShowsParameters, ShowsInitialiser, ShowsInitialisers, ShowsItems, ShowsDeclaration, ShowsDeclarations, ShowsStatement, ShowsStatements, ShowsLoop, ShowsExternals}
 use Rattle.dae_grammar.specs.Frames as plain
-use Rattle.dae_parse.specs.declared.frames.Frame.{Frame}
-use Rattle.dae_parse.specs.declared.frames.Frame.TheVariants as frame
-use Rattle.dae_parse.specs.Frames.{manner_of, ShowsBody, ShowsOpen, ShowsHead, ShowsInside, ShowsFile, ShowsStack}
+use Rattle.dae_states.specs.declared.frames.Frame.{Frame}
+use Rattle.dae_states.specs.declared.frames.Frame.TheVariants as frame
+use Rattle.dae_states.specs.Frames.{manner_of, ShowsBody, ShowsOpen, ShowsHead, ShowsInside, ShowsFile, ShowsStack}
 
 pub popped_in_parentheses : (p : _) (l : _) (below : List Frame) (P : List plain.Frame → Type 0) (stack : List plain.Frame) → ShowsStack (frame.InParentheses p l ∷ below) stack
     → ((t : List plain.Frame) → ShowsStack below t → P (plain.in_parentheses p l ∷ t)) → P stack

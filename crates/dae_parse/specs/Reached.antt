@@ -8,11 +8,12 @@ use Rattle.dae_grammar.specs.Frames as plain
 use Rattle.dae_grammar.specs.Machine.{begun, onto}
 use Rattle.dae_grammar.specs.Measure.{measure}
 use Rattle.dae_grammar.specs.Runs.{run}
-use Rattle.dae_parse.specs.declared.frames.Before.{Before}
-use Rattle.dae_parse.specs.declared.frames.Doing.{Doing}
-use Rattle.dae_parse.specs.declared.machine.Machine.{Machine}
-use Rattle.dae_parse.specs.Frames.{ShowsDoing, ShowsFile}
-use Rattle.dae_parse.specs.States.{Stands, Follows, outside_stack, outside_doing}
+use Rattle.dae_states.specs.declared.frames.Before.{Before}
+use Rattle.dae_states.specs.declared.frames.Doing.{Doing}
+use Rattle.dae_states.specs.declared.machine.Machine.{Machine}
+use Rattle.dae_states.specs.Frames.{ShowsDoing, ShowsFile}
+use Rattle.dae_states.specs.States.{Stands, Follows, outside_stack, outside_doing}
+use Rattle.dae_parse.specs.Parsed.{IsStuckAt}
 use Rattle.dae_parse.specs.declared.turn.Turn.{Turn}
 use Rattle.dae_parse.specs.declared.turn.Turn.TheVariants as turn
 use Rattle.dae_parse.specs.declared.run.Outcome.{Outcome}
@@ -42,7 +43,7 @@ pub record Reached (tokens : List Mark) (turns : ℕ) (doing : Doing) (m : Machi
   pub stands : Stands m stack (outside_doing does (outside_stack stack))
   pub spent : measure (plain.state does stack m.scope.names m.rest) + turns ≤ 12 * length tokens + 9
 
--- the tree of the tokens was read, or there is none
+-- The tree of the tokens was read; or there is none, and the machine is stuck at the token with that number.
 abbrev pub Comes : List Token → Outcome → Type 0
 Comes tokens (outcome.Whole b) = (xs : List External) × ShowsFile b xs × IsTreeOf (marks tokens) (onto xs [])
-Comes tokens (outcome.Stopped at) = (file : List External) → ¬ IsTreeOf (marks tokens) file
+Comes tokens (outcome.Stopped at) = ((file : List External) → ¬ IsTreeOf (marks tokens) file) × IsStuckAt tokens at

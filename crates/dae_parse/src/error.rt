@@ -1,3 +1,5 @@
+// Why tokens have no file.
+
 ghost use Rattle.std.specs.Prelude.{◌≡◌};
 ghost use Rattle.dae_parse.specs.declared.error.ParseError.TheVariants.{Memory};
 

@@ -1,3 +1,5 @@
+// What a part that was read is given to: the frame on top of the stack.
+
 ghost use Rattle.std.specs.Prelude.{◌≡◌, ◌∷◌, List, length, IfOk};
 ghost use Rattle.dae_tree.specs.Trees.{Expression, Specifiers, Declarator, Initialiser as InitialiserTree, Declaration as DeclarationTree, Statement as StatementTree};
 ghost use Rattle.dae_grammar.specs.Frames as plain;
@@ -5,37 +7,30 @@ ghost use Rattle.dae_grammar.specs.Frames.{Frame as PlainFrame, state};
 ghost use Rattle.dae_grammar.specs.Machine.{given, specifiers_taken, declarator_taken, initialiser_taken, declaration_taken, statement_taken};
 ghost use Rattle.dae_grammar.specs.Standing.{Holds};
 ghost use Rattle.dae_grammar.specs.Taken.{tokens_of};
-ghost use Rattle.dae_parse.specs.Bottom.{IsBottom};
+ghost use Rattle.dae_states.specs.Bottom.{IsBottom};
 ghost use Rattle.dae_nodes.specs.Parts.{ShowsOperand, ShowsSpecified, ShowsDeclared, ShowsInitialiser, ShowsDeclaration, ShowsStatement};
-ghost use Rattle.dae_parse.specs.Frames.{is_block};
-ghost use Rattle.dae_parse.specs.States.{Stands, Follows, outside_stack, Steps};
+ghost use Rattle.dae_states.specs.Frames.{is_block};
+ghost use Rattle.dae_states.specs.States.{Stands, Follows, outside_stack, Steps};
 
-use crate::behind::{behind_star, in_enumerator, in_group, in_size, of_cast, of_member, of_sizeof};
-use crate::branches::{
-    case_body, default_body, do_body, else_branch, for_body, in_statements, switch_body,
-    then_branch, while_body,
+use dae_declaration_steps::{
+    behind_star, for_cast, for_declaration, for_member, for_parameter, for_sizeof, in_block,
+    in_definition, in_enumerator, in_file, in_group, in_list, in_size, in_value, of_cast, of_item,
+    of_member, of_parameter, of_sizeof, of_value,
 };
-use crate::conditions::{
-    in_case, in_evaluation, in_loop_test, in_return, in_start, in_step, in_test,
-};
-use crate::declarations::{for_declaration, in_block, in_file, of_item, of_value};
-use crate::definitions::in_definition;
-use crate::expressions::{
-    behind_assignment, behind_binary, behind_cast, behind_colon, behind_comma, behind_prefix,
-    behind_question, behind_sizeof, in_arguments, in_index, in_parentheses,
-};
-use crate::frames::{Doing, Frame};
-use crate::initialisers::{in_list, in_value};
-use crate::machine::Machine;
-use crate::parameters::of_parameter;
-use crate::specifiers::{for_cast, for_member, for_parameter, for_sizeof};
 use dae_nodes::{Declared, Operand, Specified};
 use dae_parts::Read;
+use dae_statement_steps::{
+    behind_assignment, behind_binary, behind_cast, behind_colon, behind_comma, behind_prefix,
+    behind_question, behind_sizeof, case_body, default_body, do_body, else_branch, for_body,
+    in_arguments, in_case, in_evaluation, in_index, in_loop_test, in_parentheses, in_return,
+    in_start, in_statements, in_step, in_test, switch_body, then_branch, while_body,
+};
+use dae_states::{Doing, Frame, Machine};
 use dae_tree::{Declaration, Initialiser, Statement};
 use std::alloc::AllocError;
 
 /// Behind an expression, for what awaits it.
-pub fn gave(machine: &mut Machine<'_>, a: Operand) -> Result<Option<Doing>, AllocError>
+pub fn give_expression(machine: &mut Machine<'_>, a: Operand) -> Result<Option<Doing>, AllocError>
     ensures { (e : Expression) → ShowsOperand a e → Steps machine.old result machine.new (given e) }
 {
     let Some(frame) = machine.pop() else {
@@ -86,7 +81,7 @@ pub fn gave(machine: &mut Machine<'_>, a: Operand) -> Result<Option<Doing>, Allo
 }
 
 /// Behind specifiers, for what awaits them.
-pub fn gave_specifiers(
+pub fn give_specifiers(
     machine: &mut Machine<'_>,
     specified: Specified,
 ) -> Result<Option<Doing>, AllocError>
@@ -109,13 +104,15 @@ pub fn gave_specifiers(
 }
 
 /// Behind a declarator, for what awaits it.
-pub fn gave_declarator(
+pub fn give_declarator(
     machine: &mut Machine<'_>,
     declared: Declared,
 ) -> Result<Option<Doing>, AllocError>
-    ensures { (d : Declarator) (s : List PlainFrame) → ShowsDeclared declared d → Stands machine.old s (outside_stack s)
+    ensures { (d : Declarator) (s : List PlainFrame) → ShowsDeclared declared d
+        → Stands machine.old s (outside_stack s)
         → Holds (state (plain.gave_declarator d) s machine.old.scope.names machine.old.rest)
-        → IfOk result (λ r. Follows r machine.new (declarator_taken d s machine.old.scope.names machine.old.rest)) }
+        → IfOk result (λ r. Follows r machine.new
+        (declarator_taken d s machine.old.scope.names machine.old.rest)) }
 {
     let Some(frame) = machine.pop() else {
         return Ok(None);
@@ -143,7 +140,7 @@ pub fn gave_declarator(
 }
 
 /// Behind an initialiser, for what awaits it.
-pub fn gave_initialiser(
+pub fn give_initialiser(
     machine: &mut Machine<'_>,
     initialiser: Read<Initialiser>,
 ) -> Result<Option<Doing>, AllocError>
@@ -163,14 +160,17 @@ pub fn gave_initialiser(
 }
 
 /// Behind a declaration, for what awaits it, in a file of so many tokens.
-pub fn gave_declaration(
+pub fn give_declaration(
     machine: &mut Machine<'_>,
     found: Read<Declaration>,
     total: usize,
 ) -> Result<Option<Doing>, AllocError>
-    ensures { (d : DeclarationTree) (s : List PlainFrame) → ShowsDeclaration found d → Stands machine.old s (outside_stack s)
-        → IsBottom s → length (tokens_of (state (plain.gave_declaration d) s machine.old.scope.names machine.old.rest)) ≡ total
-        → IfOk result (λ r. Follows r machine.new (declaration_taken d s machine.old.scope.names machine.old.rest)) }
+    ensures { (d : DeclarationTree) (s : List PlainFrame) → ShowsDeclaration found d
+        → Stands machine.old s (outside_stack s) → IsBottom s
+        → length (tokens_of (state (plain.gave_declaration d) s machine.old.scope.names
+        machine.old.rest)) ≡ total
+        → IfOk result (λ r. Follows r machine.new
+        (declaration_taken d s machine.old.scope.names machine.old.rest)) }
 {
     let Some(frame) = machine.pop() else {
         return Ok(None);
@@ -183,15 +183,18 @@ pub fn gave_declaration(
 }
 
 /// Behind a statement, for what awaits it, in a file of so many tokens.
-pub fn gave_statement(
+pub fn give_statement(
     machine: &mut Machine<'_>,
     found: Read<Statement>,
     is_body: bool,
     total: usize,
 ) -> Result<Option<Doing>, AllocError>
-    ensures { (b : StatementTree) (s : List PlainFrame) → ShowsStatement found b → is_body ≡ is_block b → Stands machine.old s (outside_stack s)
-        → IsBottom s → length (tokens_of (state (plain.gave_statement b) s machine.old.scope.names machine.old.rest)) ≡ total
-        → IfOk result (λ r. Follows r machine.new (statement_taken b s machine.old.scope.names machine.old.rest)) }
+    ensures { (b : StatementTree) (s : List PlainFrame) → ShowsStatement found b
+        → is_body ≡ is_block b → Stands machine.old s (outside_stack s) → IsBottom s
+        → length (tokens_of (state (plain.gave_statement b) s machine.old.scope.names
+        machine.old.rest)) ≡ total
+        → IfOk result (λ r. Follows r machine.new
+        (statement_taken b s machine.old.scope.names machine.old.rest)) }
 {
     let Some(frame) = machine.pop() else {
         return Ok(None);

@@ -1,16 +1,18 @@
+// The file of tokens: the tree that a run came to, within the limits.
+
 ghost use Rattle.std.specs.Prelude.{◌≡◌, List, [], IfErr, IfOk};
 ghost use Rattle.dae_tree.specs.Trees.{External};
 ghost use Rattle.dae_tree.specs.Reading.{IsReading};
 ghost use Rattle.dae_parse.specs.Reached.{Comes};
 ghost use Rattle.dae_parse.specs.declared.run.Outcome.TheVariants as outcomes;
-ghost use Rattle.dae_parse.specs.Parsed.{Answers, IsWithinLimits, IsPlaceIn};
+ghost use Rattle.dae_parse.specs.Parsed.{Answers, IsRefused, IsWithinLimits, place_from};
 ghost use Rattle.dae_parse.specs.declared.error.ParseError.TheVariants as errors;
 
 use crate::error::ParseError;
-use crate::frames::Before;
 use crate::run::{Outcome, run};
 use dae_base::{Items, Place};
 use dae_parts::tree_or_depth;
+use dae_states::Before;
 use dae_tree::{File, Header, Includes, Tokens};
 use std::alloc::{AllocError, Global};
 
@@ -22,18 +24,27 @@ use std::alloc::{AllocError, Global};
 /// definition with more than 8,192 tokens, and `Memory`.
 pub fn parse(alloc: Global, tokens: &Tokens<'_>) -> Result<File, ParseError>
     ensures answer { Answers tokens.now result }
-    ensures found { (file : List External) → IsWithinLimits tokens.now.tokens file → IfErr result (λ e. e ≡ errors.Memory) }
+    ensures found { (file : List External) → IsWithinLimits tokens.now.tokens file
+        → IfErr result (λ e. e ≡ errors.Memory) }
 {
     match run(alloc, tokens.tokens()) {
         Ok(Outcome::Whole(before)) => whole(alloc, tokens, before),
-        Ok(Outcome::Stopped(at)) => Err(ParseError::Syntax(place_at(tokens, at))),
+        Ok(Outcome::Stopped(at)) => Err(refusal_at(tokens, at)),
         Err(_) => Err(ParseError::Memory),
     }
 }
 
-/// The place of a token, or the end of the text.
+/// The refusal of tokens that go no further at the one with this number.
+fn refusal_at(tokens: &Tokens<'_>, at: usize) -> ParseError
+    requires { Comes tokens.now.tokens (outcomes.Stopped at) }
+    ensures { IsRefused tokens.now result }
+{
+    ParseError::Syntax(place_at(tokens, at))
+}
+
+/// The place of the token with this number, or the end of the text.
 fn place_at(tokens: &Tokens<'_>, at: usize) -> Place
-    ensures { IsPlaceIn tokens.now result }
+    ensures { result ≡ place_from tokens.now at }
 {
     match tokens.tokens().get(at) {
         Some(token) => token.place,

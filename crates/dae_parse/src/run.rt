@@ -1,20 +1,39 @@
-ghost use Rattle.std.specs.Prelude.{IfOk};
+// A run of the machine, and the token at which it stops.
+
+ghost use Rattle.std.specs.Prelude.{◌≡◌, List, length, IfOk};
+ghost use Rattle.dae_tree.specs.Marks.{Mark};
+ghost use Rattle.dae_tree.specs.Names.{Names};
+ghost use Rattle.dae_grammar.specs.Frames as plain;
+ghost use Rattle.dae_grammar.specs.Frames.{Frame as PlainFrame, state};
+ghost use Rattle.dae_grammar.specs.Stuck.{stuck};
+ghost use Rattle.dae_states.specs.Frames.{ShowsDoing};
 ghost use Rattle.dae_parse.specs.Reached.{Comes};
 
-use crate::frames::{Before, Doing};
-use crate::machine::Machine;
-use crate::rest::Rest;
-use crate::turn::{Turn, turned};
+use crate::turn::{Turn, take_turn};
 use dae_nodes::no_externals;
 use dae_scope::Scope;
+use dae_states::{Before, Doing, Machine, Rest};
 use dae_tree::Token;
 use std::alloc::{AllocError, Global};
 
-/// What a run comes to: a whole file, or the number of the token at which it stops.
+/// What a run comes to: a whole file, or the number of the token at which nothing goes on.
 #[derive(Drop)]
 pub enum Outcome {
     Whole(Before),
     Stopped(usize),
+}
+
+/// How many tokens are left, from the first on at which nothing goes on, where so many are left and the machine makes no step:
+/// behind an operand that is the token behind the sign of a member.
+#[tactic(auto, using(crate::proofs::Stuck::left_behind_operand, crate::proofs::Stuck::left_elsewhere))]
+fn left_where_stuck(doing: &Doing, left: usize) -> usize
+    ensures { (d : plain.Doing) (s : List PlainFrame) (names : Names) (ts : List Mark)
+        → ShowsDoing doing.now d → left ≡ length ts → result ≡ length (stuck (state d s names ts)) }
+{
+    match doing {
+        Doing::Operated(_, _) => left.saturating_sub(1),
+        _ => left,
+    }
 }
 
 /// Reads the tree of tokens. The machine stops within twelve turns a token and nine.
@@ -35,12 +54,11 @@ pub fn run(alloc: Global, tokens: &[Token]) -> Result<Outcome, AllocError>
         too_long: None,
     });
     for _turn in 0..12 * (total as u128) + 10 {
-        match turned(&mut machine, doing, total)? {
+        let left = left_where_stuck(&doing, machine.rest.len());
+        match take_turn(&mut machine, doing, total)? {
             Turn::Next(next) => doing = next,
             Turn::Whole(before) => return Ok(Outcome::Whole(before)),
-            Turn::Stopped => {
-                return Ok(Outcome::Stopped(total.saturating_sub(machine.rest.len())));
-            }
+            Turn::Stopped => return Ok(Outcome::Stopped(total.saturating_sub(left))),
         }
     }
     unreachable!()

@@ -1,17 +1,18 @@
+// One turn: the step, or the end of the file.
+
 ghost use Rattle.std.specs.Prelude.{◌≡◌, List, length, IfOk};
 ghost use Rattle.dae_grammar.specs.Frames as plain;
 ghost use Rattle.dae_grammar.specs.Frames.{Frame as PlainFrame, state};
 ghost use Rattle.dae_grammar.specs.Machine.{step_at};
 ghost use Rattle.dae_grammar.specs.Standing.{Holds};
 ghost use Rattle.dae_grammar.specs.Taken.{tokens_of};
-ghost use Rattle.dae_parse.specs.Frames.{ShowsDoing};
-ghost use Rattle.dae_parse.specs.States.{Stands, outside_stack, outside_doing};
-ghost use Rattle.dae_parse.specs.Bottom.{IsBottom};
+ghost use Rattle.dae_states.specs.Frames.{ShowsDoing};
+ghost use Rattle.dae_states.specs.States.{Stands, outside_stack, outside_doing};
+ghost use Rattle.dae_states.specs.Bottom.{IsBottom};
 ghost use Rattle.dae_parse.specs.Reached.{TurnFollows, IsNotWhole};
 
-use crate::frames::{Before, Doing};
-use crate::machine::Machine;
 use crate::step::step;
+use dae_states::{Before, Doing, Machine};
 use std::alloc::AllocError;
 
 /// What a turn comes to: what the machine does next, a whole file, or tokens that go no further.
@@ -23,11 +24,14 @@ pub enum Turn {
 }
 
 /// A step of the machine, in a file of so many tokens.
-fn stepped(machine: &mut Machine<'_>, doing: Doing, total: usize) -> Result<Turn, AllocError>
-    ensures { (d : plain.Doing) (s : List PlainFrame) → ShowsDoing doing d → Stands machine.old s (outside_doing d (outside_stack s))
-        → Holds (state d s machine.old.scope.names machine.old.rest) → IsBottom s → length (tokens_of (state d s machine.old.scope.names machine.old.rest)) ≡ total
+fn step_on(machine: &mut Machine<'_>, doing: Doing, total: usize) -> Result<Turn, AllocError>
+    ensures { (d : plain.Doing) (s : List PlainFrame) → ShowsDoing doing d
+        → Stands machine.old s (outside_doing d (outside_stack s))
+        → Holds (state d s machine.old.scope.names machine.old.rest) → IsBottom s
+        → length (tokens_of (state d s machine.old.scope.names machine.old.rest)) ≡ total
         → IsNotWhole d machine.old.rest
-        → IfOk result (λ t. TurnFollows t machine.new d machine.old.rest (step_at d s machine.old.scope.names machine.old.rest)) }
+        → IfOk result (λ t. TurnFollows t machine.new d machine.old.rest
+        (step_at d s machine.old.scope.names machine.old.rest)) }
 {
     match step(machine, doing, total)? {
         Some(next) => Ok(Turn::Next(next)),
@@ -36,16 +40,19 @@ fn stepped(machine: &mut Machine<'_>, doing: Doing, total: usize) -> Result<Turn
 }
 
 /// A turn of the machine, in a file of so many tokens: the file is whole where it ends between two externals.
-pub fn turned(machine: &mut Machine<'_>, doing: Doing, total: usize) -> Result<Turn, AllocError>
-    ensures { (d : plain.Doing) (s : List PlainFrame) → ShowsDoing doing d → Stands machine.old s (outside_doing d (outside_stack s))
-        → Holds (state d s machine.old.scope.names machine.old.rest) → IsBottom s → length (tokens_of (state d s machine.old.scope.names machine.old.rest)) ≡ total
-        → IfOk result (λ t. TurnFollows t machine.new d machine.old.rest (step_at d s machine.old.scope.names machine.old.rest)) }
+pub fn take_turn(machine: &mut Machine<'_>, doing: Doing, total: usize) -> Result<Turn, AllocError>
+    ensures { (d : plain.Doing) (s : List PlainFrame) → ShowsDoing doing d
+        → Stands machine.old s (outside_doing d (outside_stack s))
+        → Holds (state d s machine.old.scope.names machine.old.rest) → IsBottom s
+        → length (tokens_of (state d s machine.old.scope.names machine.old.rest)) ≡ total
+        → IfOk result (λ t. TurnFollows t machine.new d machine.old.rest
+        (step_at d s machine.old.scope.names machine.old.rest)) }
 {
     if machine.rest.len() > 0 {
-        return stepped(machine, doing, total);
+        return step_on(machine, doing, total);
     }
     match doing {
         Doing::Externals(before) => Ok(Turn::Whole(before)),
-        other => stepped(machine, other, total),
+        other => step_on(machine, other, total),
     }
 }

@@ -1,2 +1,3 @@
 mod Holding
+mod Strengths
 pub mod Laws

@@ -27,7 +27,8 @@ pub fn flat<T: Drop>(alloc: Global, tree: T) -> Read<T>
 
 /// A node at this place over a part.
 pub fn over<T: Drop>(alloc: Global, place: Place, part: Read<T>) -> Result<Read<T>, AllocError>
-    ensures { (f : Places) → Holds part f → IfOk result (λ r. Holds r (over place f) × IsFrom part.tree r.tree) }
+    ensures { (f : Places) → Holds part f
+        → IfOk result (λ r. Holds r (over place f) × IsFrom part.tree r.tree) }
 {
     let Read { tree, depths } = part;
     let depths = depths.under(alloc, place)?;
@@ -40,7 +41,8 @@ pub fn over<T: Drop>(alloc: Global, place: Place, part: Read<T>) -> Result<Read<
 
 /// Two parts, one behind the other.
 pub fn beside<T: Drop, U: Drop>(left: Read<T>, right: Read<U>) -> Result<Read<(T, U)>, AllocError>
-    ensures { (f g : Places) → Holds left f → Holds right g → IfOk result (λ r. Holds r (both f g) × IsPair left.tree right.tree r.tree) }
+    ensures { (f g : Places) → Holds left f → Holds right g
+        → IfOk result (λ r. Holds r (both f g) × IsPair left.tree right.tree r.tree) }
 {
     let Read { tree, depths } = left;
     let Read {
@@ -59,7 +61,8 @@ pub fn beside<T: Drop, U: Drop>(left: Read<T>, right: Read<U>) -> Result<Read<(T
 
 /// A list with a tree more.
 pub fn longer<T: Drop>(before: Read<Vec<T>>, item: Read<T>) -> Result<Read<Vec<T>>, AllocError>
-    ensures { (f g : Places) → Holds before f → Holds item g → IfOk result (λ r. Holds r (both f g) × IsLonger before.tree item.tree r.tree) }
+    ensures { (f g : Places) → Holds before f → Holds item g
+        → IfOk result (λ r. Holds r (both f g) × IsLonger before.tree item.tree r.tree) }
 {
     let Read { tree, depths } = beside(before, item)?;
     match tree {

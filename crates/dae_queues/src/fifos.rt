@@ -23,12 +23,15 @@ pub trait Fifo<T: Copy> {
     fn push(&mut self, item: T) -> Option<T>
         ensures item { result
             ≡ (if nat_lt (length (held self.old)) (depth self.old) then None else Some item) }
-        ensures queue { self.new ≡ (if nat_lt (length (held self.old)) (depth self.old) then pushed item self.old else self.old) };
+        ensures queue { self.new
+            ≡ (if nat_lt (length (held self.old)) (depth self.old) then pushed item self.old
+            else self.old) };
 
     /// Takes the oldest item, or gives None where the queue is empty.
     fn take(&mut self) -> Option<T>
         ensures item { result ≡ first (held self.old) }
-        ensures queue { self.new ≡ (if is_some (first (held self.old)) then taken self.old else self.old) };
+        ensures queue { self.new
+            ≡ (if is_some (first (held self.old)) then taken self.old else self.old) };
 
     /// The oldest item, or None where the queue is empty.
     fn front(&self) -> Option<T>
@@ -46,12 +49,15 @@ pub trait Fifo<T: Copy> {
     fn has_room(&self) -> bool
         ensures { result ≡ nat_lt (length (held self.now)) (depth self.now) };
 
-    ghost push_appends: { (x : T) (q : Self) → (held (pushed x q) ≡ held q ++ x ∷ []) × (depth (pushed x q) ≡ depth q) };
+    ghost push_appends: { (x : T) (q : Self) → (held (pushed x q) ≡ held q ++ x ∷ [])
+        × (depth (pushed x q) ≡ depth q) };
 
-    ghost take_removes: { (q : Self) → (held (taken q) ≡ rest (held q)) × (depth (taken q) ≡ depth q) };
+    ghost take_removes: { (q : Self) → (held (taken q) ≡ rest (held q))
+        × (depth (taken q) ≡ depth q) };
 
     // A push and a take on a queue that allows both give one state in either order.
-    ghost ends_commute: { (x : T) (q : Self) → nat_lt (length (held q)) (depth q) ≡ true → is_some (first (held q)) ≡ true → taken (pushed x q) ≡ pushed x (taken q) };
+    ghost ends_commute: { (x : T) (q : Self) → nat_lt (length (held q)) (depth q) ≡ true
+        → is_some (first (held q)) ≡ true → taken (pushed x q) ≡ pushed x (taken q) };
 }
 
 /// A queue of items in a vector whose room is made at the start.
@@ -69,7 +75,8 @@ impl<T: Copy> Model for PlainFifo<T> {
 
     ghost view = { λ q. record { held = q.items.items; depth = q.depth } };
 
-    ghost invariant = { λ q. (length q.items.items ≤ q.depth) × (q.depth ≤ vec_capacity q.items) × (q.depth < 2 ^ 16) };
+    ghost invariant = { λ q. (length q.items.items ≤ q.depth) × (q.depth ≤ vec_capacity q.items)
+        × (q.depth < 2 ^ 16) };
 }
 
 impl<T: Copy> PlainFifo<T> {

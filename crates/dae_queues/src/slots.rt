@@ -28,9 +28,14 @@ impl Model for SlotQueue {
 
     ghost Value = { SlotRing };
 
-    ghost view = { λ q. record { held = record { taken = q.taken; reserved = q.reserved; slots = q.ring.items }; depth = q.ring.capacity } };
+    ghost view = { λ q.
+        record {
+          held = record { taken = q.taken; reserved = q.reserved; slots = q.ring.items };
+          depth = q.ring.capacity;
+        } };
 
-    ghost invariant = { λ q. Counts q.taken (map (λ slot. slot.number) q.ring.items) q.reserved × (q.ring.capacity < 2 ^ 16) × AreFilled q.filled q.ring.items };
+    ghost invariant = { λ q. Counts q.taken (map (λ slot. slot.number) q.ring.items) q.reserved
+        × (q.ring.capacity < 2 ^ 16) × AreFilled q.filled q.ring.items };
 }
 
 impl SlotQueue {
@@ -93,8 +98,12 @@ impl SlotQueue {
     /// Appends a slot that waits, and gives its number, or None where the queue is full.
     pub fn reserve(&mut self, addr: u32, kind: LoadKind, stamp: u64) -> Option<u64>
         requires can_count { self.old.held.reserved < 2 ^ 40 }
-        ensures number { result ≡ (if nat_lt (length self.old.held.slots) self.old.depth then Some self.old.held.reserved else None) }
-        ensures slots { self.new ≡ (if nat_lt (length self.old.held.slots) self.old.depth then record self.old { held = with_slot kind addr stamp self.old.held } else self.old) }
+        ensures number { result
+            ≡ (if nat_lt (length self.old.held.slots) self.old.depth
+            then Some self.old.held.reserved else None) }
+        ensures slots { self.new
+            ≡ (if nat_lt (length self.old.held.slots) self.old.depth
+            then record self.old { held = with_slot kind addr stamp self.old.held } else self.old) }
     {
         let number = self.reserved;
         let slot = Slot {
@@ -126,7 +135,9 @@ impl SlotQueue {
     /// Takes the front slot out and gives its value, or None where there is no slot or the front one isn't filled.
     pub fn take(&mut self) -> Option<u32>
         ensures value { result ≡ first_value self.old.held.slots }
-        ensures slots { self.new ≡ (if is_some (first_value self.old.held.slots) then record self.old { held = without_front self.old.held } else self.old) }
+        ensures slots { self.new
+            ≡ (if is_some (first_value self.old.held.slots)
+            then record self.old { held = without_front self.old.held } else self.old) }
     {
         let value = self.front()?;
         let _ = self.ring.pop_front();
@@ -145,7 +156,10 @@ impl SlotQueue {
     /// Gives the slot of this number its value, or answers false where no slot of this number waits for one.
     pub fn fill(&mut self, number: u64, value: u32) -> bool
         ensures found { result ≡ is_some (waiting number self.old.held.slots) }
-        ensures slots { self.new ≡ record self.old { held = record self.old.held { slots = with_value number value self.old.held.slots } } }
+        ensures slots { self.new
+            ≡ record self.old {
+              held = record self.old.held { slots = with_value number value self.old.held.slots };
+            } }
     {
         match slot_at(&self.ring, self.taken, number) {
             None => false,

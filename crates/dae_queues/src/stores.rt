@@ -24,9 +24,20 @@ impl Model for StoreQueue {
 
     ghost Value = { StoreRing };
 
-    ghost view = { λ q. record { held = record { drained = q.drained; issued = q.issued; sa = q.addresses.items; sd = q.words.items }; sa_depth = q.addresses.capacity; sd_depth = q.words.capacity } };
+    ghost view = { λ q.
+        record {
+          held = record {
+            drained = q.drained;
+            issued = q.issued;
+            sa = q.addresses.items;
+            sd = q.words.items;
+          };
+          sa_depth = q.addresses.capacity;
+          sd_depth = q.words.capacity;
+        } };
 
-    ghost invariant = { λ q. Counts q.drained (map (λ at. at.number) q.addresses.items) q.issued × (q.addresses.capacity < 2 ^ 16) × (q.words.capacity < 2 ^ 16) };
+    ghost invariant = { λ q. Counts q.drained (map (λ at. at.number) q.addresses.items) q.issued
+        × (q.addresses.capacity < 2 ^ 16) × (q.words.capacity < 2 ^ 16) };
 }
 
 impl StoreQueue {
@@ -106,7 +117,9 @@ impl StoreQueue {
     pub fn push_address(&mut self, addr: u32, width: Width) -> bool
         requires can_count { self.old.held.issued < 2 ^ 40 }
         ensures room { result ≡ nat_lt (length self.old.held.sa) self.old.sa_depth }
-        ensures stores { self.new ≡ (if nat_lt (length self.old.held.sa) self.old.sa_depth then record self.old { held = with_address width addr self.old.held } else self.old) }
+        ensures stores { self.new
+            ≡ (if nat_lt (length self.old.held.sa) self.old.sa_depth
+            then record self.old { held = with_address width addr self.old.held } else self.old) }
     {
         let number = self.issued;
         let at = StoreAt {
@@ -126,7 +139,9 @@ impl StoreQueue {
     /// Appends a datum, or answers false where there is no room for one.
     pub fn push_datum(&mut self, word: u32) -> bool
         ensures room { result ≡ nat_lt (length self.old.held.sd) self.old.sd_depth }
-        ensures stores { self.new ≡ (if nat_lt (length self.old.held.sd) self.old.sd_depth then record self.old { held = with_datum word self.old.held } else self.old) }
+        ensures stores { self.new
+            ≡ (if nat_lt (length self.old.held.sd) self.old.sd_depth
+            then record self.old { held = with_datum word self.old.held } else self.old) }
     {
         self.words.try_push_back(word).is_ok()
     }
@@ -144,7 +159,9 @@ impl StoreQueue {
     /// Takes that store out and gives it with its datum, or None where an address or a datum is absent.
     pub fn drain(&mut self) -> Option<(StoreAt, u32)>
         ensures store { result ≡ next_store self.old.held.sa self.old.held.sd }
-        ensures stores { self.new ≡ (if is_some (next_store self.old.held.sa self.old.held.sd) then record self.old { held = without_store self.old.held } else self.old) }
+        ensures stores { self.new
+            ≡ (if is_some (next_store self.old.held.sa self.old.held.sd)
+            then record self.old { held = without_store self.old.held } else self.old) }
     {
         let store = self.front()?;
         let _ = self.addresses.pop_front();

@@ -27,7 +27,11 @@ impl<B> Model for Scope<B> {
 
     ghost Value = { Scopes B };
 
-    ghost view = { λ s. record { names = shown s.bindings.items; outside = shown_outside s.bindings.items s.starts.items } };
+    ghost view = { λ s.
+        record {
+          names = shown s.bindings.items;
+          outside = shown_outside s.bindings.items s.starts.items;
+        } };
 
     ghost invariant = { λ s. AreWithin (length s.bindings.items) s.starts.items };
 }
@@ -53,7 +57,12 @@ impl<B: Copy> Scope<B> {
 
     /// Adds names, each behind the one before.
     pub fn bind_all(&mut self, bindings: &[Binding<B>]) -> Result<(), AllocError>
-        ensures { IfOk result (λ _. self.new ≡ record { names = bound_all bindings.now self.old.names; outside = self.old.outside }) }
+        ensures { IfOk result
+            (λ _. self.new
+            ≡ record {
+              names = bound_all bindings.now self.old.names;
+              outside = self.old.outside;
+            }) }
     {
         for binding in bindings {
             self.bind(binding.name, binding.bound)?;

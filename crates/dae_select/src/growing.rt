@@ -64,7 +64,8 @@ impl Model for GrowingCode {
 
     ghost Value = { Grown };
 
-    ghost view = { λ grown. record { code = reverse grown.backward.items; places = reverse grown.places.items } };
+    ghost view = { λ grown.
+        record { code = reverse grown.backward.items; places = reverse grown.places.items } };
 }
 
 impl GrowingCode {

@@ -248,7 +248,10 @@ pub fn put_group(
     group: &[Part],
     last: Last,
 ) -> Result<(), AllocError>
-    ensures { OnOk result (Adds (group_of (is_a task.side) (classes_of tables.now task.function) number group.now last) steps.old.items steps.new.items) }
+    ensures { OnOk result
+        (Adds (group_of (is_a task.side)
+        (classes_of tables.now task.function) number group.now last) steps.old.items
+        steps.new.items) }
 {
     match task.side {
         Side::A => put_a_group(steps, tables, task.function, number, group, last),

@@ -25,7 +25,10 @@ fn end_group(
     last: Last,
 ) -> Result<(), AllocError>
     requires { x.old.number < 2 ^ 63 }
-    ensures steps { OnOk result (Adds (group_of (is_a task.side) (classes_of tables.now task.function) x.old.number x.old.group.items last) x.old.steps.items x.new.steps.items) }
+    ensures steps { OnOk result
+        (Adds (group_of (is_a task.side)
+        (classes_of tables.now task.function) x.old.number x.old.group.items last) x.old.steps.items
+        x.new.steps.items) }
     ensures group { OnOk result (x.new.group.items ≡ []) }
     ensures number { OnOk result (x.new.number ≡ x.old.number + 1) }
 {
@@ -38,7 +41,11 @@ fn end_group(
 /// Ends the group so far, if it isn't empty.
 pub fn close(x: &mut Stretch, tables: &[Items<Class>], task: Task) -> Result<(), AllocError>
     requires { x.old.number < 2 ^ 63 }
-    ensures made { OnOk result ((outside : Bool) (k : Rounds) → Makes (projected outside (is_a task.side) (classes_of tables.now) (classes_of tables.now task.function) task.cap) x.old.steps.items x.old.number x.new.steps.items x.new.number k (closed x.old.group.items k)) }
+    ensures made { OnOk result
+        ((outside : Bool) (k : Rounds)
+        → Makes (projected outside (is_a task.side) (classes_of tables.now)
+        (classes_of tables.now task.function) task.cap) x.old.steps.items x.old.number
+        x.new.steps.items x.new.number k (closed x.old.group.items k)) }
     ensures group { OnOk result (x.new.group.items ≡ []) }
     ensures number { OnOk result (x.new.number ≤ x.old.number + 1) }
 {
@@ -55,7 +62,13 @@ fn add_part(
     part: Part,
 ) -> Result<(), AllocError>
     requires { x.old.number < 2 ^ 63 }
-    ensures made { OnOk result ((outside : Bool) (place : Place) (r : List Part → Rounds) → Makes (projected outside (is_a task.side) (classes_of tables.now) (classes_of tables.now task.function) task.cap) x.old.steps.items x.old.number x.new.steps.items x.new.number (r x.new.group.items) (placed (classes_of tables.now task.function) task.cap x.old.group.items place (Joins part) r)) }
+    ensures made { OnOk result
+        ((outside : Bool) (place : Place) (r : List Part → Rounds)
+        → Makes (projected outside (is_a task.side) (classes_of tables.now)
+        (classes_of tables.now task.function) task.cap) x.old.steps.items x.old.number
+        x.new.steps.items x.new.number (r x.new.group.items)
+        (placed (classes_of tables.now task.function) task.cap x.old.group.items place
+        (Joins part) r)) }
     ensures number { OnOk result (x.new.number ≤ x.old.number + 1) }
 {
     if is_full(tables, task.function, task.cap, &x.group, &part) {
@@ -75,7 +88,13 @@ fn add_last(
     last: Last,
 ) -> Result<(), AllocError>
     requires { x.old.number < 2 ^ 63 }
-    ensures made { OnOk result ((outside : Bool) (place : Place) (r : List Part → Rounds) → Makes (projected outside (is_a task.side) (classes_of tables.now) (classes_of tables.now task.function) task.cap) x.old.steps.items x.old.number x.new.steps.items x.new.number (r x.new.group.items) (placed (classes_of tables.now task.function) task.cap x.old.group.items place (Closes last) r)) }
+    ensures made { OnOk result
+        ((outside : Bool) (place : Place) (r : List Part → Rounds)
+        → Makes (projected outside (is_a task.side) (classes_of tables.now)
+        (classes_of tables.now task.function) task.cap) x.old.steps.items x.old.number
+        x.new.steps.items x.new.number (r x.new.group.items)
+        (placed (classes_of tables.now task.function) task.cap x.old.group.items place
+        (Closes last) r)) }
     ensures number { OnOk result (x.new.number ≤ x.old.number + 1) }
 {
     end_group(x, tables, task, last)?;
@@ -91,7 +110,15 @@ fn add_jump(
     action: Action,
 ) -> Result<(), AllocError>
     requires { x.old.number < 2 ^ 63 }
-    ensures made { OnOk result ((outside : Bool) (jump : Jump) → jump_action (is_a task.side) (classes_of tables.now) (classes_of tables.now task.function) jump ≡ action → (r : List Part → Rounds) → Makes (projected outside (is_a task.side) (classes_of tables.now) (classes_of tables.now task.function) task.cap) x.old.steps.items x.old.number x.new.steps.items x.new.number (r x.new.group.items) (placed (classes_of tables.now task.function) task.cap x.old.group.items place (Separates jump) r)) }
+    ensures made { OnOk result
+        ((outside : Bool) (jump : Jump)
+        → jump_action (is_a task.side) (classes_of tables.now)
+        (classes_of tables.now task.function) jump ≡ action → (r : List Part → Rounds)
+        → Makes (projected outside (is_a task.side) (classes_of tables.now)
+        (classes_of tables.now task.function) task.cap) x.old.steps.items x.old.number
+        x.new.steps.items x.new.number (r x.new.group.items)
+        (placed (classes_of tables.now task.function) task.cap x.old.group.items place
+        (Separates jump) r)) }
     ensures number { OnOk result (x.new.number ≤ x.old.number + 1) }
 {
     close(x, tables, task)?;
@@ -203,7 +230,13 @@ fn add_check(
     check: Check,
 ) -> Result<(), AllocError>
     requires { x.old.number < 2 ^ 63 }
-    ensures made { OnOk result ((outside : Bool) (r : List Part → Rounds) → Makes (projected outside (is_a task.side) (classes_of tables.now) (classes_of tables.now task.function) task.cap) x.old.steps.items x.old.number x.new.steps.items x.new.number (r x.new.group.items) (placed (classes_of tables.now task.function) task.cap x.old.group.items place (stand (classes_of tables.now task.function) place (Expect check)) r)) }
+    ensures made { OnOk result
+        ((outside : Bool) (r : List Part → Rounds)
+        → Makes (projected outside (is_a task.side) (classes_of tables.now)
+        (classes_of tables.now task.function) task.cap) x.old.steps.items x.old.number
+        x.new.steps.items x.new.number (r x.new.group.items)
+        (placed (classes_of tables.now task.function) task.cap x.old.group.items place
+        (stand (classes_of tables.now task.function) place (Expect check)) r)) }
     ensures number { OnOk result (x.new.number ≤ x.old.number + 1) }
 {
     if has_check(tables, task.function, check) {
@@ -225,7 +258,13 @@ pub fn add_item(
 ) -> Result<(), AllocError>
     requires below { x.old.number < 2 ^ 63 }
     requires fit { ArgumentsFit functions.now item.now }
-    ensures made { OnOk result ((outside : Bool) (r : List Part → Rounds) → Makes (projected outside (is_a task.side) (classes_of tables.now) (classes_of tables.now task.function) task.cap) x.old.steps.items x.old.number x.new.steps.items x.new.number (r x.new.group.items) (placed (classes_of tables.now task.function) task.cap x.old.group.items place (stand (classes_of tables.now task.function) place item.now) r)) }
+    ensures made { OnOk result
+        ((outside : Bool) (r : List Part → Rounds)
+        → Makes (projected outside (is_a task.side) (classes_of tables.now)
+        (classes_of tables.now task.function) task.cap) x.old.steps.items x.old.number
+        x.new.steps.items x.new.number (r x.new.group.items)
+        (placed (classes_of tables.now task.function) task.cap x.old.group.items place
+        (stand (classes_of tables.now task.function) place item.now) r)) }
     ensures number { OnOk result (x.new.number ≤ x.old.number + 1) }
 {
     match item {

@@ -82,7 +82,14 @@ fn add_statement(
 ) -> Result<(), AllocError>
     requires below { x.old.number < 2 ^ 63 - 1 }
     requires fit { CallsFit functions.now (before statement.now Done) }
-    ensures made { OnOk result ((k : Form) → Makes (projected outside (is_a task.side) (classes_of tables.now) (classes_of tables.now task.function) task.cap) x.old.steps.items x.old.number x.new.steps.items x.new.number (rounds (classes_of tables.now task.function) task.cap outside k x.new.group.items) (rounds (classes_of tables.now task.function) task.cap outside (before statement.now k) x.old.group.items)) }
+    ensures made { OnOk result
+        ((k : Form)
+        → Makes (projected outside (is_a task.side) (classes_of tables.now)
+        (classes_of tables.now task.function) task.cap) x.old.steps.items x.old.number
+        x.new.steps.items x.new.number
+        (rounds (classes_of tables.now task.function) task.cap outside k x.new.group.items)
+        (rounds (classes_of tables.now task.function) task.cap outside
+        (before statement.now k) x.old.group.items)) }
     ensures number { OnOk result (x.new.number ≤ x.old.number + 1) }
 {
     match statement {

@@ -51,8 +51,22 @@ impl File {
         literals: Items<Items<u8>>,
         includes: Includes,
     ) -> File
-        requires { IsFile (record { externals = externals; names = names; literals = literals; stdio = includes.stdio; stdlib = includes.stdlib }) }
-        ensures { result ≡ record { externals = externals; names = names; literals = literals; stdio = includes.stdio; stdlib = includes.stdlib } }
+        requires { IsFile
+            (record {
+              externals = externals;
+              names = names;
+              literals = literals;
+              stdio = includes.stdio;
+              stdlib = includes.stdlib;
+            }) }
+        ensures { result
+            ≡ record {
+              externals = externals;
+              names = names;
+              literals = literals;
+              stdio = includes.stdio;
+              stdlib = includes.stdlib;
+            } }
     {
         File {
             externals,

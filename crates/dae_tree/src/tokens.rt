@@ -88,8 +88,26 @@ impl<'t> Tokens<'t> {
         includes: Includes,
         end: Place,
     ) -> Tokens<'t>
-        requires { IsReading (record { text = text.now; tokens = tokens; names = names; literals = literals; stdio = includes.stdio; stdlib = includes.stdlib; end = end }) }
-        ensures { result ≡ record { text = text.entry.now; tokens = tokens; names = names; literals = literals; stdio = includes.stdio; stdlib = includes.stdlib; end = end } }
+        requires { IsReading
+            (record {
+              text = text.now;
+              tokens = tokens;
+              names = names;
+              literals = literals;
+              stdio = includes.stdio;
+              stdlib = includes.stdlib;
+              end = end;
+            }) }
+        ensures { result
+            ≡ record {
+              text = text.entry.now;
+              tokens = tokens;
+              names = names;
+              literals = literals;
+              stdio = includes.stdio;
+              stdlib = includes.stdlib;
+              end = end;
+            } }
     {
         Tokens {
             text,

@@ -143,7 +143,10 @@ fn same_structure(
     behind: bool,
     structures: Couple,
 ) -> bool
-    ensures { result ≡ same_structure (same_within_files depth f.now g.now false) f.now g.now behind structures.left structures.right }
+    ensures { result
+        ≡ same_structure
+        (same_within_files depth f.now g.now false) f.now g.now behind structures.left
+        structures.right }
 {
     if !same_tag(tag_of(f, structures.left), tag_of(g, structures.right)) {
         return false;

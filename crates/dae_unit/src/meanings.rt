@@ -48,7 +48,10 @@ fn push_places(
     objects: &[Object],
 ) -> Result<(), AllocError>
     requires { IsIndexed files.now rooms.placed }
-    ensures { OnOk result (addresses.new.items ≡ object_places files.now rooms.entry.placed.rows.now rooms.entry.places.now file addresses.old.items 0 objects.now) }
+    ensures { OnOk result
+        (addresses.new.items
+        ≡ object_places files.now rooms.entry.placed.rows.now rooms.entry.places.now file
+        addresses.old.items 0 objects.now) }
 {
     for (number, _) in objects.iter().enumerate() {
         addresses.push(object_place(files, rooms, file, Entity::Object(number)))?;
@@ -166,7 +169,10 @@ fn links_in(
     requires few { length bodies.rows.now < 2 ^ 32 }
     requires rooms { IsIndexed files.now rooms.placed }
     requires bodies { IsIndexed files.now bodies }
-    ensures { IfOk result (λ links. links ≡ links_in files.now rooms.entry.placed.rows.now bodies.entry.rows.now rooms.entry.places.now literals.now file parts.now) }
+    ensures { IfOk result
+        (λ links. links
+        ≡ links_in files.now rooms.entry.placed.rows.now bodies.entry.rows.now
+        rooms.entry.places.now literals.now file parts.now) }
 {
     let mut addresses = Vec::from_slice(alloc, literals)?;
     push_places(&mut addresses, files, rooms, file, parts.objects.as_slice())?;
@@ -187,7 +193,10 @@ pub fn links_of(
     requires few { length bodies.rows.now < 2 ^ 32 }
     requires rooms { IsIndexed files.now rooms.placed }
     requires bodies { IsIndexed files.now bodies }
-    ensures { IfOk result (λ links. links.items ≡ links_of files.now rooms.entry.placed.rows.now bodies.entry.rows.now rooms.entry.places.now) }
+    ensures { IfOk result
+        (λ links. links.items
+        ≡ links_of files.now rooms.entry.placed.rows.now bodies.entry.rows.now
+        rooms.entry.places.now) }
 {
     let mut links = Vec::new(alloc);
     let mut rest = behind(rooms.places, rooms.placed.rows.len());

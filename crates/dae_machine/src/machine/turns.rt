@@ -192,7 +192,9 @@ impl Machine {
 
     fn try_alone_a(&mut self) -> Option<(Pick, Piece)>
         requires few { self.old.state.steps < 1000000000000 }
-        ensures { Tried result (if is_some (step self.old.setup self.old.state Pick.A) then Some Pick.A else None) self.old self.new }
+        ensures { Tried result
+            (if is_some (step self.old.setup self.old.state Pick.A) then Some Pick.A
+            else None) self.old self.new }
     {
         if self.try_a() {
             Some((Pick::A, Piece::empty()))
@@ -203,7 +205,9 @@ impl Machine {
 
     fn try_alone_e(&mut self) -> Option<(Pick, Piece)>
         requires few { self.old.state.steps < 1000000000000 }
-        ensures { Tried result (if is_some (step self.old.setup self.old.state Pick.E) then Some Pick.E else None) self.old self.new }
+        ensures { Tried result
+            (if is_some (step self.old.setup self.old.state Pick.E) then Some Pick.E
+            else None) self.old self.new }
     {
         let piece = self.try_e()?;
         Some((Pick::E, piece))
@@ -231,7 +235,9 @@ impl Machine {
 
     fn try_alone_drain(&mut self) -> Option<(Pick, Piece)>
         requires few { self.old.state.steps < 1000000000000 }
-        ensures { Tried result (if is_some (step self.old.setup self.old.state Pick.Drain) then Some Pick.Drain else None) self.old self.new }
+        ensures { Tried result
+            (if is_some (step self.old.setup self.old.state Pick.Drain) then Some Pick.Drain
+            else None) self.old self.new }
     {
         if self.try_drain() {
             Some((Pick::Drain, Piece::empty()))

@@ -1,0 +1,6 @@
+mod OtherwiseDeclarators
+mod OtherwiseDeclarations
+mod Structures
+mod Inner
+mod Counts
+mod Below

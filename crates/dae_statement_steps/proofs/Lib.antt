@@ -1,0 +1,2 @@
+mod OtherwiseStatements
+mod OtherwiseExpressions

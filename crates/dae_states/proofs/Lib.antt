@@ -1,0 +1,5 @@
+mod ByKind
+mod TypesFound
+mod Stacks
+mod LeftBehind
+pub mod Laws

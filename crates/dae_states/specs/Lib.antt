@@ -1,0 +1,4 @@
+pub mod Fronts
+pub mod Frames
+pub mod States
+pub mod Bottom
