@@ -70,11 +70,12 @@ def furnish(room, crate, below):
     copy(crate, room, ["out/rlib", "out/incremental"])
 
 
-def build(crate, below):
-    """Builds one library, and gives what the build said where it failed."""
+def build(crate, below, jobs):
+    """Builds one library with so many jobs, and gives what the build said where it failed."""
     room = f"{ROOM}/{crate}"
     furnish(room, crate, below)
-    done = subprocess.run(["rt", "lib"], cwd=f"{room}/crates/{crate}", capture_output=True, text=True, check=False)
+    words = ["rt", "lib", "--jobs", str(jobs)]
+    done = subprocess.run(words, cwd=f"{room}/crates/{crate}", capture_output=True, text=True, check=False)
     if done.returncode == 0:
         shutil.rmtree(f"{TOP}/crates/{crate}/out", ignore_errors=True)
         os.rename(f"{room}/crates/{crate}/out", f"{TOP}/crates/{crate}/out")
@@ -89,9 +90,11 @@ def build_all(below):
     with ThreadPoolExecutor(most) as pool:
         while waiting or running:
             ready = sorted((it for it in waiting if built.issuperset(below[it])), key=lambda it: -longest[it])
+            # (each job of a library reads what it stands on anew, so that it has several only where processors are left)
+            jobs = max(1, most // max(1, len(running) + len(ready)))
             for crate in ready[: most - len(running)]:
                 waiting.remove(crate)
-                running[pool.submit(build, crate, below[crate])] = crate
+                running[pool.submit(build, crate, below[crate], jobs)] = crate
             for done in wait(running, return_when=FIRST_COMPLETED).done:
                 crate = running.pop(done)
                 if said := done.result():
