@@ -85,7 +85,7 @@ stays s (suc m) h = ap (λ (o : Option State). elim o [ None ↦ s | Some t ↦ 
 
 same_behind : (n m : ℕ) (s : State) (o : Option State) → ((t : State) → step (run n t) ≡ None → step (run m t) ≡ None → run n t ≡ run m t)
     → step (elim o [ None ↦ s | Some t ↦ run n t ]) ≡ None → step (elim o [ None ↦ s | Some t ↦ run m t ]) ≡ None
-    → elim o [ None ↦ s | Some t ↦ run n t ] ≡ elim o [ None ↦ s | Some t ↦ run m t ]
+    → ◌≡◌ {A = State} (elim o [ None ↦ s | Some t ↦ run n t ]) (elim o [ None ↦ s | Some t ↦ run m t ])
 same_behind n m s None law h k = refl
 same_behind n m s (Some t) law h k = law t h k
 

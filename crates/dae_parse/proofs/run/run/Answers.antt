@@ -25,7 +25,7 @@ returns-in-Stopped c =
     let f = c.in_ok-next.ensures r.does r.stack r.shown r.stands (holds_there _ _ _ m r) (bottom_there _ _ _ m r).0 (count_there c.args.tokens.now _ _ m r) in
     let g = subst (λ (t : Turn). TurnFollows t c.take_turn.new.machine r.does m.rest (step_at r.does r.stack m.scope.names m.rest)) c.in-Stopped.is f in
     let left = c.left_where_stuck-left.ensures r.does r.stack m.scope.names m.rest r.shown c.len.ensures in
-    (none_reached _ _ _ m r g.0 g.1, stuck_at c.args.tokens.now _ _ _ r.come g.0 (omega (arith, c.saturating_sub.ensures, c.len-total.ensures, left)))
+    (none_reached _ _ _ m r g.0 g.1, stuck_at c.args.tokens.now _ _ _ r.come g.0 (omega (arith, c.saturating_sub.ensures, left)))
 
 pub loop-turn-preserved : goal.loop-turn-preserved
 loop-turn-preserved c =
