@@ -13,6 +13,8 @@ use Rattle.dae_states.specs.declared.frames.Before.{Before}
 use Rattle.dae_states.specs.declared.frames.Frame.{Frame}
 use Rattle.dae_states.specs.declared.frames.Frame.TheVariants as frame
 use Rattle.dae_grammar.specs.Taken.{stack_taken, externals_before}
+use Rattle.std.specs.Prelude.{Box}
+use Rattle.std.specs.declared.alloc.Global.{Global}
 use Rattle.dae_parts.specs.declared.reading.Read.{Read}
 use Rattle.dae_nodes.specs.Parts.{ShowsStatement}
 use Rattle.dae_states.specs.States.{outside_stack}
@@ -28,7 +30,7 @@ file_or_none (tree.Block p ds ss) ws d outside (_ ∷ below) (plain.in_file xs �
 file_or_none _ ws d outside fs s ts shows h = refl
 
 -- the parts of a definition, and what stands before it
-pub record IsDefined (b : tree.Statement) (ws : tree.Specifiers) (d : tree.Declarator) (outside : Names) (s : List plain.Frame) (ts : List Mark) (found : Read Statement) (before : Before) (below : List Frame) (os : List Names) (total : ℕ) : Type 0 where
+pub record IsDefined (b : tree.Statement) (ws : tree.Specifiers) (d : tree.Declarator) (outside : Names) (s : List plain.Frame) (ts : List Mark) (found : Read (Box Statement Global)) (before : Before) (below : List Frame) (os : List Names) (total : ℕ) : Type 0 where
   pub place : Place
   pub declarations : List tree.Declaration
   pub statements : tree.Statements
@@ -40,7 +42,7 @@ pub record IsDefined (b : tree.Statement) (ws : tree.Specifiers) (d : tree.Decla
   pub scopes : os ≡ outside ∷ []
   pub same : defined ws d outside b s ts ≡ Some (plain.state (plain.externals (tree.Defined ws d place declarations statements ∷ externals)) [] outside ts)
 
-pub is_defined : (b : tree.Statement) (ws : tree.Specifiers) (d : tree.Declarator) (outside : Names) (s : List plain.Frame) (ts : List Mark) (found : Read Statement) (before : Before) (below : List Frame) (os : List Names) (total : ℕ)
+pub is_defined : (b : tree.Statement) (ws : tree.Specifiers) (d : tree.Declarator) (outside : Names) (s : List plain.Frame) (ts : List Mark) (found : Read (Box Statement Global)) (before : Before) (below : List Frame) (os : List Names) (total : ℕ)
     → ShowsStatement found b → true ≡ is_block b → ShowsStack (frame.InFile before ∷ below) s → IsBottom s → length (stack_taken s (spell_specifiers ws (spell_declarator d (spell_statement b ts)))) ≡ total → os ≡ outside ∷ outside_stack s
     → IsDefined b ws d outside s ts found before below os total
 is_defined (tree.Block p ds ss) ws d outside [] ts found before below os total shows is stack bottom e o = absurd stack

@@ -28,7 +28,7 @@ const GREATEST_LENGTH: usize = 8192;
 /// Behind the body of a function, in a file of so many tokens (C90 6.7.1).
 pub fn in_definition(
     machine: &mut Machine<'_>,
-    found: Read<Statement>,
+    found: Read<Box<Statement>>,
     is_body: bool,
     specified: Specified,
     declared: Declared,
@@ -64,14 +64,17 @@ fn file_of(frame: Frame) -> Option<Before>
 {
     match frame {
         Frame::InFile(before) => Some(before),
-        _ => None,
+        other => {
+            drop(other);
+            None
+        }
     }
 }
 
 /// Behind the body of a function, at file scope, with what stands before the definition.
 fn add_definition(
     machine: &mut Machine<'_>,
-    found: Read<Statement>,
+    found: Read<Box<Statement>>,
     specified: Specified,
     declared: Declared,
     before: Before,

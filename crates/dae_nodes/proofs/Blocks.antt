@@ -1,6 +1,7 @@
 -- A statement that is seen as a block is one.
 use Rattle.std.proofs.Common.{◌≡◌, ◌≢◌, List, Option, Some, None, sym, ap, ◌∙◌, arith}
-use Rattle.std.specs.Prelude.{slice_get}
+use Rattle.std.specs.Prelude.{Box, slice_get}
+use Rattle.std.specs.declared.alloc.Global.{Global}
 use Rattle.dae_base.specs.declared.Place.{Place}
 use Rattle.dae_tree.specs.declared.statements.Block.{Block}
 use Rattle.dae_tree.specs.declared.statements.Statement.{Statement, roll-Statement, roll-out-Statement}
@@ -28,7 +29,7 @@ not_block (statement.Case' q a b s) p ds ss never e = cc
 not_block (statement.Default' q b s) p ds ss never e = cc
 
 -- the place of a block is that of its first node
-pub at_block : (read : Read Statement) (p : Place) (ds : List tree.Declaration) (ss : tree.Statements) → ShowsStatement read (tree.Block p ds ss) → slice_get read.depths.places.items 0 ≡ Some p
+pub at_block : (read : Read (Box Statement Global)) (p : Place) (ds : List tree.Declaration) (ss : tree.Statements) → ShowsStatement read (tree.Block p ds ss) → slice_get read.depths.places.items 0 ≡ Some p
 at_block read p ds ss h = h.holds.places.entries 0 (omega arith)
 
 pub same_place : (p q : Place) → Some p ≡ Some q → p ≡ q

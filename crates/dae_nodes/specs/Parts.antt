@@ -1,5 +1,5 @@
 -- What each kind of part shows: its tree, and what is kept beside the tree.
-use Rattle.std.specs.Prelude.{◌≡◌, ℕ, Bool, true, false, List, [], ◌∷◌, Option, Some, None, Vec}
+use Rattle.std.specs.Prelude.{◌≡◌, ℕ, Bool, true, false, List, [], ◌∷◌, Option, Some, None, Box, Vec}
 use Rattle.std.specs.declared.alloc.Global.{Global}
 use Rattle.dae_base.specs.declared.Place.{Place}
 use Rattle.dae_tree.specs.declared.expressions.Name.{Name}
@@ -16,7 +16,7 @@ use Rattle.dae_tree.specs.declared.statements.Declaration.{Declaration}
 use Rattle.dae_tree.specs.declared.statements.Statement.{Statement}
 use Rattle.dae_tree.specs.declared.statements.External.{External}
 use Rattle.dae_tree.specs.Trees as tree
-use Rattle.dae_tree.specs.Views.{view, views_specifiers, view_specifier, view_declarator, views_declarators}
+use Rattle.dae_tree.specs.Views.{view, view_optional, views_specifiers, view_specifier, view_declarator, views_declarators}
 use Rattle.dae_tree.specs.FileViews.{view_initialiser, view_item, view_declaration, view_statement, view_external}
 use Rattle.dae_tree.specs.Depth.{place_of, place_of_specifier}
 use Rattle.dae_tree.specs.Names.{Names, declared_name, has_typedef, is_bare, with_parameters}
@@ -31,13 +31,13 @@ use Rattle.dae_nodes.specs.declared.values.Specified.{Specified}
 use Rattle.dae_nodes.specs.declared.values.Declared.{Declared}
 use Rattle.dae_nodes.specs.declared.values.ParameterList.{ParameterList}
 use Rattle.dae_nodes.specs.declared.values.Loop.{Loop}
-use Rattle.dae_parts.specs.Shown.{Shows, ShowsList}
+use Rattle.dae_parts.specs.Shown.{Shows, ShowsList, in_box, box_value}
 use Rattle.dae_scope.specs.Shown.{bound_all}
 
 -- ---- expressions
 
-abbrev pub ShowsExpression : Read Expression → tree.Expression → Type 0
-ShowsExpression = Shows view firsts
+abbrev pub ShowsExpression : Read (Box Expression Global) → tree.Expression → Type 0
+ShowsExpression = Shows (in_box view) firsts
 
 pub record ShowsOperand (o : Operand) (e : tree.Expression) : Type 0 where
   pub read : ShowsExpression o.read e
@@ -46,6 +46,10 @@ pub record ShowsOperand (o : Operand) (e : tree.Expression) : Type 0 where
 
 abbrev pub ShowsArguments : Read (Vec Expression Global) → List tree.Expression → Type 0
 ShowsArguments = ShowsList view firsts
+
+-- an expression that may be lacking, in a box
+abbrev pub view_boxed : Option (Box Expression Global) → Option tree.Expression
+view_boxed e = view_optional (box_value e)
 
 -- an operand that may be lacking
 abbrev pub ShowsOptional : Option Operand → Option tree.Expression → Type 0
@@ -161,8 +165,8 @@ ShowsExternals = ShowsList view_external firsts_external
 
 -- ---- statements
 
-abbrev pub ShowsStatement : Read Statement → tree.Statement → Type 0
-ShowsStatement = Shows view_statement firsts_statement
+abbrev pub ShowsStatement : Read (Box Statement Global) → tree.Statement → Type 0
+ShowsStatement = Shows (in_box view_statement) firsts_statement
 
 abbrev pub ShowsStatements : Read (Vec Statement Global) → List tree.Statement → Type 0
 ShowsStatements = ShowsList view_statement firsts_statement

@@ -22,7 +22,7 @@ pub fn value(operand: Operand) -> Read<Initialiser>
 {
     let Read { tree, depths } = operand.read;
     let tree = match tree {
-        Some(value) => Some(Initialiser::Value(value)),
+        Some(value) => Some(Initialiser::Value(Box::into_inner(value))),
         None => None,
     };
     Read { tree, depths }
@@ -171,7 +171,10 @@ fn block_of(statement: Statement) -> Option<Block>
 {
     match statement {
         Statement::Block(block) => Some(block),
-        _ => None,
+        other => {
+            drop(other);
+            None
+        }
     }
 }
 
@@ -181,7 +184,7 @@ fn definition_at(
     place: Place,
     specified: Specified,
     declared: Declared,
-    body: Read<Statement>,
+    body: Read<Box<Statement>>,
 ) -> Result<Read<External>, AllocError>
     ensures { (ws : tree.Specifiers) (d : tree.Declarator) (p : Place) (ds : List tree.Declaration)
         (ss : tree.Statements) → ShowsSpecified specified ws → ShowsDeclared declared d
@@ -194,7 +197,7 @@ fn definition_at(
     let tree = match tree {
         Some((specifiers, rest)) => {
             let (declarator, body) = rest;
-            match block_of(body) {
+            match block_of(Box::into_inner(body)) {
                 Some(block) => Some(External::Definition(specifiers, declarator, block)),
                 None => None,
             }
@@ -209,7 +212,7 @@ pub fn definition(
     alloc: Global,
     specified: Specified,
     declared: Declared,
-    body: Read<Statement>,
+    body: Read<Box<Statement>>,
 ) -> Result<Read<External>, AllocError>
     ensures { (ws : tree.Specifiers) (d : tree.Declarator) (p : Place) (ds : List tree.Declaration)
         (ss : tree.Statements) → ShowsSpecified specified ws → ShowsDeclared declared d

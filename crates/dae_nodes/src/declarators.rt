@@ -152,11 +152,7 @@ pub fn sized_array(
     let parts = beside(read, size.read)?;
     let Read { tree, depths } = over(alloc, first, parts)?;
     let tree = match tree {
-        Some((d, size)) => Some(Declarator::Sized(
-            Box::new(alloc, d)?,
-            place,
-            Box::new(alloc, size)?,
-        )),
+        Some((d, size)) => Some(Declarator::Sized(Box::new(alloc, d)?, place, size)),
         None => None,
     };
     Ok(Declared {

@@ -7,7 +7,7 @@ use crate::values::{Declared, Operand, Specified};
 use dae_base::Place;
 use dae_parts::{
     ASSIGNMENT, CAST, COMMA, CONDITIONAL, POSTFIX, PRIMARY, Read, UNARY, beside, flat, longer,
-    over, strength,
+    over, strength, unbox,
 };
 use dae_tree::{
     AssignmentOperator, BinaryOperator, Constant, Expression, MemberOperator, Name,
@@ -20,7 +20,11 @@ pub fn identifier(alloc: Global, name: Name) -> Result<Operand, AllocError>
     ensures { IfOk result (λ r. ShowsOperand r (tree.Identifier name)) }
 {
     let place = name.place;
-    let read = over(alloc, place, flat(alloc, Expression::Identifier(name)))?;
+    let read = over(
+        alloc,
+        place,
+        flat(alloc, Box::new(alloc, Expression::Identifier(name))?),
+    )?;
     Ok(Operand {
         read,
         level: PRIMARY,
@@ -35,7 +39,10 @@ pub fn constant(alloc: Global, place: Place, constant: Constant) -> Result<Opera
     let read = over(
         alloc,
         place,
-        flat(alloc, Expression::Constant(place, constant)),
+        flat(
+            alloc,
+            Box::new(alloc, Expression::Constant(place, constant))?,
+        ),
     )?;
     Ok(Operand {
         read,
@@ -51,7 +58,7 @@ pub fn literal(alloc: Global, place: Place, number: u32) -> Result<Operand, Allo
     let read = over(
         alloc,
         place,
-        flat(alloc, Expression::Literal(place, number)),
+        flat(alloc, Box::new(alloc, Expression::Literal(place, number))?),
     )?;
     Ok(Operand {
         read,
@@ -67,7 +74,7 @@ pub fn parenthesised(alloc: Global, place: Place, inner: Operand) -> Result<Oper
 {
     let Read { tree, depths } = over(alloc, place, inner.read)?;
     let tree = match tree {
-        Some(inner) => Some(Expression::Parenthesised(place, Box::new(alloc, inner)?)),
+        Some(inner) => Some(Box::new(alloc, Expression::Parenthesised(place, inner))?),
         None => None,
     };
     Ok(Operand {
@@ -91,7 +98,7 @@ pub fn index(
     let parts = beside(base.read, subscript.read)?;
     let Read { tree, depths } = over(alloc, first, parts)?;
     let tree = match tree {
-        Some((a, b)) => Some(Expression::Index(Box::new(alloc, a)?, place, Box::new(alloc, b)?)),
+        Some((a, b)) => Some(Box::new(alloc, Expression::Index(a, place, b))?),
         None => None,
     };
     Ok(Operand {
@@ -109,7 +116,7 @@ pub fn with_argument(
     ensures { (es : List tree.Expression) (e : tree.Expression) → ShowsArguments before es
         → ShowsOperand argument e → IfOk result (λ r. ShowsArguments r (e ∷ es)) }
 {
-    longer(before, argument.read)
+    longer(before, unbox(argument.read))
 }
 
 /// A call (C90 6.3.2.2).
@@ -128,11 +135,9 @@ pub fn call(
     let parts = beside(callee.read, arguments)?;
     let Read { tree, depths } = over(alloc, first, parts)?;
     let tree = match tree {
-        Some((callee, arguments)) => Some(Expression::Call(
-            Box::new(alloc, callee)?,
-            place,
-            arguments,
-        )),
+        Some((callee, arguments)) => {
+            Some(Box::new(alloc, Expression::Call(callee, place, arguments))?)
+        }
         None => None,
     };
     Ok(Operand {
@@ -156,7 +161,7 @@ pub fn member(
     let first = base.place;
     let Read { tree, depths } = over(alloc, first, base.read)?;
     let tree = match tree {
-        Some(a) => Some(Expression::Member(Box::new(alloc, a)?, place, operator, name)),
+        Some(a) => Some(Box::new(alloc, Expression::Member(a, place, operator, name))?),
         None => None,
     };
     Ok(Operand {
@@ -179,7 +184,7 @@ pub fn postfix(
     let first = base.place;
     let Read { tree, depths } = over(alloc, first, base.read)?;
     let tree = match tree {
-        Some(a) => Some(Expression::Postfix(Box::new(alloc, a)?, place, operator)),
+        Some(a) => Some(Box::new(alloc, Expression::Postfix(a, place, operator))?),
         None => None,
     };
     Ok(Operand {
@@ -201,7 +206,7 @@ pub fn prefix(
 {
     let Read { tree, depths } = over(alloc, place, operand.read)?;
     let tree = match tree {
-        Some(a) => Some(Expression::Prefix(place, operator, Box::new(alloc, a)?)),
+        Some(a) => Some(Box::new(alloc, Expression::Prefix(place, operator, a))?),
         None => None,
     };
     Ok(Operand {
@@ -222,7 +227,7 @@ pub fn sizeof_expression(
 {
     let Read { tree, depths } = over(alloc, place, operand.read)?;
     let tree = match tree {
-        Some(a) => Some(Expression::SizeofExpression(place, Box::new(alloc, a)?)),
+        Some(a) => Some(Box::new(alloc, Expression::SizeofExpression(place, a))?),
         None => None,
     };
     Ok(Operand {
@@ -252,7 +257,8 @@ pub fn sizeof_type(
                 specifiers,
                 declarator,
             };
-            Some(Expression::SizeofType(place, paren, Box::new(alloc, name)?))
+            let name = Box::new(alloc, name)?;
+            Some(Box::new(alloc, Expression::SizeofType(place, paren, name))?)
         }
         None => None,
     };
@@ -285,7 +291,8 @@ pub fn cast(
                 specifiers,
                 declarator,
             };
-            Some(Expression::Cast(place, Box::new(alloc, name)?, Box::new(alloc, operand)?))
+            let name = Box::new(alloc, name)?;
+            Some(Box::new(alloc, Expression::Cast(place, name, operand))?)
         }
         None => None,
     };
@@ -311,12 +318,7 @@ pub fn binary(
     let parts = beside(left.read, right.read)?;
     let Read { tree, depths } = over(alloc, first, parts)?;
     let tree = match tree {
-        Some((a, b)) => Some(Expression::Binary(
-            Box::new(alloc, a)?,
-            place,
-            operator,
-            Box::new(alloc, b)?,
-        )),
+        Some((a, b)) => Some(Box::new(alloc, Expression::Binary(a, place, operator, b))?),
         None => None,
     };
     Ok(Operand {
@@ -344,12 +346,7 @@ pub fn conditional(
     let tree = match tree {
         Some((a, rest)) => {
             let (b, c) = rest;
-            Some(Expression::Conditional(
-                Box::new(alloc, a)?,
-                place,
-                Box::new(alloc, b)?,
-                Box::new(alloc, c)?,
-            ))
+            Some(Box::new(alloc, Expression::Conditional(a, place, b, c))?)
         }
         None => None,
     };
@@ -375,12 +372,7 @@ pub fn assignment(
     let parts = beside(left.read, right.read)?;
     let Read { tree, depths } = over(alloc, first, parts)?;
     let tree = match tree {
-        Some((a, b)) => Some(Expression::Assignment(
-            Box::new(alloc, a)?,
-            place,
-            operator,
-            Box::new(alloc, b)?,
-        )),
+        Some((a, b)) => Some(Box::new(alloc, Expression::Assignment(a, place, operator, b))?),
         None => None,
     };
     Ok(Operand {
@@ -399,7 +391,7 @@ pub fn comma(alloc: Global, left: Operand, right: Operand) -> Result<Operand, Al
     let parts = beside(left.read, right.read)?;
     let Read { tree, depths } = over(alloc, first, parts)?;
     let tree = match tree {
-        Some((a, b)) => Some(Expression::Comma(Box::new(alloc, a)?, Box::new(alloc, b)?)),
+        Some((a, b)) => Some(Box::new(alloc, Expression::Comma(a, b))?),
         None => None,
     };
     Ok(Operand {

@@ -273,7 +273,7 @@ pub fn with_valued_enumerator(
 {
     let Read { tree, depths } = value.read;
     let tree = match tree {
-        Some(value) => Some(Enumerator::Valued(name, place, value)),
+        Some(value) => Some(Enumerator::Valued(name, place, Box::into_inner(value))),
         None => None,
     };
     longer(before, Read { tree, depths })

@@ -2,26 +2,25 @@ ghost use Rattle.std.specs.Prelude.{◌≡◌, List, [], ◌∷◌, Option, Some
 ghost use Rattle.dae_tree.specs.Trees as tree;
 ghost use Rattle.dae_grammar.specs.Frames as frames;
 ghost use Rattle.dae_grammar.specs.Machine.{for_of, onto, statements_onto};
-ghost use Rattle.dae_tree.specs.Views.{view_optional};
 ghost use Rattle.dae_grammar.specs.FirstPlaces.{firsts_optional};
-ghost use Rattle.dae_parts.specs.Shown.{Shows};
-ghost use Rattle.dae_nodes.specs.Parts.{ShowsOperand, ShowsOptional, ShowsDeclarations, ShowsStatement, ShowsStatements, ShowsLoop};
+ghost use Rattle.dae_parts.specs.Shown.{Shows, box_value};
+ghost use Rattle.dae_nodes.specs.Parts.{view_boxed, ShowsOperand, ShowsOptional, ShowsDeclarations, ShowsStatement, ShowsStatements, ShowsLoop};
 
 use crate::values::{Loop, Operand};
 use dae_base::Place;
-use dae_parts::{Read, beside, flat, longer, over};
+use dae_parts::{Read, beside, flat, longer, over, unbox};
 use dae_tree::{Block, Declaration, Expression, Heading, Statement, Test};
 use std::alloc::{AllocError, Global};
 
 /// A statement more.
 pub fn with_statement(
     before: Read<Vec<Statement>>,
-    statement: Read<Statement>,
+    statement: Read<Box<Statement>>,
 ) -> Result<Read<Vec<Statement>>, AllocError>
     ensures { (ss : List tree.Statement) (s : tree.Statement) → ShowsStatements before ss
         → ShowsStatement statement s → IfOk result (λ r. ShowsStatements r (s ∷ ss)) }
 {
-    longer(before, statement)
+    longer(before, unbox(statement))
 }
 
 /// A block (C90 6.6.2).
@@ -30,7 +29,7 @@ pub fn block(
     place: Place,
     declarations: Read<Vec<Declaration>>,
     statements: Read<Vec<Statement>>,
-) -> Result<Read<Statement>, AllocError>
+) -> Result<Read<Box<Statement>>, AllocError>
     ensures { (ds : List tree.Declaration) (ss : List tree.Statement)
         → ShowsDeclarations declarations ds → ShowsStatements statements ss
         → IfOk result
@@ -40,21 +39,28 @@ pub fn block(
     let parts = beside(declarations, statements)?;
     let Read { tree, depths } = over(alloc, place, parts)?;
     let tree = match tree {
-        Some((declarations, statements)) => Some(Statement::Block(Block {
-            place,
-            declarations,
-            statements,
-        })),
+        Some((declarations, statements)) => {
+            let block = Block {
+                place,
+                declarations,
+                statements,
+            };
+            Some(Box::new(alloc, Statement::Block(block))?)
+        }
         None => None,
     };
     Ok(Read { tree, depths })
 }
 
 /// A semicolon alone (C90 6.6.3).
-pub fn empty_statement(alloc: Global, place: Place) -> Result<Read<Statement>, AllocError>
+pub fn empty_statement(alloc: Global, place: Place) -> Result<Read<Box<Statement>>, AllocError>
     ensures { IfOk result (λ r. ShowsStatement r (tree.Nothing place)) }
 {
-    over(alloc, place, flat(alloc, Statement::Empty(place)))
+    over(
+        alloc,
+        place,
+        flat(alloc, Box::new(alloc, Statement::Empty(place))?),
+    )
 }
 
 /// An expression, with the semicolon behind it (C90 6.6.3).
@@ -62,16 +68,30 @@ pub fn evaluation(
     alloc: Global,
     operand: Operand,
     end: Place,
-) -> Result<Read<Statement>, AllocError>
+) -> Result<Read<Box<Statement>>, AllocError>
     ensures { (e : tree.Expression) → ShowsOperand operand e
         → IfOk result (λ r. ShowsStatement r (tree.Evaluate e end)) }
 {
     let Read { tree, depths } = over(alloc, operand.place, operand.read)?;
     let tree = match tree {
-        Some(expression) => Some(Statement::Evaluate(expression, end)),
+        Some(expression) => {
+            let expression = Box::into_inner(expression);
+            Some(Box::new(alloc, Statement::Evaluate(expression, end))?)
+        }
         None => None,
     };
     Ok(Read { tree, depths })
+}
+
+/// A test in parentheses, the first of them at this place.
+fn test_at(place: Place, expression: Box<Expression>) -> Test
+    ensures place { result.place ≡ place }
+    ensures expression { result.expression ≡ expression.value }
+{
+    Test {
+        place,
+        expression: Box::into_inner(expression),
+    }
 }
 
 /// `if` without `else` (C90 6.6.4.1).
@@ -80,22 +100,18 @@ pub fn if_statement(
     place: Place,
     paren: Place,
     test: Operand,
-    body: Read<Statement>,
-) -> Result<Read<Statement>, AllocError>
+    body: Read<Box<Statement>>,
+) -> Result<Read<Box<Statement>>, AllocError>
     ensures { (e : tree.Expression) (s : tree.Statement) → ShowsOperand test e
         → ShowsStatement body s → IfOk result (λ r. ShowsStatement r (tree.If place paren e s)) }
 {
     let parts = beside(test.read, body)?;
     let Read { tree, depths } = over(alloc, place, parts)?;
     let tree = match tree {
-        Some((expression, body)) => Some(Statement::If(
-            place,
-            Test {
-                place: paren,
-                expression,
-            },
-            Box::new(alloc, body)?,
-        )),
+        Some((expression, body)) => {
+            let test = test_at(paren, expression);
+            Some(Box::new(alloc, Statement::If(place, test, body))?)
+        }
         None => None,
     };
     Ok(Read { tree, depths })
@@ -107,9 +123,9 @@ pub fn if_else_statement(
     place: Place,
     paren: Place,
     test: Operand,
-    then: Read<Statement>,
-    other: Read<Statement>,
-) -> Result<Read<Statement>, AllocError>
+    then: Read<Box<Statement>>,
+    other: Read<Box<Statement>>,
+) -> Result<Read<Box<Statement>>, AllocError>
     ensures { (e : tree.Expression) (s u : tree.Statement) → ShowsOperand test e
         → ShowsStatement then s → ShowsStatement other u
         → IfOk result (λ r. ShowsStatement r (tree.IfElse place paren e s u)) }
@@ -120,11 +136,8 @@ pub fn if_else_statement(
     let tree = match tree {
         Some((expression, rest)) => {
             let (then, other) = rest;
-            let test = Test {
-                place: paren,
-                expression,
-            };
-            Some(Statement::IfElse(place, test, Box::new(alloc, then)?, Box::new(alloc, other)?))
+            let test = test_at(paren, expression);
+            Some(Box::new(alloc, Statement::IfElse(place, test, then, other))?)
         }
         None => None,
     };
@@ -137,8 +150,8 @@ pub fn switch_statement(
     place: Place,
     paren: Place,
     test: Operand,
-    body: Read<Statement>,
-) -> Result<Read<Statement>, AllocError>
+    body: Read<Box<Statement>>,
+) -> Result<Read<Box<Statement>>, AllocError>
     ensures { (e : tree.Expression) (s : tree.Statement) → ShowsOperand test e
         → ShowsStatement body s
         → IfOk result (λ r. ShowsStatement r (tree.Switch place paren e s)) }
@@ -146,14 +159,10 @@ pub fn switch_statement(
     let parts = beside(test.read, body)?;
     let Read { tree, depths } = over(alloc, place, parts)?;
     let tree = match tree {
-        Some((expression, body)) => Some(Statement::Switch(
-            place,
-            Test {
-                place: paren,
-                expression,
-            },
-            Box::new(alloc, body)?,
-        )),
+        Some((expression, body)) => {
+            let test = test_at(paren, expression);
+            Some(Box::new(alloc, Statement::Switch(place, test, body))?)
+        }
         None => None,
     };
     Ok(Read { tree, depths })
@@ -165,22 +174,18 @@ pub fn while_statement(
     place: Place,
     paren: Place,
     test: Operand,
-    body: Read<Statement>,
-) -> Result<Read<Statement>, AllocError>
+    body: Read<Box<Statement>>,
+) -> Result<Read<Box<Statement>>, AllocError>
     ensures { (e : tree.Expression) (s : tree.Statement) → ShowsOperand test e
         → ShowsStatement body s → IfOk result (λ r. ShowsStatement r (tree.While place paren e s)) }
 {
     let parts = beside(test.read, body)?;
     let Read { tree, depths } = over(alloc, place, parts)?;
     let tree = match tree {
-        Some((expression, body)) => Some(Statement::While(
-            place,
-            Test {
-                place: paren,
-                expression,
-            },
-            Box::new(alloc, body)?,
-        )),
+        Some((expression, body)) => {
+            let test = test_at(paren, expression);
+            Some(Box::new(alloc, Statement::While(place, test, body))?)
+        }
         None => None,
     };
     Ok(Read { tree, depths })
@@ -190,12 +195,12 @@ pub fn while_statement(
 pub fn do_statement(
     alloc: Global,
     place: Place,
-    body: Read<Statement>,
+    body: Read<Box<Statement>>,
     word: Place,
     paren: Place,
     test: Operand,
     end: Place,
-) -> Result<Read<Statement>, AllocError>
+) -> Result<Read<Box<Statement>>, AllocError>
     ensures { (s : tree.Statement) (e : tree.Expression) → ShowsStatement body s
         → ShowsOperand test e
         → IfOk result (λ r. ShowsStatement r (tree.Do place s word paren e end)) }
@@ -203,25 +208,19 @@ pub fn do_statement(
     let parts = beside(body, test.read)?;
     let Read { tree, depths } = over(alloc, place, parts)?;
     let tree = match tree {
-        Some((body, expression)) => Some(Statement::Do(
-            place,
-            Box::new(alloc, body)?,
-            word,
-            Test {
-                place: paren,
-                expression,
-            },
-            end,
-        )),
+        Some((body, expression)) => {
+            let test = test_at(paren, expression);
+            Some(Box::new(alloc, Statement::Do(place, body, word, test, end))?)
+        }
         None => None,
     };
     Ok(Read { tree, depths })
 }
 
 /// An operand that may be lacking, as a part.
-fn optional(alloc: Global, operand: Option<Operand>) -> Read<Option<Expression>>
+fn optional(alloc: Global, operand: Option<Operand>) -> Read<Option<Box<Expression>>>
     ensures { (e : Option tree.Expression) → ShowsOptional operand e
-        → Shows view_optional firsts_optional result e }
+        → Shows view_boxed firsts_optional result e }
 {
     match operand {
         Some(operand) => {
@@ -236,13 +235,23 @@ fn optional(alloc: Global, operand: Option<Operand>) -> Read<Option<Expression>>
     }
 }
 
+/// An expression that may be lacking, out of its box.
+fn unboxed_expression(expression: Option<Box<Expression>>) -> Option<Expression>
+    ensures { result ≡ box_value expression }
+{
+    match expression {
+        Some(expression) => Some(Box::into_inner(expression)),
+        None => None,
+    }
+}
+
 /// `for` (C90 6.6.5.3).
 pub fn for_statement(
     alloc: Global,
     parts: Loop,
     step: Option<Operand>,
-    body: Read<Statement>,
-) -> Result<Read<Statement>, AllocError>
+    body: Read<Box<Statement>>,
+) -> Result<Read<Box<Statement>>, AllocError>
     ensures { (l : frames.Loop) (e : Option tree.Expression) (s : tree.Statement)
         → ShowsLoop parts l → ShowsOptional step e → ShowsStatement body s
         → IfOk result (λ r. ShowsStatement r (for_of l e s)) }
@@ -266,14 +275,14 @@ pub fn for_statement(
         Some((start, rest)) => {
             let (test, last) = rest;
             let (step, body) = last;
-            let header = Heading {
-                start,
+            let heading = Heading {
+                start: unboxed_expression(start),
                 after_start: first,
-                test,
+                test: unboxed_expression(test),
                 after_test: second,
-                step,
+                step: unboxed_expression(step),
             };
-            Some(Statement::For(word, paren, header, Box::new(alloc, body)?))
+            Some(Box::new(alloc, Statement::For(word, paren, heading, body))?)
         }
         None => None,
     };
@@ -285,10 +294,14 @@ pub fn break_statement(
     alloc: Global,
     place: Place,
     end: Place,
-) -> Result<Read<Statement>, AllocError>
+) -> Result<Read<Box<Statement>>, AllocError>
     ensures { IfOk result (λ r. ShowsStatement r (tree.Break place end)) }
 {
-    over(alloc, place, flat(alloc, Statement::Break(place, end)))
+    over(
+        alloc,
+        place,
+        flat(alloc, Box::new(alloc, Statement::Break(place, end))?),
+    )
 }
 
 /// `continue` (C90 6.6.6.2).
@@ -296,10 +309,14 @@ pub fn continue_statement(
     alloc: Global,
     place: Place,
     end: Place,
-) -> Result<Read<Statement>, AllocError>
+) -> Result<Read<Box<Statement>>, AllocError>
     ensures { IfOk result (λ r. ShowsStatement r (tree.Continue place end)) }
 {
-    over(alloc, place, flat(alloc, Statement::Continue(place, end)))
+    over(
+        alloc,
+        place,
+        flat(alloc, Box::new(alloc, Statement::Continue(place, end))?),
+    )
 }
 
 /// `return`, with a value or without (C90 6.6.6.4).
@@ -308,13 +325,16 @@ pub fn return_statement(
     place: Place,
     value: Option<Operand>,
     end: Place,
-) -> Result<Read<Statement>, AllocError>
+) -> Result<Read<Box<Statement>>, AllocError>
     ensures { (e : Option tree.Expression) → ShowsOptional value e
         → IfOk result (λ r. ShowsStatement r (tree.Return place e end)) }
 {
     let Read { tree, depths } = over(alloc, place, optional(alloc, value))?;
     let tree = match tree {
-        Some(value) => Some(Statement::Return(place, value, end)),
+        Some(value) => {
+            let value = unboxed_expression(value);
+            Some(Box::new(alloc, Statement::Return(place, value, end))?)
+        }
         None => None,
     };
     Ok(Read { tree, depths })
@@ -325,15 +345,18 @@ pub fn case_statement(
     alloc: Global,
     place: Place,
     value: Operand,
-    body: Read<Statement>,
-) -> Result<Read<Statement>, AllocError>
+    body: Read<Box<Statement>>,
+) -> Result<Read<Box<Statement>>, AllocError>
     ensures { (e : tree.Expression) (s : tree.Statement) → ShowsOperand value e
         → ShowsStatement body s → IfOk result (λ r. ShowsStatement r (tree.Case place e s)) }
 {
     let parts = beside(value.read, body)?;
     let Read { tree, depths } = over(alloc, place, parts)?;
     let tree = match tree {
-        Some((value, body)) => Some(Statement::Case(place, value, Box::new(alloc, body)?)),
+        Some((value, body)) => {
+            let value = Box::into_inner(value);
+            Some(Box::new(alloc, Statement::Case(place, value, body))?)
+        }
         None => None,
     };
     Ok(Read { tree, depths })
@@ -343,14 +366,14 @@ pub fn case_statement(
 pub fn default_statement(
     alloc: Global,
     place: Place,
-    body: Read<Statement>,
-) -> Result<Read<Statement>, AllocError>
+    body: Read<Box<Statement>>,
+) -> Result<Read<Box<Statement>>, AllocError>
     ensures { (s : tree.Statement) → ShowsStatement body s
         → IfOk result (λ r. ShowsStatement r (tree.Default place s)) }
 {
     let Read { tree, depths } = over(alloc, place, body)?;
     let tree = match tree {
-        Some(body) => Some(Statement::Default(place, Box::new(alloc, body)?)),
+        Some(body) => Some(Box::new(alloc, Statement::Default(place, body))?),
         None => None,
     };
     Ok(Read { tree, depths })

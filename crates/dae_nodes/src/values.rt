@@ -8,7 +8,7 @@ use dae_tree::{Declarator, Expression, Parameter, Specifier};
 /// An expression that was read, its level, and the place of its first token.
 #[derive(Drop)]
 pub struct Operand {
-    pub read: Read<Expression>,
+    pub read: Read<Box<Expression>>,
     pub level: u8,
     pub place: Place,
 }

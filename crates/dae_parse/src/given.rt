@@ -76,7 +76,10 @@ pub fn give_expression(machine: &mut Machine<'_>, a: Operand) -> Result<Option<D
         Frame::InStep(parts) => in_step(machine, a, parts),
         Frame::InReturn(place) => in_return(machine, a, place),
         Frame::InCase(place) => in_case(machine, a, place),
-        _ => Ok(None),
+        other => {
+            drop(other);
+            Ok(None)
+        }
     }
 }
 
@@ -99,7 +102,10 @@ pub fn give_specifiers(
         Frame::ForParameter(open, list) => for_parameter(machine, specified, open, list),
         Frame::ForMember(body, members) => for_member(machine, specified, body, members),
         Frame::ForDeclaration(outer) => for_declaration(machine, specified, outer),
-        _ => Ok(None),
+        other => {
+            drop(other);
+            Ok(None)
+        }
     }
 }
 
@@ -135,7 +141,10 @@ pub fn give_declarator(
         Frame::OfItem(outer, specified, items) => of_item(
             machine, declared, outer, specified, items,
         ),
-        _ => Ok(None),
+        other => {
+            drop(other);
+            Ok(None)
+        }
     }
 }
 
@@ -155,7 +164,10 @@ pub fn give_initialiser(
         Frame::OfValue(specified, items, declared, place) => {
             of_value(machine, initialiser, specified, items, declared, place)
         }
-        _ => Ok(None),
+        other => {
+            drop(other);
+            Ok(None)
+        }
     }
 }
 
@@ -178,14 +190,17 @@ pub fn give_declaration(
     match frame {
         Frame::InFile(before) => in_file(machine, found, before, total),
         Frame::InBlock(inside) => in_block(machine, found, inside),
-        _ => Ok(None),
+        other => {
+            drop(other);
+            Ok(None)
+        }
     }
 }
 
 /// Behind a statement, for what awaits it, in a file of so many tokens.
 pub fn give_statement(
     machine: &mut Machine<'_>,
-    found: Read<Statement>,
+    found: Read<Box<Statement>>,
     is_body: bool,
     total: usize,
 ) -> Result<Option<Doing>, AllocError>
@@ -214,6 +229,9 @@ pub fn give_statement(
         Frame::InDefinition(specified, declared) => {
             in_definition(machine, found, is_body, specified, declared, total)
         }
-        _ => Ok(None),
+        other => {
+            drop(other);
+            Ok(None)
+        }
     }
 }

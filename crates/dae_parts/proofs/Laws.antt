@@ -1,10 +1,12 @@
 -- The laws of parts: parts side by side, a node over them, and the tree that is made of theirs, each as what it shows.
-use Rattle.std.proofs.Common.{◌≡◌, ℕ, Option, Some, None, refl, sym, ap, subst, ◌∙◌}
-use Rattle.std.specs.Prelude.{Result, Ok, Err, IfOk}
+use Rattle.std.proofs.Common.{◌≡◌, ℕ, length, Option, Some, None, refl, sym, ap, subst, ◌∙◌}
+use Rattle.std.specs.Prelude.{Box, Result, Ok, Err, IfOk}
+use Rattle.std.specs.declared.alloc.Global.{Global}
 use Rattle.dae_base.specs.declared.Place.{Place}
 use Rattle.dae_grammar.specs.FirstPlaces.{Places, or_else, nowhere, both, over}
 use Rattle.dae_parts.specs.declared.reading.Read.{Read}
-use Rattle.dae_parts.specs.Shown.{Holds, IsSeen, Shows, IsFrom, IsPair}
+use Rattle.dae_depths.specs.declared.depths.Depths.{Depths}
+use Rattle.dae_parts.specs.Shown.{Lists, IsKept, Holds, IsSeen, in_box, box_value, Shows, IsFrom, IsPair}
 use Rattle.dae_parts.proofs.Holding.{holds_some, holds_none}
 
 pub holds_same : {T : Type 0} (r : Read T) (f g : Places) → ((i : ℕ) → f i ≡ g i) → Holds r f → Holds r g
@@ -103,3 +105,26 @@ or_none (Some x) = refl
 -- with no nodes behind
 pub shows_alone : {T A : Type 0} (view : T → A) (firsts : A → Places) (read : Read T) (a : A) → Shows view firsts read a → Shows view (λ x. both (firsts x) nowhere) read a
 shows_alone view firsts read a h = record { holds = holds_same read (firsts a) (both (firsts a) nowhere) (λ i. or_none (firsts a i)) h.holds; seen = h.seen }
+
+-- ---- a tree out of its box
+
+kept_unboxed : {T : Type 0} (o : Option (Box T Global)) (n : ℕ) → IsKept o n → IsKept (box_value o) n
+kept_unboxed None n k = k
+kept_unboxed (Some b) n k = k
+
+seen_unboxed : {T A : Type 0} (view : T → A) (o : Option (Box T Global)) (a : A) → IsSeen (in_box view) o a → IsSeen view (box_value o) a
+seen_unboxed view None a h = tt
+seen_unboxed view (Some b) a h = h
+
+pub shows_unboxed : {T A : Type 0} (view : T → A) (firsts : A → Places) (part : Read (Box T Global)) (read : Read T) (a : A)
+    → Shows (in_box view) firsts part a → read.tree ≡ box_value part.tree → read.depths ≡ part.depths → Shows view firsts read a
+shows_unboxed view firsts part read a h e d =
+    let kept : IsKept read.tree (length part.depths.places.items) =
+    subst (λ (o : Option _). IsKept o (length part.depths.places.items)) (sym e) (kept_unboxed part.tree _ h.holds.kept) in
+    record {
+      holds = record {
+        places = subst (λ (x : Depths). Lists x.places.items (firsts a)) (sym d) h.holds.places;
+        kept = subst (λ (x : Depths). IsKept read.tree (length x.places.items)) (sym d) kept;
+      };
+      seen = subst (λ (o : Option _). IsSeen view o a) (sym e) (seen_unboxed view part.tree a h.seen);
+    }

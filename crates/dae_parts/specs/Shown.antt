@@ -1,6 +1,6 @@
 -- What a part in memory shows of a tree: the places of the tree's first nodes, down to 200 below its top, and the tree
 -- itself where no node in it is deeper than that.
-use Rattle.std.specs.Prelude.{◌≡◌, ℕ, ◌<◌, ◌≤◌, List, [], ◌∷◌, ◌++◌, map, length, slice_get, Option, Some, None, Vec}
+use Rattle.std.specs.Prelude.{◌≡◌, ℕ, ◌<◌, ◌≤◌, List, [], ◌∷◌, ◌++◌, map, length, slice_get, Option, Some, None, Box, Vec}
 use Rattle.std.specs.declared.alloc.Global.{Global}
 use Rattle.dae_base.specs.declared.Place.{Place}
 use Rattle.dae_grammar.specs.FirstPlaces.{Places, nowhere, both}
@@ -29,6 +29,14 @@ IsSeen view (Some t) a = view t ≡ a
 pub record Shows {T A : Type 0} (view : T → A) (firsts : A → Places) (read : Read T) (a : A) : Type 0 where
   pub holds : Holds read (firsts a)
   pub seen : IsSeen view read.tree a
+
+-- a tree in a box, seen as it would be without
+abbrev pub in_box : {T A : Type 0} → (T → A) → Box T Global → A
+in_box view b = view b.value
+
+abbrev pub box_value : {T : Type 0} → Option (Box T Global) → Option T
+box_value None = None
+box_value (Some b) = Some b.value
 
 -- the first nodes of trees in a list
 abbrev pub firsts_list : {A : Type 0} → (A → Places) → List A → Places

@@ -8,7 +8,7 @@ pub use levels::{
     ASSIGNMENT, CAST, COMMA, CONDITIONAL, LOGICAL_OR, NONE, POSTFIX, PRIMARY, UNARY, strength,
     under,
 };
-pub use reading::{Read, beside, flat, longer, over, tree_or_depth};
+pub use reading::{Read, beside, flat, longer, over, tree_or_depth, unbox};
 
 mod levels;
 mod reading;

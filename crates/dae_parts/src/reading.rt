@@ -1,7 +1,7 @@
 // A part that was read, a node over it, parts side by side, and lists that grow by a part.
 ghost use Rattle.std.specs.Prelude.{◌≡◌, length, slice_get, Some, None, IfOk, IfErr, OnOk};
 ghost use Rattle.dae_grammar.specs.FirstPlaces.{Places, nowhere, both, over};
-ghost use Rattle.dae_parts.specs.Shown.{Holds, IsKept, IsFrom, IsPair, IsLonger};
+ghost use Rattle.dae_parts.specs.Shown.{Holds, IsKept, IsFrom, IsPair, IsLonger, box_value};
 
 use dae_base::Place;
 use dae_depths::Depths;
@@ -57,6 +57,19 @@ pub fn beside<T: Drop, U: Drop>(left: Read<T>, right: Read<U>) -> Result<Read<(T
         }),
         _ => Ok(Read { tree: None, depths }),
     }
+}
+
+/// A part whose tree is out of its box.
+pub fn unbox<T: Drop>(part: Read<Box<T>>) -> Read<T>
+    ensures tree { result.tree ≡ box_value part.tree }
+    ensures depths { result.depths ≡ part.depths }
+{
+    let Read { tree, depths } = part;
+    let tree = match tree {
+        Some(tree) => Some(Box::into_inner(tree)),
+        None => None,
+    };
+    Read { tree, depths }
 }
 
 /// A list with a tree more.

@@ -241,7 +241,7 @@ pub fn read_loop_start(
 pub fn read_do_end(
     machine: &mut Machine<'_>,
     place: Place,
-    body: Read<Statement>,
+    body: Read<Box<Statement>>,
     word: Place,
     paren: Place,
     test: Operand,

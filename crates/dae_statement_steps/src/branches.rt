@@ -23,7 +23,7 @@ use std::alloc::AllocError;
 #[tactic(auto, using(crate::proofs::OtherwiseStatements::branched_otherwise))]
 pub fn then_branch(
     machine: &mut Machine<'_>,
-    found: Read<Statement>,
+    found: Read<Box<Statement>>,
     place: Place,
     paren: Place,
     test: Operand,
@@ -42,11 +42,11 @@ pub fn then_branch(
 /// Behind the second branch of an `if` (C90 6.6.4.1).
 pub fn else_branch(
     machine: &mut Machine<'_>,
-    found: Read<Statement>,
+    found: Read<Box<Statement>>,
     place: Place,
     paren: Place,
     test: Operand,
-    then: Read<Statement>,
+    then: Read<Box<Statement>>,
 ) -> Result<Option<Doing>, AllocError>
     ensures { (b : StatementTree) (e : Expression) (a : StatementTree) → ShowsStatement found b
         → ShowsOperand test e → ShowsStatement then a
@@ -60,7 +60,7 @@ pub fn else_branch(
 /// Behind the body of a `while` (C90 6.6.5.1).
 pub fn while_body(
     machine: &mut Machine<'_>,
-    found: Read<Statement>,
+    found: Read<Box<Statement>>,
     place: Place,
     paren: Place,
     test: Operand,
@@ -75,7 +75,7 @@ pub fn while_body(
 /// Behind the body of a `switch` (C90 6.6.4.2).
 pub fn switch_body(
     machine: &mut Machine<'_>,
-    found: Read<Statement>,
+    found: Read<Box<Statement>>,
     place: Place,
     paren: Place,
     test: Operand,
@@ -91,7 +91,7 @@ pub fn switch_body(
 #[tactic(auto, using(crate::proofs::OtherwiseStatements::done_or_none))]
 pub fn do_body(
     machine: &mut Machine<'_>,
-    found: Read<Statement>,
+    found: Read<Box<Statement>>,
     place: Place,
 ) -> Result<Option<Doing>, AllocError>
     ensures { (b : StatementTree) → ShowsStatement found b →
@@ -106,7 +106,7 @@ pub fn do_body(
 /// Behind the body of a `for` (C90 6.6.5.3).
 pub fn for_body(
     machine: &mut Machine<'_>,
-    found: Read<Statement>,
+    found: Read<Box<Statement>>,
     parts: Loop,
     step: Option<Operand>,
 ) -> Result<Option<Doing>, AllocError>
@@ -121,7 +121,7 @@ pub fn for_body(
 /// Behind the statement of a `case` (C90 6.6.1).
 pub fn case_body(
     machine: &mut Machine<'_>,
-    found: Read<Statement>,
+    found: Read<Box<Statement>>,
     place: Place,
     value: Operand,
 ) -> Result<Option<Doing>, AllocError>
@@ -135,7 +135,7 @@ pub fn case_body(
 /// Behind the statement of a `default` (C90 6.6.1).
 pub fn default_body(
     machine: &mut Machine<'_>,
-    found: Read<Statement>,
+    found: Read<Box<Statement>>,
     place: Place,
 ) -> Result<Option<Doing>, AllocError>
     ensures { (b : StatementTree) → ShowsStatement found b →
@@ -148,7 +148,7 @@ pub fn default_body(
 /// Behind a statement of a block (C90 6.6.2).
 pub fn in_statements(
     machine: &mut Machine<'_>,
-    found: Read<Statement>,
+    found: Read<Box<Statement>>,
     inside: Inside,
     before: Read<Vec<Statement>>,
 ) -> Result<Option<Doing>, AllocError>

@@ -38,7 +38,7 @@ pub enum Head {
     If(Place),
     While(Place),
     Switch(Place),
-    Do(Place, Read<Statement>, Place),
+    Do(Place, Read<Box<Statement>>, Place),
 }
 
 /// A block: its brace and its declarations.
@@ -97,7 +97,7 @@ pub enum Frame {
     InFile(Before),
     InBlock(Inside),
     ThenBranch(Place, Place, Operand),
-    ElseBranch(Place, Place, Operand, Read<Statement>),
+    ElseBranch(Place, Place, Operand, Read<Box<Statement>>),
     WhileBody(Place, Place, Operand),
     SwitchBody(Place, Place, Operand),
     DoBody(Place),
@@ -141,7 +141,7 @@ pub enum Doing {
     Statements(Inside, Read<Vec<Statement>>),
     Stating,
     Opening(Head),
-    Finishing(Place, Read<Statement>, Place, Place, Operand),
+    Finishing(Place, Read<Box<Statement>>, Place, Place, Operand),
     Looping(Place),
     Starting(Place, Place),
     Testing(Place, Place, Option<Operand>, Place),
@@ -151,5 +151,5 @@ pub enum Doing {
     Continuing(Place),
     Defaulting(Place),
     /// A statement, and whether it is a block.
-    GaveStatement(Read<Statement>, bool),
+    GaveStatement(Read<Box<Statement>>, bool),
 }

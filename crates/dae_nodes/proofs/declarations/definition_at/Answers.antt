@@ -16,7 +16,7 @@ returns c = λ ws d p ds ss h k b e.
     let whole = shows_over _ _ c.args.place c.in_ok-parts.parts c.in_ok-tree.field-0 (ws, (d, tree.Block p ds ss)) parts c.in_ok-tree.ensures in
     let same = ap (λ (q : Place). over q (both (firsts_specifiers ws) (both (firsts_declarator d) (firsts_statement (tree.Block p ds ss))))) e in
     elim c.match-tree.branch [
-      | in-Some+in-Some-block_of w ↦ shows_made _ _ view_external firsts_external _ c.match-tree.tree (ws, (d, tree.Block p ds ss)) (tree.Defined ws d p ds ss) _ _ whole same w.in-Some.is w.tree-is (λ x. defined_same (ap (λ (y : _). y.0) x) (ap (λ (y : _). y.1.0) x) (sym (view_block w.in-Some-block_of.block) ∙ ap view_statement (sym (w.block_of.ensures.some _ w.in-Some-block_of.is)) ∙ ap (λ (y : _). y.1.1) x))
-      | in-Some+in-None-block_of w ↦ absurd (w.block_of.ensures.none p ds ss (ap (λ (y : _). y.1.1) (seen_at _ _ _ _ whole.seen w.in-Some.is)) w.in-None-block_of.is)
+      | in-Some+in-Some-block_of w ↦ shows_made _ _ view_external firsts_external _ c.match-tree.tree (ws, (d, tree.Block p ds ss)) (tree.Defined ws d p ds ss) _ _ whole same w.in-Some.is w.tree-is (λ x. defined_same (ap (λ (y : _). y.0) x) (ap (λ (y : _). y.1.0) x) (sym (view_block w.in-Some-block_of.block) ∙ ap view_statement (sym (w.block_of.ensures.some _ w.in-Some-block_of.is) ∙ w.into_inner.ensures) ∙ ap (λ (y : _). y.1.1) x))
+      | in-Some+in-None-block_of w ↦ absurd (w.block_of.ensures.none p ds ss (ap view_statement w.into_inner.ensures ∙ ap (λ (y : _). y.1.1) (seen_at _ _ _ _ whole.seen w.in-Some.is)) w.in-None-block_of.is)
       | in-None w ↦ shows_absent _ _ view_external firsts_external _ c.match-tree.tree (ws, (d, tree.Block p ds ss)) (tree.Defined ws d p ds ss) whole same w.in-None.is w.tree-is
     ]

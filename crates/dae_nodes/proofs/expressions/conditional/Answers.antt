@@ -3,9 +3,10 @@ use Rattle.dae_base.specs.declared.Place.{Place}
 use Rattle.dae_tree.specs.Trees as tree
 use Rattle.dae_tree.specs.Views.{view}
 use Rattle.dae_grammar.specs.FirstPlaces.{firsts, both, over}
+use Rattle.dae_parts.specs.Shown.{in_box}
 use Rattle.dae_parts.proofs.Laws.{shows_over, shows_made, shows_absent, shows_pair, ap_three}
 use Rattle.dae_nodes.proofs.expressions.conditional.Goals as goal
-use Rattle.dae_nodes.proofs.expressions.conditional.Goals.{in-Some+in_ok-new-in-Some+in_ok-new-in-Some-2+in_ok-new-in-Some-3, in-None}
+use Rattle.dae_nodes.proofs.expressions.conditional.Goals.{in-Some+in_ok-new-in-Some, in-None}
 
 pub returns : goal.returns
 returns c = λ a b d h k l.
@@ -14,8 +15,8 @@ returns c = λ a b d h k l.
     let whole = shows_over _ _ c.args.test.place c.in_ok-parts.parts c.in_ok-tree.field-0 (a, (b, d)) parts c.in_ok-tree.ensures in
     record {
       read = elim c.match-tree.branch [
-        | in-Some+in_ok-new-in-Some+in_ok-new-in-Some-2+in_ok-new-in-Some-3 w ↦ shows_made _ _ view firsts _ c.match-tree.tree (a, (b, d)) (tree.Conditional a c.args.place b d) _ _ whole (ap (λ (p : Place). over p (both (firsts a) (both (firsts b) (firsts d)))) h.place) w.in-Some.is w.tree-is (λ e. ap_three (λ x y z. tree.Conditional x c.args.place y z) (ap view w.in_ok-new-in-Some.ensures.ok ∙ ap (λ (p : _). p.0) e) (ap view w.in_ok-new-in-Some-2.ensures.ok ∙ ap (λ (p : _). p.1.0) e) (ap view w.in_ok-new-in-Some-3.ensures.ok ∙ ap (λ (p : _). p.1.1) e))
-        | in-None w ↦ shows_absent _ _ view firsts _ c.match-tree.tree (a, (b, d)) (tree.Conditional a c.args.place b d) whole (ap (λ (p : Place). over p (both (firsts a) (both (firsts b) (firsts d)))) h.place) w.in-None.is w.tree-is
+        | in-Some+in_ok-new-in-Some w ↦ shows_made _ _ (in_box view) firsts _ c.match-tree.tree (a, (b, d)) (tree.Conditional a c.args.place b d) _ _ whole (ap (λ (p : Place). over p (both (firsts a) (both (firsts b) (firsts d)))) h.place) w.in-Some.is w.tree-is (λ e. ap view w.in_ok-new-in-Some.ensures.ok ∙ ap_three (λ x y z. tree.Conditional x c.args.place y z) (ap (λ (p : _). p.0) e) (ap (λ (p : _). p.1.0) e) (ap (λ (p : _). p.1.1) e))
+        | in-None w ↦ shows_absent _ _ (in_box view) firsts _ c.match-tree.tree (a, (b, d)) (tree.Conditional a c.args.place b d) whole (ap (λ (p : Place). over p (both (firsts a) (both (firsts b) (firsts d)))) h.place) w.in-None.is w.tree-is
       ];
       level = refl;
       place = h.place;

@@ -2,6 +2,7 @@ use Rattle.std.proofs.Common.{refl, ap, ◌∙◌}
 use Rattle.dae_tree.specs.Trees as tree
 use Rattle.dae_tree.specs.Views.{view}
 use Rattle.dae_grammar.specs.FirstPlaces.{firsts}
+use Rattle.dae_parts.specs.Shown.{in_box}
 use Rattle.dae_parts.proofs.Laws.{shows_over, shows_made, shows_absent}
 use Rattle.dae_nodes.proofs.expressions.prefix.Goals as goal
 use Rattle.dae_nodes.proofs.expressions.prefix.Goals.{in-Some+in_ok-new-in-Some, in-None}
@@ -11,8 +12,8 @@ returns c = λ a h.
     let whole = shows_over _ _ c.args.place c.args.operand.read c.in_ok-tree.field-0 a h.read c.in_ok-tree.ensures in
     record {
       read = elim c.match-tree.branch [
-        | in-Some+in_ok-new-in-Some w ↦ shows_made _ _ view firsts _ c.match-tree.tree a (tree.Prefix c.args.place c.args.operator a) _ _ whole (refl) w.in-Some.is w.tree-is (λ e. ap (tree.Prefix c.args.place c.args.operator) (ap view w.in_ok-new-in-Some.ensures.ok ∙ e))
-        | in-None w ↦ shows_absent _ _ view firsts _ c.match-tree.tree a (tree.Prefix c.args.place c.args.operator a) whole (refl) w.in-None.is w.tree-is
+        | in-Some+in_ok-new-in-Some w ↦ shows_made _ _ (in_box view) firsts _ c.match-tree.tree a (tree.Prefix c.args.place c.args.operator a) _ _ whole (refl) w.in-Some.is w.tree-is (λ e. ap view w.in_ok-new-in-Some.ensures.ok ∙ ap (tree.Prefix c.args.place c.args.operator) e)
+        | in-None w ↦ shows_absent _ _ (in_box view) firsts _ c.match-tree.tree a (tree.Prefix c.args.place c.args.operator a) whole (refl) w.in-None.is w.tree-is
       ];
       level = refl;
       place = refl;
