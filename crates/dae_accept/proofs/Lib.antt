@@ -1,3 +1,4 @@
+mod Causes
 mod Faults
 mod Files
 mod Joined

@@ -1,5 +1,5 @@
 -- Which texts are accepted in a memory of so many bytes, and as which program; and for what other texts are refused.
-use Rattle.std.specs.Prelude.{◌≡◌, ◌⊎◌, ℕ, List, [], ◌∷◌, Some, Err}
+use Rattle.std.specs.Prelude.{◌≡◌, ◌≢◌, ◌⊎◌, ℕ, List, [], ◌∷◌, Some, Err}
 use Rattle.dae_tree.specs.Files.{Contents}
 use Rattle.dae_kinds.specs.declared.rules.Breach.{Breach}
 use Rattle.dae_rules.specs.Plan.{IsChecked}
@@ -63,3 +63,13 @@ IsRefusedFor texts memory errors.Memory = Unit {0}
 abbrev pub IsNeverBeside : CompileError → Type 0
 IsNeverBeside e =
     (texts : List (List ℕ)) (memory : ℕ) (p : Program) → IsAccepted texts memory p → ¬ IsRefusedFor texts memory e
+
+-- each text has tokens within the room that those before it left, and they a tree within the limits
+abbrev pub HaveTrees : List (List ℕ) → Type 0
+HaveTrees texts = (files : List Contents) × AreRead texts files
+
+-- where both are told of the same texts they are the same, unless the texts have trees
+abbrev pub AreOneCause : CompileError → CompileError → Type 0
+AreOneCause d e =
+    (texts : List (List ℕ)) (memory : ℕ) → IsRefusedFor texts memory d → IsRefusedFor texts memory e → d ≢ errors.Memory → e ≢ errors.Memory
+    → (d ≡ e) ⊎ HaveTrees texts

@@ -1,7 +1,8 @@
 // Accepted and refused exclude each other; and files that are read are small.
 
-ghost use Rattle.dae_accept.specs.Accepted.{IsNeverBeside};
+ghost use Rattle.dae_accept.specs.Accepted.{AreOneCause, IsNeverBeside};
 ghost use Rattle.dae_accept.specs.Origins.{ReadAreWithin};
+ghost use Rattle.dae_accept.specs.declared.error.CompileError.{CompileError};
 ghost use Rattle.dae_accept.specs.declared.error.CompileError.TheVariants.{Join, Lex, Rule, Tree};
 ghost use Rattle.dae_kinds.specs.declared.rules.Breach.{Breach};
 ghost use Rattle.dae_parse.specs.declared.error.ParseError.{ParseError};
@@ -20,6 +21,14 @@ pub fn accepted_have_no_fault()
 {
     texts_are_read_once();
     outlines_tell_causes();
+}
+
+/// Of texts without tokens, or of which one has no tree within the limits, one cause is told. Of those that have trees it is open
+/// which of several broken rules is told.
+pub fn one_cause_is_told()
+    ensures { (d e : CompileError) → AreOneCause d e }
+{
+    texts_are_read_once();
 }
 
 /// Files that are read have at most 65,536 tokens and 65,536 bytes of literals.

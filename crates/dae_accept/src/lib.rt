@@ -5,7 +5,7 @@
 
 pub use accepting::accept;
 pub use error::CompileError;
-pub use laws::{accepted_have_no_fault, read_are_within};
+pub use laws::{accepted_have_no_fault, one_cause_is_told, read_are_within};
 
 mod accepting;
 mod error;

@@ -6,6 +6,9 @@ use Rattle.dae_image.specs.declared.Image.{Image}
 use Rattle.dae_image.specs.declared.fault.ImageError.{ImageError}
 use Rattle.dae_image.specs.Contents.{Contents, Fits}
 use Rattle.dae_image.specs.Images.{contents}
+use Rattle.dae_accept.specs.Accepted.{AreOneCause, HaveTrees, IsNeverBeside}
+use Rattle.dae_accept.specs.declared.error.CompileError.{CompileError}
+use Rattle.dae_accept.specs.declared.error.CompileError.TheVariants as errors
 use Rattle.dae_compile.specs.declared.options.Options.{Options}
 use Rattle.dae_drive.specs.declared.options.RunOptions.{RunOptions}
 use Rattle.dae_drive.specs.Images.{DueOfImage}
@@ -17,8 +20,8 @@ use Rattle.dae_command.specs.Answers.{IsDue, due_run, due_exec, due_compile, due
 use Rattle.dae_command.specs.Fetching.{AreFetched, IsFirstNotFetched, IsNotFetched, not_got, too_long, most_source}
 use Rattle.dae_command.specs.ImageFiles.{DueOfBytes, due_image, due_no_image as due_no_image_bytes, due_memory_to_decode, DueOfImageFile, due_bytes, due_no_bytes, due_memory_for_bytes}
 use Rattle.dae_command.specs.Keeping.{DueOfKeeping}
-use Rattle.dae_command.specs.One.{AreOne, AreOfOneCompilation, AreOfOneRun, IsForImage, IsOfTexts, IsSeenWhole, TellsRefusal}
-use Rattle.dae_refusals.specs.Refusals.{too_long_line}
+use Rattle.dae_command.specs.One.{AreOfTexts, AreOne, AreOfOneCompilation, AreOfOneRun, IsForImage, IsSeenWhole, TellsRefusal}
+use Rattle.dae_refusals.specs.Refusals.{refusal_line, too_long_line}
 use Rattle.dae_command.specs.Shelves.{FailsToFetch, IsTold, ShelfSeen}
 use Rattle.dae_command.specs.Sources.{due_refused, due_memory_to_compile, DueOfNoImage, due_not_fetched, due_no_program, due_memory_to_fetch, DueOfFiles, due_no_image, due_of_image}
 use Rattle.dae_jobs.specs.Words.{SpellsCompile, SpellsExec, SpellsRun}
@@ -60,6 +63,32 @@ one_of_image_file e never a b (due_no_bytes f) d m n = absurd (never f)
 one_of_image_file e never a b due_memory_for_bytes d m n = absurd (m refl)
 
 -- ---- source files
+
+-- texts that are accepted are refused for no cause
+pub never : ((e : _) → IsNeverBeside (errors.Lex e)) → ((e : _) → IsNeverBeside (errors.Tree e)) → ((b : _) → IsNeverBeside (errors.Rule b)) → ((e : _) → IsNeverBeside (errors.Join e))
+    → (e : CompileError) → e ≢ errors.Memory → IsNeverBeside e
+never tokens trees rules joining (errors.Lex e) other = tokens e
+never tokens trees rules joining (errors.Tree e) other = trees e
+never tokens trees rules joining (errors.Rule b) other = rules b
+never tokens trees rules joining (errors.Join e) other = joining e
+never tokens trees rules joining errors.Memory other = absurd (other refl)
+
+-- the answer tells why the texts are refused, or is due for an image of them
+abbrev IsOfTexts : (names texts : List (List ℕ)) → Options → (Image → Answer → Type 0) → Answer → Type 0
+IsOfTexts names texts c D a = TellsRefusal names texts c a ⊎ IsForImage texts c D a
+
+-- two refusals of the same texts
+module _ (names texts : List (List ℕ)) (c : Options) (D : Image → Answer → Type 0) (a b : Answer) where
+  one_or_left : (x : TellsRefusal names texts c a) (y : TellsRefusal names texts c b) → (x.error ≡ y.error) ⊎ HaveTrees texts → (a ≡ b) ⊎ AreOfTexts names texts c D a b
+  one_or_left x y (inl e) = inl (x.told_is ∙ ap (λ (z : CompileError). told 2 (refusal_line names z)) e ∙ sym y.told_is)
+  one_or_left x y (inr t) = inr (inl (t, x, y))
+
+  both_of_texts : ((d e : CompileError) → AreOneCause d e) → ((e : CompileError) → e ≢ errors.Memory → IsNeverBeside e)
+      → IsOfTexts names texts c D a → IsOfTexts names texts c D b → (a ≡ b) ⊎ AreOfTexts names texts c D a b
+  both_of_texts once apart (inl x) (inl y) = one_or_left x y (once x.error y.error texts c.memory x.refused y.refused x.other y.other)
+  both_of_texts once apart (inl x) (inr y) = absurd (apart x.error x.other texts c.memory _ y.made.accepted x.refused)
+  both_of_texts once apart (inr x) (inl y) = absurd (apart y.error y.other texts c.memory _ x.made.accepted y.refused)
+  both_of_texts once apart (inr x) (inr y) = inr (inr (x, y))
 
 module _ (s : ShelfSeen) (whole : IsSeenWhole s) where
   same_text : (n t u : List ℕ) → IsTold s.told n t → IsTold s.told n u → t ≡ u
@@ -128,18 +157,25 @@ module _ (s : ShelfSeen) (whole : IsSeenWhole s) where
 
 -- ---- words
 
-module _ (words : List (List ℕ)) (s : ShelfSeen) (status : ℕ) (whole : IsSeenWhole s) where
+module _ (once : (d e : CompileError) → AreOneCause d e) (apart : (e : CompileError) → e ≢ errors.Memory → IsNeverBeside e)
+    (words : List (List ℕ)) (s : ShelfSeen) (status : ℕ) (whole : IsSeenWhole s) where
   one_run_due : (c : Options) (o : RunOptions) (files : List (List ℕ)) → SpellsRun words c o files → (a b : Answer) → DueOfFiles files s c (λ image. DueOfImage image o) a → DueOfFiles files s c (λ image. DueOfImage image o) b → a.status ≢ 7 → b.status ≢ 7 → AreOne words s status a b
   one_run_due c o files spells a b d d' m n = by_texts (one_of_files s whole files c (λ image. DueOfImage image o) a b d d' m n) where
     by_texts : (a ≡ b) ⊎ ((texts : List (List ℕ)) × AreFetched s.told most_source files texts × IsOfTexts files texts c (λ image. DueOfImage image o) a × IsOfTexts files texts c (λ image. DueOfImage image o) b) → AreOne words s status a b
     by_texts (inl e) = inl e
-    by_texts (inr t) = inr (inl (record { options = c; run = o; files = files; spells = spells; texts = t.0; fetched = t.1; first = t.2; other = t.3 }))
+    by_texts (inr t) = by_both (both_of_texts files t.0 c (λ image. DueOfImage image o) a b once apart t.2 t.3) where
+      by_both : (a ≡ b) ⊎ AreOfTexts files t.0 c (λ image. DueOfImage image o) a b → AreOne words s status a b
+      by_both (inl e) = inl e
+      by_both (inr x) = inr (inl (record { options = c; run = o; files = files; spells = spells; texts = t.0; fetched = t.1; both = x }))
 
   one_compile_due : (c : Options) (to : List ℕ) (files : List (List ℕ)) → SpellsCompile words c to files → (a b : Answer) → DueOfFiles files s c (DueOfKeeping s status to) a → DueOfFiles files s c (DueOfKeeping s status to) b → a.status ≢ 7 → b.status ≢ 7 → AreOne words s status a b
   one_compile_due c to files spells a b d d' m n = by_texts (one_of_files s whole files c (DueOfKeeping s status to) a b d d' m n) where
     by_texts : (a ≡ b) ⊎ ((texts : List (List ℕ)) × AreFetched s.told most_source files texts × IsOfTexts files texts c (DueOfKeeping s status to) a × IsOfTexts files texts c (DueOfKeeping s status to) b) → AreOne words s status a b
     by_texts (inl e) = inl e
-    by_texts (inr t) = inr (inr (record { options = c; to = to; files = files; spells = spells; texts = t.0; fetched = t.1; first = t.2; other = t.3 }))
+    by_texts (inr t) = by_both (both_of_texts files t.0 c (DueOfKeeping s status to) a b once apart t.2 t.3) where
+      by_both : (a ≡ b) ⊎ AreOfTexts files t.0 c (DueOfKeeping s status to) a b → AreOne words s status a b
+      by_both (inl e) = inl e
+      by_both (inr x) = inr (inr (record { options = c; to = to; files = files; spells = spells; texts = t.0; fetched = t.1; both = x }))
 
   pub one_of_words : (a b : Answer) → IsDue words s status a → IsDue words s status b → a.status ≢ 7 → b.status ≢ 7 → AreOne words s status a b
   one_of_words a b (due_run c o fs h d) (due_run c' o' fs' k d') m n =

@@ -1,6 +1,6 @@
 -- When two answers count as one.
 use Rattle.std.specs.Prelude.{◌≡◌, ◌≢◌, ◌⊎◌, ℕ, List, Option, Some}
-use Rattle.dae_accept.specs.Accepted.{IsRefusedFor}
+use Rattle.dae_accept.specs.Accepted.{HaveTrees, IsRefusedFor}
 use Rattle.dae_accept.specs.declared.error.CompileError.{CompileError}
 use Rattle.dae_accept.specs.declared.error.CompileError.TheVariants.{Memory}
 use Rattle.dae_compile.specs.Images.{IsImageOf}
@@ -35,9 +35,11 @@ pub record IsForImage (texts : List (List ℕ)) (c : Options) (DueOf : Image →
   pub made : IsImageOf texts c image
   pub due : DueOf image a
 
--- the answer tells why the texts are refused, or is due for an image of them
-abbrev pub IsOfTexts : (names texts : List (List ℕ)) → Options → (Image → Answer → Type 0) → Answer → Type 0
-IsOfTexts names texts c DueOf a = TellsRefusal names texts c a ⊎ IsForImage texts c DueOf a
+-- the texts have tokens and trees, and both answers tell why they are refused; or both are due for images of them
+abbrev pub AreOfTexts : (names texts : List (List ℕ)) → Options → (Image → Answer → Type 0) → (a b : Answer) → Type 0
+AreOfTexts names texts c DueOf a b =
+    (HaveTrees texts × TellsRefusal names texts c a × TellsRefusal names texts c b)
+    ⊎ (IsForImage texts c DueOf a × IsForImage texts c DueOf b)
 
 -- both are due for the same texts, which the files that the words ask to run hold
 pub record AreOfOneRun (words : List (List ℕ)) (s : ShelfSeen) (a b : Answer) : Type 0 where
@@ -47,8 +49,7 @@ pub record AreOfOneRun (words : List (List ℕ)) (s : ShelfSeen) (a b : Answer) 
   pub spells : SpellsRun words options run files
   pub texts : List (List ℕ)
   pub fetched : AreFetched s.told most_source files texts
-  pub first : IsOfTexts files texts options (λ image. DueOfImage image run) a
-  pub other : IsOfTexts files texts options (λ image. DueOfImage image run) b
+  pub both : AreOfTexts files texts options (λ image. DueOfImage image run) a b
 
 -- the same of files that the words ask to compile
 pub record AreOfOneCompilation (words : List (List ℕ)) (s : ShelfSeen) (status : ℕ) (a b : Answer) : Type 0 where
@@ -58,10 +59,9 @@ pub record AreOfOneCompilation (words : List (List ℕ)) (s : ShelfSeen) (status
   pub spells : SpellsCompile words options to files
   pub texts : List (List ℕ)
   pub fetched : AreFetched s.told most_source files texts
-  pub first : IsOfTexts files texts options (DueOfKeeping s status to) a
-  pub other : IsOfTexts files texts options (DueOfKeeping s status to) b
+  pub both : AreOfTexts files texts options (DueOfKeeping s status to) a b
 
 -- the two are the same; or both are due for the same texts of source files, of which the definitions leave open which broken
--- rule is told and which instructions an image has
+-- rule is told, where they have trees, and which instructions an image has
 abbrev pub AreOne : List (List ℕ) → ShelfSeen → (status : ℕ) → (a b : Answer) → Type 0
 AreOne words s status a b = (a ≡ b) ⊎ (AreOfOneRun words s a b ⊎ AreOfOneCompilation words s status a b)

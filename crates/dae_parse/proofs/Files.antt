@@ -118,11 +118,11 @@ long_or_not file other p e h k = cc
 pub one_tree : (r : Reading) (f g : Contents) → IsFileOf r f → IsFileOf r g → view_externals f.externals ≡ view_externals g.externals
 one_tree r f g h k = unique (marks r.tokens) (view_externals f.externals) (view_externals g.externals) h.tree.tree k.tree.tree
 
-pub none_refused : (r : Reading) (f : Contents) (e : ParseError) → IsFileOf r f → IsCause e → IsRefused r e → ⊥
-none_refused r f (errors.Syntax p) h c k = k.0 (view_externals f.externals) h.tree.tree
-none_refused r f (errors.TooDeep p) h c k = deep_or_not k.0 (view_externals f.externals) p (unique (marks r.tokens) k.0 (view_externals f.externals) k.1 h.tree.tree) k.2 h.tree.shallow
-none_refused r f (errors.FunctionTooLong p) h c k = long_or_not k.0 (view_externals f.externals) p (unique (marks r.tokens) k.0 (view_externals f.externals) k.1 h.tree.tree) k.3 h.tree.short
-none_refused r f errors.Memory h c k = absurd c
+pub none_refused : (r : Reading) (file : List tree.External) (e : ParseError) → IsWithinLimits r.tokens file → IsCause e → IsRefused r e → ⊥
+none_refused r file (errors.Syntax p) h c k = k.0 file h.tree
+none_refused r file (errors.TooDeep p) h c k = deep_or_not k.0 file p (unique (marks r.tokens) k.0 file k.1 h.tree) k.2 h.shallow
+none_refused r file (errors.FunctionTooLong p) h c k = long_or_not k.0 file p (unique (marks r.tokens) k.0 file k.1 h.tree) k.3 h.short
+none_refused r file errors.Memory h c k = absurd c
 
 pub refused_once : (r : Reading) (d e : ParseError) → IsRefused r d → IsRefused r e → AreAlike d e
 refused_once r errors.Memory e h k = tt

@@ -1,5 +1,5 @@
 -- Texts are read in one way alone.
-use Rattle.std.specs.Prelude.{ℕ, List}
+use Rattle.std.specs.Prelude.{◌≡◌, ℕ, List}
 use Rattle.dae_tree.specs.declared.faults.LexError.{LexError}
 use Rattle.dae_tree.specs.Files.{Contents}
 use Rattle.dae_parse.specs.declared.error.ParseError.{ParseError}
@@ -17,3 +17,15 @@ IsNoLexErrorOfRead e = (texts : List (List ℕ)) (fs : List Contents) → AreRea
 -- nor for a tree
 abbrev pub IsNoParseErrorOfRead : ParseError → Type 0
 IsNoParseErrorOfRead e = (texts : List (List ℕ)) (fs : List Contents) → AreRead texts fs → ¬ IsTreeRefusal texts e
+
+-- of texts without tokens one cause is told
+abbrev pub AreCutOnce : Type 0
+AreCutOnce = (texts : List (List ℕ)) (d e : LexError) → HasNoTokens texts d → HasNoTokens texts e → d ≡ e
+
+-- of texts without a tree one cause is told
+abbrev pub AreParsedOnce : Type 0
+AreParsedOnce = (texts : List (List ℕ)) (d e : ParseError) → IsTreeRefusal texts d → IsTreeRefusal texts e → d ≡ e
+
+-- a tree is lacking only of texts that have tokens
+abbrev pub AreCutFirst : Type 0
+AreCutFirst = (texts : List (List ℕ)) (d : LexError) (e : ParseError) → HasNoTokens texts d → ¬ IsTreeRefusal texts e
