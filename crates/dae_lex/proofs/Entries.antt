@@ -1,73 +1,108 @@
--- Entries of a map by name, as frames of replacements and as macros.
-use Rattle.std.proofs.Common.{◌≡◌, ℕ, ◌+◌, Bool, true, false, not, ◌||◌, cond, List, [], ◌∷◌, ◌++◌, map, refl, ap, ◌∙◌, Option, Some, None, is_some, option_map, if◌then◌else◌}
-use Rattle.std.specs.Prelude.{option_copied}
+-- Entries by the numbers of their names, as frames of replacements, as macros and as names.
+use Rattle.std.proofs.Common.{◌≡◌, ℕ, ◌+◌, ◌≤◌, subst, Bool, true, false, not, ◌||◌, cond, List, [], ◌∷◌, ◌++◌, map, length, refl, ap, sym, ◌∙◌, Option, Some, is_some, option_map, if◌then◌else◌, nat_eq, arith}
 use Rattle.std.specs.Borrow.{Bor}
-use Rattle.std.specs.List.{list_any, position_or_len}
-use Rattle.std.specs.Map.{lookup}
+use Rattle.std.specs.List.{list_any, position_or_len, AllByRecursion}
+use Rattle.std.specs.Map.{lookup, keys_of, values_of}
 use Rattle.std.specs.Str.{bytes_eq}
 use Rattle.indexmap.specs.IndexMap.{insert_entry}
 use Rattle.indexmap.specs.IndexSet.{insert_key}
 use Rattle.std.proofs.lemmas.List.{map-append}
+use Rattle.std.proofs.lemmas.Slice.Eq.{bytes_eq-Decides}
 use Rattle.dae_tree.specs.Pieces.{Cut}
 use Rattle.dae_tree.specs.Replacing.{Definition, body_of}
+use Rattle.dae_lex.specs.declared.numbers.Numbers.{Numbers}
+use Rattle.dae_lex.specs.Numbers.{IsName}
 use Rattle.dae_lex.specs.Pending.{Frame, names_of}
+use Rattle.dae_lex.proofs.Positions.{same_word, with_word}
 
-pub copied_some : {A : Type 0} (o : Option (Bor A)) → is_some (option_copied o) ≡ is_some o
-copied_some None = refl
-copied_some (Some x) = refl
+module _ {V : Type 0} (w : Numbers) (name : V → List ℕ) where
+  abbrev pub AreByName : List (ℕ × V) → Type 0
+  AreByName es = AllByRecursion (λ e. IsName w e.0 (name e.1)) es
 
-pub mapped_some : {A B : Type 0} (f : A → B) (o : Option A) → is_some (option_map f o) ≡ is_some o
-mapped_some f None = refl
-mapped_some f (Some x) = refl
+  module _ (pieces : V → List Cut) (n : ℕ) (word : List ℕ) (is : IsName w n word) where
+    abbrev pub framed : ℕ × V → Frame
+    framed e = record { name = name e.1; rest = pieces e.1 }
+
+    abbrev pub defined : ℕ × V → Definition
+    defined e = record { name = name e.1; body = pieces e.1 }
+
+    either : (b x : Bool) (v : V) (o : Option V) → x ≡ is_some o → (b || x) ≡ is_some (cond b (Some v) o)
+    either true x v o h = refl
+    either false x v o h = h
+
+    pub any_named : (es : List (ℕ × V)) → AreByName es → list_any (bytes_eq word) (names_of (map framed es)) ≡ is_some (lookup (nat_eq n) es)
+    any_named [] h = refl
+    any_named (e ∷ es) h =
+        ap (λ b. b || list_any (bytes_eq word) (names_of (map framed es))) (sym (same_word w n e.0 word (name e.1) is h.0))
+        ∙ either (nat_eq n e.0) (list_any (bytes_eq word) (names_of (map framed es))) e.1 (lookup (nat_eq n) es) (any_named es h.1)
+
+    first : (b : Bool) (v : V) (o : Option V) (rest : Option (List Cut)) → option_map pieces o ≡ rest
+        → option_map pieces (cond b (Some v) o) ≡ cond b (Some (pieces v)) rest
+    first true v o rest h = refl
+    first false v o rest h = h
+
+    pub body_named : (es : List (ℕ × V)) → AreByName es → option_map pieces (lookup (nat_eq n) es) ≡ body_of (map defined es) word
+    body_named [] h = refl
+    body_named (e ∷ es) h =
+        first (nat_eq n e.0) e.1 (lookup (nat_eq n) es) (body_of (map defined es) word) (body_named es h.1)
+        ∙ ap (λ b. cond b (Some (pieces e.1)) (body_of (map defined es) word)) (same_word w n e.0 word (name e.1) is h.0)
+
+-- names by their numbers, and one more
+module _ (w : Numbers) (n : ℕ) (k : Bor (List ℕ)) (is : IsName w n k.now) where
+  abbrev AreNames : List (ℕ × Bor (List ℕ)) → Type 0
+  AreNames es = AreByName w (λ (v : Bor (List ℕ)). v.now) es
+
+  abbrev names : List (ℕ × Bor (List ℕ)) → List (List ℕ)
+  names es = map (λ e. e.1.now) es
+
+  pub place_named : (es : List (ℕ × Bor (List ℕ))) → AreNames es → position_or_len (nat_eq n) (keys_of es) ≡ position_or_len (bytes_eq k.now) (names es)
+  place_named [] h = refl
+  place_named (e ∷ es) h =
+      ap (λ b. cond (not b) (1 + position_or_len (nat_eq n) (keys_of es)) 0) (same_word w n e.0 k.now e.1.now is h.0)
+      ∙ ap (λ i. cond (not (bytes_eq k.now e.1.now)) (1 + i) 0) (place_named es h.1)
+
+  step_named : (e : ℕ × Bor (List ℕ)) (es : List (ℕ × Bor (List ℕ))) (b : Bool) → nat_eq n e.0 ≡ b → bytes_eq k.now e.1.now ≡ b
+      → names (insert_entry nat_eq es n k) ≡ with_word (names es) k.now
+      → names (if b then (e.0, k) ∷ es else e ∷ insert_entry nat_eq es n k) ≡ (if b || list_any (bytes_eq k.now) (names es) then e.1.now ∷ names es else (e.1.now ∷ names es) ++ k.now ∷ [])
+  step_named e es true a d rest = ap (λ s. s ∷ names es) ((bytes_eq-Decides k.now e.1.now).0 d)
+  step_named e es false a d rest = ap (λ ns. e.1.now ∷ ns) rest ∙ pushed (list_any (bytes_eq k.now) (names es))
+    where
+      pushed : (c : Bool) → e.1.now ∷ (if c then names es else names es ++ k.now ∷ []) ≡ (if c then e.1.now ∷ names es else e.1.now ∷ (names es ++ k.now ∷ []))
+      pushed true = refl
+      pushed false = refl
+
+  pub names_named : (es : List (ℕ × Bor (List ℕ))) → AreNames es → names (insert_entry nat_eq es n k) ≡ with_word (names es) k.now
+  names_named [] h = refl
+  names_named (e ∷ es) h =
+      let same = same_word w n e.0 k.now e.1.now is h.0 in
+      step_named e es (nat_eq n e.0) refl (sym same) (names_named es h.1)
+      ∙ ap (λ b. if b || list_any (bytes_eq k.now) (names es) then e.1.now ∷ names es else (e.1.now ∷ names es) ++ k.now ∷ []) same
+
+  step_all : (e : ℕ × Bor (List ℕ)) (es : List (ℕ × Bor (List ℕ))) (b : Bool) → bytes_eq k.now e.1.now ≡ b → AreNames (e ∷ es) → AreNames (insert_entry nat_eq es n k)
+      → AreNames (if b then (e.0, k) ∷ es else e ∷ insert_entry nat_eq es n k)
+  step_all e es true d h rest = (subst (λ s. IsName w e.0 s) (sym ((bytes_eq-Decides k.now e.1.now).0 d)) h.0, h.1)
+  step_all e es false d h rest = (h.0, rest)
+
+  pub all_named : (es : List (ℕ × Bor (List ℕ))) → AreNames es → AreNames (insert_entry nat_eq es n k)
+  all_named [] h = (is, tt)
+  all_named (e ∷ es) h = step_all e es (nat_eq n e.0) (sym (same_word w n e.0 k.now e.1.now is h.0)) h (all_named es h.1)
+
+-- one entry more at most
+fits_step : {V : Type 0} (e : ℕ × V) (es new : List (ℕ × V)) (v : V) (b : Bool) → length new ≤ length es + 1 → length (if b then (e.0, v) ∷ es else e ∷ new) ≤ length es + 2
+fits_step e es new v true h = omega arith
+fits_step e es new v false h = omega arith
+
+pub entries_fit : {V : Type 0} (n : ℕ) (v : V) (es : List (ℕ × V)) → length (insert_entry nat_eq es n v) ≤ length es + 1
+entries_fit n v [] = omega arith
+entries_fit n v (e ∷ es) = omega (arith, fits_step e es (insert_entry nat_eq es n v) v (nat_eq n e.0) (entries_fit n v es))
+
+-- words by their bytes
+abbrev pub now_of : List (Bor (List ℕ)) → List (List ℕ)
+now_of ks = map (λ k. k.now) ks
 
 -- keys are equal by their bytes
 abbrev pub same_key : Bor (List ℕ) → Bor (List ℕ) → Bool
 same_key a b = bytes_eq a.now b.now
-
-module _ {V : Type 0} (pieces : V → List Cut) where
-  abbrev pub framed : Bor (List ℕ) × V → Frame
-  framed e = record { name = e.0.now; rest = pieces e.1 }
-
-  abbrev pub defined : Bor (List ℕ) × V → Definition
-  defined e = record { name = e.0.now; body = pieces e.1 }
-
-  either : (b x : Bool) (v : V) (o : Option V) → x ≡ is_some o → (b || x) ≡ is_some (cond b (Some v) o)
-  either true x v o h = refl
-  either false x v o h = h
-
-  pub any_named : (name : List ℕ) (es : List (Bor (List ℕ) × V))
-      → list_any (bytes_eq name) (names_of (map framed es)) ≡ is_some (lookup (λ k. bytes_eq name k.now) es)
-  any_named name [] = refl
-  any_named name (e ∷ es) =
-      either (bytes_eq name e.0.now) (list_any (bytes_eq name) (names_of (map framed es))) e.1 (lookup (λ k. bytes_eq name k.now) es) (any_named name es)
-
-  first : (b : Bool) (v : V) (o : Option V) (rest : Option (List Cut)) → option_map pieces o ≡ rest
-      → option_map pieces (cond b (Some v) o) ≡ cond b (Some (pieces v)) rest
-  first true v o rest h = refl
-  first false v o rest h = h
-
-  pub body_named : (name : List ℕ) (es : List (Bor (List ℕ) × V))
-      → option_map pieces (lookup (λ k. bytes_eq name k.now) es) ≡ body_of (map defined es) name
-  body_named name [] = refl
-  body_named name (e ∷ es) =
-      first (bytes_eq name e.0.now) e.1 (lookup (λ k. bytes_eq name k.now) es) (body_of (map defined es) name) (body_named name es)
-
-  -- a new key goes last
-  last : {B : Type 0} (f : Bor (List ℕ) × V → B) (k : Bor (List ℕ)) (v : V) (e : Bor (List ℕ) × V) (es : List (Bor (List ℕ) × V)) (b : Bool)
-      → is_some (cond b (Some e.1) (lookup (same_key k) es)) ≡ false
-      → (is_some (lookup (same_key k) es) ≡ false → map f (insert_entry same_key es k v) ≡ map f es ++ f (k, v) ∷ [])
-      → map f (if b then (e.0, v) ∷ es else e ∷ insert_entry same_key es k v) ≡ f e ∷ (map f es ++ f (k, v) ∷ [])
-  last f k v e es true h rest = absurd (cc)
-  last f k v e es false h rest = ap (λ xs. f e ∷ xs) (rest h)
-
-  pub insert_last : {B : Type 0} (f : Bor (List ℕ) × V → B) (k : Bor (List ℕ)) (v : V) (es : List (Bor (List ℕ) × V))
-      → is_some (lookup (same_key k) es) ≡ false → map f (insert_entry same_key es k v) ≡ map f es ++ f (k, v) ∷ []
-  insert_last f k v [] h = refl
-  insert_last f k v (e ∷ es) h = last f k v e es (same_key k e.0) h (insert_last f k v es)
-
--- names by their bytes
-abbrev pub now_of : List (Bor (List ℕ)) → List (List ℕ)
-now_of ks = map (λ k. k.now) ks
 
 pub place_mapped : (name : List ℕ) (ks : List (Bor (List ℕ))) → position_or_len (λ k. bytes_eq name k.now) ks ≡ position_or_len (bytes_eq name) (now_of ks)
 place_mapped name [] = refl
@@ -82,8 +117,12 @@ choose_mapped : (k : Bor (List ℕ)) (ks : List (Bor (List ℕ))) (b : Bool)
 choose_mapped k ks true = refl
 choose_mapped k ks false = map-append (λ (k : Bor (List ℕ)). k.now) ks (k ∷ [])
 
-pub insert_mapped : (k : Bor (List ℕ)) (ks : List (Bor (List ℕ)))
-    → now_of (insert_key same_key ks k) ≡ (if list_any (bytes_eq k.now) (now_of ks) then now_of ks else now_of ks ++ k.now ∷ [])
+pub insert_mapped : (k : Bor (List ℕ)) (ks : List (Bor (List ℕ))) → now_of (insert_key same_key ks k) ≡ with_word (now_of ks) k.now
 insert_mapped k ks =
     choose_mapped k ks (list_any (same_key k) ks)
     ∙ ap (λ b. if b then now_of ks else now_of ks ++ k.now ∷ []) (any_mapped k.now ks)
+
+-- the values of a map of names
+pub values_named : (es : List (ℕ × Bor (List ℕ))) → now_of (values_of es) ≡ map (λ e. e.1.now) es
+values_named [] = refl
+values_named (e ∷ es) = ap (λ ns. e.1.now ∷ ns) (values_named es)

@@ -1,6 +1,10 @@
 mod Joining
 mod Cutting
+mod Positions
 mod Entries
+mod Kept
+mod Found
+mod Finishing
 mod Limits
 mod Turns
 mod LineSteps

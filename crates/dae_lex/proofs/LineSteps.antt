@@ -1,11 +1,11 @@
 -- Lines one by one, and their pieces.
-use Rattle.std.proofs.Common.{◌≡◌, ℕ, suc, ◌+◌, ◌<◌, Bool, true, false, ◌||◌, Option, List, [], ◌∷◌, ◌++◌, map, take, drop, get_or, length, refl, ap, sym, ◌∙◌, arith, add-one, one-add}
+use Rattle.std.proofs.Common.{◌≡◌, ℕ, suc, ◌+◌, ◌<◌, Bool, true, false, not, cond, if◌then◌else◌, ◌||◌, Option, List, [], ◌∷◌, ◌++◌, map, take, drop, get_or, length, refl, ap, sym, ◌∙◌, arith, add-one, one-add}
 use Rattle.std.specs.List.{prefix_len}
 use Rattle.std.proofs.lemmas.List.{take-map, drop-map, drop-drop, drop_more, length-map, length-drop}
 use Rattle.dae_tree.specs.declared.pieces.PieceKind.TheVariants as kinds
 use Rattle.dae_tree.specs.Pieces.{Cut}
 use Rattle.dae_tree.specs.Replacing.{Definition, expand}
-use Rattle.dae_tree.specs.Directives.{is_end_kind, goes_on, lines_of, line_of, with_first, replaced_text, inclusion_of, is_of, includes}
+use Rattle.dae_tree.specs.Directives.{is_blank_kind, marks_of, is_end_kind, goes_on, lines_of, line_of, with_first, replaced_text, inclusion_of, is_of, includes}
 use Rattle.dae_tree.specs.declared.headers.Header.{Header}
 use Rattle.dae_lex.specs.declared.pieces.Piece.{Piece}
 use Rattle.dae_lex.specs.Cuts.{cut_of}
@@ -55,3 +55,12 @@ pub seen_more : (seen : Bool) (header : Header) (found : Option Header) (line : 
     → ((seen || is_of header found) || includes header rest) ≡ (seen || includes header (line ∷ rest))
 seen_more seen header found line rest e =
     ap (λ f. (seen || is_of header f) || includes header rest) e ∙ or_regroup seen (is_of header (inclusion_of (line_of line))) (includes header rest)
+
+-- the pieces that are no blanks, one by one
+mark_by : (p : Cut) (ps : List Cut) (b : Bool) → is_blank_kind p.kind ≡ b → marks_of (p ∷ ps) ≡ (if b then marks_of ps else p ∷ marks_of ps)
+mark_by p ps true e = ap (λ b. cond (not b) (p ∷ marks_of ps) (marks_of ps)) e
+mark_by p ps false e = ap (λ b. cond (not b) (p ∷ marks_of ps) (marks_of ps)) e
+
+pub mark_more : (ps : List Piece) (i : ℕ) (d : Piece) (b : Bool) → i < length ps → is_blank_kind (get_or ps i d).kind ≡ b
+    → marks_of (map cut_of (drop i ps)) ≡ (if b then marks_of (map cut_of (drop (i + 1) ps)) else cut_of (get_or ps i d) ∷ marks_of (map cut_of (drop (i + 1) ps)))
+mark_more ps i d b h e = ap (λ qs. marks_of (map cut_of qs)) (drop_more ps i d h) ∙ mark_by (cut_of (get_or ps i d)) (map cut_of (drop (i + 1) ps)) b e

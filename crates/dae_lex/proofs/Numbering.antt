@@ -1,5 +1,5 @@
 -- The numbers of names and literals lie within their lists, and the spans of the tokens are those that were read.
-use Rattle.std.proofs.Common.{◌≡◌, ℕ, suc, ◌+◌, ◌-◌, ◌∙◌, ap, ◌<◌, ◌≤◌, Bool, true, false, not, cond, ◌||◌, if◌then◌else◌, List, [], ◌∷◌, ◌++◌, map, length, refl, arith}
+use Rattle.std.proofs.Common.{◌≡◌, ℕ, suc, ◌+◌, ◌-◌, ◌∙◌, ap, ◌<◌, ◌≤◌, Bool, true, false, if◌then◌else◌, List, [], ◌∷◌, ◌++◌, map, length, refl, arith}
 use Rattle.std.specs.List.{list_any, position_or_len, range_with_len, AllByRecursion}
 use Rattle.std.specs.Str.{bytes_eq}
 use Rattle.std.proofs.lemmas.List.{length-append}
@@ -19,22 +19,7 @@ use Rattle.dae_tree.specs.Reading.{IsSpan, IsNumbered, AreInOrder, IsReading}
 use Rattle.dae_tree.specs.Tokens.{joined, names_with, names_after, literals_with, literals_after, kind_of, numbered}
 use Rattle.dae_lex.specs.Whole.{span, SpansFrom}
 use Rattle.dae_lex.proofs.Spans.{joined_steps}
-
-position_one : (b : Bool) (k n : ℕ) → k ≤ n → cond (not b) (1 + k) 0 ≤ n + 1
-position_one true k n h = omega arith
-position_one false k n h = omega arith
-
-position_most : (p : List ℕ → Bool) (ns : List (List ℕ)) → position_or_len p ns ≤ length ns
-position_most p [] = omega arith
-position_most p (n ∷ ns) = omega (arith, position_one (p n) (position_or_len p ns) (length ns) (position_most p ns))
-
-found_one : (b c : Bool) (k n : ℕ) → (c ≡ true → k < n) → (b || c) ≡ true → cond (not b) (1 + k) 0 < n + 1
-found_one true c k n h e = omega arith
-found_one false c k n h e = let l = h e in omega arith
-
-position_found : (p : List ℕ → Bool) (ns : List (List ℕ)) → list_any p ns ≡ true → position_or_len p ns < length ns
-position_found p [] h = absurd (cc)
-position_found p (n ∷ ns) h = omega (arith, found_one (p n) (list_any p ns) (position_or_len p ns) (length ns) (position_found p ns) h)
+use Rattle.dae_lex.proofs.Positions.{position_most, position_found}
 
 with_one : (ns : List (List ℕ)) (n : List ℕ) (b : Bool) (k : ℕ) → (b ≡ true → k < length ns) → k ≤ length ns → k < length (if b then ns else ns ++ n ∷ [])
 with_one ns n true k h l = h refl

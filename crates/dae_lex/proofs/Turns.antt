@@ -1,5 +1,5 @@
 -- One turn of replacing, on lists.
-use Rattle.std.proofs.Common.{◌≡◌, ℕ, zero, suc, pred, ◌+◌, ◌-◌, ◌^◌, ◌<◌, ◌≤◌, List, [], ◌∷◌, ◌++◌, length, refl, ap, sym, ◌∙◌, arith, append_assoc, append-nil, Some, None, Result, Ok, Err, OnOk}
+use Rattle.std.proofs.Common.{subst, IfErr, ◌≡◌, ℕ, zero, suc, pred, ◌+◌, ◌-◌, ◌^◌, ◌<◌, ◌≤◌, List, [], ◌∷◌, ◌++◌, length, refl, ap, sym, ◌∙◌, arith, append_assoc, append-nil, Some, None, Result, Ok, Err, OnOk}
 use Rattle.std.specs.List.{flat_map, sum_by}
 use Rattle.std.proofs.lemmas.List.{map-append, length-append}
 use Rattle.std.proofs.lemmas.List.Sums.{sum_by-append}
@@ -195,3 +195,8 @@ begin_fails e macros p body s zero h w failed =
 begin_fails e macros p body s (suc m) h w failed =
     fails_along e _ _ (sym (ap (settle s) (expand_some macros p m [] p body h)))
     (fails_on e s (replaced p ∷ []) (flat_map (expand m macros (p.spelling ∷ []) p) body) failed)
+
+-- a call that only memory can stop
+pub memory_only : (r : Result (Unit {0}) LexError) (s : State) (x : Result State LexError) → x ≡ Ok s → IfErr r (λ e. e ≡ Memory) → Settles s r x
+memory_only (Ok y) s x h k = h
+memory_only (Err e) s x h k = subst (λ f. Fails f x) (sym k) tt

@@ -1,18 +1,28 @@
 -- The list of tokens as it grows: the tokens, names and literals so far, and a literal that may still go on.
-use Rattle.std.specs.Prelude.{ℕ, List, [], ◌∷◌, ◌++◌, map, Option, Some, None}
+use Rattle.std.specs.Prelude.{ℕ, List, [], ◌∷◌, ◌++◌, map, Option, Some, None, All}
+use Rattle.std.specs.Borrow.{Bor}
 use Rattle.dae_tree.specs.Replacing.{Read, literal}
 use Rattle.dae_tree.specs.Tokens.{before, token_of, numbered, names_with, names_after, literals_with, literals_after}
 use Rattle.dae_tree.specs.declared.tokens.Token.{Token}
 use Rattle.dae_lex.specs.declared.finish.Builder.{Builder}
 use Rattle.dae_lex.specs.declared.finish.OpenLiteral.{OpenLiteral}
+use Rattle.dae_lex.specs.declared.numbers.Numbers.{Numbers}
+use Rattle.dae_lex.specs.Numbers.{IsName}
 
 pub record Built : Type 0 where
   pub tokens : List Token
   pub names : List (List ℕ)
   pub literals : List (List ℕ)
 
+-- names by their numbers
+abbrev pub names_in : List (ℕ × Bor (List ℕ)) → List (List ℕ)
+names_in es = map (λ e. e.1.now) es
+
+abbrev pub AreNamed : Numbers → List (ℕ × Bor (List ℕ)) → Type 0
+AreNamed w es = All (λ e. IsName w e.0 e.1.now) es
+
 abbrev pub built_of : Builder → Built
-built_of b = record { tokens = b.tokens.items; names = map (λ k. k.now) b.names.keys; literals = b.literals.items }
+built_of b = record { tokens = b.tokens.items; names = names_in b.names.entries; literals = b.literals.items }
 
 abbrev pub read_literal : OpenLiteral → Read
 read_literal l = record { meaning = literal l.bytes.items; start = l.start; end = l.end; place = l.place }

@@ -1,4 +1,5 @@
 pub mod Cuts
+pub mod Numbers
 pub mod Settling
 pub mod Pending
 pub mod Reading

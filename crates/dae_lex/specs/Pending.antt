@@ -1,19 +1,29 @@
 -- Replacements that aren't over, the outermost first, and what they still give.
-use Rattle.std.specs.Prelude.{◌≡◌, ℕ, pred, ◌+◌, ◌*◌, ◌^◌, List, [], ◌∷◌, ◌++◌, map, length, Result, Ok, Err}
+use Rattle.std.specs.Prelude.{◌≡◌, ℕ, pred, ◌+◌, ◌*◌, ◌^◌, List, [], ◌∷◌, ◌++◌, map, length, Result, Ok, Err, All}
 use Rattle.std.specs.List.{flat_map, sum_by}
 use Rattle.dae_tree.specs.Pieces.{Cut}
 use Rattle.dae_tree.specs.Replacing.{Definition, Item, expand}
 use Rattle.dae_tree.specs.declared.faults.LexError.{LexError}
-use Rattle.dae_lex.specs.declared.pieces.Piece.{Piece}
-use Rattle.dae_lex.specs.Cuts.{cut_of}
+use Rattle.dae_lex.specs.declared.numbers.Numbers.{Numbers}
+use Rattle.dae_lex.specs.declared.replace.Open.{Open}
+use Rattle.dae_lex.specs.declared.replace.Stack.{Stack}
+use Rattle.dae_lex.specs.Numbers.{IsName, IsNumbered, cuts_of}
 use Rattle.dae_lex.specs.Settling.{State, Fails}
 
 pub record Frame : Type 0 where
   pub name : List ℕ
   pub rest : List Cut
 
-abbrev pub frame_by : List ℕ → List Piece → Frame
-frame_by name rest = record { name = name; rest = map cut_of rest }
+abbrev pub frame_of : Open → Frame
+frame_of f = record { name = f.name.now; rest = cuts_of f.rest.now }
+
+abbrev pub frames_of : Stack → List Frame
+frames_of s = map (λ e. frame_of e.1) s.frames.entries
+
+-- the names and the rests of bodies have numbers
+abbrev pub AreOpen : Numbers → Stack → Type 0
+AreOpen w s =
+    All (λ e. IsName w e.0 e.1.name.now × All (IsNumbered w) e.1.rest.now) s.frames.entries
 
 abbrev pub names_of : List Frame → List (List ℕ)
 names_of fs = map (λ f. f.name) fs

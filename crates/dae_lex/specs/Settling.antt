@@ -1,5 +1,5 @@
 -- The items of a text one by one: the tokens so far, and what is left of the room.
-use Rattle.std.specs.Prelude.{◌≡◌, ℕ, zero, suc, ◌-◌, List, [], ◌∷◌, ◌++◌, map, nat_le, if◌then◌else◌, Result, Ok, Err}
+use Rattle.std.specs.Prelude.{◌≡◌, ℕ, zero, suc, ◌-◌, List, [], ◌∷◌, ◌++◌, map, nat_le, if◌then◌else◌, Result, Ok, Err, All}
 use Rattle.dae_tree.specs.Literals.{values_of}
 use Rattle.dae_tree.specs.Replacing.{Meaning, keyword, sign, name, constant, literal, Read, Item, taken, replaced, refused, Tested, token, failed, tested_one, literal_length}
 use Rattle.dae_tree.specs.declared.tokens.Room.{Room}
@@ -11,14 +11,22 @@ use Rattle.dae_lex.specs.declared.output.Meaning.{Meaning as Meant}
 use Rattle.dae_lex.specs.declared.output.Meaning.TheVariants as meanings
 use Rattle.dae_lex.specs.declared.output.ReadToken.{ReadToken}
 use Rattle.dae_lex.specs.declared.output.Output.{Output}
+use Rattle.dae_lex.specs.declared.numbers.Numbers.{Numbers}
+use Rattle.dae_lex.specs.Numbers.{IsName, IsLiteral}
 
 -- what the code has of a token
 abbrev pub meaning_of : Meant → Meaning
 meaning_of (meanings.Keyword k) = keyword k
 meaning_of (meanings.Sign s) = sign s
-meaning_of (meanings.Name n) = name n.now
+meaning_of (meanings.Name number n) = name n.now
 meaning_of (meanings.Constant c) = constant c
-meaning_of (meanings.Literal inside) = literal (values_of inside.now)
+meaning_of (meanings.Literal number inside) = literal (values_of inside.now)
+
+-- a name and a literal have their numbers
+abbrev pub IsMeant : Numbers → Meant → Type 0
+IsMeant w (meanings.Name number n) = IsName w number n.now
+IsMeant w (meanings.Literal number inside) = IsLiteral w number (values_of inside.now)
+IsMeant w _ = Unit {0}
 
 abbrev pub meant : Result Meant Construct → Result Meaning Construct
 meant (Ok meaning) = Ok (meaning_of meaning)
@@ -26,6 +34,9 @@ meant (Err construct) = Err construct
 
 abbrev pub read_of : ReadToken → Read
 read_of t = record { meaning = meaning_of t.meaning; start = t.start; end = t.end; place = t.place }
+
+abbrev pub AreRead : Numbers → Output → Type 0
+AreRead w out = All (λ t. IsMeant w t.meaning) out.tokens.items
 
 pub record State : Type 0 where
   pub tokens : List Read

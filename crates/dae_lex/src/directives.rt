@@ -1,20 +1,24 @@
 //! Lines: what each of them is, the macros that it defines, and what it puts out.
 
-ghost use Rattle.std.specs.Prelude.{◌≡◌, ◌≤◌, ◌<◌, ◌+◌, ◌++◌, ◌||◌, ℕ, List, [], ◌∷◌, length, map, option_map, IfOk, OnOk, IfErr};
+ghost use Rattle.std.specs.Prelude.{◌≡◌, ◌≤◌, ◌<◌, ◌+◌, ◌++◌, ◌||◌, ℕ, List, [], ◌∷◌, None, nat_eq, length, map, option_map, IfOk, OnOk, IfErr, All};
 ghost use Rattle.std.specs.List.{prefix_len};
+ghost use Rattle.std.specs.Map.{lookup};
 ghost use Rattle.dae_tree.specs.Pieces.{Cut};
 ghost use Rattle.dae_tree.specs.Replacing.{is_word_kind};
-ghost use Rattle.dae_tree.specs.Directives.{is_blank_kind, is_end_kind, is_hash_kind, is_paren_kind, goes_on, from_mark, marks_of, begins_call, number_piece, first_fault, stray, definition_in, header_in, alone, inclusion_in, directive_in, line_of, lines_of, same_spellings, known_as, conflict_items, definition_items, with_definition, with_definitions, number_macro, header_definitions, replaced_text, line_items, macros_after, replaced_lines, inclusion_of, is_of, includes};
+ghost use Rattle.dae_tree.specs.Directives.{is_blank_kind, is_end_kind, is_hash_kind, is_paren_kind, goes_on, from_mark, marks_of, begins_call, number_piece, first_fault, stray, definition_in, header_in, inclusion_in, directive_in, line_of, lines_of, same_spellings, known_as, conflict_items, definition_items, with_definition, with_definitions, number_macro, header_definitions, replaced_text, line_items, macros_after, replaced_lines, inclusion_of, is_of, includes};
 ghost use Rattle.dae_tree.specs.Directives.{include as Include, define as Define};
 ghost use Rattle.dae_tree.specs.declared.headers.Header.TheVariants.{Stdio, Stdlib};
 ghost use Rattle.dae_tree.specs.declared.faults.LexError.TheVariants.{Memory};
 ghost use Rattle.dae_lex.specs.Cuts.{cut_of};
-ghost use Rattle.dae_lex.specs.Settling.{State, Settles, state_of, settle};
+ghost use Rattle.dae_lex.specs.Numbers.{IsName, IsNumbered, Keeps, AreDefined, cuts_of, definition_of, definitions_of};
+ghost use Rattle.dae_lex.specs.Settling.{State, Settles, AreRead, state_of, settle};
+ghost use Rattle.dae_lex.specs.declared.numbers.Numbers.{Numbers as Numbers_};
 ghost use Rattle.dae_lex.specs.Reading.{line_from, rows_of};
 
-use crate::macros::Macros;
+use crate::macros::{Macro, Macros};
+use crate::numbers::{NumberedPiece, Numbers};
 use crate::output::{Output, fault_at};
-use crate::pieces::{Piece, next_of, push_piece};
+use crate::pieces::{Piece, next_of};
 use crate::replace::replace_piece;
 use dae_base::Place;
 use dae_scan::{find_header, number_kind};
@@ -75,15 +79,42 @@ fn skip_blanks<'p, 'j>(pieces: &'p [Piece<'j>]) -> &'p [Piece<'j>]
     &[]
 }
 
-/// The pieces that are no blanks. Only memory can be wanting.
-fn marks<'j>(alloc: Global, pieces: &[Piece<'j>]) -> Result<Vec<Piece<'j>>, LexError>
-    ensures ok { IfOk result (λ v. map cut_of v.items ≡ marks_of (map cut_of pieces.now)) }
+/// Appends a piece, with its number.
+fn push_numbered<'j>(
+    alloc: Global,
+    numbers: &mut Numbers<'j>,
+    body: &mut Vec<NumberedPiece<'j>>,
+    piece: Piece<'j>,
+) -> Result<(), LexError>
+    requires { All (IsNumbered numbers.old) body.old.items }
+    ensures pieces { OnOk result
+        (cuts_of body.new.items ≡ cuts_of body.old.items ++ cut_of piece.entry ∷ []) }
+    ensures numbered { OnOk result (All (IsNumbered numbers.new) body.new.items) }
+    ensures keeps { OnOk result (Keeps numbers.old numbers.new) }
+    ensures err { IfErr result (λ e. e ≡ Memory) }
+{
+    let numbered = numbers.piece(alloc, piece)?;
+    match body.push(numbered) {
+        Ok(()) => Ok(()),
+        Err(_) => Err(LexError::Memory),
+    }
+}
+
+/// The pieces that are no blanks, with their numbers. Only memory can be wanting.
+fn marks<'j>(
+    alloc: Global,
+    numbers: &mut Numbers<'j>,
+    pieces: &[Piece<'j>],
+) -> Result<Vec<NumberedPiece<'j>>, LexError>
+    ensures ok { IfOk result (λ v. cuts_of v.items ≡ marks_of (map cut_of pieces.now)) }
+    ensures numbered { IfOk result (λ v. All (IsNumbered numbers.new) v.items) }
+    ensures keeps { OnOk result (Keeps numbers.old numbers.new) }
     ensures err { IfErr result (λ e. e ≡ Memory) }
 {
     let mut all = Vec::new(alloc);
     for piece in pieces {
         if !blank_kind(piece.kind) {
-            push_piece(&mut all, *piece)?;
+            push_numbered(alloc, numbers, &mut all, *piece)?;
         }
     }
     Ok(all)
@@ -215,14 +246,14 @@ fn read_line<'p, 'j>(pieces: &'p [Piece<'j>]) -> ReadLine<'p, 'j>
 }
 
 /// Whether two replacements are spelled alike.
-fn same_body(a: &[Piece<'_>], b: &[Piece<'_>]) -> bool
-    ensures { result ≡ same_spellings (map cut_of a.now) (map cut_of b.now) }
+fn same_body(a: &[NumberedPiece<'_>], b: &[NumberedPiece<'_>]) -> bool
+    ensures { result ≡ same_spellings (cuts_of a.now) (cuts_of b.now) }
 {
     if a.len() != b.len() {
         return false;
     }
     for i in 0..a.len() {
-        if a[i].spelling != b[i].spelling {
+        if a[i].piece.spelling != b[i].piece.spelling {
             return false;
         }
     }
@@ -230,43 +261,54 @@ fn same_body(a: &[Piece<'_>], b: &[Piece<'_>]) -> bool
 }
 
 /// For a name that has a definition, whether it is another than this.
-fn redefined<'j>(macros: &Macros<'j>, name: &'j [u8], body: &[Piece<'j>]) -> Option<bool>
-    ensures { result
-        ≡ known_as macros.now (record { name = name.now; body = map cut_of body.now }) }
+fn redefined<'j>(macros: &Macros<'j>, number: usize, new: &Macro<'j>) -> Option<bool>
+    ensures known { (w : Numbers_) → AreDefined w macros.now → IsName w number new.now.name.now →
+        result ≡ known_as (definitions_of macros.now) (definition_of new.now) }
+    ensures unknown { result ≡ None → lookup (nat_eq number) macros.now.bodies.entries ≡ None }
 {
-    match macros.find(name) {
-        Some(old) => Some(!same_body(old, body)),
+    match macros.find(number) {
+        Some(old) => Some(!same_body(old, &new.body)),
         None => None,
     }
 }
 
 /// Takes a definition.
 fn define<'j>(
+    numbers: &mut Numbers<'j>,
     macros: &mut Macros<'j>,
     hash: Place,
-    name: &'j [u8],
-    body: Vec<Piece<'j>>,
+    new: Macro<'j>,
 ) -> Result<(), LexError>
+    requires defined { AreDefined numbers.old macros.old }
+    requires numbered { All (IsNumbered numbers.old) new.body.items }
     ensures settles { (s : State) → Settles s result
         (settle s (conflict_items
-        (known_as macros.old
-        (record { name = name.entry.now; body = map cut_of body.entry.items })) hash)) }
+        (known_as (definitions_of macros.old) (definition_of new.entry)) hash)) }
     ensures macros { OnOk result
-        (macros.new
-        ≡ with_definition macros.old
-        (record { name = name.entry.now; body = map cut_of body.entry.items })) }
+        (definitions_of macros.new
+        ≡ with_definition (definitions_of macros.old) (definition_of new.entry)) }
+    ensures defined { OnOk result (AreDefined numbers.new macros.new) }
+    ensures keeps { OnOk result (Keeps numbers.old numbers.new) }
 {
-    match redefined(macros, name, &body) {
+    let number = numbers.word(new.name)?;
+    match redefined(macros, number, &new) {
         Some(true) => Err(LexError::Refused(Construct::MacroRedefined, hash)),
         Some(false) => Ok(()),
-        None => macros.define(name, body),
+        None => macros.define(number, new),
     }
 }
 
 /// A number as the whole replacement of a macro.
-fn number_body<'j>(alloc: Global, hash: Place, digits: &'j [u8]) -> Result<Vec<Piece<'j>>, LexError>
+fn number_body<'j>(
+    alloc: Global,
+    numbers: &mut Numbers<'j>,
+    hash: Place,
+    digits: &'j [u8],
+) -> Result<Vec<NumberedPiece<'j>>, LexError>
     ensures ok { IfOk result
-        (λ body. map cut_of body.items ≡ number_piece hash digits.entry.now ∷ []) }
+        (λ body. cuts_of body.items ≡ number_piece hash digits.entry.now ∷ []) }
+    ensures numbered { IfOk result (λ body. All (IsNumbered numbers.new) body.items) }
+    ensures keeps { OnOk result (Keeps numbers.old numbers.new) }
     ensures err { IfErr result (λ e. e ≡ Memory) }
 {
     let mut body = Vec::new(alloc);
@@ -277,25 +319,32 @@ fn number_body<'j>(alloc: Global, hash: Place, digits: &'j [u8]) -> Result<Vec<P
         end: 0,
         place: hash,
     };
-    push_piece(&mut body, piece)?;
+    push_numbered(alloc, numbers, &mut body, piece)?;
     Ok(body)
 }
 
 /// Takes the macros of a header.
 fn define_numbers<'j>(
     alloc: Global,
+    numbers: &mut Numbers<'j>,
     macros: &mut Macros<'j>,
     hash: Place,
     rows: &[(&'static [u8], &'static [u8])],
 ) -> Result<(), LexError>
+    requires { AreDefined numbers.old macros.old }
     ensures settles { (s : State) → Settles s result
-        (settle s (definition_items hash macros.old (map (number_macro hash) (rows_of rows.now)))) }
+        (settle s (definition_items hash (definitions_of macros.old)
+        (map (number_macro hash) (rows_of rows.now)))) }
     ensures macros { OnOk result
-        (macros.new ≡ with_definitions macros.old (map (number_macro hash) (rows_of rows.now))) }
+        (definitions_of macros.new
+        ≡ with_definitions (definitions_of macros.old)
+        (map (number_macro hash) (rows_of rows.now))) }
+    ensures defined { OnOk result (AreDefined numbers.new macros.new) }
+    ensures keeps { OnOk result (Keeps numbers.old numbers.new) }
 {
     for (name, digits) in rows {
-        let body = number_body(alloc, hash, digits)?;
-        match define(macros, hash, name, body) {
+        let body = number_body(alloc, numbers, hash, digits)?;
+        match define(numbers, macros, hash, Macro { name, body }) {
             Ok(()) => {}
             Err(e) => return Err(e),
         }
@@ -306,56 +355,77 @@ fn define_numbers<'j>(
 /// Takes an include of a header.
 fn include<'j>(
     alloc: Global,
+    numbers: &mut Numbers<'j>,
     macros: &mut Macros<'j>,
     hash: Place,
     header: Header,
 ) -> Result<(), LexError>
+    requires { AreDefined numbers.old macros.old }
     ensures settles { (s : State) → Settles s result
-        (settle s (definition_items hash macros.old (header_definitions hash header))) }
+        (settle s (definition_items hash (definitions_of macros.old)
+        (header_definitions hash header))) }
     ensures macros { OnOk result
-        (macros.new ≡ with_definitions macros.old (header_definitions hash header)) }
+        (definitions_of macros.new
+        ≡ with_definitions (definitions_of macros.old) (header_definitions hash header)) }
+    ensures defined { OnOk result (AreDefined numbers.new macros.new) }
+    ensures keeps { OnOk result (Keeps numbers.old numbers.new) }
 {
     match header {
-        Header::Stdio => define_numbers(alloc, macros, hash, &STDIO_MACROS),
-        Header::Stdlib => define_numbers(alloc, macros, hash, &STDLIB_MACROS),
+        Header::Stdio => define_numbers(alloc, numbers, macros, hash, &STDIO_MACROS),
+        Header::Stdlib => define_numbers(alloc, numbers, macros, hash, &STDLIB_MACROS),
     }
 }
 
 /// Takes a define whose replacement has no fault.
 fn define_pieces<'j>(
     alloc: Global,
+    numbers: &mut Numbers<'j>,
     macros: &mut Macros<'j>,
     hash: Place,
     name: Piece<'j>,
     rest: &[Piece<'j>],
 ) -> Result<(), LexError>
+    requires { AreDefined numbers.old macros.old }
     ensures settles { (s : State) → Settles s result
-        (settle s (definition_items hash macros.old
+        (settle s (definition_items hash (definitions_of macros.old)
         (record { name = name.entry.spelling.now; body = marks_of (map cut_of rest.now) }
         ∷ []))) }
     ensures macros { OnOk result
-        (macros.new
-        ≡ with_definition macros.old
+        (definitions_of macros.new
+        ≡ with_definition (definitions_of macros.old)
         (record { name = name.entry.spelling.now; body = marks_of (map cut_of rest.now) })) }
+    ensures defined { OnOk result (AreDefined numbers.new macros.new) }
+    ensures keeps { OnOk result (Keeps numbers.old numbers.new) }
 {
-    let body = marks(alloc, rest)?;
-    define(macros, hash, name.spelling, body)
+    let body = marks(alloc, numbers, rest)?;
+    let new = Macro {
+        name: name.spelling,
+        body,
+    };
+    define(numbers, macros, hash, new)
 }
 
 /// Puts out what a line of text becomes.
 fn take_text<'j>(
     alloc: Global,
+    numbers: &mut Numbers<'j>,
     macros: &Macros<'j>,
     pieces: &[Piece<'j>],
     out: &mut Output<'j>,
 ) -> Result<(), LexError>
+    requires defined { AreDefined numbers.old macros.now }
+    requires read { AreRead numbers.old out.old }
     ensures settles { (n : ℕ) → out.old.room.replacements ≤ n →
         Settles (state_of out.new) result
-        (settle (state_of out.old) (replaced_text n macros.now (map cut_of pieces.now))) }
+        (settle (state_of out.old)
+        (replaced_text n (definitions_of macros.now) (map cut_of pieces.now))) }
     ensures left { OnOk result (out.new.room.replacements ≤ out.old.room.replacements) }
+    ensures keeps { OnOk result (Keeps numbers.old numbers.new) }
+    ensures read { OnOk result (AreRead numbers.new out.new) }
 {
     for piece in pieces {
-        match replace_piece(alloc, macros, *piece, out) {
+        let first = numbers.piece(alloc, *piece)?;
+        match replace_piece(alloc, numbers, macros, first, out) {
             Ok(()) => {}
             Err(e) => return Err(e),
         }
@@ -366,32 +436,38 @@ fn take_text<'j>(
 /// Takes one line, and says which header it includes.
 fn take_line<'j>(
     alloc: Global,
+    numbers: &mut Numbers<'j>,
     macros: &mut Macros<'j>,
     pieces: &[Piece<'j>],
     out: &mut Output<'j>,
 ) -> Result<Option<Header>, LexError>
+    requires defined { AreDefined numbers.old macros.old }
+    requires read { AreRead numbers.old out.old }
     ensures settles { (n : ℕ) → out.old.room.replacements ≤ n →
         Settles (state_of out.new) result
         (settle (state_of out.old)
-        (line_items n macros.old (line_of (map cut_of pieces.now)))) }
+        (line_items n (definitions_of macros.old) (line_of (map cut_of pieces.now)))) }
     ensures macros { OnOk result
-        (macros.new ≡ macros_after macros.old (line_of (map cut_of pieces.now))) }
+        (definitions_of macros.new
+        ≡ macros_after (definitions_of macros.old) (line_of (map cut_of pieces.now))) }
     ensures left { OnOk result (out.new.room.replacements ≤ out.old.room.replacements) }
     ensures header { IfOk result
         (λ header. header ≡ inclusion_of (line_of (map cut_of pieces.now))) }
+    ensures defined { OnOk result (AreDefined numbers.new macros.new) }
+    ensures read { OnOk result (AreRead numbers.new out.new) }
 {
     match read_line(pieces) {
         ReadLine::Text => {
-            take_text(alloc, macros, pieces, out)?;
+            take_text(alloc, numbers, macros, pieces, out)?;
             Ok(None)
         }
         ReadLine::Nothing => Ok(None),
         ReadLine::Include(hash, header) => {
-            include(alloc, macros, hash, header)?;
+            include(alloc, numbers, macros, hash, header)?;
             Ok(Some(header))
         }
         ReadLine::Define(hash, name, rest) => {
-            define_pieces(alloc, macros, hash, name, rest)?;
+            define_pieces(alloc, numbers, macros, hash, name, rest)?;
             Ok(None)
         }
         ReadLine::Refuse(error) => Err(error),
@@ -436,15 +512,18 @@ fn with_header(seen: Includes, found: Option<Header>) -> Includes
 /// Puts out what the lines become, and says which headers they include.
 pub fn take_lines<'j>(
     alloc: Global,
+    numbers: &mut Numbers<'j>,
     pieces: &[Piece<'j>],
     out: &mut Output<'j>,
 ) -> Result<Includes, LexError>
+    requires { AreRead numbers.old out.old }
     ensures settles { Settles (state_of out.new) result
         (settle (state_of out.old)
         (replaced_lines out.old.room.replacements [] (lines_of (map cut_of pieces.now)))) }
     ensures headers { IfOk result
         (λ seen. (seen.stdio ≡ includes Stdio (lines_of (map cut_of pieces.now)))
         × (seen.stdlib ≡ includes Stdlib (lines_of (map cut_of pieces.now)))) }
+    ensures read { OnOk result (AreRead numbers.new out.new) }
 {
     let mut macros = Macros::new(alloc);
     let mut seen = Includes {
@@ -454,7 +533,7 @@ pub fn take_lines<'j>(
     let mut at = 0;
     while at < pieces.len() {
         let n = line_length(&pieces[at..]);
-        match take_line(alloc, &mut macros, &pieces[at..at + n], out) {
+        match take_line(alloc, numbers, &mut macros, &pieces[at..at + n], out) {
             Ok(found) => seen = with_header(seen, found),
             Err(e) => return Err(e),
         }

@@ -1,27 +1,28 @@
 //! Tokens at the end: adjacent literals joined, names and literals numbered.
 
-ghost use Rattle.std.specs.Prelude.{◌≡◌, ◌≤◌, ◌<◌, ◌+◌, ◌-◌, ◌^◌, ◌++◌, ℕ, [], ◌∷◌, List, None, length, map, option_map, IfOk, OnOk, IfErr};
+ghost use Rattle.std.specs.Prelude.{◌≡◌, ◌≤◌, ◌<◌, ◌+◌, ◌-◌, ◌^◌, ◌++◌, ℕ, [], ◌∷◌, List, None, length, map, IfOk, OnOk, IfErr, All};
 ghost use Rattle.std.specs.List.{position_or_len};
 ghost use Rattle.std.specs.Str.{bytes_eq};
-ghost use Rattle.dae_tree.specs.Literals.{values_of};
 ghost use Rattle.dae_tree.specs.Replacing.{Read, name as Name};
 ghost use Rattle.dae_tree.specs.Tokens.{literal_of, names_with, kind_of, before, joined};
 ghost use Rattle.dae_tree.specs.declared.faults.LexError.TheVariants.{Memory};
-ghost use Rattle.dae_lex.specs.Settling.{meaning_of, read_of};
-ghost use Rattle.dae_lex.specs.Finishing.{Built, built_of, read_literal, longer_of, waiting, finished, added, closed};
+ghost use Rattle.dae_lex.specs.Numbers.{IsName};
+ghost use Rattle.dae_lex.specs.Settling.{IsMeant, meaning_of, read_of};
+ghost use Rattle.dae_lex.specs.Finishing.{AreNamed, names_in, built_of, read_literal, longer_of, waiting, finished, added, closed};
+ghost use Rattle.dae_lex.specs.declared.numbers.Numbers.{Numbers as Numbers_};
 
-use crate::output::{Meaning, ReadToken};
+use crate::numbers::{Numbers, push_bytes};
+use crate::output::{Meaning, ReadToken, literal_bytes};
 use dae_base::{Items, Place};
-use dae_scan::append_values;
 use dae_tree::{Kind, LexError, Token};
-use indexmap::IndexSet;
+use indexmap::IndexMap;
 use std::alloc::Global;
 
-/// The tokens so far, with the names and literals that they number.
+/// The tokens so far, with the names and literals that they number. A name is kept by its number among the words.
 #[derive(Drop)]
 pub struct Builder<'j> {
     pub tokens: Vec<Token>,
-    pub names: IndexSet<&'j [u8]>,
+    pub names: IndexMap<usize, &'j [u8]>,
     pub literals: Vec<Items<u8>>,
 }
 
@@ -35,44 +36,55 @@ pub struct OpenLiteral {
 }
 
 /// The number of a name: its place in the list of names, to whose end a new one goes.
-fn name_number<'j>(names: &mut IndexSet<&'j [u8]>, name: &'j [u8]) -> Result<u32, LexError>
-    requires { length names.old.keys < 2 ^ 32 - 1 }
-    ensures number { IfOk result
-        (λ n. n ≡ position_or_len (bytes_eq name.now) (map (λ k. k.now) names.old.keys)) }
-    ensures names { OnOk result
-        (map (λ k. k.now) names.new.keys
-        ≡ names_with (map (λ k. k.now) names.old.keys) (Name name.now)) }
-    ensures fits { OnOk result (length names.new.keys ≤ length names.old.keys + 1) }
+fn name_number<'j>(
+    names: &mut IndexMap<usize, &'j [u8]>,
+    number: usize,
+    name: &'j [u8],
+) -> Result<u32, LexError>
+    requires { length names.old.entries < 2 ^ 32 - 1 }
+    ensures number { (w : Numbers_) → AreNamed w names.old.entries → IsName w number name.now →
+        IfOk result (λ n. n ≡ position_or_len (bytes_eq name.now) (names_in names.old.entries)) }
+    ensures names { (w : Numbers_) → AreNamed w names.old.entries → IsName w number name.now →
+        OnOk result (names_in names.new.entries
+        ≡ names_with (names_in names.old.entries) (Name name.now)) }
+    ensures named { (w : Numbers_) → AreNamed w names.old.entries → IsName w number name.now →
+        OnOk result (AreNamed w names.new.entries) }
+    ensures fits { OnOk result (length names.new.entries ≤ length names.old.entries + 1) }
     ensures err { IfErr result (λ e. e ≡ Memory) }
 {
-    match names.insert_full(name) {
+    match names.insert_full(number, name) {
         Ok((index, _)) => Ok(index as u32),
         Err(_) => Err(LexError::Memory),
     }
 }
 
 /// What a token is that is no literal.
-fn plain_kind<'j>(names: &mut IndexSet<&'j [u8]>, meaning: Meaning<'j>) -> Result<Kind, LexError>
+fn plain_kind<'j>(
+    names: &mut IndexMap<usize, &'j [u8]>,
+    meaning: Meaning<'j>,
+) -> Result<Kind, LexError>
     requires plain { literal_of (meaning_of meaning) ≡ None }
-    requires room { length names.old.keys < 2 ^ 32 - 1 }
-    ensures kind { IfOk result
-        (λ k. (literals : List (List ℕ))
-        → k ≡ kind_of (map (λ k. k.now) names.old.keys) literals (meaning_of meaning.entry)) }
-    ensures names { OnOk result
-        (map (λ k. k.now) names.new.keys
-        ≡ names_with (map (λ k. k.now) names.old.keys) (meaning_of meaning.entry)) }
-    ensures fits { OnOk result (length names.new.keys ≤ length names.old.keys + 1) }
+    requires room { length names.old.entries < 2 ^ 32 - 1 }
+    ensures kind { (w : Numbers_) → AreNamed w names.old.entries → IsMeant w meaning.entry →
+        IfOk result (λ k. (literals : List (List ℕ))
+        → k ≡ kind_of (names_in names.old.entries) literals (meaning_of meaning.entry)) }
+    ensures names { (w : Numbers_) → AreNamed w names.old.entries → IsMeant w meaning.entry →
+        OnOk result (names_in names.new.entries
+        ≡ names_with (names_in names.old.entries) (meaning_of meaning.entry)) }
+    ensures named { (w : Numbers_) → AreNamed w names.old.entries → IsMeant w meaning.entry →
+        OnOk result (AreNamed w names.new.entries) }
+    ensures fits { OnOk result (length names.new.entries ≤ length names.old.entries + 1) }
     ensures err { IfErr result (λ e. e ≡ Memory) }
 {
     match meaning {
         Meaning::Keyword(keyword) => Ok(Kind::Keyword(keyword)),
         Meaning::Sign(sign) => Ok(Kind::Sign(sign)),
-        Meaning::Name(name) => {
-            let number = name_number(names, name)?;
+        Meaning::Name(number, name) => {
+            let number = name_number(names, number, name)?;
             Ok(Kind::Name(number))
         }
         Meaning::Constant(constant) => Ok(Kind::Constant(constant)),
-        Meaning::Literal(_) => unreachable!(),
+        Meaning::Literal(_, _) => unreachable!(),
     }
 }
 
@@ -86,16 +98,6 @@ fn push_token(tokens: &mut Vec<Token>, token: Token) -> Result<(), LexError>
     }
 }
 
-fn push_literal(literals: &mut Vec<Items<u8>>, bytes: Vec<u8>) -> Result<(), LexError>
-    ensures ok { OnOk result (literals.new.items ≡ literals.old.items ++ bytes.items ∷ []) }
-    ensures err { IfErr result (λ e. e ≡ Memory) }
-{
-    match literals.push(Items::from_vec(bytes)) {
-        Ok(()) => Ok(()),
-        Err(_) => Err(LexError::Memory),
-    }
-}
-
 impl<'j> Builder<'j> {
     /// Nothing.
     fn new(alloc: Global) -> Builder<'j>
@@ -103,7 +105,7 @@ impl<'j> Builder<'j> {
     {
         Builder {
             tokens: Vec::new(alloc),
-            names: IndexSet::new(alloc),
+            names: IndexMap::new(alloc),
             literals: Vec::new(alloc),
         }
     }
@@ -111,10 +113,14 @@ impl<'j> Builder<'j> {
     /// Adds a token that is no literal.
     fn add(&mut self, read: ReadToken<'j>) -> Result<(), LexError>
         requires plain { literal_of (meaning_of read.meaning) ≡ None }
-        requires room { length self.old.names.keys < 2 ^ 32 - 1 }
-        ensures built { OnOk result
-            (built_of self.new ≡ added (built_of self.old) (read_of read.entry)) }
-        ensures names { OnOk result (length self.new.names.keys ≤ length self.old.names.keys + 1) }
+        requires room { length self.old.names.entries < 2 ^ 32 - 1 }
+        ensures built { (w : Numbers_) → AreNamed w self.old.names.entries →
+            IsMeant w read.entry.meaning →
+            OnOk result (built_of self.new ≡ added (built_of self.old) (read_of read.entry)) }
+        ensures named { (w : Numbers_) → AreNamed w self.old.names.entries →
+            IsMeant w read.entry.meaning → OnOk result (AreNamed w self.new.names.entries) }
+        ensures names { OnOk result
+            (length self.new.names.entries ≤ length self.old.names.entries + 1) }
         ensures literals { OnOk result
             (length self.new.literals.items ≡ length self.old.literals.items) }
         ensures err { IfErr result (λ e. e ≡ Memory) }
@@ -135,7 +141,7 @@ impl<'j> Builder<'j> {
     fn close(&mut self, held: Option<OpenLiteral>) -> Result<(), LexError>
         requires { length self.old.literals.items < 2 ^ 32 }
         ensures built { OnOk result (built_of self.new ≡ closed (built_of self.old) held) }
-        ensures names { OnOk result (length self.new.names.keys ≡ length self.old.names.keys) }
+        ensures names { self.new.names ≡ self.old.names }
         ensures literals { OnOk result
             (length self.new.literals.items ≤ length self.old.literals.items + 1) }
         ensures err { IfErr result (λ e. e ≡ Memory) }
@@ -156,48 +162,37 @@ impl<'j> Builder<'j> {
                     place,
                 };
                 push_token(&mut self.tokens, token)?;
-                push_literal(&mut self.literals, bytes)
+                push_bytes(&mut self.literals, bytes)
             }
         }
     }
 }
 
-/// What stands between the quotes of a token that is a literal.
-fn literal_inside<'j>(meaning: Meaning<'j>) -> Option<&'j [u8]>
-    ensures { option_map (λ inside. values_of inside.now) result
-        ≡ literal_of (meaning_of meaning.entry) }
-{
-    match meaning {
-        Meaning::Literal(inside) => Some(inside),
-        _ => None,
-    }
-}
-
-fn append(bytes: &mut Vec<u8>, inside: &[u8]) -> Result<(), LexError>
-    ensures ok { OnOk result (bytes.new.items ≡ bytes.old.items ++ values_of inside.now) }
+fn append(bytes: &mut Vec<u8>, more: &[u8]) -> Result<(), LexError>
+    ensures ok { OnOk result (bytes.new.items ≡ bytes.old.items ++ more.now) }
     ensures err { IfErr result (λ e. e ≡ Memory) }
 {
-    match append_values(inside, bytes) {
+    match bytes.extend_from_slice(more) {
         Ok(()) => Ok(()),
         Err(_) => Err(LexError::Memory),
     }
 }
 
-/// The literal that a token begins or goes on.
+/// The literal that a token with these bytes begins or goes on.
 fn longer<'j>(
     alloc: Global,
     held: Option<OpenLiteral>,
     read: ReadToken<'j>,
-    inside: &[u8],
+    more: &[u8],
 ) -> Result<OpenLiteral, LexError>
     ensures ok { IfOk result
-        (λ l. read_literal l ≡ longer_of held (read_of read.entry) (values_of inside.now)) }
+        (λ l. read_literal l ≡ longer_of held (read_of read.entry) more.now) }
     ensures err { IfErr result (λ e. e ≡ Memory) }
 {
     match held {
         None => {
             let mut bytes = Vec::new(alloc);
-            append(&mut bytes, inside)?;
+            append(&mut bytes, more)?;
             Ok(OpenLiteral {
                 bytes,
                 start: read.start,
@@ -206,7 +201,7 @@ fn longer<'j>(
             })
         }
         Some(mut literal) => {
-            append(&mut literal.bytes, inside)?;
+            append(&mut literal.bytes, more)?;
             literal.end = read.end;
             Ok(literal)
         }
@@ -216,24 +211,28 @@ fn longer<'j>(
 /// Adds a token, or makes a literal longer.
 fn step<'j>(
     alloc: Global,
+    numbers: &Numbers<'j>,
     builder: &mut Builder<'j>,
     held: Option<OpenLiteral>,
     read: ReadToken<'j>,
 ) -> Result<Option<OpenLiteral>, LexError>
-    requires names { length builder.old.names.keys < 2 ^ 32 - 1 }
+    requires meant { IsMeant numbers.now read.meaning }
+    requires named { AreNamed numbers.now builder.old.names.entries }
+    requires names { length builder.old.names.entries < 2 ^ 32 - 1 }
     requires literals { length builder.old.literals.items < 2 ^ 32 }
     ensures ok { IfOk result (λ after. (rest : List Read) →
         finished (built_of builder.new) (waiting after rest)
         ≡ finished (built_of builder.old) (waiting held (before (read_of read.entry) rest))) }
+    ensures named { OnOk result (AreNamed numbers.now builder.new.names.entries) }
     ensures names { OnOk result
-        (length builder.new.names.keys ≤ length builder.old.names.keys + 1) }
+        (length builder.new.names.entries ≤ length builder.old.names.entries + 1) }
     ensures literals { OnOk result
         (length builder.new.literals.items ≤ length builder.old.literals.items + 1) }
     ensures err { IfErr result (λ e. e ≡ Memory) }
 {
-    match literal_inside(read.meaning) {
-        Some(inside) => {
-            let literal = longer(alloc, held, read, inside)?;
+    match literal_bytes(numbers, read.meaning) {
+        Some(bytes) => {
+            let literal = longer(alloc, held, read, bytes)?;
             Ok(Some(literal))
         }
         None => {
@@ -245,8 +244,13 @@ fn step<'j>(
 }
 
 /// The tokens with adjacent literals joined, and the names and literals that they number. Only memory can be wanting.
-pub fn build<'j>(alloc: Global, reads: &[ReadToken<'j>]) -> Result<Builder<'j>, LexError>
-    requires { length reads.now < 2 ^ 32 }
+pub fn build<'j>(
+    alloc: Global,
+    numbers: &Numbers<'j>,
+    reads: &[ReadToken<'j>],
+) -> Result<Builder<'j>, LexError>
+    requires few { length reads.now < 2 ^ 32 }
+    requires meant { All (λ t. IsMeant numbers.now t.meaning) reads.now }
     ensures ok { IfOk result
         (λ builder. built_of builder
         ≡ finished (record { tokens = []; names = []; literals = [] })
@@ -256,7 +260,7 @@ pub fn build<'j>(alloc: Global, reads: &[ReadToken<'j>]) -> Result<Builder<'j>, 
     let mut builder = Builder::new(alloc);
     let mut held = None;
     for read in reads {
-        held = step(alloc, &mut builder, held, *read)?;
+        held = step(alloc, numbers, &mut builder, held, *read)?;
     }
     builder.close(held)?;
     Ok(builder)
@@ -270,7 +274,7 @@ pub fn own_names(alloc: Global, names: &[&[u8]]) -> Result<Items<Items<u8>>, Lex
     let mut owned = Vec::new(alloc);
     for name in names {
         match Vec::from_slice(alloc, name) {
-            Ok(bytes) => push_literal(&mut owned, bytes)?,
+            Ok(bytes) => push_bytes(&mut owned, bytes)?,
             Err(_) => return Err(LexError::Memory),
         }
     }

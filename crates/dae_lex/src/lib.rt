@@ -10,6 +10,7 @@ mod directives;
 mod finish;
 mod lines;
 mod macros;
+mod numbers;
 mod output;
 mod pieces;
 mod reading;

@@ -1,64 +1,57 @@
 //! The macros that are defined so far.
 
-ghost use Rattle.std.specs.Prelude.{◌≡◌, ◌≤◌, ◌<◌, ◌^◌, ◌++◌, [], ◌∷◌, None, length, map, option_map, IfSome, OnOk, IfErr};
-ghost use Rattle.dae_tree.specs.Replacing.{Definition, body_of};
-ghost use Rattle.dae_lex.specs.Cuts.{cut_of};
+ghost use Rattle.std.specs.Prelude.{◌≡◌, ◌<◌, ◌^◌, ◌++◌, [], ◌∷◌, None, nat_eq, length, option_map, IfSome, OnOk, IfErr};
+ghost use Rattle.std.specs.Map.{lookup};
 ghost use Rattle.dae_tree.specs.declared.faults.LexError.TheVariants.{Memory};
 
-use crate::pieces::Piece;
+use crate::numbers::NumberedPiece;
 use dae_tree::LexError;
 use indexmap::IndexMap;
 use std::alloc::Global;
-use std::marker::Model;
 
-/// The macros of a text, by name, in the order of their definitions. Clauses see the list of the definitions.
+/// A macro: its name, and what it is replaced by.
 #[derive(Drop)]
-pub struct Macros<'j> {
-    bodies: IndexMap<&'j [u8], Vec<Piece<'j>>>,
+pub struct Macro<'j> {
+    pub name: &'j [u8],
+    pub body: Vec<NumberedPiece<'j>>,
 }
 
-impl<'j> Model for Macros<'j> {
-    ghost use Rattle.std.specs.Prelude.{List, map};
-    ghost use Rattle.dae_tree.specs.Replacing.{Definition};
-    ghost use Rattle.dae_lex.specs.Cuts.{cut_of};
-
-    ghost Value = { List Definition };
-
-    ghost view = { λ m.
-        map (λ e. record { name = e.0.now; body = map cut_of e.1.items }) m.bodies.entries };
+/// The macros of a text, by the numbers of their names, in the order of their definitions.
+#[derive(Drop)]
+pub struct Macros<'j> {
+    pub bodies: IndexMap<usize, Macro<'j>>,
 }
 
 impl<'j> Macros<'j> {
     /// No macros.
     pub fn new(alloc: Global) -> Macros<'j>
-        ensures { result ≡ [] }
+        ensures { result.bodies.entries ≡ [] }
     {
         Macros {
             bodies: IndexMap::new(alloc),
         }
     }
 
-    /// What the macro with this name is replaced by.
-    pub fn find<'m>(&'m self, name: &'j [u8]) -> Option<&'m [Piece<'j>]>
-        ensures body { option_map (λ body. map cut_of body.now) result ≡ body_of self.now name.now }
+    /// What the macro is replaced by whose name has this number.
+    pub fn find<'m>(&'m self, number: usize) -> Option<&'m [NumberedPiece<'j>]>
+        ensures body { option_map (λ body. body.now) result
+            ≡ option_map (λ m. m.body.items) (lookup (nat_eq number) self.now.bodies.entries) }
         ensures small { IfSome result (λ body. length body.now < 2 ^ 64) }
     {
-        match self.bodies.get(&name) {
-            Some(body) => Some(body.as_slice()),
+        match self.bodies.get(&number) {
+            Some(found) => Some(found.body.as_slice()),
             None => None,
         }
     }
 
     /// Adds a macro whose name has no definition yet.
-    pub fn define(&mut self, name: &'j [u8], body: Vec<Piece<'j>>) -> Result<(), LexError>
-        requires { body_of self.old name.now ≡ None }
+    pub fn define(&mut self, number: usize, new: Macro<'j>) -> Result<(), LexError>
+        requires { lookup (nat_eq number) self.old.bodies.entries ≡ None }
         ensures ok { OnOk result
-            (self.new
-            ≡ self.old ++ record { name = name.entry.now; body = map cut_of body.entry.items }
-            ∷ []) }
+            (self.new.bodies.entries ≡ self.old.bodies.entries ++ (number, new.entry) ∷ []) }
         ensures err { IfErr result (λ e. e ≡ Memory) }
     {
-        match self.bodies.insert(name, body) {
+        match self.bodies.insert(number, new) {
             Ok(_) => Ok(()),
             Err(_) => Err(LexError::Memory),
         }

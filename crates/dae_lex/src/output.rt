@@ -1,26 +1,29 @@
 //! Tokens as they are put out, with what is left of the room.
 
-ghost use Rattle.std.specs.Prelude.{◌≡◌, ◌≤◌, ◌<◌, ◌+◌, ◌++◌, [], ◌∷◌, length, OnOk, IfErr, Result, Ok, Err};
-ghost use Rattle.dae_tree.specs.Literals.{inside};
+ghost use Rattle.std.specs.Prelude.{◌≡◌, ◌<◌, ◌+◌, [], ◌∷◌, option_map, IfOk, OnOk, Result, Ok, Err};
+ghost use Rattle.dae_tree.specs.Tokens.{literal_of};
 ghost use Rattle.dae_tree.specs.Replacing.{items_of, taken, replaced, error_at, word_meaning, literal_length};
 ghost use Rattle.dae_lex.specs.Cuts.{cut_of};
-ghost use Rattle.dae_lex.specs.Settling.{State, Settles, state_of, settle, meaning_of, meant};
+ghost use Rattle.dae_lex.specs.Numbers.{IsName, IsNumbered};
+ghost use Rattle.dae_lex.specs.Settling.{Settles, AreRead, IsMeant, state_of, settle, meaning_of, meant};
+ghost use Rattle.dae_lex.specs.declared.numbers.Numbers.{Numbers as Numbers_};
 ghost use Rattle.dae_tree.specs.declared.faults.LexError.TheVariants.{Memory};
 
+use crate::numbers::{NumberedPiece, Numbers, between_quotes};
 use crate::pieces::Piece;
 use dae_base::Place;
-use dae_scan::{find_keyword, find_refused_word, values_length};
+use dae_scan::{find_keyword, find_refused_word};
 use dae_tree::{Constant, Construct, Fault, Keyword, LexError, PieceKind, Room, Sign};
 use std::alloc::Global;
 
-/// What a token is, with the bytes of a name, or what stands between the quotes of a literal.
+/// What a token is, with the number and the bytes of a name, or the number and the spelling of a literal.
 #[derive(Clone, Copy)]
 pub enum Meaning<'j> {
     Keyword(Keyword),
     Sign(Sign),
-    Name(&'j [u8]),
+    Name(usize, &'j [u8]),
     Constant(Constant),
-    Literal(&'j [u8]),
+    Literal(usize, &'j [u8]),
 }
 
 /// A token, with the span and place of the piece of the text that it comes from.
@@ -49,37 +52,39 @@ pub fn fault_at(fault: Fault, place: Place) -> LexError
     }
 }
 
-/// What stands between the quotes of a literal's spelling.
-fn between_quotes(spelling: &[u8]) -> &[u8]
-    ensures { result.now ≡ inside spelling.now }
-{
-    if spelling.len() < 2 {
-        &[]
-    } else {
-        &spelling[1..spelling.len() - 1]
-    }
-}
-
 /// What a word is as a token, or by what name it is refused.
 #[tactic(auto, unfolding(dae_tree::specs::Replacing::word_meaning))]
-fn read_word<'j>(word: &'j [u8]) -> Result<Meaning<'j>, Construct>
-    ensures { meant result ≡ word_meaning word.now }
+fn read_word<'j>(number: usize, word: &'j [u8]) -> Result<Meaning<'j>, Construct>
+    ensures meaning { meant result ≡ word_meaning word.now }
+    ensures number { (w : Numbers_) → IsName w number word.now → IfOk result (IsMeant w) }
 {
     if let Some(keyword) = find_keyword(word) {
         return Ok(Meaning::Keyword(keyword));
     }
     match find_refused_word(word) {
         Some(construct) => Err(construct),
-        None => Ok(Meaning::Name(word)),
+        None => Ok(Meaning::Name(number, word)),
+    }
+}
+
+/// The bytes of a token that is a literal.
+pub fn literal_bytes<'n>(numbers: &'n Numbers<'_>, meaning: Meaning<'_>) -> Option<&'n [u8]>
+    requires { IsMeant numbers.now meaning }
+    ensures { option_map (λ bytes. bytes.now) result ≡ literal_of (meaning_of meaning.entry) }
+{
+    match meaning {
+        Meaning::Literal(number, _) => Some(numbers.literals[number].as_slice()),
+        _ => None,
     }
 }
 
 /// How many bytes a token has of the room of literals.
-fn bytes_in_literals(meaning: Meaning<'_>) -> usize
+fn bytes_in_literals(numbers: &Numbers<'_>, meaning: Meaning<'_>) -> usize
+    requires { IsMeant numbers.now meaning }
     ensures { result ≡ literal_length (meaning_of meaning.entry) }
 {
     match meaning {
-        Meaning::Literal(inside) => values_length(inside),
+        Meaning::Literal(number, _) => numbers.literals[number].len(),
         _ => 0,
     }
 }
@@ -96,22 +101,33 @@ impl<'j> Output<'j> {
     }
 
     /// Takes a piece that isn't replaced, which comes from a piece of the text.
-    pub fn take(&mut self, piece: Piece<'j>, origin: Piece<'j>) -> Result<(), LexError>
+    pub fn take(
+        &mut self,
+        numbers: &Numbers<'j>,
+        next: NumberedPiece<'j>,
+        origin: Piece<'j>,
+    ) -> Result<(), LexError>
+        requires numbered { IsNumbered numbers.now next }
+        requires read { AreRead numbers.now self.old }
         ensures settles { Settles (state_of self.new) result
-            (settle (state_of self.old) (items_of (cut_of piece.entry) (cut_of origin.entry))) }
+            (settle (state_of self.old)
+            (items_of (cut_of next.entry.piece) (cut_of origin.entry))) }
         ensures left { OnOk result (self.new.room.replacements ≡ self.old.room.replacements) }
+        ensures read { OnOk result (AreRead numbers.now self.new) }
     {
+        let NumberedPiece { piece, number } = next;
         match piece.kind {
             PieceKind::Blank | PieceKind::LineEnd => Ok(()),
-            PieceKind::Word => self.put(read_word(piece.spelling), origin),
-            PieceKind::Constant(value) => self.put(Ok(Meaning::Constant(value)), origin),
+            PieceKind::Word => self.put(numbers, read_word(number, piece.spelling), origin),
+            PieceKind::Constant(value) => self.put(numbers, Ok(Meaning::Constant(value)), origin),
             PieceKind::Text => self.put(
-                Ok(Meaning::Literal(between_quotes(piece.spelling))),
+                numbers,
+                Ok(Meaning::Literal(number, between_quotes(piece.spelling))),
                 origin,
             ),
-            PieceKind::Mark(sign) => self.put(Ok(Meaning::Sign(sign)), origin),
+            PieceKind::Mark(sign) => self.put(numbers, Ok(Meaning::Sign(sign)), origin),
             PieceKind::Hash => Err(LexError::BadByte(origin.place)),
-            PieceKind::Late(construct) => self.put(Err(construct), origin),
+            PieceKind::Late(construct) => self.put(numbers, Err(construct), origin),
             PieceKind::Faulty(fault) | PieceKind::FaultyComment(fault) => Err(fault_at(
                 fault,
                 origin.place,
@@ -122,12 +138,16 @@ impl<'j> Output<'j> {
     /// Puts out a token that comes from a piece of the text, or refuses it.
     fn put(
         &mut self,
+        numbers: &Numbers<'j>,
         meaning: Result<Meaning<'j>, Construct>,
         origin: Piece<'j>,
     ) -> Result<(), LexError>
+        requires numbered { IfOk meaning (IsMeant numbers.now) }
+        requires read { AreRead numbers.now self.old }
         ensures settles { Settles (state_of self.new) result
             (settle (state_of self.old) (taken (meant meaning.entry) (cut_of origin.entry) ∷ [])) }
         ensures left { OnOk result (self.new.room.replacements ≡ self.old.room.replacements) }
+        ensures read { OnOk result (AreRead numbers.now self.new) }
     {
         if self.room.tokens == 0 {
             return Err(LexError::TooManyTokens(origin.place));
@@ -136,7 +156,7 @@ impl<'j> Output<'j> {
             Ok(meaning) => meaning,
             Err(construct) => return Err(LexError::Refused(construct, origin.place)),
         };
-        let bytes = bytes_in_literals(meaning);
+        let bytes = bytes_in_literals(numbers, meaning);
         if bytes > self.room.literal_bytes as usize {
             return Err(LexError::Refused(Construct::LiteralsTooLong, origin.place));
         }
@@ -161,6 +181,7 @@ impl<'j> Output<'j> {
         ensures settles { Settles (state_of self.new) result
             (settle (state_of self.old) (replaced (cut_of origin.entry) ∷ [])) }
         ensures left { OnOk result (self.new.room.replacements + 1 ≡ self.old.room.replacements) }
+        ensures tokens { self.new.tokens ≡ self.old.tokens }
     {
         if self.room.replacements == 0 {
             return Err(LexError::Refused(Construct::TooManyReplacements, origin.place));

@@ -1,35 +1,39 @@
 //! The tokens of a text, from its bytes on.
 
-ghost use Rattle.std.specs.Prelude.{◌≡◌, ◌≤◌, ◌<◌, ◌^◌, [], length, map, IfOk, IfErr};
+ghost use Rattle.std.specs.Prelude.{◌≡◌, ◌≤◌, ◌<◌, ◌^◌, [], length, map, IfOk, IfErr, All};
 ghost use Rattle.dae_tree.specs.Tokens.{reads_of, tested_in, tokens_of, joined, numbered, names_after, literals_after, Answers};
 ghost use Rattle.dae_tree.specs.declared.faults.LexError.TheVariants.{Memory};
 ghost use Rattle.dae_tree.specs.Order.{HasLeastPlace};
 ghost use Rattle.dae_lex.specs.Cuts.{cut_of};
-ghost use Rattle.dae_lex.specs.Settling.{Fails, read_of};
+ghost use Rattle.dae_lex.specs.Settling.{Fails, AreRead, IsMeant, read_of};
 ghost use Rattle.dae_lex.specs.Whole.{items_of_pieces, HasRead, Meets, SpansFrom, span};
 
 use crate::directives::take_lines;
 use crate::finish::{Builder, build, own_names};
 use crate::lines::join_lines;
+use crate::numbers::Numbers;
 use crate::output::{Output, ReadToken};
 use crate::pieces::{Piece, cut_pieces};
 use dae_base::{Items, Place};
 use dae_tree::{Includes, LexError, Room, Tokens};
 use std::alloc::Global;
 
-/// The tokens of the pieces of a text before literals join, with the headers that they include.
+/// The tokens of the pieces of a text before literals join, with the headers that they include and the numbers of
+/// their names and literals.
 fn read_pieces<'j>(
     alloc: Global,
     pieces: &[Piece<'j>],
     room: Room,
-) -> Result<(Includes, Output<'j>), LexError>
+) -> Result<(Includes, Output<'j>, Numbers<'j>), LexError>
     ensures ok { IfOk result (λ r. HasRead room (map cut_of pieces.now) r.0 r.1) }
+    ensures read { IfOk result (λ r. AreRead r.2 r.1) }
     ensures err { IfErr result
         (λ e. Fails e (reads_of room (items_of_pieces room (map cut_of pieces.now)))) }
 {
+    let mut numbers = Numbers::new(alloc);
     let mut out = Output::new(alloc, room);
-    match take_lines(alloc, pieces, &mut out) {
-        Ok(seen) => Ok((seen, out)),
+    match take_lines(alloc, &mut numbers, pieces, &mut out) {
+        Ok(seen) => Ok((seen, out, numbers)),
         Err(e) => Err(e),
     }
 }
@@ -39,10 +43,12 @@ fn finish_text<'t>(
     alloc: Global,
     text: &'t [u8],
     seen: Includes,
+    numbers: &Numbers<'_>,
     reads: &[ReadToken<'_>],
     end: Place,
 ) -> Result<Tokens<'t>, LexError>
     requires few { length reads.now < 2 ^ 32 }
+    requires meant { All (λ t. IsMeant numbers.now t.meaning) reads.now }
     requires spans { SpansFrom 0 0 (map span (map read_of reads.now)) (length text.now) }
     ensures ok { IfOk result (λ tokens. tokens ≡ record {
       text = text.entry.now;
@@ -59,8 +65,8 @@ fn finish_text<'t>(
         tokens,
         names,
         literals,
-    } = build(alloc, reads)?;
-    let owned = own_names(alloc, names.as_slice())?;
+    } = build(alloc, numbers, reads)?;
+    let owned = own_names(alloc, names.values().as_slice())?;
     Ok(Tokens::new(
         text,
         Items::from_vec(tokens),
@@ -84,11 +90,11 @@ fn read_text<'t>(
 {
     let joined = join_lines(alloc, file, text)?;
     let pieces = cut_pieces(alloc, &joined)?;
-    let (seen, out) = match read_pieces(alloc, &pieces, room) {
+    let (seen, out, numbers) = match read_pieces(alloc, &pieces, room) {
         Ok(read) => read,
         Err(e) => return Err(e),
     };
-    let tokens = finish_text(alloc, text, seen, &out.tokens, joined.end)?;
+    let tokens = finish_text(alloc, text, seen, &numbers, &out.tokens, joined.end)?;
     Ok((tokens, out.room))
 }
 

@@ -4,6 +4,7 @@ use Rattle.dae_tree.specs.Directives.{lines_of, line_of, line_items, macros_afte
 use Rattle.dae_tree.specs.declared.headers.Header.TheVariants.{Stdio, Stdlib}
 use Rattle.dae_tree.specs.declared.tokens.Includes.{Includes}
 use Rattle.dae_lex.specs.Cuts.{cut_of}
+use Rattle.dae_lex.specs.Numbers.{definitions_of}
 use Rattle.dae_lex.specs.Settling.{state_of, settle}
 use Rattle.dae_lex.proofs.LineSteps.{line_more, seen_more}
 use Rattle.dae_lex.proofs.Turns.{settle_ok, fails_on, fails_along}
@@ -16,7 +17,7 @@ returns-in-Err-clause-settles c =
     let at = l.at in
     let n = c.line_length-n.result in
     let room = c.args.out.now.room.replacements in
-    let ms = l.macros in
+    let ms = definitions_of l.macros in
     let line = map cut_of (take n (drop at ps)) in
     let ahead = rw (take_rest ps at) at c.line_length-n.ensures.value in
     let more = line_more ps at n (omega arith) ahead in
@@ -32,7 +33,7 @@ loop-at-preserved c =
     let at = l.at in
     let n = c.line_length-n.result in
     let room = c.args.out.now.room.replacements in
-    let ms = l.macros in
+    let ms = definitions_of l.macros in
     let line = map cut_of (take n (drop at ps)) in
     let ahead = rw (take_rest ps at) at c.line_length-n.ensures.value in
     let more = line_more ps at n (omega arith) ahead in
@@ -47,6 +48,8 @@ loop-at-preserved c =
       so_far = ap (λ m. settle t (replaced_lines room m rest)) defined
           ∙ sym (settle_ok (state_of l.out) t (line_items room ms (line_of line)) (replaced_lines room (macros_after ms (line_of line)) rest) settled)
           ∙ ap (λ ls. settle (state_of l.out) (replaced_lines room ms ls)) (sym more) ∙ l.invariant.so_far;
+      defined = c.in-Ok.ensures.defined;
+      read = c.in-Ok.ensures.read;
       stdio = ap (λ (s : Includes). s.stdio || includes Stdio rest) c.with_header-seen.ensures
           ∙ seen_more l.seen.stdio Stdio c.in-Ok.found line rest found
           ∙ ap (λ ls. l.seen.stdio || includes Stdio ls) (sym more) ∙ l.invariant.stdio;
