@@ -12,6 +12,7 @@ use Rattle.dae_grammar.specs.Machine.{defined}
 use Rattle.dae_states.specs.declared.frames.Before.{Before}
 use Rattle.dae_states.specs.declared.frames.Frame.{Frame}
 use Rattle.dae_states.specs.declared.frames.Frame.TheVariants as frame
+use Rattle.dae_states.specs.declared.frames.DeclarationFrame.TheVariants as declaration
 use Rattle.dae_grammar.specs.Taken.{stack_taken, externals_before}
 use Rattle.std.specs.Prelude.{Box}
 use Rattle.std.specs.declared.alloc.Global.{Global}
@@ -22,11 +23,11 @@ use Rattle.dae_states.specs.Bottom.{IsBottom}
 use Rattle.dae_states.specs.Frames.{ShowsStack, ShowsFile, is_block}
 
 -- it stands in a file alone
-pub file_or_none : (b : tree.Statement) (ws : tree.Specifiers) (d : tree.Declarator) (outside : Names) (fs : List Frame) (s : List plain.Frame) (ts : List Mark) → ShowsStack fs s → ((f : Before) (below : List Frame) → ¬ (fs ≡ frame.InFile f ∷ below))
+pub file_or_none : (b : tree.Statement) (ws : tree.Specifiers) (d : tree.Declarator) (outside : Names) (fs : List Frame) (s : List plain.Frame) (ts : List Mark) → ShowsStack fs s → ((f : Before) (below : List Frame) → ¬ (fs ≡ frame.Declaration (declaration.InFile f) ∷ below))
     → defined ws d outside b s ts ≡ None
-file_or_none (tree.Block p ds ss) ws d outside [] (plain.in_file xs ∷ s) ts shows h = absurd shows
-file_or_none (tree.Block p ds ss) ws d outside (frame.InFile f ∷ below) (plain.in_file xs ∷ s) ts shows h = absurd (h f below refl)
-file_or_none (tree.Block p ds ss) ws d outside (_ ∷ below) (plain.in_file xs ∷ s) ts shows h = absurd shows.0
+file_or_none (tree.Block p ds ss) ws d outside [] (plain.awaits_declaration (plain.in_file xs) ∷ s) ts shows h = absurd shows
+file_or_none (tree.Block p ds ss) ws d outside (frame.Declaration (declaration.InFile f) ∷ below) (plain.awaits_declaration (plain.in_file xs) ∷ s) ts shows h = absurd (h f below refl)
+file_or_none (tree.Block p ds ss) ws d outside (_ ∷ below) (plain.awaits_declaration (plain.in_file xs) ∷ s) ts shows h = absurd shows.0
 file_or_none _ ws d outside fs s ts shows h = refl
 
 -- the parts of a definition, and what stands before it
@@ -43,11 +44,11 @@ pub record IsDefined (b : tree.Statement) (ws : tree.Specifiers) (d : tree.Decla
   pub same : defined ws d outside b s ts ≡ Some (plain.state (plain.externals (tree.Defined ws d place declarations statements ∷ externals)) [] outside ts)
 
 pub is_defined : (b : tree.Statement) (ws : tree.Specifiers) (d : tree.Declarator) (outside : Names) (s : List plain.Frame) (ts : List Mark) (found : Read (Box Statement Global)) (before : Before) (below : List Frame) (os : List Names) (total : ℕ)
-    → ShowsStatement found b → true ≡ is_block b → ShowsStack (frame.InFile before ∷ below) s → IsBottom s → length (stack_taken s (spell_specifiers ws (spell_declarator d (spell_statement b ts)))) ≡ total → os ≡ outside ∷ outside_stack s
+    → ShowsStatement found b → true ≡ is_block b → ShowsStack (frame.Declaration (declaration.InFile before) ∷ below) s → IsBottom s → length (stack_taken s (spell_specifiers ws (spell_declarator d (spell_statement b ts)))) ≡ total → os ≡ outside ∷ outside_stack s
     → IsDefined b ws d outside s ts found before below os total
 is_defined (tree.Block p ds ss) ws d outside [] ts found before below os total shows is stack bottom e o = absurd stack
-is_defined (tree.Block p ds ss) ws d outside (plain.in_file xs ∷ []) ts found before below os total shows is stack bottom e o =
+is_defined (tree.Block p ds ss) ws d outside (plain.awaits_declaration (plain.in_file xs) ∷ []) ts found before below os total shows is stack bottom e o =
     record { place = p; declarations = ds; statements = ss; externals = xs; body = shows; file = stack.0; count = e; stack = stack.1; scopes = o; same = refl }
-is_defined (tree.Block p ds ss) ws d outside (plain.in_file xs ∷ g ∷ t) ts found before below os total shows is stack bottom e o = cc
+is_defined (tree.Block p ds ss) ws d outside (plain.awaits_declaration (plain.in_file xs) ∷ g ∷ t) ts found before below os total shows is stack bottom e o = cc
 is_defined (tree.Block p ds ss) ws d outside (_ ∷ t) ts found before below os total shows is stack bottom e o = absurd stack.0
 is_defined _ ws d outside s ts found before below os total shows is stack bottom e o = absurd cc

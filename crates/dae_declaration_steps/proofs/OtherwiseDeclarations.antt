@@ -7,19 +7,19 @@ use Rattle.dae_tree.specs.Names.{Names}
 use Rattle.dae_tree.specs.Words.{nothing_seen}
 use Rattle.dae_tree.specs.Grammar.{by_name}
 use Rattle.dae_tree.specs.Trees.{Specifiers, Declarator, Initialiser, Item, External}
-use Rattle.dae_grammar.specs.Frames.{Frame, state, in_value, seek, in_list, initialising, declaring, of_item, specifying, for_declaration, in_file}
+use Rattle.dae_grammar.specs.Frames.{Frame, state, in_value, seek, in_list, initialising, declaring, of_item, specifying, for_declaration, in_file, awaits_expression, awaits_specifiers, awaits_declarator, awaits_initialiser, awaits_declaration}
 use Rattle.dae_grammar.specs.Machine.{initialised, list_followed, listed, declaration_begun, definition_begun, item_given, plain_item, item_followed, external_begun}
 use Rattle.dae_states.specs.Fronts.{sign_at}
 use Rattle.dae_nodes.specs.Parts.{is_some_list}
 
 pub initialised_otherwise : (s : List Frame) (names : Names) (ts : List Mark) → ¬ (sign_at ts ≡ Some signs.LeftBrace)
-    → initialised s names ts ≡ Some (state (seek 15) (in_value ∷ s) names ts)
+    → initialised s names ts ≡ Some (state (seek 15) (awaits_expression in_value ∷ s) names ts)
 initialised_otherwise s names [] h = refl
 initialised_otherwise s names (sign signs.LeftBrace p ∷ ts) h = absurd (h refl)
 initialised_otherwise s names (_ ∷ ts) h = refl
 
 pub list_otherwise : (p : Place) (before : List Initialiser) (s : List Frame) (names : Names) (ts : List Mark) → ¬ (sign_at ts ≡ Some signs.RightBrace)
-    → list_followed p before s names ts ≡ Some (state initialising (in_list p before ∷ s) names ts)
+    → list_followed p before s names ts ≡ Some (state initialising (awaits_initialiser (in_list p before) ∷ s) names ts)
 list_otherwise p before s names [] h = refl
 list_otherwise p before s names (part close_brace ∷ ts) h = absurd (h refl)
 list_otherwise p before s names (_ ∷ ts) h = refl
@@ -32,7 +32,7 @@ listed_or_none x p before s names (part close_brace ∷ ts) h k = absurd (k refl
 listed_or_none x p before s names (_ ∷ ts) h k = refl
 
 pub declaration_otherwise : (outer : Bool) (ws : Specifiers) (s : List Frame) (names : Names) (ts : List Mark) → ¬ (sign_at ts ≡ Some signs.Semicolon)
-    → declaration_begun outer ws s names ts ≡ Some (state (declaring by_name false) (of_item outer ws [] ∷ s) names ts)
+    → declaration_begun outer ws s names ts ≡ Some (state (declaring by_name false) (awaits_declarator (of_item outer ws []) ∷ s) names ts)
 declaration_otherwise outer ws s names [] h = refl
 declaration_otherwise outer ws s names (sign signs.Semicolon p ∷ ts) h = absurd (h refl)
 declaration_otherwise outer ws s names (_ ∷ ts) h = refl
@@ -82,6 +82,6 @@ ended_file before s names [] h = refl
 ended_file before s names (t ∷ ts) h = absurd (omega (arith, h))
 
 pub file_goes_on : (before : List External) (s : List Frame) (names : Names) (ts : List Mark) → ¬ (length ts ≡ 0)
-    → external_begun before s names ts ≡ Some (state (specifying nothing_seen []) (for_declaration true ∷ in_file before ∷ s) names ts)
+    → external_begun before s names ts ≡ Some (state (specifying nothing_seen []) (awaits_specifiers (for_declaration true) ∷ awaits_declaration (in_file before) ∷ s) names ts)
 file_goes_on before s names [] h = absurd (h refl)
 file_goes_on before s names (t ∷ ts) h = refl

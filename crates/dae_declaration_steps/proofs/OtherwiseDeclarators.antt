@@ -13,7 +13,7 @@ use Rattle.dae_tree.specs.Words.{admits, with_word, with_whole, nothing_seen}
 use Rattle.dae_tree.specs.Grammar.{Manner, by_name, without_name, either_way}
 use Rattle.dae_tree.specs.Trees.{Specifier, Specifiers, Declarator, Absent, Word}
 use Rattle.dae_tree.specs.Lists.{MemberLine, Entry, Parameter}
-use Rattle.dae_grammar.specs.Frames.{Body, Open, Frame, State, state, in_size, for_member, for_parameter, behind_star, seek, specifying, entered, enumerating, declaring, suffixing}
+use Rattle.dae_grammar.specs.Frames.{Body, Open, Frame, State, state, in_size, for_member, for_parameter, behind_star, seek, specifying, entered, enumerating, declaring, suffixing, awaits_expression, awaits_specifiers, awaits_declarator}
 use Rattle.dae_grammar.specs.Machine.{onto, specified, specifiers_end, word_taken, tag_taken, tag_followed, tag_alone, members_followed, enumerator_named, enumerator_followed, entry_followed, comma_followed, member_given, parameter_given, declared, nothing_declared, group_opened, parenthesis_declared, bracket_declared, qualified, sized, parameters_opened}
 use Rattle.dae_states.specs.Fronts.{sign_at, word_at, name_at}
 use Rattle.dae_grammar.specs.Stuck.{behind}
@@ -64,7 +64,7 @@ tag_alone_otherwise is p n seen before s names (sign signs.LeftBrace q ∷ ts) h
 tag_alone_otherwise is p n seen before s names (_ ∷ ts) h = refl
 
 pub members_otherwise : (b : Body) (before : List MemberLine) (s : List Frame) (names : Names) (ts : List Mark) → ¬ (sign_at ts ≡ Some signs.RightBrace)
-    → members_followed b before s names ts ≡ Some (state (specifying nothing_seen []) (for_member b before ∷ s) names ts)
+    → members_followed b before s names ts ≡ Some (state (specifying nothing_seen []) (awaits_specifiers (for_member b before) ∷ s) names ts)
 members_otherwise b [] s names ts h = refl
 members_otherwise b (m ∷ before) s names [] h = refl
 members_otherwise b (m ∷ before) s names (part close_brace ∷ ts) h = absurd (h refl)
@@ -191,19 +191,19 @@ without_otherwise needed s names (sign signs.LeftBracket p ∷ ts) a b c = absur
 without_otherwise needed s names (_ ∷ ts) a b c = refl
 
 pub qualified_otherwise : (m : Manner) (p : Place) (before : List Place) (s : List Frame) (names : Names) (ts : List Mark) → ¬ (word_at ts ≡ Some keywords.Const)
-    → qualified m p before s names ts ≡ Some (state (declaring m false) (behind_star p (onto before []) ∷ s) names ts)
+    → qualified m p before s names ts ≡ Some (state (declaring m false) (awaits_declarator (behind_star p (onto before [])) ∷ s) names ts)
 qualified_otherwise m p before s names [] h = refl
 qualified_otherwise m p before s names (word keywords.Const q ∷ ts) h = absurd (h refl)
 qualified_otherwise m p before s names (_ ∷ ts) h = refl
 
 pub sized_otherwise : (m : Manner) (d : Declarator) (p : Place) (s : List Frame) (names : Names) (ts : List Mark) → ¬ (sign_at ts ≡ Some signs.RightBracket)
-    → sized m d p s names ts ≡ Some (state (seek 14) (in_size d p m ∷ s) names ts)
+    → sized m d p s names ts ≡ Some (state (seek 14) (awaits_expression (in_size d p m) ∷ s) names ts)
 sized_otherwise m d p s names [] h = refl
 sized_otherwise m d p s names (part close_bracket ∷ ts) h = absurd (h refl)
 sized_otherwise m d p s names (_ ∷ ts) h = refl
 
 pub parameters_otherwise : (m : Manner) (d : Declarator) (p : Place) (s : List Frame) (names : Names) (ts : List Mark) → ¬ (sign_at ts ≡ Some signs.RightParen)
-    → parameters_opened m d p s names ts ≡ Some (state (specifying nothing_seen []) (for_parameter (record { declarator = d; place = p; manner = m; outside = names }) [] ∷ s) names ts)
+    → parameters_opened m d p s names ts ≡ Some (state (specifying nothing_seen []) (awaits_specifiers (for_parameter (record { declarator = d; place = p; manner = m; outside = names }) []) ∷ s) names ts)
 parameters_otherwise m d p s names [] h = refl
 parameters_otherwise m d p s names (part close_paren ∷ ts) h = absurd (h refl)
 parameters_otherwise m d p s names (_ ∷ ts) h = refl

@@ -17,7 +17,7 @@ use dae_nodes::{
     with_member, with_valued_enumerator,
 };
 use dae_parts::{CAST, Read};
-use dae_states::{Body, Doing, Frame, Machine, Manner};
+use dae_states::{Body, DeclaratorFrame, Doing, ExpressionFrame, Frame, Machine, Manner};
 use dae_tree::{Declarator, Enumerator, Member, Name, Sign};
 use std::alloc::AllocError;
 
@@ -110,7 +110,9 @@ pub fn of_cast(
     if machine.rest.take_sign(Sign::RightParen).is_none() {
         return Ok(None);
     }
-    machine.push(Frame::BehindCast(place, specified, declared, level))?;
+    machine.push(Frame::Expression(ExpressionFrame::BehindCast(
+        place, specified, declared, level,
+    )))?;
     Ok(Some(Doing::Seek(CAST)))
 }
 
@@ -154,7 +156,7 @@ pub fn of_member(
 {
     let list = with_declarator(before, declared)?;
     if machine.rest.take_sign(Sign::Comma).is_some() {
-        machine.push(Frame::OfMember(body, members, specified, list))?;
+        machine.push(Frame::Declarator(DeclaratorFrame::OfMember(body, members, specified, list)))?;
         return Ok(Some(Doing::Declaring(Manner::ByName, false)));
     }
     let Some(end) = machine.rest.take_sign(Sign::Semicolon) else {

@@ -17,7 +17,7 @@ use dae_nodes::{
     with_enumeration_body, with_plain_enumerator, with_structure, with_structure_body,
 };
 use dae_parts::{CONDITIONAL, Read};
-use dae_states::{Body, Doing, Frame, Machine};
+use dae_states::{Body, Doing, ExpressionFrame, Frame, Machine, SpecifiersFrame};
 use dae_tree::{Enumerator, Member, Name, Seen, Sign};
 use std::alloc::{AllocError, Global};
 
@@ -123,7 +123,7 @@ pub fn read_member(
     if has_members(&members) && machine.rest.take_sign(Sign::RightBrace).is_some() {
         return Ok(Some(close_structure(machine.alloc, body, members)?));
     }
-    machine.push(Frame::ForMember(body, members))?;
+    machine.push(Frame::Specifiers(SpecifiersFrame::ForMember(body, members)))?;
     let before = no_specifiers(machine.alloc);
     Ok(Some(Doing::Specifying(Seen::nothing(), before)))
 }
@@ -178,7 +178,7 @@ pub fn read_enumerator_value(
         → Steps machine.old result machine.new (enumerator_followed b es name) }
 {
     if let Some(place) = machine.rest.take_sign(Sign::Assign) {
-        machine.push(Frame::InEnumerator(body, list, name, place))?;
+        machine.push(Frame::Expression(ExpressionFrame::InEnumerator(body, list, name, place)))?;
         return Ok(Some(Doing::Seek(CONDITIONAL)));
     }
     machine.scope.bind(name.number, false)?;

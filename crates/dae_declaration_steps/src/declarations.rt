@@ -19,7 +19,10 @@ use dae_nodes::{
     no_specifiers, with_declaration, with_external, with_plain_item, with_valued_item,
 };
 use dae_parts::Read;
-use dae_states::{Before, Doing, Frame, Inside, Machine, Manner};
+use dae_states::{
+    Before, DeclarationFrame, DeclaratorFrame, Doing, Frame, InitialiserFrame, Inside, Machine,
+    Manner, SpecifiersFrame, StatementFrame,
+};
 use dae_tree::{Declaration, Initialiser, Item, Seen, Sign};
 use std::alloc::AllocError;
 
@@ -38,7 +41,7 @@ pub fn for_declaration(
         let whole = declaration(machine.alloc, specified, none, end)?;
         return Ok(Some(Doing::GaveDeclaration(whole)));
     }
-    machine.push(Frame::OfItem(outer, specified, none))?;
+    machine.push(Frame::Declarator(DeclaratorFrame::OfItem(outer, specified, none)))?;
     Ok(Some(Doing::Declaring(Manner::ByName, false)))
 }
 
@@ -71,7 +74,9 @@ fn read_behind_declarator(
         → Steps machine.old result machine.new (item_given outer d ws is) }
 {
     if let Some(place) = machine.rest.take_sign(Sign::Assign) {
-        machine.push(Frame::OfValue(specified, items, declared, place))?;
+        machine.push(Frame::Initialiser(InitialiserFrame::OfValue(
+            specified, items, declared, place,
+        )))?;
         return Ok(Some(Doing::Initialising));
     }
     if !outer {
@@ -152,7 +157,7 @@ fn begin_definition(
     machine.scope.open()?;
     machine.scope.bind_all(declared.parameters.as_slice())?;
     machine.scope.open()?;
-    machine.push(Frame::InDefinition(specified, declared))?;
+    machine.push(Frame::Statement(StatementFrame::InDefinition(specified, declared)))?;
     let place = brace;
     let declarations = no_declarations(machine.alloc);
     Ok(Some(Doing::Declarations(Inside {
@@ -175,7 +180,8 @@ pub fn of_value(
         → ShowsInitialiser initialiser x → ShowsSpecified specified ws → ShowsItems items is
         → ShowsDeclared declared d → Stands machine.old s (outside_stack s)
         → IfOk result (λ r. Follows r machine.new (initialiser_taken x
-        (plain.of_value ws is d place ∷ s) machine.old.scope.names machine.old.rest)) }
+        (plain.awaits_initialiser (plain.of_value ws is d place) ∷ s)
+        machine.old.scope.names machine.old.rest)) }
 {
     let items = with_valued_item(items, declared, place, initialiser)?;
     Ok(Some(Doing::Itemed(specified, items)))
@@ -192,7 +198,7 @@ pub fn read_behind_item(
         → ShowsItems items (i ∷ is) → Steps machine.old result machine.new (item_followed ws i is) }
 {
     if machine.rest.take_sign(Sign::Comma).is_some() {
-        machine.push(Frame::OfItem(false, specified, items))?;
+        machine.push(Frame::Declarator(DeclaratorFrame::OfItem(false, specified, items)))?;
         return Ok(Some(Doing::Declaring(Manner::ByName, false)));
     }
     let Some(end) = machine.rest.take_sign(Sign::Semicolon) else {
@@ -210,12 +216,15 @@ pub fn in_file(
     total: usize,
 ) -> Result<Option<Doing>, AllocError>
     ensures { (d : DeclarationTree) (xs : List ExternalTree) (s : List PlainFrame)
-        → ShowsDeclaration found d → ShowsFile before xs → IsBottom (plain.in_file xs ∷ s)
+        → ShowsDeclaration found d → ShowsFile before xs
+        → IsBottom (plain.awaits_declaration (plain.in_file xs) ∷ s)
         → length (tokens_of (plain.state (plain.gave_declaration d)
-        (plain.in_file xs ∷ s) machine.old.scope.names machine.old.rest)) ≡ total
+        (plain.awaits_declaration (plain.in_file xs) ∷ s)
+        machine.old.scope.names machine.old.rest)) ≡ total
         → Stands machine.old s (outside_stack s)
         → IfOk result (λ r. Follows r machine.new
-        (declaration_taken d (plain.in_file xs ∷ s) machine.old.scope.names machine.old.rest)) }
+        (declaration_taken d (plain.awaits_declaration (plain.in_file xs) ∷ s)
+        machine.old.scope.names machine.old.rest)) }
 {
     let Before {
         read,
@@ -239,9 +248,10 @@ pub fn in_block(
 ) -> Result<Option<Doing>, AllocError>
     ensures { (d : DeclarationTree) (i : plain.Inside) (s : List PlainFrame)
         → ShowsDeclaration found d → ShowsInside inside i
-        → Stands machine.old s (outside_stack (plain.in_block i ∷ s))
+        → Stands machine.old s (outside_stack (plain.awaits_declaration (plain.in_block i) ∷ s))
         → IfOk result (λ r. Follows r machine.new
-        (declaration_taken d (plain.in_block i ∷ s) machine.old.scope.names machine.old.rest)) }
+        (declaration_taken d (plain.awaits_declaration (plain.in_block i) ∷ s)
+        machine.old.scope.names machine.old.rest)) }
 {
     let Inside {
         place,
@@ -263,8 +273,8 @@ pub fn read_external(machine: &mut Machine<'_>, before: Before) -> Result<Option
     if machine.rest.len() == 0 {
         return Ok(None);
     }
-    machine.push(Frame::InFile(before))?;
-    machine.push(Frame::ForDeclaration(true))?;
+    machine.push(Frame::Declaration(DeclarationFrame::InFile(before)))?;
+    machine.push(Frame::Specifiers(SpecifiersFrame::ForDeclaration(true)))?;
     let before = no_specifiers(machine.alloc);
     Ok(Some(Doing::Specifying(Seen::nothing(), before)))
 }

@@ -19,7 +19,10 @@ use dae_nodes::{
 };
 use dae_parts::CONDITIONAL;
 use dae_scope::Scope;
-use dae_states::{Doing, Frame, Machine, Manner, Open, Rest, begins_specifiers};
+use dae_states::{
+    DeclaratorFrame, Doing, ExpressionFrame, Frame, Machine, Manner, Open, Rest, SpecifiersFrame,
+    begins_specifiers,
+};
 use dae_tree::{Keyword, Seen, Sign};
 use std::alloc::AllocError;
 
@@ -113,7 +116,7 @@ fn read_parenthesis(
     let Some(paren) = machine.rest.take_sign(Sign::LeftParen) else {
         return Ok(None);
     };
-    machine.push(Frame::InGroup(paren, manner))?;
+    machine.push(Frame::Declarator(DeclaratorFrame::InGroup(paren, manner)))?;
     Ok(Some(Doing::Declaring(manner, true)))
 }
 
@@ -158,7 +161,7 @@ pub fn read_qualifier(
         qualifiers.push(qualifier)?;
         return Ok(Some(Doing::Qualifying(manner, place, qualifiers)));
     }
-    machine.push(Frame::BehindStar(place, qualifiers))?;
+    machine.push(Frame::Declarator(DeclaratorFrame::BehindStar(place, qualifiers)))?;
     Ok(Some(Doing::Declaring(manner, false)))
 }
 
@@ -196,7 +199,7 @@ pub fn read_size(
         let whole = unsized_array(machine.alloc, declared, place)?;
         return Ok(Some(Doing::Suffixing(manner, whole)));
     }
-    machine.push(Frame::InSize(declared, place, manner))?;
+    machine.push(Frame::Expression(ExpressionFrame::InSize(declared, place, manner)))?;
     Ok(Some(Doing::Seek(CONDITIONAL)))
 }
 
@@ -217,14 +220,14 @@ pub fn read_parameters(
     }
     machine.scope.open()?;
     let none = no_parameters(machine.alloc);
-    machine.push(Frame::ForParameter(
+    machine.push(Frame::Specifiers(SpecifiersFrame::ForParameter(
         Open {
             declared,
             place,
             manner,
         },
         none,
-    ))?;
+    )))?;
     let before = no_specifiers(machine.alloc);
     Ok(Some(Doing::Specifying(Seen::nothing(), before)))
 }

@@ -11,14 +11,14 @@ ghost use Rattle.dae_nodes.specs.Parts.{ShowsSpecified, ShowsDeclared, ShowsStat
 ghost use Rattle.dae_states.specs.Bottom.{IsBottom};
 ghost use Rattle.dae_base.specs.declared.Place.{Place};
 ghost use Rattle.dae_states.specs.declared.frames.Before.{Before as BeforeValue};
-ghost use Rattle.dae_states.specs.declared.frames.Frame.TheVariants as frames;
+ghost use Rattle.dae_states.specs.declared.frames.DeclarationFrame.TheVariants as frames;
 ghost use Rattle.dae_states.specs.Frames.{is_block, ShowsFile};
 ghost use Rattle.dae_states.specs.States.{Stands, Follows, outside_stack};
 
 use dae_base::Place;
 use dae_nodes::{Declared, Specified, definition, with_external};
 use dae_parts::Read;
-use dae_states::{Before, Doing, Frame, Machine};
+use dae_states::{Before, DeclarationFrame, Doing, Machine};
 use dae_tree::Statement;
 use std::alloc::AllocError;
 
@@ -39,16 +39,18 @@ pub fn in_definition(
         → ShowsStatement found b → is_body ≡ is_block b → ShowsSpecified specified ws
         → ShowsDeclared declared d → IsBottom s
         → length (tokens_of (plain.state (plain.gave_statement b)
-        (plain.in_definition ws d outside ∷ s) machine.old.scope.names machine.old.rest))
+        (plain.awaits_statement (plain.in_definition ws d outside) ∷ s)
+        machine.old.scope.names machine.old.rest))
         ≡ total
-        → Stands machine.old s (outside_stack (plain.in_definition ws d outside ∷ s))
+        → Stands machine.old s
+        (outside_stack (plain.awaits_statement (plain.in_definition ws d outside) ∷ s))
         → IfOk result (λ r. Follows r machine.new (statement_given b
         (plain.in_definition ws d outside) s machine.old.scope.names machine.old.rest)) }
 {
     if !is_body {
         return Ok(None);
     }
-    let Some(frame) = machine.pop() else {
+    let Some(frame) = machine.pop_declaration() else {
         return Ok(None);
     };
     let Some(before) = file_of(frame) else {
@@ -58,16 +60,13 @@ pub fn in_definition(
 }
 
 /// What stands before a definition, by the frame below it.
-fn file_of(frame: Frame) -> Option<Before>
+fn file_of(frame: DeclarationFrame) -> Option<Before>
     ensures some { (b : BeforeValue) → result ≡ Some b → frame ≡ frames.InFile b }
     ensures none { (b : BeforeValue) → frame ≡ frames.InFile b → result ≢ None }
 {
     match frame {
-        Frame::InFile(before) => Some(before),
-        other => {
-            drop(other);
-            None
-        }
+        DeclarationFrame::InFile(before) => Some(before),
+        DeclarationFrame::InBlock(_) => None,
     }
 }
 

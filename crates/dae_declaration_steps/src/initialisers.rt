@@ -11,7 +11,7 @@ ghost use Rattle.dae_states.specs.States.{Steps};
 use dae_base::Place;
 use dae_nodes::{Operand, initialiser_list, no_initialisers, value, with_initialiser};
 use dae_parts::{ASSIGNMENT, Read};
-use dae_states::{Doing, Frame, Machine};
+use dae_states::{Doing, ExpressionFrame, Frame, InitialiserFrame, Machine};
 use dae_tree::{Initialiser, Sign};
 use std::alloc::AllocError;
 
@@ -21,10 +21,13 @@ pub fn read_initialiser(machine: &mut Machine<'_>) -> Result<Option<Doing>, Allo
     ensures { Steps machine.old result machine.new initialised }
 {
     if let Some(brace) = machine.rest.take_sign(Sign::LeftBrace) {
-        machine.push(Frame::InList(brace, no_initialisers(machine.alloc)))?;
+        machine.push(Frame::Initialiser(InitialiserFrame::InList(
+            brace,
+            no_initialisers(machine.alloc),
+        )))?;
         return Ok(Some(Doing::Initialising));
     }
-    machine.push(Frame::InValue)?;
+    machine.push(Frame::Expression(ExpressionFrame::InValue))?;
     Ok(Some(Doing::Seek(ASSIGNMENT)))
 }
 
@@ -42,7 +45,7 @@ pub fn read_list(
         let whole = initialiser_list(machine.alloc, place, list, true)?;
         return Ok(Some(Doing::GaveInitialiser(whole)));
     }
-    machine.push(Frame::InList(place, list))?;
+    machine.push(Frame::Initialiser(InitialiserFrame::InList(place, list)))?;
     Ok(Some(Doing::Initialising))
 }
 

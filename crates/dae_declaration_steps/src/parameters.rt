@@ -14,7 +14,7 @@ ghost use Rattle.dae_states.specs.States.{Stands, Follows, outside_stack};
 
 use dae_grammar::parameters_add_names;
 use dae_nodes::{Declared, ParameterList, Specified, function, no_specifiers, with_parameter};
-use dae_states::{Doing, Frame, Machine, Open};
+use dae_states::{Doing, Frame, Machine, Open, SpecifiersFrame};
 use dae_tree::{Seen, Sign};
 use std::alloc::AllocError;
 
@@ -32,15 +32,17 @@ pub fn of_parameter(
         → ShowsDeclared declared d → ShowsOpen opened o → ShowsParameters list ps
         → ShowsSpecified specified ws
         → Holds (plain.state (plain.gave_declarator d)
-        (plain.of_parameter o ps ws ∷ s) machine.old.scope.names machine.old.rest)
-        → Stands machine.old s (outside_stack (plain.of_parameter o ps ws ∷ s))
+        (plain.awaits_declarator (plain.of_parameter o ps ws) ∷ s)
+        machine.old.scope.names machine.old.rest)
+        → Stands machine.old s
+        (outside_stack (plain.awaits_declarator (plain.of_parameter o ps ws) ∷ s))
         → IfOk result (λ r. Follows r machine.new (declarator_given d
         (plain.of_parameter o ps ws) s machine.old.scope.names machine.old.rest)) }
 {
     machine.bind(declared.name, specified.typedef)?;
     let list = with_parameter(list, specified, declared)?;
     if machine.rest.take_sign(Sign::Comma).is_some() {
-        machine.push(Frame::ForParameter(opened, list))?;
+        machine.push(Frame::Specifiers(SpecifiersFrame::ForParameter(opened, list)))?;
         let before = no_specifiers(machine.alloc);
         return Ok(Some(Doing::Specifying(Seen::nothing(), before)));
     }

@@ -15,7 +15,7 @@ ghost use Rattle.dae_states.specs.States.{Stands, Follows, ShowsState, outside_s
 use dae_base::Place;
 use dae_nodes::{ParameterList, Specified, no_declarators, with_type_name, with_word};
 use dae_parts::Read;
-use dae_states::{Body, Doing, Frame, Machine, Manner, Open, is_type};
+use dae_states::{Body, DeclaratorFrame, Doing, Frame, Machine, Manner, Open, is_type};
 use dae_tree::{Keyword, Kind, Member, Name, Seen};
 use std::alloc::AllocError;
 
@@ -126,7 +126,7 @@ pub fn for_cast(
     ensures { (ws : Specifiers) → ShowsSpecified specified ws →
         Steps machine.old result machine.new (specifiers_given ws (plain.for_cast place level)) }
 {
-    machine.push(Frame::OfCast(place, specified, level))?;
+    machine.push(Frame::Declarator(DeclaratorFrame::OfCast(place, specified, level)))?;
     Ok(Some(Doing::Declaring(Manner::WithoutName, false)))
 }
 
@@ -142,7 +142,7 @@ pub fn for_sizeof(
         → Steps machine.old result machine.new
         (specifiers_given ws (plain.for_sizeof place paren level)) }
 {
-    machine.push(Frame::OfSizeof(place, paren, specified, level))?;
+    machine.push(Frame::Declarator(DeclaratorFrame::OfSizeof(place, paren, specified, level)))?;
     Ok(Some(Doing::Declaring(Manner::WithoutName, false)))
 }
 
@@ -155,11 +155,12 @@ pub fn for_parameter(
 ) -> Result<Option<Doing>, AllocError>
     ensures { (ws : Specifiers) (o : plain.Open) (ps : List lists.Parameter) (s : List PlainFrame)
         → ShowsSpecified specified ws → ShowsOpen opened o → ShowsParameters list ps
-        → Stands machine.old s (outside_stack (plain.for_parameter o ps ∷ s))
+        → Stands machine.old s
+        (outside_stack (plain.awaits_specifiers (plain.for_parameter o ps) ∷ s))
         → IfOk result (λ r. Follows r machine.new (specifiers_given ws
         (plain.for_parameter o ps) s machine.old.scope.names machine.old.rest)) }
 {
-    machine.push(Frame::OfParameter(opened, list, specified))?;
+    machine.push(Frame::Declarator(DeclaratorFrame::OfParameter(opened, list, specified)))?;
     Ok(Some(Doing::Declaring(Manner::EitherWay, false)))
 }
 
@@ -175,6 +176,6 @@ pub fn for_member(
         → Steps machine.old result machine.new (specifiers_given ws (plain.for_member b ms)) }
 {
     let none = no_declarators(machine.alloc);
-    machine.push(Frame::OfMember(body, members, specified, none))?;
+    machine.push(Frame::Declarator(DeclaratorFrame::OfMember(body, members, specified, none)))?;
     Ok(Some(Doing::Declaring(Manner::ByName, false)))
 }

@@ -13,7 +13,7 @@ use Rattle.dae_tree.specs.Spelling.{spell_specifiers, spell_specifier, spell_dec
 use Rattle.dae_tree.specs.Grammar.{Manner, by_name, without_name, either_way, IsSpecifiers, IsDeclarator, IsPresent, IsDirect, HasParameter, AreParameters}
 use Rattle.dae_tree.specs.Trees.{Specifiers, Specifier, Declarator, Parameters, Enumerators, no_specifiers, specifier_then, Word, TypeName, Structure, StructureBody, Enumeration, EnumerationBody, Absent, Named, Pointer, Grouped, Unsized, Sized, Empty, Void, Function, no_parameters, parameter_then, no_enumerators, plain_then, valued_then}
 use Rattle.dae_tree.specs.Lists.{MemberLine, Entry}
-use Rattle.dae_grammar.specs.Frames.{Body, Frame, State, state, gave_declarator, suffixing, specifying, for_member, for_parameter, declaring, qualifying, behind_star, entered, gave_specifiers}
+use Rattle.dae_grammar.specs.Frames.{Body, Frame, State, state, gave_declarator, suffixing, specifying, for_member, for_parameter, declaring, qualifying, behind_star, entered, gave_specifiers, awaits_specifiers, awaits_declarator}
 use Rattle.dae_grammar.specs.Machine.{declared, qualified, begins_parameters, parameters_opened, word_taken, tag_followed, tag_alone, enumerator_followed, specified, specifiers_onto, onto, members_followed}
 use Rattle.dae_grammar.specs.Starts.{FollowsSpecifiers, FollowsDeclarator}
 use Rattle.dae_grammar.specs.Runs.{IsBackward}
@@ -86,20 +86,20 @@ no_word_follows (word k p ∷ ts) f = absurd f
 no_word_follows (_ ∷ ts) f = tt
 
 qualified_end : (m : Manner) (p : Place) (before : List Place) (s : List Frame) (names : Names) (ts : List Mark) → IsNoWord ts
-    → qualified m p before s names ts ≡ Some (state (declaring m false) (behind_star p (onto before []) ∷ s) names ts)
+    → qualified m p before s names ts ≡ Some (state (declaring m false) (awaits_declarator (behind_star p (onto before [])) ∷ s) names ts)
 qualified_end m p before s names [] h = refl
 qualified_end m p before s names (word k q ∷ ts) h = absurd h
 qualified_end m p before s names (_ ∷ ts) h = refl
 
 pub read_qualifiers : {P : State → Type 0} → IsBackward P → (qs before : List Place) (m : Manner) (p : Place) (s : List Frame) (names : Names) (ts : List Mark) → IsNoWord ts
-    → P (state (declaring m false) (behind_star p (onto before qs) ∷ s) names ts) → P (state (qualifying m p before) s names (spell_qualifiers qs ts))
+    → P (state (declaring m false) (awaits_declarator (behind_star p (onto before qs)) ∷ s) names ts) → P (state (qualifying m p before) s names (spell_qualifiers qs ts))
 read_qualifiers back [] before m p s names ts h k = to back _ _ (qualified_end m p before s names ts h) k
 read_qualifiers back (q ∷ qs) before m p s names ts h k = back _ (read_qualifiers back qs (q ∷ before) m p s names ts h k)
 
 -- ---- parameters
 
 opened_any : (m : Manner) (d : Declarator) (p : Place) (s : List Frame) (names : Names) (ts : List Mark) → IsNoPart ts
-    → parameters_opened m d p s names ts ≡ Some (state (specifying nothing_seen []) (for_parameter (record { declarator = d; place = p; manner = m; outside = names }) [] ∷ s) names ts)
+    → parameters_opened m d p s names ts ≡ Some (state (specifying nothing_seen []) (awaits_specifiers (for_parameter (record { declarator = d; place = p; manner = m; outside = names }) []) ∷ s) names ts)
 opened_any m d p s names [] h = refl
 opened_any m d p s names (part c ∷ ts) h = absurd h
 opened_any m d p s names (_ ∷ ts) h = refl
@@ -107,7 +107,7 @@ opened_any m d p s names (_ ∷ ts) h = refl
 pub parameters_first : (m : Manner) (d : Declarator) (p : Place) (s : List Frame) (names inner : Names) (ps : Parameters) (rest : List Mark)
     → HasParameter ps → AreParameters inner ps
     → let ts = spell_parameters ps (part close_paren ∷ rest) in
-    parameters_opened m d p s names ts ≡ Some (state (specifying nothing_seen []) (for_parameter (record { declarator = d; place = p; manner = m; outside = names }) [] ∷ s) names ts)
+    parameters_opened m d p s names ts ≡ Some (state (specifying nothing_seen []) (awaits_specifiers (for_parameter (record { declarator = d; place = p; manner = m; outside = names }) []) ∷ s) names ts)
 parameters_first m d p s names inner no_parameters rest h i = absurd h
 parameters_first m d p s names inner (parameter_then no_specifiers e ps) rest h i = absurd (let j = i.0 in cc)
 parameters_first m d p s names inner (parameter_then (specifier_then w ws) e ps) rest h i = opened_any m d p s names _ (specifiers_no_part w _)
@@ -177,7 +177,7 @@ specified_end seen before s names (_ ∷ ts) h f = rw h refl
 
 pub members_next : (names : Names) (b : Body) (before : List MemberLine) (s : List Frame) (ws : Specifiers) (rest : List Mark) → IsSpecifiers nothing_seen names ws
     → let ts = spell_specifiers ws rest in
-    members_followed b before s names ts ≡ Some (state (specifying nothing_seen []) (for_member b before ∷ s) names ts)
+    members_followed b before s names ts ≡ Some (state (specifying nothing_seen []) (awaits_specifiers (for_member b before) ∷ s) names ts)
 members_next names b before s ws rest i = members_first names (spell_specifiers ws rest) (specifiers_begin names ws i rest) b before s
 
 pub enumerated_end : (es : Enumerators) (c : Bool) (rest : List Mark) (b : Body) (before : List Entry) (n : Name) (s : List Frame) (names : Names)

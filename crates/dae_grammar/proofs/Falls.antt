@@ -15,7 +15,7 @@ use Rattle.dae_tree.specs.Names.{Names, is_type, has_typedef, with_declarator}
 use Rattle.dae_tree.specs.Grammar.{Manner, by_name, without_name, either_way}
 use Rattle.dae_tree.specs.Trees.{Expression, Specifiers, Specifier, Declarator, Initialiser, Item, Declaration, Statement, External, Block}
 use Rattle.dae_tree.specs.Lists.{MemberLine, Entry, Parameter}
-use Rattle.dae_grammar.specs.Frames.{Body, Open, Head, Loop, Inside, if_head, while_head, switch_head, do_head, Frame, in_parentheses, in_index, in_arguments, behind_prefix, behind_sizeof, behind_cast, behind_binary, behind_question, behind_colon, behind_assignment, behind_comma, in_size, in_enumerator, in_value, in_evaluation, in_test, in_start, in_loop_test, in_step, in_return, in_case, for_cast, for_sizeof, for_parameter, for_member, for_declaration, behind_star, in_group, of_cast, of_sizeof, of_parameter, of_member, of_item, in_list, of_value, in_file, in_block, then_branch, else_branch, while_body, switch_body, do_body, for_body, case_body, default_body, in_statements, in_definition, Doing, seek, operated, gave, calling, measuring, specifying, tagging, tagged, membering, enumerating, enumerated, entered, entering, gave_specifiers, declaring, qualifying, suffixing, sizing, parametering, gave_declarator, initialising, listing, gave_initialiser, itemed, gave_declaration, externals, declarations, statements, stating, opening, finishing, looping, starting, testing, stepping, returning, breaking, continuing, defaulting, gave_statement, State, state}
+use Rattle.dae_grammar.specs.Frames.{Body, Open, Head, Loop, Inside, if_head, while_head, switch_head, do_head, Frame, in_parentheses, in_index, in_arguments, behind_prefix, behind_sizeof, behind_cast, behind_binary, behind_question, behind_colon, behind_assignment, behind_comma, in_size, in_enumerator, in_value, in_evaluation, in_test, in_start, in_loop_test, in_step, in_return, in_case, for_cast, for_sizeof, for_parameter, for_member, for_declaration, behind_star, in_group, of_cast, of_sizeof, of_parameter, of_member, of_item, in_list, of_value, in_file, in_block, then_branch, else_branch, while_body, switch_body, do_body, for_body, case_body, default_body, in_statements, in_definition, Doing, seek, operated, gave, calling, measuring, specifying, tagging, tagged, membering, enumerating, enumerated, entered, entering, gave_specifiers, declaring, qualifying, suffixing, sizing, parametering, gave_declarator, initialising, listing, gave_initialiser, itemed, gave_declaration, externals, declarations, statements, stating, opening, finishing, looping, starting, testing, stepping, returning, breaking, continuing, defaulting, gave_statement, State, state, awaits_expression, awaits_specifiers, awaits_declarator, awaits_initialiser, awaits_declaration, awaits_statement, ExpressionFrame, SpecifiersFrame, DeclaratorFrame, StatementFrame}
 use Rattle.dae_grammar.specs.Machine.{initialised, listed, list_followed, initialiser_taken, item_followed, declaration_taken, external_begun, block_followed, sign_stated, word_stated, stated, started, loop_tested, stepped, returned, branched, done_followed, defined, statement_given, called, measured, enumerator_named, enumerator_followed, declaration_begun, specifiers_given, nothing_declared, begins_parameters, parenthesis_declared, bracket_declared, name_declared, declared, qualified, suffixed, sized, parameters_opened, parameter_given, member_given, item_given, declarator_given, at_paren, at_bracket, at_colon, at_semicolon, at_open, sign_sought, sought, named_member, operated_at, argument_given, tested, expression_given, specifiers_end, word_taken, specified, body, body_opened, tag_taken, tag_followed, members_followed, entry_followed, comma_followed, step, operation, operate, goes_on}
 use Rattle.dae_grammar.specs.Measure.{measure}
 
@@ -102,7 +102,7 @@ falls_tested (while_head q) p e s names ts = omega arith
 falls_tested (switch_head q) p e s names ts = omega arith
 falls_tested (do_head q b r) p e s names ts = omega arith
 
-falls_expression : (e : Expression) (f : Frame) (s : List Frame) (names : Names) (ts : List Mark) → Falls (12 * length ts + 2 * suc (length s) + 0) (expression_given e f s names ts)
+falls_expression : (e : Expression) (f : ExpressionFrame) (s : List Frame) (names : Names) (ts : List Mark) → Falls (12 * length ts + 2 * suc (length s) + 0) (expression_given e f s names ts)
 falls_expression e (in_parentheses p l) s names ts = falls_paren (2 * suc (length s)) 0 ts _ (λ us. omega arith)
 falls_expression e (in_index a p l) s names ts = falls_bracket (2 * suc (length s)) 0 ts _ (λ us. omega arith)
 falls_expression e (in_arguments g p before l) s names ts = falls_argument e g p before l s names ts
@@ -124,7 +124,6 @@ falls_expression e (in_loop_test p q a r) s names ts = falls_semicolon (2 * suc 
 falls_expression e (in_step loop) s names ts = falls_paren (2 * suc (length s)) 0 ts _ (λ us. omega arith)
 falls_expression e (in_return p) s names ts = falls_semicolon (2 * suc (length s)) 0 ts _ (λ q us. omega arith)
 falls_expression e (in_case p) s names ts = falls_colon (2 * suc (length s)) 0 ts _ (λ us. omega arith)
-falls_expression e _ s names ts = tt
 
 -- ---- specifiers
 
@@ -188,13 +187,12 @@ falls_begun outer ws s names [] = omega arith
 falls_begun outer ws s names (sign signs.Semicolon p ∷ ts) = omega arith
 falls_begun outer ws s names (_ ∷ ts) = omega arith
 
-falls_specifiers : (ws : Specifiers) (f : Frame) (s : List Frame) (names : Names) (ts : List Mark) → Falls (12 * length ts + 2 * suc (length s) + 3) (specifiers_given ws f s names ts)
+falls_specifiers : (ws : Specifiers) (f : SpecifiersFrame) (s : List Frame) (names : Names) (ts : List Mark) → Falls (12 * length ts + 2 * suc (length s) + 3) (specifiers_given ws f s names ts)
 falls_specifiers ws (for_cast p l) s names ts = omega arith
 falls_specifiers ws (for_sizeof p q l) s names ts = omega arith
 falls_specifiers ws (for_parameter o before) s names ts = omega arith
 falls_specifiers ws (for_member b before) s names ts = omega arith
 falls_specifiers ws (for_declaration outer) s names ts = falls_begun outer ws s names ts
-falls_specifiers ws _ s names ts = tt
 
 falls_nothing : (m : Manner) (needed : Bool) (s : List Frame) (names : Names) (ts : List Mark) → Falls (12 * length ts + 2 * length s + 2) (nothing_declared m needed s names ts)
 falls_nothing by_name needed s names ts = tt
@@ -271,7 +269,7 @@ falls_item false d ws before s names [] = omega arith
 falls_item false d ws before s names (sign signs.Assign p ∷ ts) = omega arith
 falls_item false d ws before s names (_ ∷ ts) = omega arith
 
-falls_declarator : (d : Declarator) (f : Frame) (s : List Frame) (names : Names) (ts : List Mark) → Falls (12 * length ts + 2 * suc (length s) + 0) (declarator_given d f s names ts)
+falls_declarator : (d : Declarator) (f : DeclaratorFrame) (s : List Frame) (names : Names) (ts : List Mark) → Falls (12 * length ts + 2 * suc (length s) + 0) (declarator_given d f s names ts)
 falls_declarator d (behind_star p qs) s names ts = omega arith
 falls_declarator d (in_group p m) s names ts = falls_paren (2 * suc (length s)) 0 ts _ (λ us. omega arith)
 falls_declarator d (of_cast p ws l) s names ts = falls_paren (2 * suc (length s)) 0 ts _ (λ us. omega arith)
@@ -279,7 +277,6 @@ falls_declarator d (of_sizeof p q ws l) s names ts = falls_paren (2 * suc (lengt
 falls_declarator d (of_parameter o before ws) s names ts = falls_parameter d o before ws s names ts
 falls_declarator d (of_member b lines ws before) s names ts = falls_member_line d b lines ws before s names ts
 falls_declarator d (of_item outer ws before) s names ts = falls_item outer d ws before s (with_declarator (has_typedef ws) d names) ts
-falls_declarator d _ s names ts = tt
 
 -- ---- initialisers and declarations
 
@@ -301,8 +298,8 @@ falls_list_followed p x before s names (_ ∷ ts) = omega arith
 
 falls_initialiser : (x : Initialiser) (s : List Frame) (names : Names) (ts : List Mark) → Falls (12 * length ts + 2 * length s + 0) (initialiser_taken x s names ts)
 falls_initialiser x [] names ts = tt
-falls_initialiser x (in_list p before ∷ s) names ts = falls_listed x p before s names ts
-falls_initialiser x (of_value ws before d p ∷ s) names ts = omega arith
+falls_initialiser x (awaits_initialiser (in_list p before) ∷ s) names ts = falls_listed x p before s names ts
+falls_initialiser x (awaits_initialiser (of_value ws before d p) ∷ s) names ts = omega arith
 falls_initialiser x (_ ∷ s) names ts = tt
 
 falls_itemed : (ws : Specifiers) (i : Item) (before : List Item) (s : List Frame) (names : Names) (ts : List Mark) → Falls (12 * length ts + 2 * length s + 1) (item_followed ws i before s names ts)
@@ -313,8 +310,8 @@ falls_itemed ws i before s names (_ ∷ ts) = tt
 
 falls_declaration : (d : Declaration) (s : List Frame) (names : Names) (ts : List Mark) → Falls (12 * length ts + 2 * length s + 8) (declaration_taken d s names ts)
 falls_declaration d [] names ts = tt
-falls_declaration d (in_file before ∷ s) names ts = omega arith
-falls_declaration d (in_block i ∷ s) names ts = omega arith
+falls_declaration d (awaits_declaration (in_file before) ∷ s) names ts = omega arith
+falls_declaration d (awaits_declaration (in_block i) ∷ s) names ts = omega arith
 falls_declaration d (_ ∷ s) names ts = tt
 
 falls_external : (before : List External) (s : List Frame) (names : Names) (ts : List Mark) → Falls (12 * length ts + 2 * length s + 9) (external_begun before s names ts)
@@ -375,11 +372,11 @@ falls_done p b s names (_ ∷ ts) = tt
 
 falls_defined : (ws : Specifiers) (d : Declarator) (outside : Names) (b : Statement) (s : List Frame) (ts : List Mark) → Falls (12 * length ts + 2 * suc (length s) + 6) (defined ws d outside b s ts)
 falls_defined ws d outside (Block p ds ss) [] ts = tt
-falls_defined ws d outside (Block p ds ss) (in_file before ∷ s) ts = omega arith
+falls_defined ws d outside (Block p ds ss) (awaits_declaration (in_file before) ∷ s) ts = omega arith
 falls_defined ws d outside (Block p ds ss) (_ ∷ s) ts = tt
 falls_defined ws d outside _ s ts = tt
 
-falls_statement : (b : Statement) (f : Frame) (s : List Frame) (names : Names) (ts : List Mark) → Falls (12 * length ts + 2 * suc (length s) + 6) (statement_given b f s names ts)
+falls_statement : (b : Statement) (f : StatementFrame) (s : List Frame) (names : Names) (ts : List Mark) → Falls (12 * length ts + 2 * suc (length s) + 6) (statement_given b f s names ts)
 falls_statement b (then_branch p q e) s names ts = falls_branched p q e b s names ts
 falls_statement b (else_branch p q e a) s names ts = omega arith
 falls_statement b (while_body p q e) s names ts = omega arith
@@ -390,7 +387,6 @@ falls_statement b (case_body p e) s names ts = omega arith
 falls_statement b (default_body p) s names ts = omega arith
 falls_statement b (in_statements i before) s names ts = omega arith
 falls_statement b (in_definition ws d outside) s names ts = falls_defined ws d outside b s ts
-falls_statement b _ s names ts = tt
 
 -- ---- every step
 
@@ -412,8 +408,8 @@ falls_enumerating b before s names (_ ∷ ts) = tt
 pub falls : (d : Doing) (s : List Frame) (names : Names) (ts : List Mark) → Falls (measure (state d s names ts)) (step (state d s names ts))
 falls (seek l) s names ts = falls_sought l s names ts
 falls (operated e l) s names ts = falls_operated e l s names ts
-falls (gave e) [] names ts = tt
-falls (gave e) (f ∷ s) names ts = falls_expression e f s names ts
+falls (gave e) (awaits_expression f ∷ s) names ts = falls_expression e f s names ts
+falls (gave e) _ names ts = tt
 falls (calling e p l) s names ts = falls_called e p l s names ts
 falls (measuring p l) s names ts = falls_measured p l s names ts
 falls (specifying seen before) s names ts = falls_specified seen before s names ts
@@ -424,15 +420,15 @@ falls (enumerating b before) s names ts = falls_enumerating b before s names ts
 falls (enumerated b before n) s names ts = falls_enumerated b before n s names ts
 falls (entered b before e) s names ts = falls_entered b before e s names ts
 falls (entering b before e) s names ts = falls_entering b before e s names ts
-falls (gave_specifiers ws) [] names ts = tt
-falls (gave_specifiers ws) (f ∷ s) names ts = falls_specifiers ws f s names ts
+falls (gave_specifiers ws) (awaits_specifiers f ∷ s) names ts = falls_specifiers ws f s names ts
+falls (gave_specifiers ws) _ names ts = tt
 falls (declaring m needed) s names ts = falls_declared m needed s names ts
 falls (qualifying m p before) s names ts = falls_qualified m p before s names ts
 falls (suffixing m d) s names ts = falls_suffixed m d s names ts
 falls (sizing m d p) s names ts = falls_sized m d p s names ts
 falls (parametering m d p) s names ts = falls_opened m d p s names ts
-falls (gave_declarator d) [] names ts = tt
-falls (gave_declarator d) (f ∷ s) names ts = falls_declarator d f s names ts
+falls (gave_declarator d) (awaits_declarator f ∷ s) names ts = falls_declarator d f s names ts
+falls (gave_declarator d) _ names ts = tt
 falls initialising s names ts = falls_initialised s names ts
 falls (listing p x before) s names ts = falls_list_followed p x before s names ts
 falls (gave_initialiser x) s names ts = falls_initialiser x s names ts
@@ -452,5 +448,5 @@ falls (returning p) s names ts = falls_returned p s names ts
 falls (breaking p) s names ts = falls_semicolon (2 * length s) 0 ts _ (λ q us. omega arith)
 falls (continuing p) s names ts = falls_semicolon (2 * length s) 0 ts _ (λ q us. omega arith)
 falls (defaulting p) s names ts = falls_colon (2 * length s) 0 ts _ (λ us. omega arith)
-falls (gave_statement b) [] names ts = tt
-falls (gave_statement b) (f ∷ s) names ts = falls_statement b f s names ts
+falls (gave_statement b) (awaits_statement f ∷ s) names ts = falls_statement b f s names ts
+falls (gave_statement b) _ names ts = tt

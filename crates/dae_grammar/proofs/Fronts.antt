@@ -13,7 +13,7 @@ use Rattle.dae_tree.specs.Spelling.{spell, spell_specifiers, spell_declarator}
 use Rattle.dae_tree.specs.Grammar.{level, Manner, by_name, IsExpression, IsSpecifiers, IsDeclarator, IsPresent, IsNoType, leading_name}
 use Rattle.dae_tree.specs.Trees.{Expression, Specifiers, Declarator, Identifier, Number, Literal, Parenthesised, Index, Call, Member, Postfix, Prefix, SizeofExpression, SizeofType, Cast, Binary, Conditional, Assignment, Comma, no_specifiers, specifier_then, Word, TypeName, Structure, StructureBody, Enumeration, EnumerationBody, Absent, Named, Pointer, Grouped, Unsized, Sized, Empty, Void, Function}
 use Rattle.dae_tree.specs.Lists.{MemberLine}
-use Rattle.dae_grammar.specs.Frames.{Body, Frame, state, seek, in_arguments, behind_sizeof, in_size, gave_declarator, specifying, for_member}
+use Rattle.dae_grammar.specs.Frames.{Body, Frame, state, seek, in_arguments, behind_sizeof, in_size, gave_declarator, specifying, for_member, awaits_expression, awaits_specifiers}
 use Rattle.dae_grammar.specs.Machine.{called, measured, sized, suffixed, begins_parameters, members_followed}
 use Rattle.dae_grammar.specs.Starts.{IsStartSign, Starts, FollowsSpecifiers, FollowsDeclarator}
 use Rattle.dae_grammar.proofs.Steps.{under_least}
@@ -49,20 +49,20 @@ no_specifiers_first names (word _ p ∷ ts) h = absurd h
 no_specifiers_first names (_ ∷ ts) h = refl
 
 pub called_first : (names : Names) (ts : List Mark) → Starts names ts → (e : Expression) (p : Place) (l : ℕ) (s : List Frame)
-    → called e p l s names ts ≡ Some (state (seek 15) (in_arguments e p [] l ∷ s) names ts)
+    → called e p l s names ts ≡ Some (state (seek 15) (awaits_expression (in_arguments e p [] l) ∷ s) names ts)
 called_first names [] h e p l s = absurd h
 called_first names (part c ∷ ts) h e p l s = absurd h
 called_first names (_ ∷ ts) h e p l s = refl
 
 pub sized_first : (names : Names) (ts : List Mark) → Starts names ts → (m : Manner) (d : Declarator) (p : Place) (s : List Frame)
-    → sized m d p s names ts ≡ Some (state (seek 14) (in_size d p m ∷ s) names ts)
+    → sized m d p s names ts ≡ Some (state (seek 14) (awaits_expression (in_size d p m) ∷ s) names ts)
 sized_first names [] h m d p s = absurd h
 sized_first names (part c ∷ ts) h m d p s = absurd h
 sized_first names (_ ∷ ts) h m d p s = refl
 
 -- a unary expression behind sizeof
 pub measured_first : (names : Names) (e : Expression) → IsExpression names e → level e ≤ 2 → (rest : List Mark) (p : Place) (l : ℕ) (s : List Frame)
-    → measured p l s names (spell e rest) ≡ Some (state (seek 2) (behind_sizeof p l ∷ s) names (spell e rest))
+    → measured p l s names (spell e rest) ≡ Some (state (seek 2) (awaits_expression (behind_sizeof p l) ∷ s) names (spell e rest))
 measured_first names (Identifier n) i le rest p l s = refl
 measured_first names (Number q c) i le rest p l s = refl
 measured_first names (Literal q n) i le rest p l s = refl
@@ -73,7 +73,7 @@ measured_first names (Member a q o n) i le rest p l s = measured_first names a i
 measured_first names (Postfix a q o) i le rest p l s = measured_first names a i.1 (omega (arith, i.0)) _ p l s
 measured_first names (Prefix q o a) i le rest p l s = by_operator o
   where
-    by_operator : (o : PrefixOperator) → measured p l s names (sign (prefix_sign o) q ∷ spell a rest) ≡ Some (state (seek 2) (behind_sizeof p l ∷ s) names (sign (prefix_sign o) q ∷ spell a rest))
+    by_operator : (o : PrefixOperator) → measured p l s names (sign (prefix_sign o) q ∷ spell a rest) ≡ Some (state (seek 2) (awaits_expression (behind_sizeof p l) ∷ s) names (sign (prefix_sign o) q ∷ spell a rest))
     by_operator prefix.Increment = refl
     by_operator _ = refl
 measured_first names (SizeofExpression q a) i le rest p l s = refl
@@ -95,7 +95,7 @@ specifiers_begin names (specifier_then (Enumeration p n) ws) i rest = refl
 specifiers_begin names (specifier_then (EnumerationBody p n q es c) ws) i rest = refl
 
 pub members_first : (names : Names) (ts : List Mark) → begins_specifiers names ts ≡ true → (b : Body) (before : List MemberLine) (s : List Frame)
-    → members_followed b before s names ts ≡ Some (state (specifying nothing_seen []) (for_member b before ∷ s) names ts)
+    → members_followed b before s names ts ≡ Some (state (specifying nothing_seen []) (awaits_specifiers (for_member b before) ∷ s) names ts)
 members_first names [] h b before s = absurd cc
 members_first names (part c ∷ ts) h b before s = absurd cc
 members_first names (_ ∷ ts) h b [] s = refl

@@ -6,7 +6,9 @@ use Rattle.dae_tree.specs.declared.words.Keyword.TheVariants as keywords
 use Rattle.dae_tree.specs.declared.signs.Sign.{Sign}
 use Rattle.dae_tree.specs.declared.signs.Sign.TheVariants as signs
 use Rattle.dae_tree.specs.declared.expressions.Name.{Name}
+use Rattle.dae_tree.specs.declared.operators.PrefixOperator.{PrefixOperator}
 use Rattle.dae_tree.specs.declared.operators.MemberOperator.{MemberOperator}
+use Rattle.dae_tree.specs.Operators.{prefix_at}
 use Rattle.dae_tree.specs.declared.seen.Seen.{Seen}
 use Rattle.dae_tree.specs.Marks.{Mark, word, sign, name, constant, literal, part, close_paren, close_bracket, close_brace, comma, colon, else_word}
 use Rattle.dae_tree.specs.Words.{has_type, admits, begins_specifiers}
@@ -15,8 +17,8 @@ use Rattle.dae_tree.specs.Grammar.{Manner, by_name, without_name, either_way}
 use Rattle.dae_tree.specs.Lists.{MemberLine, Entry, Parameter}
 use Rattle.dae_tree.specs.Statements.{IsTreeOf}
 use Rattle.dae_tree.specs.Trees.{Expression, Specifiers, Specifier, Declarator, Initialiser, Item, Declaration, Statement, External, Block}
-use Rattle.dae_grammar.specs.Frames.{Body, Open, Head, Loop, Inside, if_head, while_head, switch_head, do_head, Frame, in_parentheses, in_index, in_arguments, behind_prefix, behind_sizeof, behind_cast, behind_binary, behind_question, behind_colon, behind_assignment, behind_comma, in_size, in_enumerator, in_value, in_evaluation, in_test, in_start, in_loop_test, in_step, in_return, in_case, for_cast, for_sizeof, for_parameter, for_member, for_declaration, behind_star, in_group, of_cast, of_sizeof, of_parameter, of_member, of_item, in_list, of_value, in_file, in_block, then_branch, else_branch, while_body, switch_body, do_body, for_body, case_body, default_body, in_statements, in_definition, Doing, seek, operated, gave, calling, measuring, specifying, tagging, tagged, membering, enumerating, enumerated, entered, entering, gave_specifiers, declaring, qualifying, suffixing, sizing, parametering, gave_declarator, initialising, listing, gave_initialiser, itemed, gave_declaration, externals, declarations, statements, stating, opening, finishing, looping, starting, testing, stepping, returning, breaking, continuing, defaulting, gave_statement, State, state}
-use Rattle.dae_grammar.specs.Machine.{initialised, listed, list_followed, initialiser_taken, item_followed, declaration_taken, external_begun, block_begun, block_followed, sign_stated, word_stated, stated, started, loop_tested, stepped, returned, branched, done_followed, defined, statement_given, called, measured, enumerator_named, enumerator_followed, declaration_begun, specifiers_given, nothing_declared, begins_parameters, parenthesis_declared, bracket_declared, name_declared, declared, declarator_given, qualified, suffixed, sized, parameters_opened, parameter_given, member_given, item_given, at_paren, at_bracket, at_colon, at_semicolon, at_open, parenthesis_at, sign_sought, sought, named_member, operated_at, argument_given, tested, expression_given, specifiers_end, word_taken, specified, body, body_opened, tag_taken, tag_followed, members_followed, entry_followed, comma_followed, step, step_at, operation, operate, goes_on, begun, Operation, subscript, call, member_of, step_of, binary_of, choice, assignment_of, ends}
+use Rattle.dae_grammar.specs.Frames.{Body, Open, Head, Loop, Inside, if_head, while_head, switch_head, do_head, Frame, in_parentheses, in_index, in_arguments, behind_prefix, behind_sizeof, behind_cast, behind_binary, behind_question, behind_colon, behind_assignment, behind_comma, in_size, in_enumerator, in_value, in_evaluation, in_test, in_start, in_loop_test, in_step, in_return, in_case, for_cast, for_sizeof, for_parameter, for_member, for_declaration, behind_star, in_group, of_cast, of_sizeof, of_parameter, of_member, of_item, in_list, of_value, in_file, in_block, then_branch, else_branch, while_body, switch_body, do_body, for_body, case_body, default_body, in_statements, in_definition, Doing, seek, operated, gave, calling, measuring, specifying, tagging, tagged, membering, enumerating, enumerated, entered, entering, gave_specifiers, declaring, qualifying, suffixing, sizing, parametering, gave_declarator, initialising, listing, gave_initialiser, itemed, gave_declaration, externals, declarations, statements, stating, opening, finishing, looping, starting, testing, stepping, returning, breaking, continuing, defaulting, gave_statement, State, state, awaits_expression, awaits_specifiers, awaits_declarator, awaits_initialiser, awaits_declaration, awaits_statement, ExpressionFrame, SpecifiersFrame, DeclaratorFrame, StatementFrame}
+use Rattle.dae_grammar.specs.Machine.{initialised, listed, list_followed, initialiser_taken, item_followed, declaration_taken, external_begun, block_begun, block_followed, sign_stated, word_stated, stated, started, loop_tested, stepped, returned, branched, done_followed, defined, statement_given, called, measured, enumerator_named, enumerator_followed, declaration_begun, specifiers_given, nothing_declared, begins_parameters, parenthesis_declared, bracket_declared, name_declared, declared, declarator_given, qualified, suffixed, sized, parameters_opened, parameter_given, member_given, item_given, at_paren, at_bracket, at_colon, at_semicolon, at_open, parenthesis_at, prefixed, sign_sought, sought, named_member, operated_at, argument_given, tested, expression_given, specifiers_end, word_taken, specified, body, body_opened, tag_taken, tag_followed, members_followed, entry_followed, comma_followed, step, step_at, operation, operate, goes_on, begun, Operation, subscript, call, member_of, step_of, binary_of, choice, assignment_of, ends}
 use Rattle.dae_grammar.specs.Runs.{run}
 use Rattle.dae_grammar.specs.Stuck.{behind, rest_of, stuck}
 use Rattle.dae_grammar.proofs.Runs.{stopped}
@@ -122,17 +124,13 @@ cast_or_group false false x d e f g p s names us vs h = (refl, refl, refl, inl (
 cast_or_group true false x d e f g p s names us vs h = absurd cc
 cast_or_group false true x d e f g p s names us vs h = absurd cc
 
+local_prefixed : (o : Option PrefixOperator) (t : Mark) (p : Place) (l : ℕ) (s : List Frame) (names : Names) (us vs : List Mark) → Alike (Some t) us vs (prefixed o p l s names us) (prefixed o p l s names vs)
+local_prefixed None t p l s names us vs = tt
+local_prefixed (Some o) t p l s names us vs = (refl, refl, refl, inl (refl, refl))
+
 local_sign : (g : Sign) (p : Place) (l : ℕ) (s : List Frame) (names : Names) (us vs : List Mark) → (IsOpen (Some (sign g p)) → SameAhead us vs) → Alike (Some (sign g p)) us vs (sign_sought g p l s names us) (sign_sought g p l s names vs)
 local_sign signs.LeftParen p l s names us vs h = cast_or_group (begins_specifiers names us) (begins_specifiers names vs) (leb 3 l) _ _ _ _ p s names us vs (h tt names).0
-local_sign signs.Increment p l s names us vs h = (refl, refl, refl, inl (refl, refl))
-local_sign signs.Decrement p l s names us vs h = (refl, refl, refl, inl (refl, refl))
-local_sign signs.And p l s names us vs h = (refl, refl, refl, inl (refl, refl))
-local_sign signs.Times p l s names us vs h = (refl, refl, refl, inl (refl, refl))
-local_sign signs.Plus p l s names us vs h = (refl, refl, refl, inl (refl, refl))
-local_sign signs.Minus p l s names us vs h = (refl, refl, refl, inl (refl, refl))
-local_sign signs.Tilde p l s names us vs h = (refl, refl, refl, inl (refl, refl))
-local_sign signs.Not p l s names us vs h = (refl, refl, refl, inl (refl, refl))
-local_sign _ p l s names us vs h = tt
+local_sign g p l s names us vs h = local_prefixed (prefix_at g) (sign g p) p l s names us vs
 
 local_sought : (l : ℕ) (s : List Frame) (names : Names) (o : Option Mark) (us vs : List Mark) → (IsOpen o → SameAhead us vs) → Alike o us vs (sought l s names (front o us)) (sought l s names (front o vs))
 local_sought l s names None us vs h = tt
@@ -182,7 +180,7 @@ same_tested (while_head q) p e s names o us vs = (refl, refl, refl, inl (refl, r
 same_tested (switch_head q) p e s names o us vs = (refl, refl, refl, inl (refl, refl))
 same_tested (do_head q b r) p e s names o us vs = (refl, refl, refl, inl (refl, refl))
 
-local_expression : (e : Expression) (f : Frame) (s : List Frame) (names : Names) (o : Option Mark) (us vs : List Mark) → Alike o us vs (expression_given e f s names (front o us)) (expression_given e f s names (front o vs))
+local_expression : (e : Expression) (f : ExpressionFrame) (s : List Frame) (names : Names) (o : Option Mark) (us vs : List Mark) → Alike o us vs (expression_given e f s names (front o us)) (expression_given e f s names (front o vs))
 local_expression e (in_parentheses p l) s names o us vs = local_paren _ (λ o us vs. (refl, refl, refl, inl (refl, refl))) o us vs
 local_expression e (in_index a p l) s names o us vs = local_bracket _ (λ o us vs. (refl, refl, refl, inl (refl, refl))) o us vs
 local_expression e (in_arguments g p before l) s names o us vs = local_argument e g p before l s names o us vs
@@ -204,7 +202,6 @@ local_expression e (in_loop_test p q a r) s names o us vs = local_semicolon _ (�
 local_expression e (in_step loop) s names o us vs = local_paren _ (λ o us vs. (refl, refl, refl, inl (refl, refl))) o us vs
 local_expression e (in_return p) s names o us vs = local_semicolon _ (λ q o us vs. (refl, refl, refl, inl (refl, refl))) o us vs
 local_expression e (in_case p) s names o us vs = local_colon _ (λ o us vs. (refl, refl, refl, inl (refl, refl))) o us vs
-local_expression e _ s names o us vs = tt
 
 -- ---- specifiers
 
@@ -272,13 +269,12 @@ local_declaration_begun outer ws s names None us vs = (refl, refl, refl, inr (re
 local_declaration_begun outer ws s names (Some (sign signs.Semicolon q)) us vs = (refl, refl, refl, inl (refl, refl))
 local_declaration_begun outer ws s names (Some _) us vs = (refl, refl, refl, inr (refl, refl))
 
-local_specifiers : (ws : Specifiers) (f : Frame) (s : List Frame) (names : Names) (o : Option Mark) (us vs : List Mark) → Alike o us vs (specifiers_given ws f s names (front o us)) (specifiers_given ws f s names (front o vs))
+local_specifiers : (ws : Specifiers) (f : SpecifiersFrame) (s : List Frame) (names : Names) (o : Option Mark) (us vs : List Mark) → Alike o us vs (specifiers_given ws f s names (front o us)) (specifiers_given ws f s names (front o vs))
 local_specifiers ws (for_cast p l) s names o us vs = (refl, refl, refl, inr (refl, refl))
 local_specifiers ws (for_sizeof p q l) s names o us vs = (refl, refl, refl, inr (refl, refl))
 local_specifiers ws (for_parameter w before) s names o us vs = (refl, refl, refl, inr (refl, refl))
 local_specifiers ws (for_member b before) s names o us vs = (refl, refl, refl, inr (refl, refl))
 local_specifiers ws (for_declaration outer) s names o us vs = local_declaration_begun outer ws s names o us vs
-local_specifiers ws _ s names o us vs = tt
 
 -- ---- declarators
 
@@ -357,7 +353,7 @@ local_item false d ws before s names None us vs = (refl, refl, refl, inr (refl, 
 local_item false d ws before s names (Some (sign signs.Assign q)) us vs = (refl, refl, refl, inl (refl, refl))
 local_item false d ws before s names (Some _) us vs = (refl, refl, refl, inr (refl, refl))
 
-local_declarator : (d : Declarator) (f : Frame) (s : List Frame) (names : Names) (o : Option Mark) (us vs : List Mark) → Alike o us vs (declarator_given d f s names (front o us)) (declarator_given d f s names (front o vs))
+local_declarator : (d : Declarator) (f : DeclaratorFrame) (s : List Frame) (names : Names) (o : Option Mark) (us vs : List Mark) → Alike o us vs (declarator_given d f s names (front o us)) (declarator_given d f s names (front o vs))
 local_declarator d (behind_star p qs) s names o us vs = (refl, refl, refl, inr (refl, refl))
 local_declarator d (in_group p m) s names o us vs = local_paren _ (λ o us vs. (refl, refl, refl, inl (refl, refl))) o us vs
 local_declarator d (of_cast p ws l) s names o us vs = local_paren _ (λ o us vs. (refl, refl, refl, inl (refl, refl))) o us vs
@@ -365,7 +361,6 @@ local_declarator d (of_sizeof p q ws l) s names o us vs = local_paren _ (λ o us
 local_declarator d (of_parameter w before ws) s names o us vs = local_parameter d w before ws s names o us vs
 local_declarator d (of_member b lines ws before) s names o us vs = local_member_line d b lines ws before s names o us vs
 local_declarator d (of_item outer ws before) s names o us vs = local_item outer d ws before s (with_declarator (has_typedef ws) d names) o us vs
-local_declarator d _ s names o us vs = tt
 
 -- ---- initialisers and declarations
 
@@ -387,8 +382,8 @@ local_list_followed p before s names (Some _) us vs = (refl, refl, refl, inr (re
 
 local_initialiser : (x : Initialiser) (s : List Frame) (names : Names) (o : Option Mark) (us vs : List Mark) → Alike o us vs (initialiser_taken x s names (front o us)) (initialiser_taken x s names (front o vs))
 local_initialiser x [] names o us vs = tt
-local_initialiser x (in_list p before ∷ s) names o us vs = local_listed x p before s names o us vs
-local_initialiser x (of_value ws before d p ∷ s) names o us vs = (refl, refl, refl, inr (refl, refl))
+local_initialiser x (awaits_initialiser (in_list p before) ∷ s) names o us vs = local_listed x p before s names o us vs
+local_initialiser x (awaits_initialiser (of_value ws before d p) ∷ s) names o us vs = (refl, refl, refl, inr (refl, refl))
 local_initialiser x (_ ∷ s) names o us vs = tt
 
 local_itemed : (ws : Specifiers) (i : Item) (before : List Item) (s : List Frame) (names : Names) (o : Option Mark) (us vs : List Mark) → Alike o us vs (item_followed ws i before s names (front o us)) (item_followed ws i before s names (front o vs))
@@ -399,8 +394,8 @@ local_itemed ws i before s names (Some _) us vs = tt
 
 local_declaration : (d : Declaration) (s : List Frame) (names : Names) (o : Option Mark) (us vs : List Mark) → Alike o us vs (declaration_taken d s names (front o us)) (declaration_taken d s names (front o vs))
 local_declaration d [] names o us vs = tt
-local_declaration d (in_file before ∷ s) names o us vs = (refl, refl, refl, inr (refl, refl))
-local_declaration d (in_block i ∷ s) names o us vs = (refl, refl, refl, inr (refl, refl))
+local_declaration d (awaits_declaration (in_file before) ∷ s) names o us vs = (refl, refl, refl, inr (refl, refl))
+local_declaration d (awaits_declaration (in_block i) ∷ s) names o us vs = (refl, refl, refl, inr (refl, refl))
 local_declaration d (_ ∷ s) names o us vs = tt
 
 local_external : (before : List External) (s : List Frame) (names : Names) (o : Option Mark) (us vs : List Mark) → Alike o us vs (external_begun before s names (front o us)) (external_begun before s names (front o vs))
@@ -473,11 +468,11 @@ local_done p b s names (Some _) us vs = tt
 
 local_defined : (ws : Specifiers) (d : Declarator) (outside : Names) (b : Statement) (s : List Frame) (o : Option Mark) (us vs : List Mark) → Alike o us vs (defined ws d outside b s (front o us)) (defined ws d outside b s (front o vs))
 local_defined ws d outside (Block p ds ss) [] o us vs = tt
-local_defined ws d outside (Block p ds ss) (in_file before ∷ s) o us vs = (refl, refl, refl, inr (refl, refl))
+local_defined ws d outside (Block p ds ss) (awaits_declaration (in_file before) ∷ s) o us vs = (refl, refl, refl, inr (refl, refl))
 local_defined ws d outside (Block p ds ss) (_ ∷ s) o us vs = tt
 local_defined ws d outside _ s o us vs = tt
 
-local_statement : (b : Statement) (f : Frame) (s : List Frame) (names : Names) (o : Option Mark) (us vs : List Mark) → Alike o us vs (statement_given b f s names (front o us)) (statement_given b f s names (front o vs))
+local_statement : (b : Statement) (f : StatementFrame) (s : List Frame) (names : Names) (o : Option Mark) (us vs : List Mark) → Alike o us vs (statement_given b f s names (front o us)) (statement_given b f s names (front o vs))
 local_statement b (then_branch p q e) s names o us vs = local_branched p q e b s names o us vs
 local_statement b (else_branch p q e a) s names o us vs = (refl, refl, refl, inr (refl, refl))
 local_statement b (while_body p q e) s names o us vs = (refl, refl, refl, inr (refl, refl))
@@ -488,15 +483,14 @@ local_statement b (case_body p e) s names o us vs = (refl, refl, refl, inr (refl
 local_statement b (default_body p) s names o us vs = (refl, refl, refl, inr (refl, refl))
 local_statement b (in_statements i before) s names o us vs = (refl, refl, refl, inr (refl, refl))
 local_statement b (in_definition ws d outside) s names o us vs = local_defined ws d outside b s o us vs
-local_statement b _ s names o us vs = tt
 
 -- ---- every step
 
 local_step : (d : Doing) (s : List Frame) (names : Names) (o : Option Mark) (us vs : List Mark) → (IsAhead d → IsOpen o → SameAhead us vs) → (IsOperated d → IsMemberSign o → ⊥) → Alike o us vs (step_at d s names (front o us)) (step_at d s names (front o vs))
 local_step (seek l) s names o us vs same plain = local_sought l s names o us vs (same tt)
 local_step (operated e l) s names o us vs same plain = local_operated e l s names o us vs (plain tt)
-local_step (gave e) [] names o us vs same plain = tt
-local_step (gave e) (f ∷ s) names o us vs same plain = local_expression e f s names o us vs
+local_step (gave e) (awaits_expression f ∷ s) names o us vs same plain = local_expression e f s names o us vs
+local_step (gave e) _ names o us vs same plain = tt
 local_step (calling e p l) s names o us vs same plain = local_called e p l s names o us vs
 local_step (measuring p l) s names o us vs same plain = local_measured p l s names o us vs (same tt)
 local_step (specifying seen before) s names o us vs same plain = local_specified seen before s names o us vs
@@ -507,15 +501,15 @@ local_step (enumerating b before) s names o us vs same plain = local_enumerating
 local_step (enumerated b before n) s names o us vs same plain = local_enumerated b before n s names o us vs
 local_step (entered b before e) s names o us vs same plain = local_entered b before e s names o us vs
 local_step (entering b before e) s names o us vs same plain = local_entering b before e s names o us vs
-local_step (gave_specifiers ws) [] names o us vs same plain = tt
-local_step (gave_specifiers ws) (f ∷ s) names o us vs same plain = local_specifiers ws f s names o us vs
+local_step (gave_specifiers ws) (awaits_specifiers f ∷ s) names o us vs same plain = local_specifiers ws f s names o us vs
+local_step (gave_specifiers ws) _ names o us vs same plain = tt
 local_step (declaring m needed) s names o us vs same plain = local_declared m needed s names o us vs (same tt)
 local_step (qualifying m p before) s names o us vs same plain = local_qualified m p before s names o us vs
 local_step (suffixing m d) s names o us vs same plain = local_suffixed m d s names o us vs
 local_step (sizing m d p) s names o us vs same plain = local_sized m d p s names o us vs
 local_step (parametering m d p) s names o us vs same plain = local_opened m d p s names o us vs
-local_step (gave_declarator d) [] names o us vs same plain = tt
-local_step (gave_declarator d) (f ∷ s) names o us vs same plain = local_declarator d f s names o us vs
+local_step (gave_declarator d) (awaits_declarator f ∷ s) names o us vs same plain = local_declarator d f s names o us vs
+local_step (gave_declarator d) _ names o us vs same plain = tt
 local_step initialising s names o us vs same plain = local_initialised s names o us vs
 local_step (listing p x before) s names o us vs same plain = local_list_followed p (x ∷ before) s names o us vs
 local_step (gave_initialiser x) s names o us vs same plain = local_initialiser x s names o us vs
@@ -535,8 +529,8 @@ local_step (returning p) s names o us vs same plain = local_returned p s names o
 local_step (breaking p) s names o us vs same plain = local_semicolon _ (λ q o us vs. (refl, refl, refl, inl (refl, refl))) o us vs
 local_step (continuing p) s names o us vs same plain = local_semicolon _ (λ q o us vs. (refl, refl, refl, inl (refl, refl))) o us vs
 local_step (defaulting p) s names o us vs same plain = local_colon _ (λ o us vs. (refl, refl, refl, inl (refl, refl))) o us vs
-local_step (gave_statement b) [] names o us vs same plain = tt
-local_step (gave_statement b) (f ∷ s) names o us vs same plain = local_statement b f s names o us vs
+local_step (gave_statement b) (awaits_statement f ∷ s) names o us vs same plain = local_statement b f s names o us vs
+local_step (gave_statement b) _ names o us vs same plain = tt
 
 -- ---- before two tokens
 
@@ -603,9 +597,9 @@ seek_past : (d : Doing) (l : ℕ) (s : List Frame) (names : Names) (p : Place) (
 seek_past d l s names p us = at_once (parenthesis_at p l s names us) refl (group_short (begins_specifiers names us && leb 3 l) _ _ _ _ names us)
 
 measure_past : (d : Doing) (b : Bool) (q p : Place) (l : ℕ) (s : List Frame) (names : Names) (us : List Mark) (a : State) → rest_of a ≡ us
-    → Past d (sign signs.LeftParen q) us (if b then Some a else Some (state (seek 2) (behind_sizeof p l ∷ s) names (sign signs.LeftParen q ∷ us)))
+    → Past d (sign signs.LeftParen q) us (if b then Some a else Some (state (seek 2) (awaits_expression (behind_sizeof p l) ∷ s) names (sign signs.LeftParen q ∷ us)))
 measure_past d true q p l s names us a h = at_once a refl (inl h)
-measure_past d false q p l s names us a h = at_next _ (parenthesis_at q 2 (behind_sizeof p l ∷ s) names us) refl refl refl (group_short (begins_specifiers names us && leb 3 2) _ _ _ _ names us)
+measure_past d false q p l s names us a h = at_next _ (parenthesis_at q 2 (awaits_expression (behind_sizeof p l) ∷ s) names us) refl refl refl (group_short (begins_specifiers names us && leb 3 2) _ _ _ _ names us)
 
 declare_past : (d : Doing) (b : Bool) (m : Manner) (e : Declarator) (q : Place) (s : List Frame) (names : Names) (us : List Mark) (a : State) → rest_of a ≡ us
     → Past d (sign signs.LeftParen q) us (if b then Some (state (suffixing m e) s names (sign signs.LeftParen q ∷ us)) else Some a)

@@ -5,17 +5,17 @@ use Rattle.dae_tree.specs.declared.words.Keyword.TheVariants as keywords
 use Rattle.dae_tree.specs.declared.signs.Sign.{Sign}
 use Rattle.dae_tree.specs.declared.signs.Sign.TheVariants as signs
 use Rattle.dae_tree.specs.declared.operators.PrefixOperator.{PrefixOperator}
-use Rattle.dae_tree.specs.declared.operators.PrefixOperator.TheVariants as prefix
 use Rattle.dae_tree.specs.declared.operators.MemberOperator.{MemberOperator}
+use Rattle.dae_tree.specs.Operators.{prefix_at}
 use Rattle.dae_tree.specs.Marks.{Mark, word, sign, name, constant, literal, part, close_paren, close_bracket, comma, colon}
 use Rattle.dae_tree.specs.Words.{begins_specifiers}
 use Rattle.dae_tree.specs.Names.{Names, is_type, after}
 use Rattle.dae_tree.specs.Grammar.{level, IsExpression, Manner, by_name, without_name, either_way, IsGroup, IsNoType, leading_name}
 use Rattle.dae_tree.specs.Trees.{Declarator, Sized, Expression, no_expressions, expression_then}
-use Rattle.dae_grammar.specs.Frames.{Head, if_head, while_head, switch_head, do_head, Frame, in_group, in_parentheses, in_index, in_arguments, behind_prefix, behind_sizeof, behind_cast, behind_binary, behind_question, behind_colon, behind_assignment, behind_comma, in_size, in_enumerator, in_value, in_evaluation, in_test, in_start, in_loop_test, in_step, in_return, in_case, operated, gave, calling, measuring, State}
+use Rattle.dae_grammar.specs.Frames.{Head, if_head, while_head, switch_head, do_head, Frame, in_group, in_parentheses, in_index, in_arguments, behind_prefix, behind_sizeof, behind_cast, behind_binary, behind_question, behind_colon, behind_assignment, behind_comma, in_size, in_enumerator, in_value, in_evaluation, in_test, in_start, in_loop_test, in_step, in_return, in_case, operated, gave, calling, measuring, State, awaits_expression, awaits_declarator, ExpressionFrame}
 use Rattle.dae_grammar.specs.Machine.{Operation, subscript, call, member_of, step_of, binary_of, choice, assignment_of, ends, operation, reach, left_level, goes_on, operate, named_member, operated_at, prefixed, sign_sought, sought, measured, called, argument_given, tested, at_paren, at_bracket, at_colon, at_semicolon, at_open, expression_given}
 use Rattle.dae_grammar.specs.Standing.{MayStand, limit, awaited, stack_names, IsStack, IsDoing, IsHead, Holds}
-use Rattle.dae_grammar.proofs.Steps.{under_least, operand_least}
+use Rattle.dae_grammar.proofs.Steps.{under_least, operand_least, reach_member, reach_step, reach_assignment}
 use Rattle.dae_grammar.proofs.Lists.{arguments_hold, arguments_now}
 
 abbrev pub Then : Option State → Type 0
@@ -42,8 +42,8 @@ and_left true b h = refl
 and_left false b h = absurd cc
 
 awaited_least : (f : Frame) → 2 ≤ awaited f
-awaited_least (behind_prefix p o l) = operand_least o
-awaited_least (behind_binary a p o l) = omega (arith, under_least o)
+awaited_least (awaits_expression (behind_prefix p o l)) = operand_least o
+awaited_least (awaits_expression (behind_binary a p o l)) = omega (arith, under_least o)
 awaited_least _ = omega arith
 
 limit_least : (s : List Frame) → 2 ≤ limit s
@@ -57,7 +57,7 @@ group_along either_way n d e q h = subst (IsNoType n) (sym q) h
 
 pub stand_along : (s : List Frame) (n : Names) (d e : Declarator) → leading_name e ≡ leading_name d → MayStand s n d → MayStand s n e
 stand_along [] n d e q h = tt
-stand_along (in_group p m ∷ s) n d e q h = group_along m n d e q h
+stand_along (awaits_declarator (in_group p m) ∷ s) n d e q h = group_along m n d e q h
 stand_along (_ ∷ s) n d e q h = tt
 
 -- ---- one token that must stand there
@@ -89,23 +89,16 @@ then_open (_ ∷ ts) next h = tt
 
 -- ---- expressions
 
-hold_prefix : (o : PrefixOperator) (p : Place) (l : ℕ) (s : List Frame) (ts : List Mark) → l ≡ limit s → IsStack s → Then (prefixed o p l s (stack_names s) ts)
-hold_prefix o p l s ts i st = (refl, refl, ((i, omega (arith, i, limit_least s)), st))
+hold_prefixed : (o : Option PrefixOperator) (p : Place) (l : ℕ) (s : List Frame) (ts : List Mark) → l ≡ limit s → IsStack s → Then (prefixed o p l s (stack_names s) ts)
+hold_prefixed None p l s ts i st = tt
+hold_prefixed (Some o) p l s ts i st = (refl, refl, ((i, omega (arith, i, limit_least s)), st))
 
 hold_sign : (g : Sign) (p : Place) (l : ℕ) (s : List Frame) (ts : List Mark) → l ≡ limit s → IsStack s → Then (sign_sought g p l s (stack_names s) ts)
 hold_sign signs.LeftParen p l s ts i st =
     decide_state (begins_specifiers (stack_names s) ts && leb 3 l) _ _
     (λ b. (refl, (refl, tt), ((i, leb_below 3 l (and_right (begins_specifiers (stack_names s) ts) (leb 3 l) b)), st)))
     (λ b. (refl, refl, (i, st)))
-hold_sign signs.Increment p l s ts i st = hold_prefix prefix.Increment p l s ts i st
-hold_sign signs.Decrement p l s ts i st = hold_prefix prefix.Decrement p l s ts i st
-hold_sign signs.And p l s ts i st = hold_prefix prefix.Address p l s ts i st
-hold_sign signs.Times p l s ts i st = hold_prefix prefix.Indirection p l s ts i st
-hold_sign signs.Plus p l s ts i st = hold_prefix prefix.Plus p l s ts i st
-hold_sign signs.Minus p l s ts i st = hold_prefix prefix.Minus p l s ts i st
-hold_sign signs.Tilde p l s ts i st = hold_prefix prefix.Complement p l s ts i st
-hold_sign signs.Not p l s ts i st = hold_prefix prefix.Not p l s ts i st
-hold_sign _ p l s ts i st = tt
+hold_sign g p l s ts i st = hold_prefixed (prefix_at g) p l s ts i st
 
 pub hold_sought : (l : ℕ) (s : List Frame) (ts : List Mark) → l ≡ limit s → IsStack s → Then (sought l s (stack_names s) ts)
 hold_sought l s [] i st = tt
@@ -127,11 +120,11 @@ hold_operate : (o : Operation) (e : Expression) (p : Place) (l : ℕ) (s : List 
     → Then (operate o e p l s (after e (stack_names s)) ts)
 hold_operate subscript e p l s ts i r le x st = (refl, refl, ((i, r, le, x), st))
 hold_operate call e p l s ts i r le x st = (refl, (i, r, le, x), st)
-hold_operate (member_of o) e p l s ts i r le x st = hold_member e p o l s ts i r le x st
-hold_operate (step_of o) e p l s ts i r le x st = (refl, (i, r, (le, x)), st)
+hold_operate (member_of o) e p l s ts i r le x st = hold_member e p o l s ts i (omega (arith, r, reach_member o)) (omega (arith, le, reach_member o)) x st
+hold_operate (step_of o) e p l s ts i r le x st = (refl, (i, omega (arith, r, reach_step o), (omega (arith, le, reach_step o), x)), st)
 hold_operate (binary_of o) e p l s ts i r le x st = (refl, refl, ((i, r, le, x), st))
 hold_operate choice e p l s ts i r le x st = (refl, refl, ((i, r, le, x), st))
-hold_operate (assignment_of o) e p l s ts i r le x st = (refl, refl, ((i, r, le, x), st))
+hold_operate (assignment_of o) e p l s ts i r le x st = (refl, refl, ((i, omega (arith, r, reach_assignment o), le, x), st))
 hold_operate ends e p l s ts i r le x st = tt
 
 pub hold_operated : (e : Expression) (l : ℕ) (s : List Frame) (ts : List Mark) → IsDoing (operated e l) s (stack_names s) ts → IsStack s → Then (operated_at e l s (after e (stack_names s)) ts)
@@ -155,8 +148,8 @@ hold_measured p l s (sign signs.LeftParen q ∷ ts) i st = decide (begins_specif
 hold_measured p l s (_ ∷ ts) i st = (refl, refl, ((i.0, i.1), st))
 
 hold_argument : (a g : Expression) (p : Place) (before : List Expression) (l : ℕ) (s : List Frame) (ts : List Mark)
-    → IsDoing (gave a) (in_arguments g p before l ∷ s) (stack_names (in_arguments g p before l ∷ s)) ts → IsStack (in_arguments g p before l ∷ s)
-    → Then (argument_given a g p before l s (after a (stack_names (in_arguments g p before l ∷ s))) ts)
+    → IsDoing (gave a) (awaits_expression (in_arguments g p before l) ∷ s) (stack_names (awaits_expression (in_arguments g p before l) ∷ s)) ts → IsStack (awaits_expression (in_arguments g p before l) ∷ s)
+    → Then (argument_given a g p before l s (after a (stack_names (awaits_expression (in_arguments g p before l) ∷ s))) ts)
 hold_argument a g p before l s [] i st = tt
 hold_argument a g p before l s (part comma ∷ ts) i st = (refl, refl, ((st.0.0, st.0.1, st.0.2, st.0.3, (st.0.4, i.0, i.1)), st.1))
 hold_argument a g p before l s (part close_paren ∷ ts) i st = (
@@ -166,14 +159,14 @@ hold_argument a g p before l s (part close_paren ∷ ts) i st = (
 )
 hold_argument a g p before l s (_ ∷ ts) i st = tt
 
-hold_tested : (h : Head) (p : Place) (e : Expression) (s : List Frame) (ts : List Mark) → IsExpression (stack_names (in_test h p ∷ s)) e → IsHead (stack_names s) h → IsStack s
-    → Holds (tested h p e s (after e (stack_names (in_test h p ∷ s))) ts)
+hold_tested : (h : Head) (p : Place) (e : Expression) (s : List Frame) (ts : List Mark) → IsExpression (stack_names (awaits_expression (in_test h p) ∷ s)) e → IsHead (stack_names s) h → IsStack s
+    → Holds (tested h p e s (after e (stack_names (awaits_expression (in_test h p) ∷ s))) ts)
 hold_tested (if_head q) p e s ts i h st = (refl, tt, (i, st))
 hold_tested (while_head q) p e s ts i h st = (refl, tt, (i, st))
 hold_tested (switch_head q) p e s ts i h st = (refl, tt, (i, st))
 hold_tested (do_head q b r) p e s ts i h st = (refl, (h, i), st)
 
-pub hold_expression : (e : Expression) (f : Frame) (s : List Frame) (ts : List Mark) → IsDoing (gave e) (f ∷ s) (stack_names (f ∷ s)) ts → IsStack (f ∷ s) → Then (expression_given e f s (after e (stack_names (f ∷ s))) ts)
+pub hold_expression : (e : Expression) (f : ExpressionFrame) (s : List Frame) (ts : List Mark) → IsDoing (gave e) (awaits_expression f ∷ s) (stack_names (awaits_expression f ∷ s)) ts → IsStack (awaits_expression f ∷ s) → Then (expression_given e f s (after e (stack_names (awaits_expression f ∷ s))) ts)
 hold_expression e (in_parentheses p l) s ts i st = then_paren ts _ (λ us. (refl, (st.0, omega arith, i.1), st.1))
 hold_expression e (in_index a p l) s ts i st = then_bracket ts _ (λ us. (refl, (st.0.0, st.0.1, (st.0.2, st.0.3, i.1)), st.1))
 hold_expression e (in_arguments g p before l) s ts i st = hold_argument e g p before l s ts i st
@@ -195,4 +188,3 @@ hold_expression e (in_loop_test p q a r) s ts i st = then_semicolon ts _ (λ u u
 hold_expression e (in_step loop) s ts i st = then_paren ts _ (λ us. (refl, tt, ((st.0, i.1), st.1)))
 hold_expression e (in_return p) s ts i st = then_semicolon ts _ (λ q us. (refl, (i.1, λ x. absurd cc), st.1))
 hold_expression e (in_case p) s ts i st = then_colon ts _ (λ us. (refl, tt, ((i.0, i.1), st.1)))
-hold_expression e _ s ts i st = tt

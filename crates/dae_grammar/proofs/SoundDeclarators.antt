@@ -12,7 +12,7 @@ use Rattle.dae_tree.specs.Names.{Names, is_type, has_typedef, with_declarator, a
 use Rattle.dae_tree.specs.Grammar.{Manner, by_name, without_name, either_way, IsSpecifiers, IsDeclarator, IsPresent, IsNoType, leading_name, void_alone, AreParameters, HasParameter}
 use Rattle.dae_tree.specs.Trees.{Specifiers, Specifier, Declarator, Parameters, Item, no_specifiers, no_members, member_then, no_enumerators, no_declarators, declarator_then, Absent, Named, Pointer, Grouped, Unsized, Empty, Void, Function, no_parameters, parameter_then}
 use Rattle.dae_tree.specs.Lists.{MemberLine, Entry, Parameter}
-use Rattle.dae_grammar.specs.Frames.{Body, Open, Frame, in_group, for_cast, for_sizeof, for_parameter, for_member, for_declaration, behind_star, of_cast, of_sizeof, of_parameter, of_member, of_item, specifying, declaring, suffixing, gave_declarator, state}
+use Rattle.dae_grammar.specs.Frames.{Body, Open, Frame, in_group, for_cast, for_sizeof, for_parameter, for_member, for_declaration, behind_star, of_cast, of_sizeof, of_parameter, of_member, of_item, specifying, declaring, suffixing, gave_declarator, state, awaits_specifiers, awaits_declarator, SpecifiersFrame, DeclaratorFrame}
 use Rattle.dae_grammar.specs.Machine.{specifiers_end, word_taken, specified, body, body_opened, tag_taken, tag_alone, tag_followed, members_followed, enumerator_named, enumerator_followed, enumeration_closed, entry_followed, comma_followed, declaration_begun, specifiers_given, begins_parameters, parenthesis_declared, nothing_declared, bracket_declared, name_declared, declared, qualified, suffixed, sized, parameters_opened, closed_by, parameter_given, member_given, item_given, declarator_given, plain_item, parameters_onto}
 use Rattle.dae_grammar.specs.Standing.{manner, stack_names, now_specifiers, now_lines, now_entries, after_entry, seen_now, SpecifiersHold, LinesHold, EntriesHold, MayStand, MustStand, IsBegun, IsBody, IsOpen, IsStack, IsGroupAhead, IsNeeded, IsSuffixAhead, HasAhead, IsDoing, Holds}
 use Rattle.dae_grammar.proofs.Lists.{specifiers_hold, specifiers_now, members_hold, members_now, members_some, enumerators_hold, enumerators_now, enumerators_some, declarators_hold, declarators_now, declarators_some, parameters_hold, parameters_some}
@@ -140,41 +140,40 @@ hold_begun outer ws s [] i st = (refl, (refl, tt, tt), ((i, tt), st))
 hold_begun outer ws s (sign signs.Semicolon p ∷ ts) i st = (refl, (i, tt), st)
 hold_begun outer ws s (_ ∷ ts) i st = (refl, (refl, tt, tt), ((i, tt), st))
 
-pub hold_specifiers : (ws : Specifiers) (f : Frame) (s : List Frame) (ts : List Mark) → IsSpecifiers nothing_seen (stack_names (f ∷ s)) ws → IsStack (f ∷ s)
-    → Then (specifiers_given ws f s (after_specifiers ws (stack_names (f ∷ s))) ts)
+pub hold_specifiers : (ws : Specifiers) (f : SpecifiersFrame) (s : List Frame) (ts : List Mark) → IsSpecifiers nothing_seen (stack_names (awaits_specifiers f ∷ s)) ws → IsStack (awaits_specifiers f ∷ s)
+    → Then (specifiers_given ws f s (after_specifiers ws (stack_names (awaits_specifiers f ∷ s))) ts)
 hold_specifiers ws (for_cast p l) s ts i st = (refl, (refl, tt, tt), ((st.0.0, st.0.1, i), st.1))
 hold_specifiers ws (for_sizeof p q l) s ts i st = (refl, (refl, tt, tt), ((st.0.0, st.0.1, i), st.1))
 hold_specifiers ws (for_parameter o before) s ts i st = (refl, (refl, tt, tt), ((st.0.0, st.0.1, i), st.1))
 hold_specifiers ws (for_member b before) s ts i st = (refl, (refl, tt, tt), ((st.0.0, st.0.1, i, tt), st.1))
 hold_specifiers ws (for_declaration outer) s ts i st = hold_begun outer ws s ts i st.1
-hold_specifiers ws _ s ts i st = tt
 
 -- ---- declarators
 
 -- where none need stand, no parentheses are round it
 not_in_group : (s : List Frame) → IsNeeded s false → (n : Names) → MayStand s n Absent × MustStand s Absent
 not_in_group [] h n = (tt, tt)
-not_in_group (in_group p m ∷ s) h n = absurd cc
+not_in_group (awaits_declarator (in_group p m) ∷ s) h n = absurd cc
 not_in_group (_ ∷ s) h n = (tt, tt)
 
 stand_nameless : (s : List Frame) (n : Names) (d : Declarator) → leading_name d ≡ None → MayStand s n d
 stand_nameless [] n d e = tt
-stand_nameless (in_group p by_name ∷ s) n d e = tt
-stand_nameless (in_group p without_name ∷ s) n d e = subst (IsNoType n) (sym e) tt
-stand_nameless (in_group p either_way ∷ s) n d e = subst (IsNoType n) (sym e) tt
+stand_nameless (awaits_declarator (in_group p by_name) ∷ s) n d e = tt
+stand_nameless (awaits_declarator (in_group p without_name) ∷ s) n d e = subst (IsNoType n) (sym e) tt
+stand_nameless (awaits_declarator (in_group p either_way) ∷ s) n d e = subst (IsNoType n) (sym e) tt
 stand_nameless (_ ∷ s) n d e = tt
 
 must_present : (s : List Frame) (d : Declarator) → IsPresent d → MustStand s d
 must_present [] d h = tt
-must_present (in_group p m ∷ s) d h = h
+must_present (awaits_declarator (in_group p m) ∷ s) d h = h
 must_present (_ ∷ s) d h = tt
 
 -- a name ahead that may stand in parentheses
 stand_named : (s : List Frame) (n : Names) (x : Name) (ts : List Mark) → IsGroupAhead s n (name x ∷ ts) → MayStand s n (Named x)
 stand_named [] n x ts h = tt
-stand_named (in_group p by_name ∷ s) n x ts h = tt
-stand_named (in_group p without_name ∷ s) n x ts h = h
-stand_named (in_group p either_way ∷ s) n x ts h = h
+stand_named (awaits_declarator (in_group p by_name) ∷ s) n x ts h = tt
+stand_named (awaits_declarator (in_group p without_name) ∷ s) n x ts h = h
+stand_named (awaits_declarator (in_group p either_way) ∷ s) n x ts h = h
 stand_named (_ ∷ s) n x ts h = tt
 
 hold_nothing : (m : Manner) (needed : Bool) (s : List Frame) (ts : List Mark) → m ≡ manner s → IsNeeded s needed → IsStack s → Then (nothing_declared m needed s (stack_names s) ts)
@@ -253,8 +252,8 @@ hold_function o ps None e s ts i a h st =
     (i.1, ((i.0.0, tt, (i.0.1, i.0.2, h, e, a), stand_along s (stack_names s) o.declarator (Function o.declarator o.place ps) refl i.0.3), tt), st)
 
 hold_parameter : (d : Declarator) (o : Open) (before : List Parameter) (ws : Specifiers) (s : List Frame) (ts : List Mark)
-    → IsDeclarator either_way (stack_names (of_parameter o before ws ∷ s)) d → IsStack (of_parameter o before ws ∷ s)
-    → Then (parameter_given d o before ws s (after_declarator d (stack_names (of_parameter o before ws ∷ s))) ts)
+    → IsDeclarator either_way (stack_names (awaits_declarator (of_parameter o before ws) ∷ s)) d → IsStack (awaits_declarator (of_parameter o before ws) ∷ s)
+    → Then (parameter_given d o before ws s (after_declarator d (stack_names (awaits_declarator (of_parameter o before ws) ∷ s))) ts)
 hold_parameter d o before ws s [] i st = tt
 hold_parameter d o before ws s (part comma ∷ ts) i st = (refl, (refl, tt), ((st.0.0, (st.0.1, st.0.2, i)), st.1))
 hold_parameter d o before ws s (part close_paren ∷ ts) i st =
@@ -264,8 +263,8 @@ hold_parameter d o before ws s (part close_paren ∷ ts) i st =
 hold_parameter d o before ws s (_ ∷ ts) i st = tt
 
 hold_member_line : (d : Declarator) (b : Body) (lines : List MemberLine) (ws : Specifiers) (before : List Declarator) (s : List Frame) (ts : List Mark)
-    → IsDeclarator by_name (stack_names (of_member b lines ws before ∷ s)) d → IsStack (of_member b lines ws before ∷ s)
-    → Then (member_given d b lines ws before s (after_declarator d (stack_names (of_member b lines ws before ∷ s))) ts)
+    → IsDeclarator by_name (stack_names (awaits_declarator (of_member b lines ws before) ∷ s)) d → IsStack (awaits_declarator (of_member b lines ws before) ∷ s)
+    → Then (member_given d b lines ws before s (after_declarator d (stack_names (awaits_declarator (of_member b lines ws before) ∷ s))) ts)
 hold_member_line d b lines ws before s [] i st = tt
 hold_member_line d b lines ws before s (part comma ∷ ts) i st = (refl, (refl, tt, tt), ((st.0.0, st.0.1, st.0.2, (st.0.3, i)), st.1))
 hold_member_line d b lines ws before s (sign signs.Semicolon p ∷ ts) i st =
@@ -277,13 +276,13 @@ hold_member_line d b lines ws before s (sign signs.Semicolon p ∷ ts) i st =
 hold_member_line d b lines ws before s (_ ∷ ts) i st = tt
 
 hold_plain : (outer : Bool) (d : Declarator) (ws : Specifiers) (before : List Item) (s : List Frame) (ts : List Mark)
-    → IsDeclarator by_name (stack_names (of_item outer ws before ∷ s)) d → IsStack (of_item outer ws before ∷ s)
-    → Then (plain_item d ws before s (with_declarator (has_typedef ws) d (after_declarator d (stack_names (of_item outer ws before ∷ s)))) ts)
+    → IsDeclarator by_name (stack_names (awaits_declarator (of_item outer ws before) ∷ s)) d → IsStack (awaits_declarator (of_item outer ws before) ∷ s)
+    → Then (plain_item d ws before s (with_declarator (has_typedef ws) d (after_declarator d (stack_names (awaits_declarator (of_item outer ws before) ∷ s)))) ts)
 hold_plain outer d ws before s ts i st = (refl, (st.0.0, (st.0.1, (i, tt))), st.1)
 
 hold_item : (outer : Bool) (d : Declarator) (ws : Specifiers) (before : List Item) (s : List Frame) (ts : List Mark)
-    → IsDeclarator by_name (stack_names (of_item outer ws before ∷ s)) d → IsStack (of_item outer ws before ∷ s)
-    → Then (item_given outer d ws before s (with_declarator (has_typedef ws) d (after_declarator d (stack_names (of_item outer ws before ∷ s)))) ts)
+    → IsDeclarator by_name (stack_names (awaits_declarator (of_item outer ws before) ∷ s)) d → IsStack (awaits_declarator (of_item outer ws before) ∷ s)
+    → Then (item_given outer d ws before s (with_declarator (has_typedef ws) d (after_declarator d (stack_names (awaits_declarator (of_item outer ws before) ∷ s)))) ts)
 hold_item true d ws [] s [] i st = hold_plain true d ws [] s [] i st
 hold_item true d ws [] s (sign signs.Assign p ∷ ts) i st = (refl, tt, ((st.0.0, st.0.1, i), st.1))
 hold_item true d ws [] s (sign signs.LeftBrace p ∷ ts) i st = (refl, (refl, tt), ((refl, st.0.0, i), st.1))
@@ -295,8 +294,8 @@ hold_item false d ws before s [] i st = hold_plain false d ws before s [] i st
 hold_item false d ws before s (sign signs.Assign p ∷ ts) i st = (refl, tt, ((st.0.0, st.0.1, i), st.1))
 hold_item false d ws before s (t ∷ ts) i st = hold_plain false d ws before s (t ∷ ts) i st
 
-pub hold_declarator : (d : Declarator) (f : Frame) (s : List Frame) (ts : List Mark) → IsDoing (gave_declarator d) (f ∷ s) (stack_names (f ∷ s)) ts → IsStack (f ∷ s)
-    → Then (declarator_given d f s (after_declarator d (stack_names (f ∷ s))) ts)
+pub hold_declarator : (d : Declarator) (f : DeclaratorFrame) (s : List Frame) (ts : List Mark) → IsDoing (gave_declarator d) (awaits_declarator f ∷ s) (stack_names (awaits_declarator f ∷ s)) ts → IsStack (awaits_declarator f ∷ s)
+    → Then (declarator_given d f s (after_declarator d (stack_names (awaits_declarator f ∷ s))) ts)
 hold_declarator d (behind_star p qs) s ts i st = (refl, (i.0, stand_nameless s (stack_names s) (Pointer p qs d) refl, must_present s (Pointer p qs d) tt), st.1)
 hold_declarator d (in_group p m) s ts i st = then_paren ts _ (λ us. (refl, ((st.0, tt, (i.2, i.1, i.0), stand_nameless s (stack_names s) (Grouped p d) refl), tt), st.1))
 hold_declarator d (of_cast p ws l) s ts i st = then_paren ts _ (λ us. (refl, refl, ((st.0.0, st.0.1, st.0.2, i.0), st.1)))
@@ -304,4 +303,3 @@ hold_declarator d (of_sizeof p q ws l) s ts i st = then_paren ts _ (λ us. (refl
 hold_declarator d (of_parameter o before ws) s ts i st = hold_parameter d o before ws s ts i.0 st
 hold_declarator d (of_member b lines ws before) s ts i st = hold_member_line d b lines ws before s ts i.0 st
 hold_declarator d (of_item outer ws before) s ts i st = hold_item outer d ws before s ts i.0 st
-hold_declarator d _ s ts i st = tt

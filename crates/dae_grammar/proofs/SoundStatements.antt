@@ -10,7 +10,7 @@ use Rattle.dae_tree.specs.Words.{begins_specifiers}
 use Rattle.dae_tree.specs.Names.{Names, has_typedef, after, after_specifiers, after_initialiser, after_item, after_declaration, after_optional, after_statement}
 use Rattle.dae_tree.specs.Statements.{IsInitialiser, IsDeclaration, IsStatement, takes_else}
 use Rattle.dae_tree.specs.Trees.{Expression, Specifiers, Declarator, Initialiser, Item, Declaration, Statement, External, no_initialisers, initialiser_then, Block, no_statements}
-use Rattle.dae_grammar.specs.Frames.{Loop, Inside, Frame, in_list, of_value, in_file, in_block, then_branch, else_branch, while_body, switch_body, do_body, for_body, case_body, default_body, in_statements, in_definition, Doing, seek, operated, gave, calling, measuring, specifying, tagging, tagged, membering, enumerating, enumerated, entered, entering, gave_specifiers, declaring, qualifying, suffixing, sizing, parametering, gave_declarator, initialising, listing, gave_initialiser, itemed, gave_declaration, externals, declarations, statements, stating, opening, finishing, looping, starting, testing, stepping, returning, breaking, continuing, defaulting, gave_statement, state}
+use Rattle.dae_grammar.specs.Frames.{Loop, Inside, Frame, in_list, of_value, in_file, in_block, then_branch, else_branch, while_body, switch_body, do_body, for_body, case_body, default_body, in_statements, in_definition, Doing, seek, operated, gave, calling, measuring, specifying, tagging, tagged, membering, enumerating, enumerated, entered, entering, gave_specifiers, declaring, qualifying, suffixing, sizing, parametering, gave_declarator, initialising, listing, gave_initialiser, itemed, gave_declaration, externals, declarations, statements, stating, opening, finishing, looping, starting, testing, stepping, returning, breaking, continuing, defaulting, gave_statement, state, awaits_expression, awaits_specifiers, awaits_declarator, awaits_initialiser, awaits_declaration, awaits_statement, StatementFrame}
 use Rattle.dae_grammar.specs.Machine.{step, initialised, listed, list_followed, list_closed, initialiser_taken, item_followed, declaration_taken, external_begun, block_begun, block_followed, evaluation_begun, sign_stated, word_stated, stated, started, loop_tested, stepped, returned, branched, done_followed, defined, statement_given}
 use Rattle.dae_grammar.specs.Standing.{stack_names, doing_names, now_initialisers, now_items, now_declarations, now_statements, now_externals, InitialisersHold, StatementsHold, ExternalsHold, IsInside, IsLoop, IsStack, IsDoing, Holds}
 use Rattle.dae_grammar.proofs.Lists.{initialisers_hold, initialisers_now, initialisers_some, items_hold, items_now, declarations_hold, declarations_now, statements_hold}
@@ -32,8 +32,8 @@ hold_closed_list p x before c s ts h st = (
   st,
 )
 
-hold_listed : (x : Initialiser) (p : Place) (before : List Initialiser) (s : List Frame) (ts : List Mark) → IsInitialiser (stack_names (in_list p before ∷ s)) x → IsStack (in_list p before ∷ s)
-    → Then (listed x p before s (after_initialiser x (stack_names (in_list p before ∷ s))) ts)
+hold_listed : (x : Initialiser) (p : Place) (before : List Initialiser) (s : List Frame) (ts : List Mark) → IsInitialiser (stack_names (awaits_initialiser (in_list p before) ∷ s)) x → IsStack (awaits_initialiser (in_list p before) ∷ s)
+    → Then (listed x p before s (after_initialiser x (stack_names (awaits_initialiser (in_list p before) ∷ s))) ts)
 hold_listed x p before s [] i st = tt
 hold_listed x p before s (part comma ∷ ts) i st = (refl, (st.0, i), st.1)
 hold_listed x p before s (part close_brace ∷ ts) i st = hold_closed_list p x before false s ts (st.0, i) st.1
@@ -47,8 +47,8 @@ hold_list_followed p x before s (_ ∷ ts) h st = (refl, tt, (h, st))
 
 hold_initialiser : (x : Initialiser) (s : List Frame) (ts : List Mark) → IsInitialiser (stack_names s) x → IsStack s → Then (initialiser_taken x s (after_initialiser x (stack_names s)) ts)
 hold_initialiser x [] ts i st = tt
-hold_initialiser x (in_list p before ∷ s) ts i st = hold_listed x p before s ts i st
-hold_initialiser x (of_value ws before d p ∷ s) ts i st = (refl, (st.0.0, (st.0.1, (st.0.2, i))), st.1)
+hold_initialiser x (awaits_initialiser (in_list p before) ∷ s) ts i st = hold_listed x p before s ts i st
+hold_initialiser x (awaits_initialiser (of_value ws before d p) ∷ s) ts i st = (refl, (st.0.0, (st.0.1, (st.0.2, i))), st.1)
 hold_initialiser x (_ ∷ s) ts i st = tt
 
 hold_itemed : (ws : Specifiers) (i : Item) (before : List Item) (s : List Frame) (ts : List Mark) → IsDoing (itemed ws i before) s (stack_names s) ts → IsStack s
@@ -62,8 +62,8 @@ hold_itemed ws i before s (_ ∷ ts) h st = tt
 
 hold_declaration : (d : Declaration) (s : List Frame) (ts : List Mark) → IsDeclaration (stack_names s) d → IsStack s → Then (declaration_taken d s (after_declaration d (stack_names s)) ts)
 hold_declaration d [] ts i st = tt
-hold_declaration d (in_file before ∷ s) ts i st = (refl, (st.0, i), st.1)
-hold_declaration d (in_block b ∷ s) ts i st = (refl, (st.0.0, (st.0.1, i)), st.1)
+hold_declaration d (awaits_declaration (in_file before) ∷ s) ts i st = (refl, (st.0, i), st.1)
+hold_declaration d (awaits_declaration (in_block b) ∷ s) ts i st = (refl, (st.0.0, (st.0.1, i)), st.1)
 hold_declaration d (_ ∷ s) ts i st = tt
 
 hold_external : (before : List External) (s : List Frame) (ts : List Mark) → ExternalsHold (stack_names s) before → IsStack s → Then (external_begun before s (now_externals before (stack_names s)) ts)
@@ -143,7 +143,7 @@ no_longer : (b : Bool) → (b ≡ true → ⊥) → b ≡ false
 no_longer true h = absurd (h refl)
 no_longer false h = refl
 
-hold_branched : (p q : Place) (e : Expression) (b : Statement) (s : List Frame) (ts : List Mark) → IsDoing (gave_statement b) (then_branch p q e ∷ s) (after e (stack_names s)) ts → IsStack (then_branch p q e ∷ s)
+hold_branched : (p q : Place) (e : Expression) (b : Statement) (s : List Frame) (ts : List Mark) → IsDoing (gave_statement b) (awaits_statement (then_branch p q e) ∷ s) (after e (stack_names s)) ts → IsStack (awaits_statement (then_branch p q e) ∷ s)
     → Then (branched p q e b s (after_statement b (after e (stack_names s))) ts)
 hold_branched p q e b s [] i st = (refl, ((st.0, i.0), λ x. tt), st.1)
 hold_branched p q e b s (part else_word ∷ ts) i st = (refl, tt, ((st.0, i.0, no_longer (takes_else b) i.1), st.1))
@@ -155,14 +155,14 @@ hold_done p b s [] i st = tt
 hold_done p b s (word keywords.While r ∷ ts) i st = (refl, i, st)
 hold_done p b s (_ ∷ ts) i st = tt
 
-hold_defined : (ws : Specifiers) (d : Declarator) (outside : Names) (b : Statement) (s : List Frame) (ts : List Mark) → IsStatement (stack_names (in_definition ws d outside ∷ s)) b → IsStack (in_definition ws d outside ∷ s)
+hold_defined : (ws : Specifiers) (d : Declarator) (outside : Names) (b : Statement) (s : List Frame) (ts : List Mark) → IsStatement (stack_names (awaits_statement (in_definition ws d outside) ∷ s)) b → IsStack (awaits_statement (in_definition ws d outside) ∷ s)
     → Then (defined ws d outside b s ts)
 hold_defined ws d outside (Block p ds ss) [] ts i st = tt
-hold_defined ws d outside (Block p ds ss) (in_file before ∷ s) ts i st = (st.0.0, (st.1.0, (st.0.1, st.0.2, i)), st.1.1)
+hold_defined ws d outside (Block p ds ss) (awaits_declaration (in_file before) ∷ s) ts i st = (st.0.0, (st.1.0, (st.0.1, st.0.2, i)), st.1.1)
 hold_defined ws d outside (Block p ds ss) (_ ∷ s) ts i st = tt
 hold_defined ws d outside _ s ts i st = tt
 
-hold_statement : (b : Statement) (f : Frame) (s : List Frame) (ts : List Mark) → IsDoing (gave_statement b) (f ∷ s) (stack_names (f ∷ s)) ts → IsStack (f ∷ s) → Then (statement_given b f s (after_statement b (stack_names (f ∷ s))) ts)
+hold_statement : (b : Statement) (f : StatementFrame) (s : List Frame) (ts : List Mark) → IsDoing (gave_statement b) (awaits_statement f ∷ s) (stack_names (awaits_statement f ∷ s)) ts → IsStack (awaits_statement f ∷ s) → Then (statement_given b f s (after_statement b (stack_names (awaits_statement f ∷ s))) ts)
 hold_statement b (then_branch p q e) s ts i st = hold_branched p q e b s ts i st
 hold_statement b (else_branch p q e a) s ts i st = (refl, ((st.0.0, st.0.1, st.0.2, i.0), i.1), st.1)
 hold_statement b (while_body p q e) s ts i st = (refl, ((st.0, i.0), i.1), st.1)
@@ -173,15 +173,14 @@ hold_statement b (case_body p e) s ts i st = (refl, ((st.0.0, st.0.1, i.0), i.1)
 hold_statement b (default_body p) s ts i st = (refl, (i.0, i.1), st.1)
 hold_statement b (in_statements k before) s ts i st = (refl, (st.0.0, (st.0.1, i.0)), st.1)
 hold_statement b (in_definition ws d outside) s ts i st = hold_defined ws d outside b s ts i.0 st
-hold_statement b _ s ts i st = tt
 
 -- ---- every step
 
 holds_at : (d : Doing) (s : List Frame) (ts : List Mark) → IsDoing d s (stack_names s) ts → IsStack s → Then (step (state d s (doing_names d (stack_names s)) ts))
 holds_at (seek l) s ts i st = hold_sought l s ts i st
 holds_at (operated e l) s ts i st = hold_operated e l s ts i st
-holds_at (gave e) [] ts i st = tt
-holds_at (gave e) (f ∷ s) ts i st = hold_expression e f s ts i st
+holds_at (gave e) (awaits_expression f ∷ s) ts i st = hold_expression e f s ts i st
+holds_at (gave e) _ ts i st = tt
 holds_at (calling e p l) s ts i st = hold_called e p l s ts i st
 holds_at (measuring p l) s ts i st = hold_measured p l s ts i st
 holds_at (specifying seen before) s ts i st = hold_specified seen before s ts i.0 i.1 st
@@ -192,15 +191,15 @@ holds_at (enumerating b before) s ts i st = hold_enumerating b before s ts i.0 i
 holds_at (enumerated b before x) s ts i st = hold_enumerated b before x s ts i.0 i.1 st
 holds_at (entered b before e) s ts i st = hold_entered b before e s ts i.0 i.1 st
 holds_at (entering b before e) s ts i st = hold_entering b before e s ts i.0 i.1 st
-holds_at (gave_specifiers ws) [] ts i st = tt
-holds_at (gave_specifiers ws) (f ∷ s) ts i st = hold_specifiers ws f s ts i st
+holds_at (gave_specifiers ws) (awaits_specifiers f ∷ s) ts i st = hold_specifiers ws f s ts i st
+holds_at (gave_specifiers ws) _ ts i st = tt
 holds_at (declaring m needed) s ts i st = hold_declared m needed s ts i st
 holds_at (qualifying m p before) s ts i st = hold_qualified m p before s ts i st
 holds_at (suffixing m d) s ts i st = hold_suffixed m d s ts i st
 holds_at (sizing m d p) s ts i st = hold_sized m d p s ts i st
 holds_at (parametering m d p) s ts i st = hold_opened m d p s ts i st
-holds_at (gave_declarator d) [] ts i st = tt
-holds_at (gave_declarator d) (f ∷ s) ts i st = hold_declarator d f s ts i st
+holds_at (gave_declarator d) (awaits_declarator f ∷ s) ts i st = hold_declarator d f s ts i st
+holds_at (gave_declarator d) _ ts i st = tt
 holds_at initialising s ts i st = hold_initialised s ts st
 holds_at (listing p x before) s ts i st = hold_list_followed p x before s ts i st
 holds_at (gave_initialiser x) s ts i st = hold_initialiser x s ts i st
@@ -220,8 +219,8 @@ holds_at (returning p) s ts i st = hold_returned p s ts st
 holds_at (breaking p) s ts i st = then_semicolon ts _ (λ q us. (refl, (tt, λ x. absurd cc), st))
 holds_at (continuing p) s ts i st = then_semicolon ts _ (λ q us. (refl, (tt, λ x. absurd cc), st))
 holds_at (defaulting p) s ts i st = then_colon ts _ (λ us. (refl, tt, (tt, st)))
-holds_at (gave_statement b) [] ts i st = tt
-holds_at (gave_statement b) (f ∷ s) ts i st = hold_statement b f s ts i st
+holds_at (gave_statement b) (awaits_statement f ∷ s) ts i st = hold_statement b f s ts i st
+holds_at (gave_statement b) _ ts i st = tt
 
 pub holds : (d : Doing) (s : List Frame) (names : Names) (ts : List Mark) → Holds (state d s names ts) → Then (step (state d s names ts))
 holds d s names ts h = subst (λ (n : Names). Then (step (state d s n ts))) (sym h.0) (holds_at d s ts h.1 h.2)

@@ -17,7 +17,7 @@ use Rattle.dae_tree.specs.Operators.{under, strength, operand_level, binary_sign
 use Rattle.dae_tree.specs.Names.{Names}
 use Rattle.dae_tree.specs.Grammar.{level}
 use Rattle.dae_tree.specs.Trees.{Expression, Prefix, SizeofExpression, Cast, Binary, Conditional, Assignment, Comma}
-use Rattle.dae_grammar.specs.Frames.{Frame, State, state, seek, operated, gave, behind_prefix, behind_comma}
+use Rattle.dae_grammar.specs.Frames.{Frame, State, state, seek, operated, gave, behind_prefix, behind_comma, awaits_expression}
 use Rattle.dae_grammar.specs.Machine.{step, Operation, member_of, step_of, binary_of, assignment_of, operation, reach, left_level, operate}
 use Rattle.dae_grammar.specs.Runs.{On, IsBackward}
 use Rattle.dae_grammar.specs.Levels.{front, tail}
@@ -58,6 +58,18 @@ pub member_operation : (o : MemberOperator) → operation (member_sign o) ≡ me
 member_operation member.Dot = refl
 member_operation _ = refl
 
+pub reach_member : (o : MemberOperator) → reach (member_of o) ≡ 1
+reach_member member.Dot = refl
+reach_member _ = refl
+
+pub reach_step : (o : PostfixOperator) → reach (step_of o) ≡ 1
+reach_step postfix.Increment = refl
+reach_step _ = refl
+
+pub reach_assignment : (o : AssignmentOperator) → reach (assignment_of o) ≡ 15
+reach_assignment assignment.Assign = refl
+reach_assignment _ = refl
+
 -- ---- levels
 
 pub level_most : (e : Expression) → level e ≤ 16
@@ -77,7 +89,7 @@ tail_within (Comma a b) k least le = omega arith
 tail_within _ k least le = omega arith
 
 pub tail_left : (e : Expression) (o : BinaryOperator) → level e ≤ strength o → tail e < strength o
-tail_left (Binary a p o' b) o le = omega arith
+tail_left (Binary a p o' b) o le = omega (arith, le, under_least o)
 tail_left (Conditional a p b c) o le = absurd (omega (arith, under_most o))
 tail_left (Assignment a p o' b) o le = absurd (omega (arith, under_most o))
 tail_left (Comma a b) o le = absurd (omega (arith, under_most o))
@@ -116,10 +128,10 @@ pub stop : {P : State → Type 0} → IsBackward P → (e : Expression) (l : ℕ
 stop back e l s names rest h k = to back (state (operated e l) s names rest) (Some (state (gave e) s names rest)) (stop_at e l s names rest h) k
 
 pub commas : (e : Expression) (l : ℕ) (s : List Frame) (names : Names) (ts : List Mark) → 16 ≤ l
-    → step (state (operated e l) s names (part comma ∷ ts)) ≡ Some (state (seek 15) (behind_comma e l ∷ s) names ts)
+    → step (state (operated e l) s names (part comma ∷ ts)) ≡ Some (state (seek 15) (awaits_expression (behind_comma e l) ∷ s) names ts)
 commas e l s names ts h = rw (leb_true 16 l h) refl
 
 pub prefixes : (o : PrefixOperator) (p : Place) (l : ℕ) (s : List Frame) (names : Names) (ts : List Mark)
-    → step (state (seek l) s names (sign (prefix_sign o) p ∷ ts)) ≡ Some (state (seek (operand_level o)) (behind_prefix p o l ∷ s) names ts)
+    → step (state (seek l) s names (sign (prefix_sign o) p ∷ ts)) ≡ Some (state (seek (operand_level o)) (awaits_expression (behind_prefix p o l) ∷ s) names ts)
 prefixes prefix.Increment p l s names ts = refl
 prefixes _ p l s names ts = refl

@@ -18,7 +18,7 @@ use Rattle.dae_tree.specs.Statements.{spell_initialiser, spell_initialisers, spe
 use Rattle.dae_tree.specs.Grammar.{Manner, by_name, without_name, either_way}
 use Rattle.dae_tree.specs.Trees.{Expression, Expressions, Specifiers, Specifier, Members, Enumerators, Declarators, Declarator, Parameters, Initialiser, Initialisers, Item, Declaration, Statement, Statements, External, no_expressions, expression_then, no_specifiers, specifier_then, Word, no_members, member_then, no_enumerators, no_declarators, declarator_then, Absent, no_parameters, parameter_then, no_initialisers, initialiser_then, no_statements, statement_then, Block}
 use Rattle.dae_tree.specs.Lists.{MemberLine, Entry, Parameter}
-use Rattle.dae_grammar.specs.Frames.{Body, Open, Head, Loop, Inside, if_head, while_head, switch_head, do_head, Frame, in_parentheses, in_index, in_arguments, behind_prefix, behind_sizeof, behind_cast, behind_binary, behind_question, behind_colon, behind_assignment, behind_comma, in_size, in_enumerator, in_value, in_evaluation, in_test, in_start, in_loop_test, in_step, in_return, in_case, for_cast, for_sizeof, for_parameter, for_member, for_declaration, behind_star, in_group, of_cast, of_sizeof, of_parameter, of_member, of_item, in_list, of_value, in_file, in_block, then_branch, else_branch, while_body, switch_body, do_body, for_body, case_body, default_body, in_statements, in_definition, Doing, seek, operated, gave, calling, measuring, specifying, tagging, tagged, membering, enumerating, enumerated, entered, entering, gave_specifiers, declaring, qualifying, suffixing, sizing, parametering, gave_declarator, initialising, listing, gave_initialiser, itemed, gave_declaration, externals, declarations, statements, stating, opening, finishing, looping, starting, testing, stepping, returning, breaking, continuing, defaulting, gave_statement, State, state}
+use Rattle.dae_grammar.specs.Frames.{Body, Open, Head, Loop, Inside, if_head, while_head, switch_head, do_head, Frame, in_parentheses, in_index, in_arguments, behind_prefix, behind_sizeof, behind_cast, behind_binary, behind_question, behind_colon, behind_assignment, behind_comma, in_size, in_enumerator, in_value, in_evaluation, in_test, in_start, in_loop_test, in_step, in_return, in_case, for_cast, for_sizeof, for_parameter, for_member, for_declaration, behind_star, in_group, of_cast, of_sizeof, of_parameter, of_member, of_item, in_list, of_value, in_file, in_block, then_branch, else_branch, while_body, switch_body, do_body, for_body, case_body, default_body, in_statements, in_definition, Doing, seek, operated, gave, calling, measuring, specifying, tagging, tagged, membering, enumerating, enumerated, entered, entering, gave_specifiers, declaring, qualifying, suffixing, sizing, parametering, gave_declarator, initialising, listing, gave_initialiser, itemed, gave_declaration, externals, declarations, statements, stating, opening, finishing, looping, starting, testing, stepping, returning, breaking, continuing, defaulting, gave_statement, State, state, awaits_expression, awaits_specifiers, awaits_declarator, awaits_initialiser, awaits_declaration, awaits_statement, ExpressionFrame, SpecifiersFrame, DeclaratorFrame, StatementFrame}
 use Rattle.dae_grammar.specs.Machine.{closed, initialised, listed, list_followed, initialiser_taken, item_followed, declaration_taken, external_begun, block_followed, sign_stated, word_stated, stated, started, loop_tested, stepped, returned, branched, done_followed, defined, statement_given, called, measured, enumerator_named, enumerator_followed, declaration_begun, specifiers_given, nothing_declared, begins_parameters, parenthesis_declared, bracket_declared, name_declared, declared, qualified, suffixed, sized, parameters_opened, parameter_given, member_given, item_given, declarator_given, at_paren, at_bracket, at_colon, at_semicolon, at_open, sign_sought, sought, named_member, operated_at, argument_given, tested, expression_given, specifiers_end, word_taken, specified, body, body_opened, tag_taken, tag_alone, tag_followed, members_followed, entry_followed, comma_followed, step, arguments_onto, specifiers_onto, members_onto, enumerators_onto, enumerator_before, declarators_onto, parameters_onto, initialisers_onto, statements_onto, onto, operation, operate, goes_on}
 use Rattle.dae_grammar.specs.Taken.{head_taken, body_begun, arguments_before, specifiers_before, lines_before, spell_entry, entries_before, open_begun, declarators_before, parameters_before, qualifiers_before, initialisers_before, items_before, block_taken, loop_begun, declarations_before, statements_before, externals_before, tag_word, stack_taken, tokens_of, frame_taken}
 
@@ -178,29 +178,28 @@ keeps_tested (while_head q) p e s names ts = refl
 keeps_tested (switch_head q) p e s names ts = refl
 keeps_tested (do_head q b r) p e s names ts = refl
 
-keeps_expression : (e : Expression) (f : Frame) (s : List Frame) (names : Names) (ts : List Mark) → Keeps (stack_taken s (frame_taken f (spell e ts))) (expression_given e f s names ts)
-keeps_expression e (in_parentheses p l) s names ts = kept_paren (λ us. stack_taken s (frame_taken (in_parentheses p l) (spell e us))) ts _ (λ us. refl)
-keeps_expression e (in_index a p l) s names ts = kept_bracket (λ us. stack_taken s (frame_taken (in_index a p l) (spell e us))) ts _ (λ us. refl)
+keeps_expression : (e : Expression) (f : ExpressionFrame) (s : List Frame) (names : Names) (ts : List Mark) → Keeps (stack_taken s (frame_taken (awaits_expression f) (spell e ts))) (expression_given e f s names ts)
+keeps_expression e (in_parentheses p l) s names ts = kept_paren (λ us. stack_taken s (frame_taken (awaits_expression (in_parentheses p l)) (spell e us))) ts _ (λ us. refl)
+keeps_expression e (in_index a p l) s names ts = kept_bracket (λ us. stack_taken s (frame_taken (awaits_expression (in_index a p l)) (spell e us))) ts _ (λ us. refl)
 keeps_expression e (in_arguments g p before l) s names ts = keeps_argument e g p before l s names ts
 keeps_expression e (behind_prefix p o l) s names ts = refl
 keeps_expression e (behind_sizeof p l) s names ts = refl
 keeps_expression e (behind_cast p ws d l) s names ts = refl
 keeps_expression e (behind_binary a p o l) s names ts = refl
-keeps_expression e (behind_question a p l) s names ts = kept_colon (λ us. stack_taken s (frame_taken (behind_question a p l) (spell e us))) ts _ (λ us. refl)
+keeps_expression e (behind_question a p l) s names ts = kept_colon (λ us. stack_taken s (frame_taken (awaits_expression (behind_question a p l)) (spell e us))) ts _ (λ us. refl)
 keeps_expression e (behind_colon a p b l) s names ts = refl
 keeps_expression e (behind_assignment a p o l) s names ts = refl
 keeps_expression e (behind_comma a l) s names ts = refl
-keeps_expression e (in_size d p m) s names ts = kept_bracket (λ us. stack_taken s (frame_taken (in_size d p m) (spell e us))) ts _ (λ us. refl)
+keeps_expression e (in_size d p m) s names ts = kept_bracket (λ us. stack_taken s (frame_taken (awaits_expression (in_size d p m)) (spell e us))) ts _ (λ us. refl)
 keeps_expression e (in_enumerator b before n p) s names ts = refl
 keeps_expression e in_value s names ts = refl
 keeps_expression e in_evaluation s names ts = kept_semicolon (λ us. stack_taken s (spell e us)) ts _ (λ p us. refl)
-keeps_expression e (in_test h p) s names ts = kept_paren (λ us. stack_taken s (frame_taken (in_test h p) (spell e us))) ts _ (λ us. keeps_tested h p e s names us)
-keeps_expression e (in_start p q) s names ts = kept_semicolon (λ us. stack_taken s (frame_taken (in_start p q) (spell e us))) ts _ (λ r us. refl)
-keeps_expression e (in_loop_test p q a r) s names ts = kept_semicolon (λ us. stack_taken s (frame_taken (in_loop_test p q a r) (spell e us))) ts _ (λ u us. refl)
-keeps_expression e (in_step loop) s names ts = kept_paren (λ us. stack_taken s (frame_taken (in_step loop) (spell e us))) ts _ (λ us. refl)
-keeps_expression e (in_return p) s names ts = kept_semicolon (λ us. stack_taken s (frame_taken (in_return p) (spell e us))) ts _ (λ q us. refl)
-keeps_expression e (in_case p) s names ts = kept_colon (λ us. stack_taken s (frame_taken (in_case p) (spell e us))) ts _ (λ us. refl)
-keeps_expression e _ s names ts = tt
+keeps_expression e (in_test h p) s names ts = kept_paren (λ us. stack_taken s (frame_taken (awaits_expression (in_test h p)) (spell e us))) ts _ (λ us. keeps_tested h p e s names us)
+keeps_expression e (in_start p q) s names ts = kept_semicolon (λ us. stack_taken s (frame_taken (awaits_expression (in_start p q)) (spell e us))) ts _ (λ r us. refl)
+keeps_expression e (in_loop_test p q a r) s names ts = kept_semicolon (λ us. stack_taken s (frame_taken (awaits_expression (in_loop_test p q a r)) (spell e us))) ts _ (λ u us. refl)
+keeps_expression e (in_step loop) s names ts = kept_paren (λ us. stack_taken s (frame_taken (awaits_expression (in_step loop)) (spell e us))) ts _ (λ us. refl)
+keeps_expression e (in_return p) s names ts = kept_semicolon (λ us. stack_taken s (frame_taken (awaits_expression (in_return p)) (spell e us))) ts _ (λ q us. refl)
+keeps_expression e (in_case p) s names ts = kept_colon (λ us. stack_taken s (frame_taken (awaits_expression (in_case p)) (spell e us))) ts _ (λ us. refl)
 
 -- ---- specifiers
 
@@ -269,13 +268,12 @@ keeps_begun outer ws s names [] = refl
 keeps_begun outer ws s names (sign signs.Semicolon p ∷ ts) = refl
 keeps_begun outer ws s names (_ ∷ ts) = refl
 
-keeps_specifiers : (ws : Specifiers) (f : Frame) (s : List Frame) (names : Names) (ts : List Mark) → Keeps (stack_taken s (frame_taken f (spell_specifiers ws ts))) (specifiers_given ws f s names ts)
+keeps_specifiers : (ws : Specifiers) (f : SpecifiersFrame) (s : List Frame) (names : Names) (ts : List Mark) → Keeps (stack_taken s (frame_taken (awaits_specifiers f) (spell_specifiers ws ts))) (specifiers_given ws f s names ts)
 keeps_specifiers ws (for_cast p l) s names ts = refl
 keeps_specifiers ws (for_sizeof p q l) s names ts = refl
 keeps_specifiers ws (for_parameter o before) s names ts = refl
 keeps_specifiers ws (for_member b before) s names ts = refl
 keeps_specifiers ws (for_declaration outer) s names ts = keeps_begun outer ws s names ts
-keeps_specifiers ws _ s names ts = tt
 
 keeps_nothing : (m : Manner) (needed : Bool) (s : List Frame) (names : Names) (ts : List Mark) → Keeps (stack_taken s ts) (nothing_declared m needed s names ts)
 keeps_nothing by_name needed s names ts = tt
@@ -365,15 +363,14 @@ keeps_item false d ws before s names [] = refl
 keeps_item false d ws before s names (sign signs.Assign p ∷ ts) = refl
 keeps_item false d ws before s names (_ ∷ ts) = refl
 
-keeps_declarator : (d : Declarator) (f : Frame) (s : List Frame) (names : Names) (ts : List Mark) → Keeps (stack_taken s (frame_taken f (spell_declarator d ts))) (declarator_given d f s names ts)
+keeps_declarator : (d : Declarator) (f : DeclaratorFrame) (s : List Frame) (names : Names) (ts : List Mark) → Keeps (stack_taken s (frame_taken (awaits_declarator f) (spell_declarator d ts))) (declarator_given d f s names ts)
 keeps_declarator d (behind_star p qs) s names ts = refl
-keeps_declarator d (in_group p m) s names ts = kept_paren (λ us. stack_taken s (frame_taken (in_group p m) (spell_declarator d us))) ts _ (λ us. refl)
-keeps_declarator d (of_cast p ws l) s names ts = kept_paren (λ us. stack_taken s (frame_taken (of_cast p ws l) (spell_declarator d us))) ts _ (λ us. refl)
-keeps_declarator d (of_sizeof p q ws l) s names ts = kept_paren (λ us. stack_taken s (frame_taken (of_sizeof p q ws l) (spell_declarator d us))) ts _ (λ us. refl)
+keeps_declarator d (in_group p m) s names ts = kept_paren (λ us. stack_taken s (frame_taken (awaits_declarator (in_group p m)) (spell_declarator d us))) ts _ (λ us. refl)
+keeps_declarator d (of_cast p ws l) s names ts = kept_paren (λ us. stack_taken s (frame_taken (awaits_declarator (of_cast p ws l)) (spell_declarator d us))) ts _ (λ us. refl)
+keeps_declarator d (of_sizeof p q ws l) s names ts = kept_paren (λ us. stack_taken s (frame_taken (awaits_declarator (of_sizeof p q ws l)) (spell_declarator d us))) ts _ (λ us. refl)
 keeps_declarator d (of_parameter o before ws) s names ts = keeps_parameter d o before ws s names ts
 keeps_declarator d (of_member b lines ws before) s names ts = keeps_member_line d b lines ws before s names ts
 keeps_declarator d (of_item outer ws before) s names ts = keeps_item outer d ws before s (with_declarator (has_typedef ws) d names) ts
-keeps_declarator d _ s names ts = tt
 
 -- ---- initialisers and declarations
 
@@ -397,8 +394,8 @@ keeps_list_followed p x before s names (_ ∷ ts) = refl
 
 keeps_initialiser : (x : Initialiser) (s : List Frame) (names : Names) (ts : List Mark) → Keeps (stack_taken s (spell_initialiser x ts)) (initialiser_taken x s names ts)
 keeps_initialiser x [] names ts = tt
-keeps_initialiser x (in_list p before ∷ s) names ts = keeps_listed x p before s names ts
-keeps_initialiser x (of_value ws before d p ∷ s) names ts = refl
+keeps_initialiser x (awaits_initialiser (in_list p before) ∷ s) names ts = keeps_listed x p before s names ts
+keeps_initialiser x (awaits_initialiser (of_value ws before d p) ∷ s) names ts = refl
 keeps_initialiser x (_ ∷ s) names ts = tt
 
 keeps_itemed : (ws : Specifiers) (i : Item) (before : List Item) (s : List Frame) (names : Names) (ts : List Mark)
@@ -410,8 +407,8 @@ keeps_itemed ws i before s names (_ ∷ ts) = tt
 
 keeps_declaration : (d : Declaration) (s : List Frame) (names : Names) (ts : List Mark) → Keeps (stack_taken s (spell_declaration d ts)) (declaration_taken d s names ts)
 keeps_declaration d [] names ts = tt
-keeps_declaration d (in_file before ∷ s) names ts = refl
-keeps_declaration d (in_block i ∷ s) names ts = refl
+keeps_declaration d (awaits_declaration (in_file before) ∷ s) names ts = refl
+keeps_declaration d (awaits_declaration (in_block i) ∷ s) names ts = refl
 keeps_declaration d (_ ∷ s) names ts = tt
 
 keeps_external : (before : List External) (s : List Frame) (names : Names) (ts : List Mark) → Keeps (stack_taken s (externals_before before ts)) (external_begun before s names ts)
@@ -475,11 +472,11 @@ keeps_done p b s names (_ ∷ ts) = tt
 
 keeps_defined : (ws : Specifiers) (d : Declarator) (outside : Names) (b : Statement) (s : List Frame) (ts : List Mark) → Keeps (stack_taken s (spell_specifiers ws (spell_declarator d (spell_statement b ts)))) (defined ws d outside b s ts)
 keeps_defined ws d outside (Block p ds ss) [] ts = tt
-keeps_defined ws d outside (Block p ds ss) (in_file before ∷ s) ts = refl
+keeps_defined ws d outside (Block p ds ss) (awaits_declaration (in_file before) ∷ s) ts = refl
 keeps_defined ws d outside (Block p ds ss) (_ ∷ s) ts = tt
 keeps_defined ws d outside _ s ts = tt
 
-keeps_statement : (b : Statement) (f : Frame) (s : List Frame) (names : Names) (ts : List Mark) → Keeps (stack_taken s (frame_taken f (spell_statement b ts))) (statement_given b f s names ts)
+keeps_statement : (b : Statement) (f : StatementFrame) (s : List Frame) (names : Names) (ts : List Mark) → Keeps (stack_taken s (frame_taken (awaits_statement f) (spell_statement b ts))) (statement_given b f s names ts)
 keeps_statement b (then_branch p q e) s names ts = keeps_branched p q e b s names ts
 keeps_statement b (else_branch p q e a) s names ts = refl
 keeps_statement b (while_body p q e) s names ts = refl
@@ -490,7 +487,6 @@ keeps_statement b (case_body p e) s names ts = refl
 keeps_statement b (default_body p) s names ts = refl
 keeps_statement b (in_statements i before) s names ts = refl
 keeps_statement b (in_definition ws d outside) s names ts = keeps_defined ws d outside b s ts
-keeps_statement b _ s names ts = tt
 
 -- ---- every step
 
@@ -512,8 +508,8 @@ keeps_enumerating b before s names (_ ∷ ts) = tt
 pub keeps : (d : Doing) (s : List Frame) (names : Names) (ts : List Mark) → Keeps (tokens_of (state d s names ts)) (step (state d s names ts))
 keeps (seek l) s names ts = keeps_sought l s names ts
 keeps (operated e l) s names ts = keeps_operated e l s names ts
-keeps (gave e) [] names ts = tt
-keeps (gave e) (f ∷ s) names ts = keeps_expression e f s names ts
+keeps (gave e) (awaits_expression f ∷ s) names ts = keeps_expression e f s names ts
+keeps (gave e) _ names ts = tt
 keeps (calling e p l) s names ts = keeps_called e p l s names ts
 keeps (measuring p l) s names ts = keeps_measured p l s names ts
 keeps (specifying seen before) s names ts = keeps_specified seen before s names ts
@@ -524,15 +520,15 @@ keeps (enumerating b before) s names ts = keeps_enumerating b before s names ts
 keeps (enumerated b before n) s names ts = keeps_enumerated b before n s names ts
 keeps (entered b before e) s names ts = keeps_entered b before e s names ts
 keeps (entering b before e) s names ts = keeps_entering b before e s names ts
-keeps (gave_specifiers ws) [] names ts = tt
-keeps (gave_specifiers ws) (f ∷ s) names ts = keeps_specifiers ws f s names ts
+keeps (gave_specifiers ws) (awaits_specifiers f ∷ s) names ts = keeps_specifiers ws f s names ts
+keeps (gave_specifiers ws) _ names ts = tt
 keeps (declaring m needed) s names ts = keeps_declared m needed s names ts
 keeps (qualifying m p before) s names ts = keeps_qualified m p before s names ts
 keeps (suffixing m d) s names ts = keeps_suffixed m d s names ts
 keeps (sizing m d p) s names ts = keeps_sized m d p s names ts
 keeps (parametering m d p) s names ts = keeps_opened m d p s names ts
-keeps (gave_declarator d) [] names ts = tt
-keeps (gave_declarator d) (f ∷ s) names ts = keeps_declarator d f s names ts
+keeps (gave_declarator d) (awaits_declarator f ∷ s) names ts = keeps_declarator d f s names ts
+keeps (gave_declarator d) _ names ts = tt
 keeps initialising s names ts = keeps_initialised s names ts
 keeps (listing p x before) s names ts = keeps_list_followed p x before s names ts
 keeps (gave_initialiser x) s names ts = keeps_initialiser x s names ts
@@ -552,5 +548,5 @@ keeps (returning p) s names ts = keeps_returned p s names ts
 keeps (breaking p) s names ts = kept_semicolon (λ us. stack_taken s (word keywords.Break p ∷ us)) ts _ (λ q us. refl)
 keeps (continuing p) s names ts = kept_semicolon (λ us. stack_taken s (word keywords.Continue p ∷ us)) ts _ (λ q us. refl)
 keeps (defaulting p) s names ts = kept_colon (λ us. stack_taken s (word keywords.Default p ∷ us)) ts _ (λ us. refl)
-keeps (gave_statement b) [] names ts = tt
-keeps (gave_statement b) (f ∷ s) names ts = keeps_statement b f s names ts
+keeps (gave_statement b) (awaits_statement f ∷ s) names ts = keeps_statement b f s names ts
+keeps (gave_statement b) _ names ts = tt

@@ -50,61 +50,81 @@ pub record Inside : Type 0 where
   pub declarations : List Declaration
   pub outside : Names
 
--- what comes behind a part that is read. A number is the level up to which the whole may go on. Lists have the last first.
+-- What comes behind a part that is read, by what it awaits. A number is the level up to which the whole may go on. Lists
+-- have the last first.
+
+-- what awaits an expression
+pub data ExpressionFrame : Type 0 where
+  in_parentheses : Place → ℕ → ExpressionFrame
+  in_index : Expression → Place → ℕ → ExpressionFrame
+  in_arguments : Expression → Place → List Expression → ℕ → ExpressionFrame
+  behind_prefix : Place → PrefixOperator → ℕ → ExpressionFrame
+  behind_sizeof : Place → ℕ → ExpressionFrame
+  behind_cast : Place → Specifiers → Declarator → ℕ → ExpressionFrame
+  behind_binary : Expression → Place → BinaryOperator → ℕ → ExpressionFrame
+  behind_question : Expression → Place → ℕ → ExpressionFrame
+  behind_colon : Expression → Place → Expression → ℕ → ExpressionFrame
+  behind_assignment : Expression → Place → AssignmentOperator → ℕ → ExpressionFrame
+  behind_comma : Expression → ℕ → ExpressionFrame
+  in_size : Declarator → Place → Manner → ExpressionFrame
+  in_enumerator : Body → List Entry → Name → Place → ExpressionFrame
+  in_value : ExpressionFrame
+  in_evaluation : ExpressionFrame
+  in_test : Head → Place → ExpressionFrame
+  in_start : Place → Place → ExpressionFrame
+  in_loop_test : Place → Place → Option Expression → Place → ExpressionFrame
+  in_step : Loop → ExpressionFrame
+  in_return : Place → ExpressionFrame
+  in_case : Place → ExpressionFrame
+
+-- what awaits specifiers
+pub data SpecifiersFrame : Type 0 where
+  for_cast : Place → ℕ → SpecifiersFrame
+  for_sizeof : Place → Place → ℕ → SpecifiersFrame
+  for_parameter : Open → List Parameter → SpecifiersFrame
+  for_member : Body → List MemberLine → SpecifiersFrame
+  for_declaration : Bool → SpecifiersFrame
+
+-- what awaits a declarator
+pub data DeclaratorFrame : Type 0 where
+  behind_star : Place → List Place → DeclaratorFrame
+  in_group : Place → Manner → DeclaratorFrame
+  of_cast : Place → Specifiers → ℕ → DeclaratorFrame
+  of_sizeof : Place → Place → Specifiers → ℕ → DeclaratorFrame
+  of_parameter : Open → List Parameter → Specifiers → DeclaratorFrame
+  of_member : Body → List MemberLine → Specifiers → List Declarator → DeclaratorFrame
+  of_item : Bool → Specifiers → List Item → DeclaratorFrame
+
+-- what awaits an initialiser
+pub data InitialiserFrame : Type 0 where
+  in_list : Place → List Initialiser → InitialiserFrame
+  of_value : Specifiers → List Item → Declarator → Place → InitialiserFrame
+
+-- what awaits a declaration
+pub data DeclarationFrame : Type 0 where
+  in_file : List External → DeclarationFrame
+  in_block : Inside → DeclarationFrame
+
+-- what awaits a statement
+pub data StatementFrame : Type 0 where
+  then_branch : Place → Place → Expression → StatementFrame
+  else_branch : Place → Place → Expression → Statement → StatementFrame
+  while_body : Place → Place → Expression → StatementFrame
+  switch_body : Place → Place → Expression → StatementFrame
+  do_body : Place → StatementFrame
+  for_body : Loop → Option Expression → StatementFrame
+  case_body : Place → Expression → StatementFrame
+  default_body : Place → StatementFrame
+  in_statements : Inside → List Statement → StatementFrame
+  in_definition : Specifiers → Declarator → Names → StatementFrame
+
 pub data Frame : Type 0 where
-  -- behind an expression
-  in_parentheses : Place → ℕ → Frame
-  in_index : Expression → Place → ℕ → Frame
-  in_arguments : Expression → Place → List Expression → ℕ → Frame
-  behind_prefix : Place → PrefixOperator → ℕ → Frame
-  behind_sizeof : Place → ℕ → Frame
-  behind_cast : Place → Specifiers → Declarator → ℕ → Frame
-  behind_binary : Expression → Place → BinaryOperator → ℕ → Frame
-  behind_question : Expression → Place → ℕ → Frame
-  behind_colon : Expression → Place → Expression → ℕ → Frame
-  behind_assignment : Expression → Place → AssignmentOperator → ℕ → Frame
-  behind_comma : Expression → ℕ → Frame
-  in_size : Declarator → Place → Manner → Frame
-  in_enumerator : Body → List Entry → Name → Place → Frame
-  in_value : Frame
-  in_evaluation : Frame
-  in_test : Head → Place → Frame
-  in_start : Place → Place → Frame
-  in_loop_test : Place → Place → Option Expression → Place → Frame
-  in_step : Loop → Frame
-  in_return : Place → Frame
-  in_case : Place → Frame
-  -- behind specifiers
-  for_cast : Place → ℕ → Frame
-  for_sizeof : Place → Place → ℕ → Frame
-  for_parameter : Open → List Parameter → Frame
-  for_member : Body → List MemberLine → Frame
-  for_declaration : Bool → Frame
-  -- behind a declarator
-  behind_star : Place → List Place → Frame
-  in_group : Place → Manner → Frame
-  of_cast : Place → Specifiers → ℕ → Frame
-  of_sizeof : Place → Place → Specifiers → ℕ → Frame
-  of_parameter : Open → List Parameter → Specifiers → Frame
-  of_member : Body → List MemberLine → Specifiers → List Declarator → Frame
-  of_item : Bool → Specifiers → List Item → Frame
-  -- behind an initialiser
-  in_list : Place → List Initialiser → Frame
-  of_value : Specifiers → List Item → Declarator → Place → Frame
-  -- behind a declaration
-  in_file : List External → Frame
-  in_block : Inside → Frame
-  -- behind a statement
-  then_branch : Place → Place → Expression → Frame
-  else_branch : Place → Place → Expression → Statement → Frame
-  while_body : Place → Place → Expression → Frame
-  switch_body : Place → Place → Expression → Frame
-  do_body : Place → Frame
-  for_body : Loop → Option Expression → Frame
-  case_body : Place → Expression → Frame
-  default_body : Place → Frame
-  in_statements : Inside → List Statement → Frame
-  in_definition : Specifiers → Declarator → Names → Frame
+  awaits_expression : ExpressionFrame → Frame
+  awaits_specifiers : SpecifiersFrame → Frame
+  awaits_declarator : DeclaratorFrame → Frame
+  awaits_initialiser : InitialiserFrame → Frame
+  awaits_declaration : DeclarationFrame → Frame
+  awaits_statement : StatementFrame → Frame
 
 pub data Doing : Type 0 where
   -- an expression up to a level: to be read, read so far, read whole

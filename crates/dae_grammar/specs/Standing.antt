@@ -12,7 +12,7 @@ use Rattle.dae_tree.specs.Grammar.{level, Manner, by_name, without_name, either_
 use Rattle.dae_tree.specs.Statements.{IsInitialiser, IsItem, IsDeclaration, IsOptional, IsStatement, IsExternal, takes_else}
 use Rattle.dae_tree.specs.Trees.{Expression, Specifier, Declarator, Initialiser, Item, Declaration, Statement, External, Absent}
 use Rattle.dae_tree.specs.Lists.{MemberLine, Entry, Parameter}
-use Rattle.dae_grammar.specs.Frames.{Body, Open, Head, Loop, Inside, do_head, Frame, in_parentheses, in_index, in_arguments, behind_prefix, behind_sizeof, behind_cast, behind_binary, behind_question, behind_colon, behind_assignment, behind_comma, in_size, in_enumerator, in_value, in_test, in_loop_test, in_step, in_case, for_cast, for_sizeof, for_parameter, for_member, behind_star, in_group, of_cast, of_sizeof, of_parameter, of_member, of_item, in_list, of_value, in_file, in_block, then_branch, else_branch, while_body, switch_body, for_body, case_body, in_statements, in_definition, Doing, seek, operated, gave, calling, measuring, specifying, tagging, tagged, membering, enumerating, enumerated, entered, entering, gave_specifiers, declaring, qualifying, suffixing, sizing, parametering, gave_declarator, listing, gave_initialiser, itemed, gave_declaration, externals, declarations, statements, opening, finishing, testing, stepping, gave_statement, State, state}
+use Rattle.dae_grammar.specs.Frames.{Body, Open, Head, Loop, Inside, do_head, Frame, in_parentheses, in_index, in_arguments, behind_prefix, behind_sizeof, behind_cast, behind_binary, behind_question, behind_colon, behind_assignment, behind_comma, in_size, in_enumerator, in_value, in_test, in_loop_test, in_step, in_case, for_cast, for_sizeof, for_parameter, for_member, behind_star, in_group, of_cast, of_sizeof, of_parameter, of_member, of_item, in_list, of_value, in_file, in_block, then_branch, else_branch, while_body, switch_body, for_body, case_body, in_statements, in_definition, Doing, seek, operated, gave, calling, measuring, specifying, tagging, tagged, membering, enumerating, enumerated, entered, entering, gave_specifiers, declaring, qualifying, suffixing, sizing, parametering, gave_declarator, listing, gave_initialiser, itemed, gave_declaration, externals, declarations, statements, opening, finishing, testing, stepping, gave_statement, State, state, awaits_expression, awaits_specifiers, awaits_declarator, awaits_initialiser, awaits_declaration, awaits_statement}
 use Rattle.dae_grammar.specs.Machine.{begins_parameters}
 use Rattle.dae_grammar.specs.Starts.{IsNoElse}
 
@@ -79,38 +79,38 @@ loop_names l n = after_optional l.test (after_optional l.start n)
 -- ---- the names where the part behind a frame begins
 
 abbrev pub frame_names : Frame → Names → Names
-frame_names (in_index a p l) n = after a n
-frame_names (in_arguments g p before l) n = now_arguments before (after g n)
-frame_names (behind_cast p ws d l) n = after_declarator d (after_specifiers ws n)
-frame_names (behind_binary a p o l) n = after a n
-frame_names (behind_question a p l) n = after a n
-frame_names (behind_colon a p b l) n = after b (after a n)
-frame_names (behind_assignment a p o l) n = after a n
-frame_names (behind_comma a l) n = after a n
-frame_names (in_size d p m) n = after_declarator d n
-frame_names (in_enumerator b before x p) n = now_entries before (now_specifiers b.before n)
-frame_names (in_test h p) n = head_names h n
-frame_names (in_loop_test p q a r) n = after_optional a n
-frame_names (in_step l) n = loop_names l n
-frame_names (for_parameter o before) n = now_parameters before (after_declarator o.declarator n)
-frame_names (for_member b before) n = now_lines before (now_specifiers b.before n)
-frame_names (of_cast p ws l) n = after_specifiers ws n
-frame_names (of_sizeof p q ws l) n = after_specifiers ws n
-frame_names (of_parameter o before ws) n = after_specifiers ws (now_parameters before (after_declarator o.declarator n))
-frame_names (of_member b lines ws before) n = now_declarators before (after_specifiers ws (now_lines lines (now_specifiers b.before n)))
-frame_names (of_item outer ws before) n = now_items (has_typedef ws) before (after_specifiers ws n)
-frame_names (in_list p before) n = now_initialisers before n
-frame_names (of_value ws before d p) n = with_declarator (has_typedef ws) d (after_declarator d (now_items (has_typedef ws) before (after_specifiers ws n)))
-frame_names (in_file before) n = now_externals before n
-frame_names (in_block i) n = now_declarations i.declarations n
-frame_names (then_branch p q e) n = after e n
-frame_names (else_branch p q e b) n = after_statement b (after e n)
-frame_names (while_body p q e) n = after e n
-frame_names (switch_body p q e) n = after e n
-frame_names (for_body l c) n = after_optional c (loop_names l n)
-frame_names (case_body p e) n = after e n
-frame_names (in_statements i before) n = now_statements before (now_declarations i.declarations n)
-frame_names (in_definition ws d outside) n = inside_definition ws d n
+frame_names (awaits_expression (in_index a p l)) n = after a n
+frame_names (awaits_expression (in_arguments g p before l)) n = now_arguments before (after g n)
+frame_names (awaits_expression (behind_cast p ws d l)) n = after_declarator d (after_specifiers ws n)
+frame_names (awaits_expression (behind_binary a p o l)) n = after a n
+frame_names (awaits_expression (behind_question a p l)) n = after a n
+frame_names (awaits_expression (behind_colon a p b l)) n = after b (after a n)
+frame_names (awaits_expression (behind_assignment a p o l)) n = after a n
+frame_names (awaits_expression (behind_comma a l)) n = after a n
+frame_names (awaits_expression (in_size d p m)) n = after_declarator d n
+frame_names (awaits_expression (in_enumerator b before x p)) n = now_entries before (now_specifiers b.before n)
+frame_names (awaits_expression (in_test h p)) n = head_names h n
+frame_names (awaits_expression (in_loop_test p q a r)) n = after_optional a n
+frame_names (awaits_expression (in_step l)) n = loop_names l n
+frame_names (awaits_specifiers (for_parameter o before)) n = now_parameters before (after_declarator o.declarator n)
+frame_names (awaits_specifiers (for_member b before)) n = now_lines before (now_specifiers b.before n)
+frame_names (awaits_declarator (of_cast p ws l)) n = after_specifiers ws n
+frame_names (awaits_declarator (of_sizeof p q ws l)) n = after_specifiers ws n
+frame_names (awaits_declarator (of_parameter o before ws)) n = after_specifiers ws (now_parameters before (after_declarator o.declarator n))
+frame_names (awaits_declarator (of_member b lines ws before)) n = now_declarators before (after_specifiers ws (now_lines lines (now_specifiers b.before n)))
+frame_names (awaits_declarator (of_item outer ws before)) n = now_items (has_typedef ws) before (after_specifiers ws n)
+frame_names (awaits_initialiser (in_list p before)) n = now_initialisers before n
+frame_names (awaits_initialiser (of_value ws before d p)) n = with_declarator (has_typedef ws) d (after_declarator d (now_items (has_typedef ws) before (after_specifiers ws n)))
+frame_names (awaits_declaration (in_file before)) n = now_externals before n
+frame_names (awaits_declaration (in_block i)) n = now_declarations i.declarations n
+frame_names (awaits_statement (then_branch p q e)) n = after e n
+frame_names (awaits_statement (else_branch p q e b)) n = after_statement b (after e n)
+frame_names (awaits_statement (while_body p q e)) n = after e n
+frame_names (awaits_statement (switch_body p q e)) n = after e n
+frame_names (awaits_statement (for_body l c)) n = after_optional c (loop_names l n)
+frame_names (awaits_statement (case_body p e)) n = after e n
+frame_names (awaits_statement (in_statements i before)) n = now_statements before (now_declarations i.declarations n)
+frame_names (awaits_statement (in_definition ws d outside)) n = inside_definition ws d n
 frame_names _ n = n
 
 abbrev pub stack_names : List Frame → Names
@@ -210,18 +210,18 @@ ExternalsHold n (x ∷ before) = ExternalsHold n before × IsExternal (now_exter
 
 -- the highest level of an expression that a frame waits for
 abbrev pub awaited : Frame → ℕ
-awaited (in_arguments g p before l) = 15
-awaited (behind_prefix p o l) = operand_level o
-awaited (behind_sizeof p l) = 2
-awaited (behind_cast p ws d l) = 3
-awaited (behind_binary a p o l) = under o
-awaited (behind_colon a p b l) = 14
-awaited (behind_assignment a p o l) = 15
-awaited (behind_comma a l) = 15
-awaited (in_size d p m) = 14
-awaited (in_enumerator b before x p) = 14
-awaited in_value = 15
-awaited (in_case p) = 14
+awaited (awaits_expression (in_arguments g p before l)) = 15
+awaited (awaits_expression (behind_prefix p o l)) = operand_level o
+awaited (awaits_expression (behind_sizeof p l)) = 2
+awaited (awaits_expression (behind_cast p ws d l)) = 3
+awaited (awaits_expression (behind_binary a p o l)) = under o
+awaited (awaits_expression (behind_colon a p b l)) = 14
+awaited (awaits_expression (behind_assignment a p o l)) = 15
+awaited (awaits_expression (behind_comma a l)) = 15
+awaited (awaits_expression (in_size d p m)) = 14
+awaited (awaits_expression (in_enumerator b before x p)) = 14
+awaited (awaits_expression in_value) = 15
+awaited (awaits_expression (in_case p)) = 14
 awaited _ = 16
 
 abbrev pub limit : List Frame → ℕ
@@ -229,21 +229,21 @@ limit [] = 16
 limit (f ∷ s) = awaited f
 
 abbrev pub manner : List Frame → Manner
-manner (behind_star p qs ∷ s) = manner s
-manner (in_group p m ∷ s) = m
-manner (of_cast p ws l ∷ s) = without_name
-manner (of_sizeof p q ws l ∷ s) = without_name
-manner (of_member b lines ws before ∷ s) = by_name
-manner (of_item outer ws before ∷ s) = by_name
+manner (awaits_declarator (behind_star p qs) ∷ s) = manner s
+manner (awaits_declarator (in_group p m) ∷ s) = m
+manner (awaits_declarator (of_cast p ws l) ∷ s) = without_name
+manner (awaits_declarator (of_sizeof p q ws l) ∷ s) = without_name
+manner (awaits_declarator (of_member b lines ws before) ∷ s) = by_name
+manner (awaits_declarator (of_item outer ws before) ∷ s) = by_name
 manner _ = either_way
 
 -- a declarator that may stand in the parentheses round it
 abbrev pub MayStand : List Frame → Names → Declarator → Type 0
-MayStand (in_group p m ∷ s) n d = IsGroup m n d
+MayStand (awaits_declarator (in_group p m) ∷ s) n d = IsGroup m n d
 MayStand _ n d = Unit {0}
 
 abbrev pub MustStand : List Frame → Declarator → Type 0
-MustStand (in_group p m ∷ s) d = IsPresent d
+MustStand (awaits_declarator (in_group p m) ∷ s) d = IsPresent d
 MustStand _ d = Unit {0}
 
 -- a declarator that suffixes may follow
@@ -267,49 +267,49 @@ abbrev pub IsInside : Names → Inside → Type 0
 IsInside n i = (i.outside ≡ n) × DeclarationsHold n i.declarations
 
 abbrev pub IsFrame : Frame → List Frame → Names → Type 0
-IsFrame (in_parentheses p l) s n = l ≡ limit s
-IsFrame (in_index a p l) s n = (l ≡ limit s) × (1 ≤ l) × (level a ≤ 1) × IsExpression n a
-IsFrame (in_arguments g p before l) s n = (l ≡ limit s) × (1 ≤ l) × (level g ≤ 1) × IsExpression n g × ArgumentsHold (after g n) before
-IsFrame (behind_prefix p o l) s n = (l ≡ limit s) × (2 ≤ l)
-IsFrame (behind_sizeof p l) s n = (l ≡ limit s) × (2 ≤ l)
-IsFrame (behind_cast p ws d l) s n = (l ≡ limit s) × (3 ≤ l) × IsSpecifiers nothing_seen n ws × IsDeclarator without_name (after_specifiers ws n) d
-IsFrame (behind_binary a p o l) s n = (l ≡ limit s) × (strength o ≤ l) × (level a ≤ strength o) × IsExpression n a
-IsFrame (behind_question a p l) s n = (l ≡ limit s) × (14 ≤ l) × (level a ≤ 13) × IsExpression n a
-IsFrame (behind_colon a p b l) s n = (l ≡ limit s) × (14 ≤ l) × (level a ≤ 13) × IsExpression n a × IsExpression (after a n) b
-IsFrame (behind_assignment a p o l) s n = (l ≡ limit s) × (15 ≤ l) × (level a ≤ 2) × IsExpression n a
-IsFrame (behind_comma a l) s n = (l ≡ limit s) × (16 ≤ l) × IsExpression n a
-IsFrame (in_size d p m) s n = IsBegun m s d
-IsFrame (in_enumerator b before x p) s n = IsBody n b × EntriesHold (now_specifiers b.before n) before
-IsFrame (in_test h p) s n = IsHead n h
-IsFrame (in_loop_test p q a r) s n = IsOptional n a
-IsFrame (in_step l) s n = IsLoop n l
-IsFrame (for_cast p l) s n = (l ≡ limit s) × (3 ≤ l)
-IsFrame (for_sizeof p q l) s n = (l ≡ limit s) × (2 ≤ l)
-IsFrame (for_parameter o before) s n = IsOpen s o × ParametersHold (after_declarator o.declarator n) before
-IsFrame (for_member b before) s n = IsBody n b × LinesHold (now_specifiers b.before n) before
-IsFrame (in_group p m) s n = m ≡ manner s
-IsFrame (of_cast p ws l) s n = (l ≡ limit s) × (3 ≤ l) × IsSpecifiers nothing_seen n ws
-IsFrame (of_sizeof p q ws l) s n = (l ≡ limit s) × (2 ≤ l) × IsSpecifiers nothing_seen n ws
-IsFrame (of_parameter o before ws) s n =
+IsFrame (awaits_expression (in_parentheses p l)) s n = l ≡ limit s
+IsFrame (awaits_expression (in_index a p l)) s n = (l ≡ limit s) × (1 ≤ l) × (level a ≤ 1) × IsExpression n a
+IsFrame (awaits_expression (in_arguments g p before l)) s n = (l ≡ limit s) × (1 ≤ l) × (level g ≤ 1) × IsExpression n g × ArgumentsHold (after g n) before
+IsFrame (awaits_expression (behind_prefix p o l)) s n = (l ≡ limit s) × (2 ≤ l)
+IsFrame (awaits_expression (behind_sizeof p l)) s n = (l ≡ limit s) × (2 ≤ l)
+IsFrame (awaits_expression (behind_cast p ws d l)) s n = (l ≡ limit s) × (3 ≤ l) × IsSpecifiers nothing_seen n ws × IsDeclarator without_name (after_specifiers ws n) d
+IsFrame (awaits_expression (behind_binary a p o l)) s n = (l ≡ limit s) × (strength o ≤ l) × (level a ≤ strength o) × IsExpression n a
+IsFrame (awaits_expression (behind_question a p l)) s n = (l ≡ limit s) × (14 ≤ l) × (level a ≤ 13) × IsExpression n a
+IsFrame (awaits_expression (behind_colon a p b l)) s n = (l ≡ limit s) × (14 ≤ l) × (level a ≤ 13) × IsExpression n a × IsExpression (after a n) b
+IsFrame (awaits_expression (behind_assignment a p o l)) s n = (l ≡ limit s) × (15 ≤ l) × (level a ≤ 2) × IsExpression n a
+IsFrame (awaits_expression (behind_comma a l)) s n = (l ≡ limit s) × (16 ≤ l) × IsExpression n a
+IsFrame (awaits_expression (in_size d p m)) s n = IsBegun m s d
+IsFrame (awaits_expression (in_enumerator b before x p)) s n = IsBody n b × EntriesHold (now_specifiers b.before n) before
+IsFrame (awaits_expression (in_test h p)) s n = IsHead n h
+IsFrame (awaits_expression (in_loop_test p q a r)) s n = IsOptional n a
+IsFrame (awaits_expression (in_step l)) s n = IsLoop n l
+IsFrame (awaits_specifiers (for_cast p l)) s n = (l ≡ limit s) × (3 ≤ l)
+IsFrame (awaits_specifiers (for_sizeof p q l)) s n = (l ≡ limit s) × (2 ≤ l)
+IsFrame (awaits_specifiers (for_parameter o before)) s n = IsOpen s o × ParametersHold (after_declarator o.declarator n) before
+IsFrame (awaits_specifiers (for_member b before)) s n = IsBody n b × LinesHold (now_specifiers b.before n) before
+IsFrame (awaits_declarator (in_group p m)) s n = m ≡ manner s
+IsFrame (awaits_declarator (of_cast p ws l)) s n = (l ≡ limit s) × (3 ≤ l) × IsSpecifiers nothing_seen n ws
+IsFrame (awaits_declarator (of_sizeof p q ws l)) s n = (l ≡ limit s) × (2 ≤ l) × IsSpecifiers nothing_seen n ws
+IsFrame (awaits_declarator (of_parameter o before ws)) s n =
     IsOpen s o × ParametersHold (after_declarator o.declarator n) before × IsSpecifiers nothing_seen (now_parameters before (after_declarator o.declarator n)) ws
-IsFrame (of_member b lines ws before) s n =
+IsFrame (awaits_declarator (of_member b lines ws before)) s n =
     IsBody n b × LinesHold (now_specifiers b.before n) lines × IsSpecifiers nothing_seen (now_lines lines (now_specifiers b.before n)) ws
     × DeclaratorsHold (after_specifiers ws (now_lines lines (now_specifiers b.before n))) before
-IsFrame (of_item outer ws before) s n = IsSpecifiers nothing_seen n ws × ItemsHold (has_typedef ws) (after_specifiers ws n) before
-IsFrame (in_list p before) s n = InitialisersHold n before
-IsFrame (of_value ws before d p) s n =
+IsFrame (awaits_declarator (of_item outer ws before)) s n = IsSpecifiers nothing_seen n ws × ItemsHold (has_typedef ws) (after_specifiers ws n) before
+IsFrame (awaits_initialiser (in_list p before)) s n = InitialisersHold n before
+IsFrame (awaits_initialiser (of_value ws before d p)) s n =
     IsSpecifiers nothing_seen n ws × ItemsHold (has_typedef ws) (after_specifiers ws n) before
     × IsDeclarator by_name (now_items (has_typedef ws) before (after_specifiers ws n)) d
-IsFrame (in_file before) s n = ExternalsHold n before
-IsFrame (in_block i) s n = IsInside n i
-IsFrame (then_branch p q e) s n = IsExpression n e
-IsFrame (else_branch p q e b) s n = IsExpression n e × IsStatement (after e n) b × (takes_else b ≡ false)
-IsFrame (while_body p q e) s n = IsExpression n e
-IsFrame (switch_body p q e) s n = IsExpression n e
-IsFrame (for_body l c) s n = IsLoop n l × IsOptional (loop_names l n) c
-IsFrame (case_body p e) s n = (level e ≤ 14) × IsExpression n e
-IsFrame (in_statements i before) s n = IsInside n i × StatementsHold (now_declarations i.declarations n) before
-IsFrame (in_definition ws d outside) s n =
+IsFrame (awaits_declaration (in_file before)) s n = ExternalsHold n before
+IsFrame (awaits_declaration (in_block i)) s n = IsInside n i
+IsFrame (awaits_statement (then_branch p q e)) s n = IsExpression n e
+IsFrame (awaits_statement (else_branch p q e b)) s n = IsExpression n e × IsStatement (after e n) b × (takes_else b ≡ false)
+IsFrame (awaits_statement (while_body p q e)) s n = IsExpression n e
+IsFrame (awaits_statement (switch_body p q e)) s n = IsExpression n e
+IsFrame (awaits_statement (for_body l c)) s n = IsLoop n l × IsOptional (loop_names l n) c
+IsFrame (awaits_statement (case_body p e)) s n = (level e ≤ 14) × IsExpression n e
+IsFrame (awaits_statement (in_statements i before)) s n = IsInside n i × StatementsHold (now_declarations i.declarations n) before
+IsFrame (awaits_statement (in_definition ws d outside)) s n =
     (outside ≡ after_parameter ws d n) × IsSpecifiers nothing_seen n ws × IsDeclarator by_name (after_specifiers ws n) d
 IsFrame _ s n = Unit {0}
 
@@ -321,12 +321,12 @@ IsStack (f ∷ s) = IsFrame f s (stack_names s) × IsStack s
 
 -- in parentheses that may hold parameters, what stands ahead begins none
 abbrev pub IsGroupAhead : List Frame → Names → List Mark → Type 0
-IsGroupAhead (in_group p by_name ∷ s) n ts = Unit {0}
-IsGroupAhead (in_group p m ∷ s) n ts = begins_parameters n ts ≡ false
+IsGroupAhead (awaits_declarator (in_group p by_name) ∷ s) n ts = Unit {0}
+IsGroupAhead (awaits_declarator (in_group p m) ∷ s) n ts = begins_parameters n ts ≡ false
 IsGroupAhead _ n ts = Unit {0}
 
 abbrev pub IsNeeded : List Frame → Bool → Type 0
-IsNeeded (in_group p m ∷ s) needed = needed ≡ true
+IsNeeded (awaits_declarator (in_group p m) ∷ s) needed = needed ≡ true
 IsNeeded _ needed = Unit {0}
 
 -- a suffix stands ahead where there is no other part

@@ -1,23 +1,17 @@
 -- What may stand first where an expression, a declarator or what follows specifiers begins.
-use Rattle.std.specs.Prelude.{◌≡◌, false, List, ◌∷◌}
+use Rattle.std.specs.Prelude.{◌≡◌, false, List, ◌∷◌, Some, None}
 use Rattle.dae_tree.specs.declared.words.Keyword.{Keyword}
 use Rattle.dae_tree.specs.declared.words.Keyword.TheVariants as keywords
 use Rattle.dae_tree.specs.declared.signs.Sign.{Sign}
 use Rattle.dae_tree.specs.declared.signs.Sign.TheVariants as signs
 use Rattle.dae_tree.specs.Marks.{Mark, word, sign, name, constant, literal, part, else_word}
+use Rattle.dae_tree.specs.Operators.{prefix_at}
 use Rattle.dae_tree.specs.Names.{Names, is_type}
 
+-- a parenthesis, and what may stand before an operand
 abbrev pub IsStartSign : Sign → Type 0
 IsStartSign signs.LeftParen = Unit {0}
-IsStartSign signs.Increment = Unit {0}
-IsStartSign signs.Decrement = Unit {0}
-IsStartSign signs.And = Unit {0}
-IsStartSign signs.Times = Unit {0}
-IsStartSign signs.Plus = Unit {0}
-IsStartSign signs.Minus = Unit {0}
-IsStartSign signs.Tilde = Unit {0}
-IsStartSign signs.Not = Unit {0}
-IsStartSign _ = ⊥
+IsStartSign g = elim (prefix_at g) [ None ↦ ⊥ | Some o ↦ Unit {0} ]
 
 abbrev pub IsStartWord : Keyword → Type 0
 IsStartWord keywords.Sizeof = Unit {0}

@@ -10,7 +10,7 @@ use Rattle.dae_tree.specs.Spelling.{spell, spell_specifiers, spell_specifier, sp
 use Rattle.dae_tree.specs.Statements.{spell_initialiser, spell_item, spell_declaration, spell_optional, spell_test, spell_statement, spell_external}
 use Rattle.dae_tree.specs.Trees.{Expression, Specifier, Declarator, Initialiser, Item, Declaration, Statement, External}
 use Rattle.dae_tree.specs.Lists.{MemberLine, Entry, Parameter}
-use Rattle.dae_grammar.specs.Frames.{Body, Open, Head, Loop, Inside, if_head, while_head, switch_head, do_head, Frame, in_parentheses, in_index, in_arguments, behind_prefix, behind_sizeof, behind_cast, behind_binary, behind_question, behind_colon, behind_assignment, behind_comma, in_size, in_enumerator, in_value, in_evaluation, in_test, in_start, in_loop_test, in_step, in_return, in_case, for_cast, for_sizeof, for_parameter, for_member, for_declaration, behind_star, in_group, of_cast, of_sizeof, of_parameter, of_member, of_item, in_list, of_value, in_file, in_block, then_branch, else_branch, while_body, switch_body, do_body, for_body, case_body, default_body, in_statements, in_definition, Doing, seek, operated, gave, calling, measuring, specifying, tagging, tagged, membering, enumerating, enumerated, entered, entering, gave_specifiers, declaring, qualifying, suffixing, sizing, parametering, gave_declarator, initialising, listing, gave_initialiser, itemed, gave_declaration, externals, declarations, statements, stating, opening, finishing, looping, starting, testing, stepping, returning, breaking, continuing, defaulting, gave_statement, State, state}
+use Rattle.dae_grammar.specs.Frames.{Body, Open, Head, Loop, Inside, if_head, while_head, switch_head, do_head, Frame, in_parentheses, in_index, in_arguments, behind_prefix, behind_sizeof, behind_cast, behind_binary, behind_question, behind_colon, behind_assignment, behind_comma, in_size, in_enumerator, in_value, in_evaluation, in_test, in_start, in_loop_test, in_step, in_return, in_case, for_cast, for_sizeof, for_parameter, for_member, for_declaration, behind_star, in_group, of_cast, of_sizeof, of_parameter, of_member, of_item, in_list, of_value, in_file, in_block, then_branch, else_branch, while_body, switch_body, do_body, for_body, case_body, default_body, in_statements, in_definition, Doing, seek, operated, gave, calling, measuring, specifying, tagging, tagged, membering, enumerating, enumerated, entered, entering, gave_specifiers, declaring, qualifying, suffixing, sizing, parametering, gave_declarator, initialising, listing, gave_initialiser, itemed, gave_declaration, externals, declarations, statements, stating, opening, finishing, looping, starting, testing, stepping, returning, breaking, continuing, defaulting, gave_statement, State, state, awaits_expression, awaits_specifiers, awaits_declarator, awaits_initialiser, awaits_declaration, awaits_statement}
 
 -- ---- lists that were read, the last first; a comma behind each where commas part them
 
@@ -95,53 +95,53 @@ abbrev pub block_taken : Inside → List Mark → List Mark
 block_taken i ts = sign signs.LeftBrace i.place ∷ declarations_before i.declarations ts
 
 abbrev pub frame_taken : Frame → List Mark → List Mark
-frame_taken (in_parentheses p l) ts = sign signs.LeftParen p ∷ ts
-frame_taken (in_index a p l) ts = spell a (sign signs.LeftBracket p ∷ ts)
-frame_taken (in_arguments g p before l) ts = spell g (sign signs.LeftParen p ∷ arguments_before before ts)
-frame_taken (behind_prefix p o l) ts = sign (prefix_sign o) p ∷ ts
-frame_taken (behind_sizeof p l) ts = word keywords.Sizeof p ∷ ts
-frame_taken (behind_cast p ws d l) ts = sign signs.LeftParen p ∷ spell_specifiers ws (spell_declarator d (part close_paren ∷ ts))
-frame_taken (behind_binary a p o l) ts = spell a (sign (binary_sign o) p ∷ ts)
-frame_taken (behind_question a p l) ts = spell a (sign signs.Question p ∷ ts)
-frame_taken (behind_colon a p b l) ts = spell a (sign signs.Question p ∷ spell b (part colon ∷ ts))
-frame_taken (behind_assignment a p o l) ts = spell a (sign (assignment_sign o) p ∷ ts)
-frame_taken (behind_comma a l) ts = spell a (part comma ∷ ts)
-frame_taken (in_size d p m) ts = spell_declarator d (sign signs.LeftBracket p ∷ ts)
-frame_taken (in_enumerator b before n p) ts = body_begun false b (entries_before before (name n ∷ sign signs.Assign p ∷ ts))
-frame_taken in_value ts = ts
-frame_taken in_evaluation ts = ts
-frame_taken (in_test h p) ts = head_taken h (sign signs.LeftParen p ∷ ts)
-frame_taken (in_start p q) ts = word keywords.For p ∷ sign signs.LeftParen q ∷ ts
-frame_taken (in_loop_test p q a r) ts = word keywords.For p ∷ sign signs.LeftParen q ∷ spell_optional a (sign signs.Semicolon r ∷ ts)
-frame_taken (in_step l) ts = loop_begun l ts
-frame_taken (in_return p) ts = word keywords.Return p ∷ ts
-frame_taken (in_case p) ts = word keywords.Case p ∷ ts
-frame_taken (for_cast p l) ts = sign signs.LeftParen p ∷ ts
-frame_taken (for_sizeof p q l) ts = word keywords.Sizeof p ∷ sign signs.LeftParen q ∷ ts
-frame_taken (for_parameter o before) ts = open_begun o (parameters_before before ts)
-frame_taken (for_member b before) ts = body_begun true b (lines_before before ts)
-frame_taken (for_declaration outer) ts = ts
-frame_taken (behind_star p qs) ts = sign signs.Times p ∷ spell_qualifiers qs ts
-frame_taken (in_group p m) ts = sign signs.LeftParen p ∷ ts
-frame_taken (of_cast p ws l) ts = sign signs.LeftParen p ∷ spell_specifiers ws ts
-frame_taken (of_sizeof p q ws l) ts = word keywords.Sizeof p ∷ sign signs.LeftParen q ∷ spell_specifiers ws ts
-frame_taken (of_parameter o before ws) ts = open_begun o (parameters_before before (spell_specifiers ws ts))
-frame_taken (of_member b lines ws before) ts = body_begun true b (lines_before lines (spell_specifiers ws (declarators_before before ts)))
-frame_taken (of_item outer ws before) ts = spell_specifiers ws (items_before before ts)
-frame_taken (in_list p before) ts = sign signs.LeftBrace p ∷ initialisers_before before ts
-frame_taken (of_value ws before d p) ts = spell_specifiers ws (items_before before (spell_declarator d (sign signs.Assign p ∷ ts)))
-frame_taken (in_file before) ts = externals_before before ts
-frame_taken (in_block i) ts = block_taken i ts
-frame_taken (then_branch p q e) ts = word keywords.If p ∷ spell_test q e ts
-frame_taken (else_branch p q e b) ts = word keywords.If p ∷ spell_test q e (spell_statement b (part else_word ∷ ts))
-frame_taken (while_body p q e) ts = word keywords.While p ∷ spell_test q e ts
-frame_taken (switch_body p q e) ts = word keywords.Switch p ∷ spell_test q e ts
-frame_taken (do_body p) ts = word keywords.Do p ∷ ts
-frame_taken (for_body l c) ts = loop_begun l (spell_optional c (part close_paren ∷ ts))
-frame_taken (case_body p e) ts = word keywords.Case p ∷ spell e (part colon ∷ ts)
-frame_taken (default_body p) ts = word keywords.Default p ∷ part colon ∷ ts
-frame_taken (in_statements i before) ts = block_taken i (statements_before before ts)
-frame_taken (in_definition ws d outside) ts = spell_specifiers ws (spell_declarator d ts)
+frame_taken (awaits_expression (in_parentheses p l)) ts = sign signs.LeftParen p ∷ ts
+frame_taken (awaits_expression (in_index a p l)) ts = spell a (sign signs.LeftBracket p ∷ ts)
+frame_taken (awaits_expression (in_arguments g p before l)) ts = spell g (sign signs.LeftParen p ∷ arguments_before before ts)
+frame_taken (awaits_expression (behind_prefix p o l)) ts = sign (prefix_sign o) p ∷ ts
+frame_taken (awaits_expression (behind_sizeof p l)) ts = word keywords.Sizeof p ∷ ts
+frame_taken (awaits_expression (behind_cast p ws d l)) ts = sign signs.LeftParen p ∷ spell_specifiers ws (spell_declarator d (part close_paren ∷ ts))
+frame_taken (awaits_expression (behind_binary a p o l)) ts = spell a (sign (binary_sign o) p ∷ ts)
+frame_taken (awaits_expression (behind_question a p l)) ts = spell a (sign signs.Question p ∷ ts)
+frame_taken (awaits_expression (behind_colon a p b l)) ts = spell a (sign signs.Question p ∷ spell b (part colon ∷ ts))
+frame_taken (awaits_expression (behind_assignment a p o l)) ts = spell a (sign (assignment_sign o) p ∷ ts)
+frame_taken (awaits_expression (behind_comma a l)) ts = spell a (part comma ∷ ts)
+frame_taken (awaits_expression (in_size d p m)) ts = spell_declarator d (sign signs.LeftBracket p ∷ ts)
+frame_taken (awaits_expression (in_enumerator b before n p)) ts = body_begun false b (entries_before before (name n ∷ sign signs.Assign p ∷ ts))
+frame_taken (awaits_expression in_value) ts = ts
+frame_taken (awaits_expression in_evaluation) ts = ts
+frame_taken (awaits_expression (in_test h p)) ts = head_taken h (sign signs.LeftParen p ∷ ts)
+frame_taken (awaits_expression (in_start p q)) ts = word keywords.For p ∷ sign signs.LeftParen q ∷ ts
+frame_taken (awaits_expression (in_loop_test p q a r)) ts = word keywords.For p ∷ sign signs.LeftParen q ∷ spell_optional a (sign signs.Semicolon r ∷ ts)
+frame_taken (awaits_expression (in_step l)) ts = loop_begun l ts
+frame_taken (awaits_expression (in_return p)) ts = word keywords.Return p ∷ ts
+frame_taken (awaits_expression (in_case p)) ts = word keywords.Case p ∷ ts
+frame_taken (awaits_specifiers (for_cast p l)) ts = sign signs.LeftParen p ∷ ts
+frame_taken (awaits_specifiers (for_sizeof p q l)) ts = word keywords.Sizeof p ∷ sign signs.LeftParen q ∷ ts
+frame_taken (awaits_specifiers (for_parameter o before)) ts = open_begun o (parameters_before before ts)
+frame_taken (awaits_specifiers (for_member b before)) ts = body_begun true b (lines_before before ts)
+frame_taken (awaits_specifiers (for_declaration outer)) ts = ts
+frame_taken (awaits_declarator (behind_star p qs)) ts = sign signs.Times p ∷ spell_qualifiers qs ts
+frame_taken (awaits_declarator (in_group p m)) ts = sign signs.LeftParen p ∷ ts
+frame_taken (awaits_declarator (of_cast p ws l)) ts = sign signs.LeftParen p ∷ spell_specifiers ws ts
+frame_taken (awaits_declarator (of_sizeof p q ws l)) ts = word keywords.Sizeof p ∷ sign signs.LeftParen q ∷ spell_specifiers ws ts
+frame_taken (awaits_declarator (of_parameter o before ws)) ts = open_begun o (parameters_before before (spell_specifiers ws ts))
+frame_taken (awaits_declarator (of_member b lines ws before)) ts = body_begun true b (lines_before lines (spell_specifiers ws (declarators_before before ts)))
+frame_taken (awaits_declarator (of_item outer ws before)) ts = spell_specifiers ws (items_before before ts)
+frame_taken (awaits_initialiser (in_list p before)) ts = sign signs.LeftBrace p ∷ initialisers_before before ts
+frame_taken (awaits_initialiser (of_value ws before d p)) ts = spell_specifiers ws (items_before before (spell_declarator d (sign signs.Assign p ∷ ts)))
+frame_taken (awaits_declaration (in_file before)) ts = externals_before before ts
+frame_taken (awaits_declaration (in_block i)) ts = block_taken i ts
+frame_taken (awaits_statement (then_branch p q e)) ts = word keywords.If p ∷ spell_test q e ts
+frame_taken (awaits_statement (else_branch p q e b)) ts = word keywords.If p ∷ spell_test q e (spell_statement b (part else_word ∷ ts))
+frame_taken (awaits_statement (while_body p q e)) ts = word keywords.While p ∷ spell_test q e ts
+frame_taken (awaits_statement (switch_body p q e)) ts = word keywords.Switch p ∷ spell_test q e ts
+frame_taken (awaits_statement (do_body p)) ts = word keywords.Do p ∷ ts
+frame_taken (awaits_statement (for_body l c)) ts = loop_begun l (spell_optional c (part close_paren ∷ ts))
+frame_taken (awaits_statement (case_body p e)) ts = word keywords.Case p ∷ spell e (part colon ∷ ts)
+frame_taken (awaits_statement (default_body p)) ts = word keywords.Default p ∷ part colon ∷ ts
+frame_taken (awaits_statement (in_statements i before)) ts = block_taken i (statements_before before ts)
+frame_taken (awaits_statement (in_definition ws d outside)) ts = spell_specifiers ws (spell_declarator d ts)
 
 abbrev pub stack_taken : List Frame → List Mark → List Mark
 stack_taken [] ts = ts

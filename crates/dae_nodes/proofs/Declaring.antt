@@ -9,7 +9,6 @@ use Rattle.dae_tree.specs.Depth.{place_before, place_of_specifiers}
 use Rattle.dae_tree.specs.Grammar.{void_word, void_alone}
 use Rattle.dae_grammar.specs.FirstPlaces.{firsts_declarator}
 use Rattle.dae_tree.specs.Lists as lists
-use Rattle.dae_grammar.specs.Frames as frames
 use Rattle.dae_grammar.specs.Machine.{parameters_onto}
 use Rattle.dae_parts.specs.declared.reading.Read.{Read}
 use Rattle.dae_nodes.specs.Parts.{ShowsDeclarator, is_present, is_some_list, first_place}

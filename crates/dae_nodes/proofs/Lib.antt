@@ -3,3 +3,4 @@ mod Declaring
 mod Specifying
 mod Making
 mod Blocks
+mod Operands

@@ -19,7 +19,6 @@ use Rattle.dae_tree.specs.Views.{view, views, views_members, views_enumerators, 
 use Rattle.dae_tree.specs.FileViews.{view_initialiser, views_initialisers, view_statement, views_statements, view_item, view_items, view_declaration, view_declarations}
 use Rattle.dae_grammar.specs.FirstPlaces.{Places, or_else, both, firsts, firsts_all, firsts_members, firsts_enumerators, firsts_declarator, firsts_declarators, firsts_parameters, firsts_specifiers, firsts_initialiser, firsts_initialisers, firsts_statement, firsts_statements, firsts_value, firsts_items, firsts_declaration, firsts_declarations}
 use Rattle.dae_tree.specs.Lists as lists
-use Rattle.dae_grammar.specs.Frames as frames
 use Rattle.dae_grammar.specs.Machine.{onto, arguments_onto, members_onto, enumerator_before, enumerators_onto, declarators_onto, parameters_onto, initialisers_onto, statements_onto}
 use Rattle.dae_parts.specs.declared.reading.Read.{Read}
 use Rattle.dae_parts.specs.Shown.{Holds, IsSeen, Shows, ShowsList, firsts_list, IsLonger}

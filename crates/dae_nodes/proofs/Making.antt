@@ -4,7 +4,6 @@ use Rattle.dae_base.specs.declared.Place.{Place}
 use Rattle.dae_tree.specs.declared.expressions.Name.{Name}
 use Rattle.dae_tree.specs.Trees as tree
 use Rattle.dae_tree.specs.Lists as lists
-use Rattle.dae_grammar.specs.Frames as frames
 
 abbrev pub plain_item : tree.Declarator → tree.Item
 plain_item d = record { declarator = d; initialiser = None }

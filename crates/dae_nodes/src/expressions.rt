@@ -1,5 +1,7 @@
 ghost use Rattle.std.specs.Prelude.{◌≡◌, List, [], ◌∷◌, Option, Some, None, IfOk};
 ghost use Rattle.dae_tree.specs.Trees as tree;
+ghost use Rattle.dae_grammar.specs.FirstPlaces.{Places, over};
+ghost use Rattle.dae_parts.specs.Shown.{Holds, IsMade, box_value};
 ghost use Rattle.dae_grammar.specs.Machine.{arguments_onto};
 ghost use Rattle.dae_nodes.specs.Parts.{ShowsOperand, ShowsArguments, ShowsSpecified, ShowsDeclared};
 
@@ -7,7 +9,7 @@ use crate::values::{Declared, Operand, Specified};
 use dae_base::Place;
 use dae_parts::{
     ASSIGNMENT, CAST, COMMA, CONDITIONAL, POSTFIX, PRIMARY, Read, UNARY, beside, flat, longer,
-    over, strength, unbox,
+    node, over, strength, unbox,
 };
 use dae_tree::{
     AssignmentOperator, BinaryOperator, Constant, Expression, MemberOperator, Name,
@@ -67,20 +69,32 @@ pub fn literal(alloc: Global, place: Place, number: u32) -> Result<Operand, Allo
     })
 }
 
+/// An operand at this level and place: a node over a part, made of the part's tree.
+fn operand_over<T: Drop, F: FnOnce(T) -> Expression + Drop>(
+    alloc: Global,
+    place: Place,
+    level: u8,
+    part: Read<T>,
+    make: F,
+) -> Result<Operand, AllocError>
+    requires { F.IsAlwaysCallable make }
+    ensures read { (f : Places) → Holds part f
+        → IfOk result
+        (λ r. Holds r.read (over place f)
+        × IsMade (F.post make) part.tree (box_value r.read.tree)) }
+    ensures beside { IfOk result (λ r. (r.level ≡ level) × (r.place ≡ place)) }
+{
+    let read = node(alloc, place, part, make)?;
+    Ok(Operand { read, level, place })
+}
+
 /// An expression in parentheses.
 pub fn parenthesised(alloc: Global, place: Place, inner: Operand) -> Result<Operand, AllocError>
     ensures { (e : tree.Expression) → ShowsOperand inner e
         → IfOk result (λ r. ShowsOperand r (tree.Parenthesised place e)) }
 {
-    let Read { tree, depths } = over(alloc, place, inner.read)?;
-    let tree = match tree {
-        Some(inner) => Some(Box::new(alloc, Expression::Parenthesised(place, inner))?),
-        None => None,
-    };
-    Ok(Operand {
-        read: Read { tree, depths },
-        level: PRIMARY,
-        place,
+    operand_over(alloc, place, PRIMARY, inner.read, |inner| {
+        Expression::Parenthesised(place, inner)
     })
 }
 
@@ -96,15 +110,8 @@ pub fn index(
 {
     let first = base.place;
     let parts = beside(base.read, subscript.read)?;
-    let Read { tree, depths } = over(alloc, first, parts)?;
-    let tree = match tree {
-        Some((a, b)) => Some(Box::new(alloc, Expression::Index(a, place, b))?),
-        None => None,
-    };
-    Ok(Operand {
-        read: Read { tree, depths },
-        level: POSTFIX,
-        place: first,
+    operand_over(alloc, first, POSTFIX, parts, |(a, b)| {
+        Expression::Index(a, place, b)
     })
 }
 
@@ -133,17 +140,8 @@ pub fn call(
 {
     let first = callee.place;
     let parts = beside(callee.read, arguments)?;
-    let Read { tree, depths } = over(alloc, first, parts)?;
-    let tree = match tree {
-        Some((callee, arguments)) => {
-            Some(Box::new(alloc, Expression::Call(callee, place, arguments))?)
-        }
-        None => None,
-    };
-    Ok(Operand {
-        read: Read { tree, depths },
-        level: POSTFIX,
-        place: first,
+    operand_over(alloc, first, POSTFIX, parts, |(callee, arguments)| {
+        Expression::Call(callee, place, arguments)
     })
 }
 
@@ -159,15 +157,8 @@ pub fn member(
         → IfOk result (λ r. ShowsOperand r (tree.Member a place operator name)) }
 {
     let first = base.place;
-    let Read { tree, depths } = over(alloc, first, base.read)?;
-    let tree = match tree {
-        Some(a) => Some(Box::new(alloc, Expression::Member(a, place, operator, name))?),
-        None => None,
-    };
-    Ok(Operand {
-        read: Read { tree, depths },
-        level: POSTFIX,
-        place: first,
+    operand_over(alloc, first, POSTFIX, base.read, |a| {
+        Expression::Member(a, place, operator, name)
     })
 }
 
@@ -182,15 +173,8 @@ pub fn postfix(
         → IfOk result (λ r. ShowsOperand r (tree.Postfix a place operator)) }
 {
     let first = base.place;
-    let Read { tree, depths } = over(alloc, first, base.read)?;
-    let tree = match tree {
-        Some(a) => Some(Box::new(alloc, Expression::Postfix(a, place, operator))?),
-        None => None,
-    };
-    Ok(Operand {
-        read: Read { tree, depths },
-        level: POSTFIX,
-        place: first,
+    operand_over(alloc, first, POSTFIX, base.read, |a| {
+        Expression::Postfix(a, place, operator)
     })
 }
 
@@ -204,15 +188,8 @@ pub fn prefix(
     ensures { (a : tree.Expression) → ShowsOperand operand a
         → IfOk result (λ r. ShowsOperand r (tree.Prefix place operator a)) }
 {
-    let Read { tree, depths } = over(alloc, place, operand.read)?;
-    let tree = match tree {
-        Some(a) => Some(Box::new(alloc, Expression::Prefix(place, operator, a))?),
-        None => None,
-    };
-    Ok(Operand {
-        read: Read { tree, depths },
-        level: UNARY,
-        place,
+    operand_over(alloc, place, UNARY, operand.read, |a| {
+        Expression::Prefix(place, operator, a)
     })
 }
 
@@ -225,15 +202,8 @@ pub fn sizeof_expression(
     ensures { (a : tree.Expression) → ShowsOperand operand a
         → IfOk result (λ r. ShowsOperand r (tree.SizeofExpression place a)) }
 {
-    let Read { tree, depths } = over(alloc, place, operand.read)?;
-    let tree = match tree {
-        Some(a) => Some(Box::new(alloc, Expression::SizeofExpression(place, a))?),
-        None => None,
-    };
-    Ok(Operand {
-        read: Read { tree, depths },
-        level: UNARY,
-        place,
+    operand_over(alloc, place, UNARY, operand.read, |a| {
+        Expression::SizeofExpression(place, a)
     })
 }
 
@@ -316,15 +286,8 @@ pub fn binary(
 {
     let first = left.place;
     let parts = beside(left.read, right.read)?;
-    let Read { tree, depths } = over(alloc, first, parts)?;
-    let tree = match tree {
-        Some((a, b)) => Some(Box::new(alloc, Expression::Binary(a, place, operator, b))?),
-        None => None,
-    };
-    Ok(Operand {
-        read: Read { tree, depths },
-        level: strength(operator),
-        place: first,
+    operand_over(alloc, first, strength(operator), parts, |(a, b)| {
+        Expression::Binary(a, place, operator, b)
     })
 }
 
@@ -342,18 +305,8 @@ pub fn conditional(
     let first = test.place;
     let rest = beside(then.read, other.read)?;
     let parts = beside(test.read, rest)?;
-    let Read { tree, depths } = over(alloc, first, parts)?;
-    let tree = match tree {
-        Some((a, rest)) => {
-            let (b, c) = rest;
-            Some(Box::new(alloc, Expression::Conditional(a, place, b, c))?)
-        }
-        None => None,
-    };
-    Ok(Operand {
-        read: Read { tree, depths },
-        level: CONDITIONAL,
-        place: first,
+    operand_over(alloc, first, CONDITIONAL, parts, |(a, (b, c))| {
+        Expression::Conditional(a, place, b, c)
     })
 }
 
@@ -370,15 +323,8 @@ pub fn assignment(
 {
     let first = left.place;
     let parts = beside(left.read, right.read)?;
-    let Read { tree, depths } = over(alloc, first, parts)?;
-    let tree = match tree {
-        Some((a, b)) => Some(Box::new(alloc, Expression::Assignment(a, place, operator, b))?),
-        None => None,
-    };
-    Ok(Operand {
-        read: Read { tree, depths },
-        level: ASSIGNMENT,
-        place: first,
+    operand_over(alloc, first, ASSIGNMENT, parts, |(a, b)| {
+        Expression::Assignment(a, place, operator, b)
     })
 }
 
@@ -389,14 +335,5 @@ pub fn comma(alloc: Global, left: Operand, right: Operand) -> Result<Operand, Al
 {
     let first = left.place;
     let parts = beside(left.read, right.read)?;
-    let Read { tree, depths } = over(alloc, first, parts)?;
-    let tree = match tree {
-        Some((a, b)) => Some(Box::new(alloc, Expression::Comma(a, b))?),
-        None => None,
-    };
-    Ok(Operand {
-        read: Read { tree, depths },
-        level: COMMA,
-        place: first,
-    })
+    operand_over(alloc, first, COMMA, parts, |(a, b)| Expression::Comma(a, b))
 }

@@ -8,7 +8,7 @@ ghost use Rattle.dae_nodes.specs.Parts.{view_boxed, ShowsOperand, ShowsOptional,
 
 use crate::values::{Loop, Operand};
 use dae_base::Place;
-use dae_parts::{Read, beside, flat, longer, over, unbox};
+use dae_parts::{Read, beside, flat, longer, node, over, unbox};
 use dae_tree::{Block, Declaration, Expression, Heading, Statement, Test};
 use std::alloc::{AllocError, Global};
 
@@ -37,19 +37,16 @@ pub fn block(
         (tree.Block place (onto ds []) (statements_onto ss tree.no_statements))) }
 {
     let parts = beside(declarations, statements)?;
-    let Read { tree, depths } = over(alloc, place, parts)?;
-    let tree = match tree {
-        Some((declarations, statements)) => {
-            let block = Block {
-                place,
-                declarations,
-                statements,
-            };
-            Some(Box::new(alloc, Statement::Block(block))?)
-        }
-        None => None,
-    };
-    Ok(Read { tree, depths })
+    node(
+        alloc,
+        place,
+        parts,
+        |(declarations, statements)| Statement::Block(Block {
+            place,
+            declarations,
+            statements,
+        }),
+    )
 }
 
 /// A semicolon alone (C90 6.6.3).
@@ -72,15 +69,9 @@ pub fn evaluation(
     ensures { (e : tree.Expression) → ShowsOperand operand e
         → IfOk result (λ r. ShowsStatement r (tree.Evaluate e end)) }
 {
-    let Read { tree, depths } = over(alloc, operand.place, operand.read)?;
-    let tree = match tree {
-        Some(expression) => {
-            let expression = Box::into_inner(expression);
-            Some(Box::new(alloc, Statement::Evaluate(expression, end))?)
-        }
-        None => None,
-    };
-    Ok(Read { tree, depths })
+    node(alloc, operand.place, operand.read, |expression| {
+        Statement::Evaluate(Box::into_inner(expression), end)
+    })
 }
 
 /// A test in parentheses, the first of them at this place.
@@ -106,15 +97,9 @@ pub fn if_statement(
         → ShowsStatement body s → IfOk result (λ r. ShowsStatement r (tree.If place paren e s)) }
 {
     let parts = beside(test.read, body)?;
-    let Read { tree, depths } = over(alloc, place, parts)?;
-    let tree = match tree {
-        Some((expression, body)) => {
-            let test = test_at(paren, expression);
-            Some(Box::new(alloc, Statement::If(place, test, body))?)
-        }
-        None => None,
-    };
-    Ok(Read { tree, depths })
+    node(alloc, place, parts, |(expression, body)| {
+        Statement::If(place, test_at(paren, expression), body)
+    })
 }
 
 /// `if` with `else` (C90 6.6.4.1).
@@ -132,16 +117,9 @@ pub fn if_else_statement(
 {
     let rest = beside(then, other)?;
     let parts = beside(test.read, rest)?;
-    let Read { tree, depths } = over(alloc, place, parts)?;
-    let tree = match tree {
-        Some((expression, rest)) => {
-            let (then, other) = rest;
-            let test = test_at(paren, expression);
-            Some(Box::new(alloc, Statement::IfElse(place, test, then, other))?)
-        }
-        None => None,
-    };
-    Ok(Read { tree, depths })
+    node(alloc, place, parts, |(expression, (then, other))| {
+        Statement::IfElse(place, test_at(paren, expression), then, other)
+    })
 }
 
 /// `switch` (C90 6.6.4.2).
@@ -157,15 +135,9 @@ pub fn switch_statement(
         → IfOk result (λ r. ShowsStatement r (tree.Switch place paren e s)) }
 {
     let parts = beside(test.read, body)?;
-    let Read { tree, depths } = over(alloc, place, parts)?;
-    let tree = match tree {
-        Some((expression, body)) => {
-            let test = test_at(paren, expression);
-            Some(Box::new(alloc, Statement::Switch(place, test, body))?)
-        }
-        None => None,
-    };
-    Ok(Read { tree, depths })
+    node(alloc, place, parts, |(expression, body)| {
+        Statement::Switch(place, test_at(paren, expression), body)
+    })
 }
 
 /// `while` before its body (C90 6.6.5.1).
@@ -180,15 +152,9 @@ pub fn while_statement(
         → ShowsStatement body s → IfOk result (λ r. ShowsStatement r (tree.While place paren e s)) }
 {
     let parts = beside(test.read, body)?;
-    let Read { tree, depths } = over(alloc, place, parts)?;
-    let tree = match tree {
-        Some((expression, body)) => {
-            let test = test_at(paren, expression);
-            Some(Box::new(alloc, Statement::While(place, test, body))?)
-        }
-        None => None,
-    };
-    Ok(Read { tree, depths })
+    node(alloc, place, parts, |(expression, body)| {
+        Statement::While(place, test_at(paren, expression), body)
+    })
 }
 
 /// `do` with `while` behind its body, at the places of the two words, the parenthesis and the semicolon (C90 6.6.5.2).
@@ -206,15 +172,9 @@ pub fn do_statement(
         → IfOk result (λ r. ShowsStatement r (tree.Do place s word paren e end)) }
 {
     let parts = beside(body, test.read)?;
-    let Read { tree, depths } = over(alloc, place, parts)?;
-    let tree = match tree {
-        Some((body, expression)) => {
-            let test = test_at(paren, expression);
-            Some(Box::new(alloc, Statement::Do(place, body, word, test, end))?)
-        }
-        None => None,
-    };
-    Ok(Read { tree, depths })
+    node(alloc, place, parts, |(body, expression)| {
+        Statement::Do(place, body, word, test_at(paren, expression), end)
+    })
 }
 
 /// An operand that may be lacking, as a part.
@@ -270,23 +230,16 @@ pub fn for_statement(
     let last = beside(step, body)?;
     let rest = beside(test, last)?;
     let parts = beside(start, rest)?;
-    let Read { tree, depths } = over(alloc, word, parts)?;
-    let tree = match tree {
-        Some((start, rest)) => {
-            let (test, last) = rest;
-            let (step, body) = last;
-            let heading = Heading {
-                start: unboxed_expression(start),
-                after_start: first,
-                test: unboxed_expression(test),
-                after_test: second,
-                step: unboxed_expression(step),
-            };
-            Some(Box::new(alloc, Statement::For(word, paren, heading, body))?)
-        }
-        None => None,
-    };
-    Ok(Read { tree, depths })
+    node(alloc, word, parts, |(start, (test, (step, body)))| {
+        let heading = Heading {
+            start: unboxed_expression(start),
+            after_start: first,
+            test: unboxed_expression(test),
+            after_test: second,
+            step: unboxed_expression(step),
+        };
+        Statement::For(word, paren, heading, body)
+    })
 }
 
 /// `break` (C90 6.6.6.3).
@@ -329,15 +282,9 @@ pub fn return_statement(
     ensures { (e : Option tree.Expression) → ShowsOptional value e
         → IfOk result (λ r. ShowsStatement r (tree.Return place e end)) }
 {
-    let Read { tree, depths } = over(alloc, place, optional(alloc, value))?;
-    let tree = match tree {
-        Some(value) => {
-            let value = unboxed_expression(value);
-            Some(Box::new(alloc, Statement::Return(place, value, end))?)
-        }
-        None => None,
-    };
-    Ok(Read { tree, depths })
+    node(alloc, place, optional(alloc, value), |value| {
+        Statement::Return(place, unboxed_expression(value), end)
+    })
 }
 
 /// `case` and its statement (C90 6.6.1).
@@ -351,15 +298,9 @@ pub fn case_statement(
         → ShowsStatement body s → IfOk result (λ r. ShowsStatement r (tree.Case place e s)) }
 {
     let parts = beside(value.read, body)?;
-    let Read { tree, depths } = over(alloc, place, parts)?;
-    let tree = match tree {
-        Some((value, body)) => {
-            let value = Box::into_inner(value);
-            Some(Box::new(alloc, Statement::Case(place, value, body))?)
-        }
-        None => None,
-    };
-    Ok(Read { tree, depths })
+    node(alloc, place, parts, |(value, body)| {
+        Statement::Case(place, Box::into_inner(value), body)
+    })
 }
 
 /// `default` and its statement (C90 6.6.1).
@@ -371,10 +312,5 @@ pub fn default_statement(
     ensures { (s : tree.Statement) → ShowsStatement body s
         → IfOk result (λ r. ShowsStatement r (tree.Default place s)) }
 {
-    let Read { tree, depths } = over(alloc, place, body)?;
-    let tree = match tree {
-        Some(body) => Some(Box::new(alloc, Statement::Default(place, body))?),
-        None => None,
-    };
-    Ok(Read { tree, depths })
+    node(alloc, place, body, |body| Statement::Default(place, body))
 }

@@ -6,7 +6,9 @@ use Rattle.dae_tree.specs.declared.words.Keyword.TheVariants as keywords
 use Rattle.dae_tree.specs.declared.signs.Sign.{Sign}
 use Rattle.dae_tree.specs.declared.signs.Sign.TheVariants as signs
 use Rattle.dae_tree.specs.declared.expressions.Name.{Name}
+use Rattle.dae_tree.specs.declared.operators.PrefixOperator.{PrefixOperator}
 use Rattle.dae_tree.specs.declared.operators.MemberOperator.{MemberOperator}
+use Rattle.dae_tree.specs.Operators.{prefix_at}
 use Rattle.dae_tree.specs.Marks.{Mark, word, sign, name, constant, literal, part, close_paren, close_bracket, close_brace, comma, colon, else_word}
 use Rattle.dae_tree.specs.declared.seen.Seen.{Seen}
 use Rattle.dae_tree.specs.Words.{has_type, admits, begins_specifiers}
@@ -14,8 +16,8 @@ use Rattle.dae_tree.specs.Names.{Names, is_type, has_typedef, with_declarator}
 use Rattle.dae_tree.specs.Grammar.{Manner, by_name, without_name, either_way}
 use Rattle.dae_tree.specs.Trees.{Expression, Specifiers, Specifier, Declarator, Initialiser, Item, Declaration, Statement, External, Block}
 use Rattle.dae_tree.specs.Lists.{MemberLine, Entry, Parameter}
-use Rattle.dae_grammar.specs.Frames.{Body, Open, Head, Loop, Inside, if_head, while_head, switch_head, do_head, Frame, in_parentheses, in_index, in_arguments, behind_prefix, behind_sizeof, behind_cast, behind_binary, behind_question, behind_colon, behind_assignment, behind_comma, in_size, in_enumerator, in_value, in_evaluation, in_test, in_start, in_loop_test, in_step, in_return, in_case, for_cast, for_sizeof, for_parameter, for_member, for_declaration, behind_star, in_group, of_cast, of_sizeof, of_parameter, of_member, of_item, in_list, of_value, in_file, in_block, then_branch, else_branch, while_body, switch_body, do_body, for_body, case_body, default_body, in_statements, in_definition, Doing, seek, operated, gave, calling, measuring, specifying, tagging, tagged, membering, enumerating, enumerated, entered, entering, gave_specifiers, declaring, qualifying, suffixing, sizing, parametering, gave_declarator, initialising, listing, gave_initialiser, itemed, gave_declaration, externals, declarations, statements, stating, opening, finishing, looping, starting, testing, stepping, returning, breaking, continuing, defaulting, gave_statement, State, state}
-use Rattle.dae_grammar.specs.Machine.{initialised, listed, list_followed, initialiser_taken, item_followed, declaration_taken, external_begun, block_followed, sign_stated, word_stated, stated, started, loop_tested, stepped, returned, branched, done_followed, defined, statement_given, called, measured, enumerator_named, enumerator_followed, declaration_begun, specifiers_given, nothing_declared, begins_parameters, parenthesis_declared, bracket_declared, name_declared, declared, qualified, suffixed, sized, parameters_opened, parameter_given, member_given, item_given, declarator_given, at_paren, at_bracket, at_colon, at_semicolon, at_open, sign_sought, sought, named_member, operated_at, argument_given, tested, expression_given, specifiers_end, word_taken, specified, body, body_opened, tag_taken, tag_followed, members_followed, entry_followed, comma_followed, step, operation, operate, goes_on, begun, Operation, subscript, call, member_of, step_of, binary_of, choice, assignment_of, ends}
+use Rattle.dae_grammar.specs.Frames.{Body, Open, Head, Loop, Inside, if_head, while_head, switch_head, do_head, Frame, in_parentheses, in_index, in_arguments, behind_prefix, behind_sizeof, behind_cast, behind_binary, behind_question, behind_colon, behind_assignment, behind_comma, in_size, in_enumerator, in_value, in_evaluation, in_test, in_start, in_loop_test, in_step, in_return, in_case, for_cast, for_sizeof, for_parameter, for_member, for_declaration, behind_star, in_group, of_cast, of_sizeof, of_parameter, of_member, of_item, in_list, of_value, in_file, in_block, then_branch, else_branch, while_body, switch_body, do_body, for_body, case_body, default_body, in_statements, in_definition, Doing, seek, operated, gave, calling, measuring, specifying, tagging, tagged, membering, enumerating, enumerated, entered, entering, gave_specifiers, declaring, qualifying, suffixing, sizing, parametering, gave_declarator, initialising, listing, gave_initialiser, itemed, gave_declaration, externals, declarations, statements, stating, opening, finishing, looping, starting, testing, stepping, returning, breaking, continuing, defaulting, gave_statement, State, state, awaits_initialiser, awaits_declaration, awaits_expression, awaits_specifiers, awaits_declarator, awaits_statement, ExpressionFrame, SpecifiersFrame, DeclaratorFrame, StatementFrame}
+use Rattle.dae_grammar.specs.Machine.{initialised, listed, list_followed, initialiser_taken, item_followed, declaration_taken, external_begun, block_followed, sign_stated, word_stated, stated, started, loop_tested, stepped, returned, branched, done_followed, defined, statement_given, called, measured, enumerator_named, enumerator_followed, declaration_begun, specifiers_given, nothing_declared, begins_parameters, parenthesis_declared, bracket_declared, name_declared, declared, qualified, suffixed, sized, parameters_opened, parameter_given, member_given, item_given, declarator_given, at_paren, at_bracket, at_colon, at_semicolon, at_open, prefixed, sign_sought, sought, named_member, operated_at, argument_given, tested, expression_given, specifiers_end, word_taken, specified, body, body_opened, tag_taken, tag_followed, members_followed, entry_followed, comma_followed, step, operation, operate, goes_on, begun, Operation, subscript, call, member_of, step_of, binary_of, choice, assignment_of, ends}
 use Rattle.dae_grammar.specs.Runs.{run}
 use Rattle.dae_states.specs.Bottom.{IsBottom}
 use Rattle.dae_states.specs.Bottom.{IsEmptyAt, IsBottomState}
@@ -61,17 +63,13 @@ bottom_open (_ ∷ ts) next h = tt
 
 -- ---- expressions
 
+bottom_prefixed : (o : Option PrefixOperator) (p : Place) (l : ℕ) (s : List Frame) (names : Names) (ts : List Mark) → IsBottom s → After (prefixed o p l s names ts)
+bottom_prefixed None p l s names ts st = tt
+bottom_prefixed (Some o) p l s names ts st = (st, tt)
+
 bottom_sign : (g : Sign) (p : Place) (l : ℕ) (s : List Frame) (names : Names) (ts : List Mark) → IsBottom s → After (sign_sought g p l s names ts)
 bottom_sign signs.LeftParen p l s names ts st = either (begins_specifiers names ts && leb 3 l) _ _ (st, tt) (st, tt)
-bottom_sign signs.Increment p l s names ts st = (st, tt)
-bottom_sign signs.Decrement p l s names ts st = (st, tt)
-bottom_sign signs.And p l s names ts st = (st, tt)
-bottom_sign signs.Times p l s names ts st = (st, tt)
-bottom_sign signs.Plus p l s names ts st = (st, tt)
-bottom_sign signs.Minus p l s names ts st = (st, tt)
-bottom_sign signs.Tilde p l s names ts st = (st, tt)
-bottom_sign signs.Not p l s names ts st = (st, tt)
-bottom_sign _ p l s names ts st = tt
+bottom_sign g p l s names ts st = bottom_prefixed (prefix_at g) p l s names ts st
 
 bottom_sought : (l : ℕ) (s : List Frame) (names : Names) (ts : List Mark) → IsBottom s → After (sought l s names ts)
 bottom_sought l s names [] st = tt
@@ -116,7 +114,7 @@ bottom_tested (while_head q) p e s names ts st = (st, tt)
 bottom_tested (switch_head q) p e s names ts st = (st, tt)
 bottom_tested (do_head q b r) p e s names ts st = (st, tt)
 
-bottom_expression : (e : Expression) (f : Frame) (s : List Frame) (names : Names) (ts : List Mark) → IsBottom (f ∷ s) → After (expression_given e f s names ts)
+bottom_expression : (e : Expression) (f : ExpressionFrame) (s : List Frame) (names : Names) (ts : List Mark) → IsBottom (awaits_expression f ∷ s) → After (expression_given e f s names ts)
 bottom_expression e (in_parentheses p l) s names ts st = bottom_paren ts _ (λ us. (st, tt))
 bottom_expression e (in_index a p l) s names ts st = bottom_bracket ts _ (λ us. (st, tt))
 bottom_expression e (in_arguments g p before l) s names ts st = bottom_argument e g p before l s names ts st
@@ -138,7 +136,6 @@ bottom_expression e (in_loop_test p q a r) s names ts st = bottom_semicolon ts _
 bottom_expression e (in_step loop) s names ts st = bottom_paren ts _ (λ us. (st, tt))
 bottom_expression e (in_return p) s names ts st = bottom_semicolon ts _ (λ q us. (st, tt))
 bottom_expression e (in_case p) s names ts st = bottom_colon ts _ (λ us. (st, tt))
-bottom_expression e _ s names ts st = tt
 
 -- ---- specifiers
 
@@ -202,13 +199,12 @@ bottom_begun outer ws s names [] st = (st, tt)
 bottom_begun outer ws s names (sign signs.Semicolon p ∷ ts) st = (st, tt)
 bottom_begun outer ws s names (_ ∷ ts) st = (st, tt)
 
-bottom_specifiers : (ws : Specifiers) (f : Frame) (s : List Frame) (names : Names) (ts : List Mark) → IsBottom (f ∷ s) → After (specifiers_given ws f s names ts)
+bottom_specifiers : (ws : Specifiers) (f : SpecifiersFrame) (s : List Frame) (names : Names) (ts : List Mark) → IsBottom (awaits_specifiers f ∷ s) → After (specifiers_given ws f s names ts)
 bottom_specifiers ws (for_cast p l) s names ts st = (st, tt)
 bottom_specifiers ws (for_sizeof p q l) s names ts st = (st, tt)
 bottom_specifiers ws (for_parameter o before) s names ts st = (st, tt)
 bottom_specifiers ws (for_member b before) s names ts st = (st, tt)
 bottom_specifiers ws (for_declaration outer) s names ts st = bottom_begun outer ws s names ts st
-bottom_specifiers ws _ s names ts st = tt
 
 bottom_nothing : (m : Manner) (needed : Bool) (s : List Frame) (names : Names) (ts : List Mark) → IsBottom s → After (nothing_declared m needed s names ts)
 bottom_nothing by_name needed s names ts st = tt
@@ -285,7 +281,7 @@ bottom_item false d ws before s names [] st = (st, tt)
 bottom_item false d ws before s names (sign signs.Assign p ∷ ts) st = (st, tt)
 bottom_item false d ws before s names (_ ∷ ts) st = (st, tt)
 
-bottom_declarator : (d : Declarator) (f : Frame) (s : List Frame) (names : Names) (ts : List Mark) → IsBottom (f ∷ s) → After (declarator_given d f s names ts)
+bottom_declarator : (d : Declarator) (f : DeclaratorFrame) (s : List Frame) (names : Names) (ts : List Mark) → IsBottom (awaits_declarator f ∷ s) → After (declarator_given d f s names ts)
 bottom_declarator d (behind_star p qs) s names ts st = (st, tt)
 bottom_declarator d (in_group p m) s names ts st = bottom_paren ts _ (λ us. (st, tt))
 bottom_declarator d (of_cast p ws l) s names ts st = bottom_paren ts _ (λ us. (st, tt))
@@ -293,7 +289,6 @@ bottom_declarator d (of_sizeof p q ws l) s names ts st = bottom_paren ts _ (λ u
 bottom_declarator d (of_parameter o before ws) s names ts st = bottom_parameter d o before ws s names ts st
 bottom_declarator d (of_member b lines ws before) s names ts st = bottom_member_line d b lines ws before s names ts st
 bottom_declarator d (of_item outer ws before) s names ts st = bottom_item outer d ws before s (with_declarator (has_typedef ws) d names) ts st
-bottom_declarator d _ s names ts st = tt
 
 -- ---- initialisers and declarations
 
@@ -318,8 +313,8 @@ bottom_list_followed p x before s names (_ ∷ ts) st = (st, tt)
 
 bottom_initialiser : (x : Initialiser) (s : List Frame) (names : Names) (ts : List Mark) → IsBottom s → After (initialiser_taken x s names ts)
 bottom_initialiser x [] names ts st = tt
-bottom_initialiser x (in_list p before ∷ s) names ts st = bottom_listed x p before s names ts st
-bottom_initialiser x (of_value ws before d p ∷ s) names ts st = (st, tt)
+bottom_initialiser x (awaits_initialiser (in_list p before) ∷ s) names ts st = bottom_listed x p before s names ts st
+bottom_initialiser x (awaits_initialiser (of_value ws before d p) ∷ s) names ts st = (st, tt)
 bottom_initialiser x (_ ∷ s) names ts st = tt
 
 bottom_itemed : (ws : Specifiers) (i : Item) (before : List Item) (s : List Frame) (names : Names) (ts : List Mark) → IsBottom s → After (item_followed ws i before s names ts)
@@ -330,8 +325,8 @@ bottom_itemed ws i before s names (_ ∷ ts) st = tt
 
 bottom_declaration : (d : Declaration) (s : List Frame) (names : Names) (ts : List Mark) → IsBottom s → After (declaration_taken d s names ts)
 bottom_declaration d [] names ts st = tt
-bottom_declaration d (in_file before ∷ s) names ts st = (bottom_empty s st, st)
-bottom_declaration d (in_block i ∷ s) names ts st = (st, tt)
+bottom_declaration d (awaits_declaration (in_file before) ∷ s) names ts st = (bottom_empty s st, st)
+bottom_declaration d (awaits_declaration (in_block i) ∷ s) names ts st = (st, tt)
 bottom_declaration d (_ ∷ s) names ts st = tt
 
 bottom_external : (before : List External) (s : List Frame) (names : Names) (ts : List Mark) → s ≡ [] → After (external_begun before s names ts)
@@ -392,11 +387,11 @@ bottom_done p b s names (_ ∷ ts) st = tt
 
 bottom_defined : (ws : Specifiers) (d : Declarator) (outside : Names) (b : Statement) (s : List Frame) (ts : List Mark) → IsBottom s → After (defined ws d outside b s ts)
 bottom_defined ws d outside (Block p ds ss) [] ts st = tt
-bottom_defined ws d outside (Block p ds ss) (in_file before ∷ s) ts st = (bottom_empty s st, st)
+bottom_defined ws d outside (Block p ds ss) (awaits_declaration (in_file before) ∷ s) ts st = (bottom_empty s st, st)
 bottom_defined ws d outside (Block p ds ss) (_ ∷ s) ts st = tt
 bottom_defined ws d outside _ s ts st = tt
 
-bottom_statement : (b : Statement) (f : Frame) (s : List Frame) (names : Names) (ts : List Mark) → IsBottom (f ∷ s) → After (statement_given b f s names ts)
+bottom_statement : (b : Statement) (f : StatementFrame) (s : List Frame) (names : Names) (ts : List Mark) → IsBottom (awaits_statement f ∷ s) → After (statement_given b f s names ts)
 bottom_statement b (then_branch p q e) s names ts st = bottom_branched p q e b s names ts st
 bottom_statement b (else_branch p q e a) s names ts st = (st, tt)
 bottom_statement b (while_body p q e) s names ts st = (st, tt)
@@ -407,7 +402,6 @@ bottom_statement b (case_body p e) s names ts st = (st, tt)
 bottom_statement b (default_body p) s names ts st = (st, tt)
 bottom_statement b (in_statements i before) s names ts st = (st, tt)
 bottom_statement b (in_definition ws d outside) s names ts st = bottom_defined ws d outside b s ts st
-bottom_statement b _ s names ts st = tt
 
 -- ---- every step
 
@@ -429,8 +423,8 @@ bottom_enumerating b before s names (_ ∷ ts) st = tt
 bottom_at : (d : Doing) (s : List Frame) (names : Names) (ts : List Mark) → IsBottom s → IsEmptyAt d s → After (step (state d s names ts))
 bottom_at (seek l) s names ts st empty = bottom_sought l s names ts st
 bottom_at (operated e l) s names ts st empty = bottom_operated e l s names ts st
-bottom_at (gave e) [] names ts st empty = tt
-bottom_at (gave e) (f ∷ s) names ts st empty = bottom_expression e f s names ts st
+bottom_at (gave e) (awaits_expression f ∷ s) names ts st empty = bottom_expression e f s names ts st
+bottom_at (gave e) _ names ts st empty = tt
 bottom_at (calling e p l) s names ts st empty = bottom_called e p l s names ts st
 bottom_at (measuring p l) s names ts st empty = bottom_measured p l s names ts st
 bottom_at (specifying seen before) s names ts st empty = bottom_specified seen before s names ts st
@@ -441,15 +435,15 @@ bottom_at (enumerating b before) s names ts st empty = bottom_enumerating b befo
 bottom_at (enumerated b before n) s names ts st empty = bottom_enumerated b before n s names ts st
 bottom_at (entered b before e) s names ts st empty = bottom_entered b before e s names ts st
 bottom_at (entering b before e) s names ts st empty = bottom_entering b before e s names ts st
-bottom_at (gave_specifiers ws) [] names ts st empty = tt
-bottom_at (gave_specifiers ws) (f ∷ s) names ts st empty = bottom_specifiers ws f s names ts st
+bottom_at (gave_specifiers ws) (awaits_specifiers f ∷ s) names ts st empty = bottom_specifiers ws f s names ts st
+bottom_at (gave_specifiers ws) _ names ts st empty = tt
 bottom_at (declaring m needed) s names ts st empty = bottom_declared m needed s names ts st
 bottom_at (qualifying m p before) s names ts st empty = bottom_qualified m p before s names ts st
 bottom_at (suffixing m d) s names ts st empty = bottom_suffixed m d s names ts st
 bottom_at (sizing m d p) s names ts st empty = bottom_sized m d p s names ts st
 bottom_at (parametering m d p) s names ts st empty = bottom_opened m d p s names ts st
-bottom_at (gave_declarator d) [] names ts st empty = tt
-bottom_at (gave_declarator d) (f ∷ s) names ts st empty = bottom_declarator d f s names ts st
+bottom_at (gave_declarator d) (awaits_declarator f ∷ s) names ts st empty = bottom_declarator d f s names ts st
+bottom_at (gave_declarator d) _ names ts st empty = tt
 bottom_at initialising s names ts st empty = bottom_initialised s names ts st
 bottom_at (listing p x before) s names ts st empty = bottom_list_followed p x before s names ts st
 bottom_at (gave_initialiser x) s names ts st empty = bottom_initialiser x s names ts st
@@ -469,8 +463,8 @@ bottom_at (returning p) s names ts st empty = bottom_returned p s names ts st
 bottom_at (breaking p) s names ts st empty = bottom_semicolon ts _ (λ q us. (st, tt))
 bottom_at (continuing p) s names ts st empty = bottom_semicolon ts _ (λ q us. (st, tt))
 bottom_at (defaulting p) s names ts st empty = bottom_colon ts _ (λ us. (st, tt))
-bottom_at (gave_statement b) [] names ts st empty = tt
-bottom_at (gave_statement b) (f ∷ s) names ts st empty = bottom_statement b f s names ts st
+bottom_at (gave_statement b) (awaits_statement f ∷ s) names ts st empty = bottom_statement b f s names ts st
+bottom_at (gave_statement b) _ names ts st empty = tt
 
 bottom_step : (s : State) → IsBottomState s → After (step s)
 bottom_step (state d s names ts) h = bottom_at d s names ts h.0 h.1

@@ -25,7 +25,10 @@ use dae_statement_steps::{
     in_arguments, in_case, in_evaluation, in_index, in_loop_test, in_parentheses, in_return,
     in_start, in_statements, in_step, in_test, switch_body, then_branch, while_body,
 };
-use dae_states::{Doing, Frame, Machine};
+use dae_states::{
+    DeclarationFrame, DeclaratorFrame, Doing, ExpressionFrame, InitialiserFrame, Machine,
+    SpecifiersFrame, StatementFrame,
+};
 use dae_tree::{Declaration, Initialiser, Statement};
 use std::alloc::AllocError;
 
@@ -33,53 +36,51 @@ use std::alloc::AllocError;
 pub fn give_expression(machine: &mut Machine<'_>, a: Operand) -> Result<Option<Doing>, AllocError>
     ensures { (e : Expression) → ShowsOperand a e → Steps machine.old result machine.new (given e) }
 {
-    let Some(frame) = machine.pop() else {
+    let Some(frame) = machine.pop_expression() else {
         return Ok(None);
     };
     match frame {
-        Frame::InParentheses(place, level) => in_parentheses(machine, a, place, level),
-        Frame::InIndex(base, place, level) => in_index(machine, a, base, place, level),
-        Frame::InArguments(callee, place, before, level) => {
+        ExpressionFrame::InParentheses(place, level) => in_parentheses(machine, a, place, level),
+        ExpressionFrame::InIndex(base, place, level) => in_index(machine, a, base, place, level),
+        ExpressionFrame::InArguments(callee, place, before, level) => {
             in_arguments(machine, a, callee, place, before, level)
         }
-        Frame::BehindPrefix(place, operator, level) => {
+        ExpressionFrame::BehindPrefix(place, operator, level) => {
             behind_prefix(machine, a, place, operator, level)
         }
-        Frame::BehindSizeof(place, level) => behind_sizeof(machine, a, place, level),
-        Frame::BehindCast(place, specified, declared, level) => {
+        ExpressionFrame::BehindSizeof(place, level) => behind_sizeof(machine, a, place, level),
+        ExpressionFrame::BehindCast(place, specified, declared, level) => {
             behind_cast(machine, a, place, specified, declared, level)
         }
-        Frame::BehindBinary(left, place, operator, level) => {
+        ExpressionFrame::BehindBinary(left, place, operator, level) => {
             behind_binary(machine, a, left, place, operator, level)
         }
-        Frame::BehindQuestion(test, place, level) => behind_question(
+        ExpressionFrame::BehindQuestion(test, place, level) => behind_question(
             machine, a, test, place, level,
         ),
-        Frame::BehindColon(test, place, then, level) => {
+        ExpressionFrame::BehindColon(test, place, then, level) => {
             behind_colon(machine, a, test, place, then, level)
         }
-        Frame::BehindAssignment(left, place, operator, level) => {
+        ExpressionFrame::BehindAssignment(left, place, operator, level) => {
             behind_assignment(machine, a, left, place, operator, level)
         }
-        Frame::BehindComma(left, level) => behind_comma(machine, a, left, level),
-        Frame::InSize(declared, place, manner) => in_size(machine, a, declared, place, manner),
-        Frame::InEnumerator(body, list, name, place) => {
+        ExpressionFrame::BehindComma(left, level) => behind_comma(machine, a, left, level),
+        ExpressionFrame::InSize(declared, place, manner) => in_size(
+            machine, a, declared, place, manner,
+        ),
+        ExpressionFrame::InEnumerator(body, list, name, place) => {
             in_enumerator(machine, a, body, list, name, place)
         }
-        Frame::InValue => in_value(machine, a),
-        Frame::InEvaluation => in_evaluation(machine, a),
-        Frame::InTest(head, paren) => in_test(machine, a, head, paren),
-        Frame::InStart(word, paren) => in_start(machine, a, word, paren),
-        Frame::InLoopTest(word, paren, start, first) => {
+        ExpressionFrame::InValue => in_value(machine, a),
+        ExpressionFrame::InEvaluation => in_evaluation(machine, a),
+        ExpressionFrame::InTest(head, paren) => in_test(machine, a, head, paren),
+        ExpressionFrame::InStart(word, paren) => in_start(machine, a, word, paren),
+        ExpressionFrame::InLoopTest(word, paren, start, first) => {
             in_loop_test(machine, a, word, paren, start, first)
         }
-        Frame::InStep(parts) => in_step(machine, a, parts),
-        Frame::InReturn(place) => in_return(machine, a, place),
-        Frame::InCase(place) => in_case(machine, a, place),
-        other => {
-            drop(other);
-            Ok(None)
-        }
+        ExpressionFrame::InStep(parts) => in_step(machine, a, parts),
+        ExpressionFrame::InReturn(place) => in_return(machine, a, place),
+        ExpressionFrame::InCase(place) => in_case(machine, a, place),
     }
 }
 
@@ -91,21 +92,17 @@ pub fn give_specifiers(
     ensures { (ws : Specifiers) → ShowsSpecified specified ws →
         Steps machine.old result machine.new (specifiers_taken ws) }
 {
-    let Some(frame) = machine.pop() else {
+    let Some(frame) = machine.pop_specifiers() else {
         return Ok(None);
     };
     match frame {
-        Frame::ForCast(place, level) => for_cast(machine, specified, place, level),
-        Frame::ForSizeof(place, paren, level) => {
+        SpecifiersFrame::ForCast(place, level) => for_cast(machine, specified, place, level),
+        SpecifiersFrame::ForSizeof(place, paren, level) => {
             for_sizeof(machine, specified, place, paren, level)
         }
-        Frame::ForParameter(open, list) => for_parameter(machine, specified, open, list),
-        Frame::ForMember(body, members) => for_member(machine, specified, body, members),
-        Frame::ForDeclaration(outer) => for_declaration(machine, specified, outer),
-        other => {
-            drop(other);
-            Ok(None)
-        }
+        SpecifiersFrame::ForParameter(open, list) => for_parameter(machine, specified, open, list),
+        SpecifiersFrame::ForMember(body, members) => for_member(machine, specified, body, members),
+        SpecifiersFrame::ForDeclaration(outer) => for_declaration(machine, specified, outer),
     }
 }
 
@@ -120,31 +117,29 @@ pub fn give_declarator(
         → IfOk result (λ r. Follows r machine.new
         (declarator_taken d s machine.old.scope.names machine.old.rest)) }
 {
-    let Some(frame) = machine.pop() else {
+    let Some(frame) = machine.pop_declarator() else {
         return Ok(None);
     };
     match frame {
-        Frame::BehindStar(place, qualifiers) => behind_star(machine, declared, place, qualifiers),
-        Frame::InGroup(place, manner) => in_group(machine, declared, place, manner),
-        Frame::OfCast(place, specified, level) => of_cast(
+        DeclaratorFrame::BehindStar(place, qualifiers) => behind_star(
+            machine, declared, place, qualifiers,
+        ),
+        DeclaratorFrame::InGroup(place, manner) => in_group(machine, declared, place, manner),
+        DeclaratorFrame::OfCast(place, specified, level) => of_cast(
             machine, declared, place, specified, level,
         ),
-        Frame::OfSizeof(place, paren, specified, level) => {
+        DeclaratorFrame::OfSizeof(place, paren, specified, level) => {
             of_sizeof(machine, declared, place, paren, specified, level)
         }
-        Frame::OfParameter(open, list, specified) => {
+        DeclaratorFrame::OfParameter(open, list, specified) => {
             of_parameter(machine, declared, open, list, specified)
         }
-        Frame::OfMember(body, members, specified, before) => {
+        DeclaratorFrame::OfMember(body, members, specified, before) => {
             of_member(machine, declared, body, members, specified, before)
         }
-        Frame::OfItem(outer, specified, items) => of_item(
+        DeclaratorFrame::OfItem(outer, specified, items) => of_item(
             machine, declared, outer, specified, items,
         ),
-        other => {
-            drop(other);
-            Ok(None)
-        }
     }
 }
 
@@ -156,17 +151,13 @@ pub fn give_initialiser(
     ensures { (x : InitialiserTree) → ShowsInitialiser initialiser x →
         Steps machine.old result machine.new (initialiser_taken x) }
 {
-    let Some(frame) = machine.pop() else {
+    let Some(frame) = machine.pop_initialiser() else {
         return Ok(None);
     };
     match frame {
-        Frame::InList(place, before) => in_list(machine, initialiser, place, before),
-        Frame::OfValue(specified, items, declared, place) => {
+        InitialiserFrame::InList(place, before) => in_list(machine, initialiser, place, before),
+        InitialiserFrame::OfValue(specified, items, declared, place) => {
             of_value(machine, initialiser, specified, items, declared, place)
-        }
-        other => {
-            drop(other);
-            Ok(None)
         }
     }
 }
@@ -184,16 +175,12 @@ pub fn give_declaration(
         → IfOk result (λ r. Follows r machine.new
         (declaration_taken d s machine.old.scope.names machine.old.rest)) }
 {
-    let Some(frame) = machine.pop() else {
+    let Some(frame) = machine.pop_declaration() else {
         return Ok(None);
     };
     match frame {
-        Frame::InFile(before) => in_file(machine, found, before, total),
-        Frame::InBlock(inside) => in_block(machine, found, inside),
-        other => {
-            drop(other);
-            Ok(None)
-        }
+        DeclarationFrame::InFile(before) => in_file(machine, found, before, total),
+        DeclarationFrame::InBlock(inside) => in_block(machine, found, inside),
     }
 }
 
@@ -211,27 +198,31 @@ pub fn give_statement(
         → IfOk result (λ r. Follows r machine.new
         (statement_taken b s machine.old.scope.names machine.old.rest)) }
 {
-    let Some(frame) = machine.pop() else {
+    let Some(frame) = machine.pop_statement() else {
         return Ok(None);
     };
     match frame {
-        Frame::ThenBranch(place, paren, test) => then_branch(machine, found, place, paren, test),
-        Frame::ElseBranch(place, paren, test, then) => {
+        StatementFrame::ThenBranch(place, paren, test) => then_branch(
+            machine, found, place, paren, test,
+        ),
+        StatementFrame::ElseBranch(place, paren, test, then) => {
             else_branch(machine, found, place, paren, test, then)
         }
-        Frame::WhileBody(place, paren, test) => while_body(machine, found, place, paren, test),
-        Frame::SwitchBody(place, paren, test) => switch_body(machine, found, place, paren, test),
-        Frame::DoBody(place) => do_body(machine, found, place),
-        Frame::ForBody(parts, step) => for_body(machine, found, parts, step),
-        Frame::CaseBody(place, value) => case_body(machine, found, place, value),
-        Frame::DefaultBody(place) => default_body(machine, found, place),
-        Frame::InStatements(inside, before) => in_statements(machine, found, inside, before),
-        Frame::InDefinition(specified, declared) => {
+        StatementFrame::WhileBody(place, paren, test) => while_body(
+            machine, found, place, paren, test,
+        ),
+        StatementFrame::SwitchBody(place, paren, test) => switch_body(
+            machine, found, place, paren, test,
+        ),
+        StatementFrame::DoBody(place) => do_body(machine, found, place),
+        StatementFrame::ForBody(parts, step) => for_body(machine, found, parts, step),
+        StatementFrame::CaseBody(place, value) => case_body(machine, found, place, value),
+        StatementFrame::DefaultBody(place) => default_body(machine, found, place),
+        StatementFrame::InStatements(inside, before) => in_statements(
+            machine, found, inside, before,
+        ),
+        StatementFrame::InDefinition(specified, declared) => {
             in_definition(machine, found, is_body, specified, declared, total)
-        }
-        other => {
-            drop(other);
-            Ok(None)
         }
     }
 }

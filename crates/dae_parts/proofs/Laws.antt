@@ -6,7 +6,7 @@ use Rattle.dae_base.specs.declared.Place.{Place}
 use Rattle.dae_grammar.specs.FirstPlaces.{Places, or_else, nowhere, both, over}
 use Rattle.dae_parts.specs.declared.reading.Read.{Read}
 use Rattle.dae_depths.specs.declared.depths.Depths.{Depths}
-use Rattle.dae_parts.specs.Shown.{Lists, IsKept, Holds, IsSeen, in_box, box_value, Shows, IsFrom, IsPair}
+use Rattle.dae_parts.specs.Shown.{Lists, IsKept, Holds, IsSeen, in_box, box_value, Shows, IsFrom, IsPair, IsMade}
 use Rattle.dae_parts.proofs.Holding.{holds_some, holds_none}
 
 pub holds_same : {T : Type 0} (r : Read T) (f g : Places) → ((i : ℕ) → f i ≡ g i) → Holds r f → Holds r g
@@ -64,6 +64,33 @@ shows_made vu fu view firsts part tree b a u t h same e d step = record {
   holds = holds_some part (firsts a) tree u t (subst (λ (f : Places). Holds part f) same h.holds) e d;
   seen = subst (λ (o : Option _). IsSeen view o a) (sym d) (step (seen_at vu part.tree b u h.seen e));
 }
+
+pub made_kept : {T N : Type 0} (make : T → N → Type 0) (part whole : Option T) (o : Option (Box N Global)) (t : T) (n : N) (b : Box N Global)
+    → IsFrom part whole → whole ≡ Some t → o ≡ Some b → b.value ≡ n → make t n → IsMade make part (box_value o)
+made_kept make part whole o t n b from e d same made =
+    subst (λ (x : Option _). IsMade make part (box_value x)) (sym d) (t, subst (λ (x : Option _). IsFrom part x) e from, subst (make t) (sym same) made)
+
+pub made_absent : {T N : Type 0} (make : T → N → Type 0) (part : Option T) (o : Option (Box N Global)) → o ≡ None → IsMade make part (box_value o)
+made_absent make part o d = subst (λ (x : Option _). IsMade make part (box_value x)) (sym d) tt
+
+seen_made : {T N A B : Type 0} (vt : T → B) (vn : N → A) (make : T → N → Type 0) (part : Option T) (o : Option (Box N Global)) (b : B) (a : A)
+    → IsSeen vt part b → IsMade make part (box_value o) → ((t : T) (n : N) → make t n → vt t ≡ b → vn n ≡ a) → IsSeen (in_box vn) o a
+seen_made vt vn make part None b a seen made step = tt
+seen_made vt vn make part (Some x) b a seen made step = step made.0 x.value made.2 (seen_at vt part b made.0 seen made.1)
+
+-- a node over a part
+pub shows_node : {T N A B : Type 0} (vt : T → B) (ft : B → Places) (vn : N → A) (fn : A → Places) (make : T → N → Type 0) (place : Place) (part : Read T) (whole : Read (Box N Global)) (b : B) (a : A)
+    → Shows vt ft part b → ((f : Places) → Holds part f → Holds whole (over place f) × IsMade make part.tree (box_value whole.tree))
+    → over place (ft b) ≡ fn a → ((t : T) (n : N) → make t n → vt t ≡ b → vn n ≡ a) → Shows (in_box vn) fn whole a
+shows_node vt ft vn fn make place part whole b a h node same step =
+    let m = node (ft b) h.holds in
+    record { holds = subst (λ (f : Places). Holds whole f) same m.0; seen = seen_made vt vn make part.tree whole.tree b a h.seen m.1 step }
+
+pub node_shown : {T N A B E : Type 0} (vt : T → B) (ft : B → Places) (vn : N → A) (fn : A → Places) (make : T → N → Type 0) (place : Place) (part : Read T) (result : Result (Read (Box N Global)) E) (b : B) (a : A)
+    → Shows vt ft part b → ((f : Places) → Holds part f → IfOk result (λ r. Holds r (over place f) × IsMade make part.tree (box_value r.tree)))
+    → over place (ft b) ≡ fn a → ((t : T) (n : N) → make t n → vt t ≡ b → vn n ≡ a) → IfOk result (λ r. Shows (in_box vn) fn r a)
+node_shown vt ft vn fn make place part (Err x) b a h node same step = tt
+node_shown vt ft vn fn make place part (Ok whole) b a h node same step = shows_node vt ft vn fn make place part whole b a h node same step
 
 -- no tree where the part has none
 pub shows_absent : {T U A B : Type 0} (vu : U → B) (fu : B → Places) (view : T → A) (firsts : A → Places) (part : Read U) (tree : Option T) (b : B) (a : A)

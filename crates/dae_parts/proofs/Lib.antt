@@ -1,3 +1,2 @@
 mod Holding
-mod Strengths
 pub mod Laws

@@ -53,6 +53,10 @@ abbrev pub IsFrom : {T : Type 0} → Option T → Option T → Type 0
 IsFrom part None = Unit {0}
 IsFrom part (Some t) = part ≡ Some t
 
+abbrev pub IsMade : {T N : Type 0} → (T → N → Type 0) → Option T → Option N → Type 0
+IsMade make part None = Unit {0}
+IsMade {T} make part (Some n) = (t : T) × (part ≡ Some t) × make t n
+
 abbrev pub IsPair : {T U : Type 0} → Option T → Option U → Option (T × U) → Type 0
 IsPair left right None = Unit {0}
 IsPair left right (Some pair) = (left ≡ Some pair.0) × (right ≡ Some pair.1)

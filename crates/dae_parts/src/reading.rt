@@ -1,7 +1,7 @@
 // A part that was read, a node over it, parts side by side, and lists that grow by a part.
 ghost use Rattle.std.specs.Prelude.{◌≡◌, length, slice_get, Some, None, IfOk, IfErr, OnOk};
 ghost use Rattle.dae_grammar.specs.FirstPlaces.{Places, nowhere, both, over};
-ghost use Rattle.dae_parts.specs.Shown.{Holds, IsKept, IsFrom, IsPair, IsLonger, box_value};
+ghost use Rattle.dae_parts.specs.Shown.{Holds, IsKept, IsFrom, IsPair, IsLonger, IsMade, box_value};
 
 use dae_base::Place;
 use dae_depths::Depths;
@@ -57,6 +57,26 @@ pub fn beside<T: Drop, U: Drop>(left: Read<T>, right: Read<U>) -> Result<Read<(T
         }),
         _ => Ok(Read { tree: None, depths }),
     }
+}
+
+/// A node at this place over a part, made of the part's tree, in a box.
+pub fn node<T: Drop, N: Drop, F: FnOnce(T) -> N + Drop>(
+    alloc: Global,
+    place: Place,
+    part: Read<T>,
+    make: F,
+) -> Result<Read<Box<N>>, AllocError>
+    requires { F.IsAlwaysCallable make }
+    ensures { (f : Places) → Holds part f
+        → IfOk result
+        (λ r. Holds r (over place f) × IsMade (F.post make) part.tree (box_value r.tree)) }
+{
+    let Read { tree, depths } = over(alloc, place, part)?;
+    let tree = match tree {
+        Some(part) => Some(Box::new(alloc, make(part))?),
+        None => None,
+    };
+    Ok(Read { tree, depths })
 }
 
 /// A part whose tree is out of its box.

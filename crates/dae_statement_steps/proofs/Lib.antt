@@ -1,2 +1,3 @@
 mod OtherwiseStatements
 mod OtherwiseExpressions
+mod AtSigns

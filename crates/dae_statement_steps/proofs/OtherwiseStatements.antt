@@ -7,7 +7,7 @@ use Rattle.dae_tree.specs.declared.signs.Sign.TheVariants as signs
 use Rattle.dae_tree.specs.Marks.{Mark, word, sign, part, close_brace, else_word, word_mark}
 use Rattle.dae_tree.specs.Names.{Names}
 use Rattle.dae_tree.specs.Trees.{Expression, Statement, If}
-use Rattle.dae_grammar.specs.Frames.{Inside, Frame, state, stating, in_statements, in_return, seek, gave_statement}
+use Rattle.dae_grammar.specs.Frames.{Inside, Frame, state, stating, in_statements, in_return, seek, gave_statement, awaits_expression, awaits_statement}
 use Rattle.dae_grammar.specs.Machine.{block_followed, stated, evaluation_begun, returned, branched, done_followed}
 use Rattle.dae_states.specs.Fronts.{sign_at, word_at}
 use Rattle.std.proofs.Common.{Option}
@@ -16,31 +16,31 @@ use Rattle.dae_grammar.specs.Frames.{Loop, in_start, in_loop_test, in_step}
 use Rattle.dae_grammar.specs.Machine.{started, loop_tested, stepped}
 
 pub started_otherwise : (p q : Place) (s : List Frame) (names : Names) (ts : List Mark) → ¬ (sign_at ts ≡ Some signs.Semicolon)
-    → started p q s names ts ≡ Some (state (seek 16) (in_start p q ∷ s) names ts)
+    → started p q s names ts ≡ Some (state (seek 16) (awaits_expression (in_start p q) ∷ s) names ts)
 started_otherwise p q s names [] h = refl
 started_otherwise p q s names (sign signs.Semicolon r ∷ ts) h = absurd (h refl)
 started_otherwise p q s names (_ ∷ ts) h = refl
 
 pub tested_otherwise : (p q : Place) (a : Option Expression) (r : Place) (s : List Frame) (names : Names) (ts : List Mark) → ¬ (sign_at ts ≡ Some signs.Semicolon)
-    → loop_tested p q a r s names ts ≡ Some (state (seek 16) (in_loop_test p q a r ∷ s) names ts)
+    → loop_tested p q a r s names ts ≡ Some (state (seek 16) (awaits_expression (in_loop_test p q a r) ∷ s) names ts)
 tested_otherwise p q a r s names [] h = refl
 tested_otherwise p q a r s names (sign signs.Semicolon u ∷ ts) h = absurd (h refl)
 tested_otherwise p q a r s names (_ ∷ ts) h = refl
 
 pub stepped_otherwise : (l : Loop) (s : List Frame) (names : Names) (ts : List Mark) → ¬ (sign_at ts ≡ Some signs.RightParen)
-    → stepped l s names ts ≡ Some (state (seek 16) (in_step l ∷ s) names ts)
+    → stepped l s names ts ≡ Some (state (seek 16) (awaits_expression (in_step l) ∷ s) names ts)
 stepped_otherwise l s names [] h = refl
 stepped_otherwise l s names (part close_paren ∷ ts) h = absurd (h refl)
 stepped_otherwise l s names (_ ∷ ts) h = refl
 
 pub followed_otherwise : (i : Inside) (before : List Statement) (s : List Frame) (names : Names) (ts : List Mark) → ¬ (sign_at ts ≡ Some signs.RightBrace)
-    → block_followed i before s names ts ≡ Some (state stating (in_statements i before ∷ s) names ts)
+    → block_followed i before s names ts ≡ Some (state stating (awaits_statement (in_statements i before) ∷ s) names ts)
 followed_otherwise i before s names [] h = refl
 followed_otherwise i before s names (part close_brace ∷ ts) h = absurd (h refl)
 followed_otherwise i before s names (_ ∷ ts) h = refl
 
 pub returned_otherwise : (p : Place) (s : List Frame) (names : Names) (ts : List Mark) → ¬ (sign_at ts ≡ Some signs.Semicolon)
-    → returned p s names ts ≡ Some (state (seek 16) (in_return p ∷ s) names ts)
+    → returned p s names ts ≡ Some (state (seek 16) (awaits_expression (in_return p) ∷ s) names ts)
 returned_otherwise p s names [] h = refl
 returned_otherwise p s names (sign signs.Semicolon q ∷ ts) h = absurd (h refl)
 returned_otherwise p s names (_ ∷ ts) h = refl

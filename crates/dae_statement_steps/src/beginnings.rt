@@ -17,7 +17,10 @@ use dae_nodes::{
     no_declarations, no_specifiers, no_statements, return_statement,
 };
 use dae_parts::{COMMA, CONDITIONAL, Read};
-use dae_states::{Doing, Frame, Head, Inside, Machine, begins_specifiers};
+use dae_states::{
+    DeclarationFrame, Doing, ExpressionFrame, Frame, Head, Inside, Machine, SpecifiersFrame,
+    StatementFrame, begins_specifiers,
+};
 use dae_tree::{Keyword, Seen, Sign, Statement};
 use std::alloc::AllocError;
 
@@ -32,8 +35,8 @@ pub fn read_declaration(
         (block_begun i s machine.old.scope.names machine.old.rest)) }
 {
     if begins_specifiers(&machine.scope, &machine.rest) {
-        machine.push(Frame::InBlock(inside))?;
-        machine.push(Frame::ForDeclaration(false))?;
+        machine.push(Frame::Declaration(DeclarationFrame::InBlock(inside)))?;
+        machine.push(Frame::Specifiers(SpecifiersFrame::ForDeclaration(false)))?;
         let before = no_specifiers(machine.alloc);
         return Ok(Some(Doing::Specifying(Seen::nothing(), before)));
     }
@@ -62,7 +65,7 @@ pub fn read_block(
         let whole = block(machine.alloc, place, declarations, list)?;
         return Ok(Some(Doing::GaveStatement(whole, true)));
     }
-    machine.push(Frame::InStatements(inside, list))?;
+    machine.push(Frame::Statement(StatementFrame::InStatements(inside, list)))?;
     Ok(Some(Doing::Stating))
 }
 
@@ -96,7 +99,7 @@ pub fn read_statement(machine: &mut Machine<'_>) -> Result<Option<Doing>, AllocE
 fn begin_evaluation(machine: &mut Machine<'_>) -> Result<Option<Doing>, AllocError>
     ensures { Steps machine.old result machine.new evaluation_begun }
 {
-    machine.push(Frame::InEvaluation)?;
+    machine.push(Frame::Expression(ExpressionFrame::InEvaluation))?;
     Ok(Some(Doing::Seek(COMMA)))
 }
 
@@ -113,12 +116,12 @@ fn read_statement_word(
     match word {
         Keyword::Do => {
             machine.rest.skip();
-            machine.push(Frame::DoBody(place))?;
+            machine.push(Frame::Statement(StatementFrame::DoBody(place)))?;
             Ok(Some(Doing::Stating))
         }
         Keyword::Case => {
             machine.rest.skip();
-            machine.push(Frame::InCase(place))?;
+            machine.push(Frame::Expression(ExpressionFrame::InCase(place)))?;
             Ok(Some(Doing::Seek(CONDITIONAL)))
         }
         Keyword::If => begin(machine, Doing::Opening(Head::If(place))),
@@ -153,7 +156,7 @@ pub fn read_test(machine: &mut Machine<'_>, head: Head) -> Result<Option<Doing>,
     let Some(paren) = machine.rest.take_sign(Sign::LeftParen) else {
         return Ok(None);
     };
-    machine.push(Frame::InTest(head, paren))?;
+    machine.push(Frame::Expression(ExpressionFrame::InTest(head, paren)))?;
     Ok(Some(Doing::Seek(COMMA)))
 }
 
@@ -190,7 +193,7 @@ pub fn read_loop_test(
             second,
         })));
     }
-    machine.push(Frame::InLoopTest(word, paren, start, first))?;
+    machine.push(Frame::Expression(ExpressionFrame::InLoopTest(word, paren, start, first)))?;
     Ok(Some(Doing::Seek(COMMA)))
 }
 
@@ -201,10 +204,10 @@ pub fn read_loop_step(machine: &mut Machine<'_>, parts: Loop) -> Result<Option<D
         Steps machine.old result machine.new (stepped a) }
 {
     if machine.rest.take_sign(Sign::RightParen).is_some() {
-        machine.push(Frame::ForBody(parts, None))?;
+        machine.push(Frame::Statement(StatementFrame::ForBody(parts, None)))?;
         return Ok(Some(Doing::Stating));
     }
-    machine.push(Frame::InStep(parts))?;
+    machine.push(Frame::Expression(ExpressionFrame::InStep(parts)))?;
     Ok(Some(Doing::Seek(COMMA)))
 }
 
@@ -216,7 +219,7 @@ pub fn read_default(machine: &mut Machine<'_>, place: Place) -> Result<Option<Do
     if machine.rest.take_sign(Sign::Colon).is_none() {
         return Ok(None);
     }
-    machine.push(Frame::DefaultBody(place))?;
+    machine.push(Frame::Statement(StatementFrame::DefaultBody(place)))?;
     Ok(Some(Doing::Stating))
 }
 
@@ -232,7 +235,7 @@ pub fn read_loop_start(
     if let Some(first) = machine.rest.take_sign(Sign::Semicolon) {
         return Ok(Some(Doing::Testing(word, paren, None, first)));
     }
-    machine.push(Frame::InStart(word, paren))?;
+    machine.push(Frame::Expression(ExpressionFrame::InStart(word, paren)))?;
     Ok(Some(Doing::Seek(COMMA)))
 }
 
@@ -265,7 +268,7 @@ pub fn read_return(machine: &mut Machine<'_>, place: Place) -> Result<Option<Doi
         let whole = return_statement(machine.alloc, place, None, end)?;
         return Ok(Some(Doing::GaveStatement(whole, false)));
     }
-    machine.push(Frame::InReturn(place))?;
+    machine.push(Frame::Expression(ExpressionFrame::InReturn(place)))?;
     Ok(Some(Doing::Seek(COMMA)))
 }
 

@@ -15,7 +15,7 @@ use dae_nodes::{
     if_statement, switch_statement, while_statement, with_statement,
 };
 use dae_parts::Read;
-use dae_states::{Doing, Frame, Head, Inside, Machine};
+use dae_states::{Doing, Frame, Head, Inside, Machine, StatementFrame};
 use dae_tree::{Keyword, Statement};
 use std::alloc::AllocError;
 
@@ -32,7 +32,7 @@ pub fn then_branch(
         Steps machine.old result machine.new (statement_given b (plain.then_branch place paren e)) }
 {
     if machine.rest.take_word(Keyword::Else).is_some() {
-        machine.push(Frame::ElseBranch(place, paren, test, found))?;
+        machine.push(Frame::Statement(StatementFrame::ElseBranch(place, paren, test, found)))?;
         return Ok(Some(Doing::Stating));
     }
     let whole = if_statement(machine.alloc, place, paren, test, found)?;
@@ -154,7 +154,8 @@ pub fn in_statements(
 ) -> Result<Option<Doing>, AllocError>
     ensures { (b : StatementTree) (i : plain.Inside) (ss : List StatementTree) (s : List PlainFrame)
         → ShowsStatement found b → ShowsInside inside i → ShowsStatements before ss
-        → Stands machine.old s (outside_stack (plain.in_statements i ss ∷ s))
+        → Stands machine.old s
+        (outside_stack (plain.awaits_statement (plain.in_statements i ss) ∷ s))
         → IfOk result (λ r. Follows r machine.new (statement_given b
         (plain.in_statements i ss) s machine.old.scope.names machine.old.rest)) }
 {

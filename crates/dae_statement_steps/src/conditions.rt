@@ -11,7 +11,7 @@ ghost use Rattle.dae_states.specs.States.{Steps};
 
 use dae_base::Place;
 use dae_nodes::{Loop, Operand, evaluation, return_statement};
-use dae_states::{Doing, Frame, Head, Machine};
+use dae_states::{Doing, Frame, Head, Machine, StatementFrame};
 use dae_tree::Sign;
 use std::alloc::AllocError;
 
@@ -46,9 +46,15 @@ pub fn in_test(
         return Ok(None);
     }
     match head {
-        Head::If(place) => machine.push(Frame::ThenBranch(place, paren, test))?,
-        Head::While(place) => machine.push(Frame::WhileBody(place, paren, test))?,
-        Head::Switch(place) => machine.push(Frame::SwitchBody(place, paren, test))?,
+        Head::If(place) => machine.push(Frame::Statement(StatementFrame::ThenBranch(
+            place, paren, test,
+        )))?,
+        Head::While(place) => machine.push(Frame::Statement(StatementFrame::WhileBody(
+            place, paren, test,
+        )))?,
+        Head::Switch(place) => machine.push(Frame::Statement(StatementFrame::SwitchBody(
+            place, paren, test,
+        )))?,
         Head::Do(place, body, word) => {
             return Ok(Some(Doing::Finishing(place, body, word, paren, test)));
         }
@@ -114,7 +120,7 @@ pub fn in_step(
     if machine.rest.take_sign(Sign::RightParen).is_none() {
         return Ok(None);
     }
-    machine.push(Frame::ForBody(parts, Some(step)))?;
+    machine.push(Frame::Statement(StatementFrame::ForBody(parts, Some(step))))?;
     Ok(Some(Doing::Stating))
 }
 
@@ -148,6 +154,6 @@ pub fn in_case(
     if machine.rest.take_sign(Sign::Colon).is_none() {
         return Ok(None);
     }
-    machine.push(Frame::CaseBody(place, value))?;
+    machine.push(Frame::Statement(StatementFrame::CaseBody(place, value)))?;
     Ok(Some(Doing::Stating))
 }

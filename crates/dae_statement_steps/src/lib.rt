@@ -23,5 +23,4 @@ mod branches;
 mod conditions;
 mod expressions;
 mod operands;
-mod operations;
 mod operators;

@@ -10,11 +10,12 @@ ghost use Rattle.dae_grammar.specs.Stuck.{behind};
 ghost use Rattle.dae_nodes.specs.Parts.{ShowsOperand};
 ghost use Rattle.dae_states.specs.States.{Steps};
 
-use crate::operations::{operand_level, prefix_operator};
 use dae_base::Place;
 use dae_nodes::{Operand, call, constant, identifier, literal, no_arguments, no_specifiers};
-use dae_parts::{ASSIGNMENT, CAST, COMMA, UNARY};
-use dae_states::{Doing, Frame, Machine, begins_specifiers, is_type};
+use dae_parts::{ASSIGNMENT, CAST, COMMA, UNARY, operand_level, prefix_operator};
+use dae_states::{
+    Doing, ExpressionFrame, Frame, Machine, SpecifiersFrame, begins_specifiers, is_type,
+};
 use dae_tree::{Keyword, Kind, Name, Seen, Sign};
 use std::alloc::AllocError;
 
@@ -74,7 +75,7 @@ fn seek_sign(
         return Ok(None);
     };
     machine.rest.skip();
-    machine.push(Frame::BehindPrefix(place, operator, level))?;
+    machine.push(Frame::Expression(ExpressionFrame::BehindPrefix(place, operator, level)))?;
     Ok(Some(Doing::Seek(operand_level(operator))))
 }
 
@@ -89,11 +90,11 @@ fn seek_parenthesis(
 {
     machine.rest.skip();
     if level >= CAST && begins_specifiers(&machine.scope, &machine.rest) {
-        machine.push(Frame::ForCast(place, level))?;
+        machine.push(Frame::Specifiers(SpecifiersFrame::ForCast(place, level)))?;
         let before = no_specifiers(machine.alloc);
         return Ok(Some(Doing::Specifying(Seen::nothing(), before)));
     }
-    machine.push(Frame::InParentheses(place, level))?;
+    machine.push(Frame::Expression(ExpressionFrame::InParentheses(place, level)))?;
     Ok(Some(Doing::Seek(COMMA)))
 }
 
@@ -108,12 +109,12 @@ pub fn read_sizeof(
     let inner = machine.rest.behind();
     if begins_specifiers(&machine.scope, &inner) {
         if let Some(paren) = machine.rest.take_sign(Sign::LeftParen) {
-            machine.push(Frame::ForSizeof(place, paren, level))?;
+            machine.push(Frame::Specifiers(SpecifiersFrame::ForSizeof(place, paren, level)))?;
             let before = no_specifiers(machine.alloc);
             return Ok(Some(Doing::Specifying(Seen::nothing(), before)));
         }
     }
-    machine.push(Frame::BehindSizeof(place, level))?;
+    machine.push(Frame::Expression(ExpressionFrame::BehindSizeof(place, level)))?;
     Ok(Some(Doing::Seek(UNARY)))
 }
 
@@ -132,6 +133,6 @@ pub fn read_call(
         let whole = call(machine.alloc, callee, place, none)?;
         return Ok(Some(Doing::Operated(whole, level)));
     }
-    machine.push(Frame::InArguments(callee, place, none, level))?;
+    machine.push(Frame::Expression(ExpressionFrame::InArguments(callee, place, none, level)))?;
     Ok(Some(Doing::Seek(ASSIGNMENT)))
 }

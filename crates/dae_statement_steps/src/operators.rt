@@ -7,15 +7,13 @@ ghost use Rattle.dae_grammar.specs.Frames.{Frame as PlainFrame};
 ghost use Rattle.dae_grammar.specs.Machine.{operated_at, operate as operate_of, named_member as member_named};
 ghost use Rattle.dae_grammar.specs.Stuck.{behind};
 ghost use Rattle.dae_nodes.specs.Parts.{ShowsOperand};
-ghost use Rattle.dae_statement_steps.specs.Operations.{operation_of};
 ghost use Rattle.dae_states.specs.States.{Steps};
 
-use crate::operations::{Operation, begun_by, left_level, reach};
 use dae_base::Place;
 use dae_nodes::{Operand, member, postfix};
-use dae_parts::{ASSIGNMENT, COMMA, under};
-use dae_states::{Doing, Frame, Machine};
-use dae_tree::{Kind, MemberOperator, Sign};
+use dae_parts::{ASSIGNMENT, COMMA, begun_by, left_level, reach, under};
+use dae_states::{Doing, ExpressionFrame, Frame, Machine};
+use dae_tree::{Kind, MemberOperator, Operation, Sign};
 use std::alloc::AllocError;
 
 /// Behind an operand, which an operator may follow (C90 6.3.2 and 6.3.5 to 6.3.17).
@@ -53,7 +51,7 @@ fn read_comma(
         return Ok(Some(Doing::Gave(operand)));
     }
     machine.rest.skip();
-    machine.push(Frame::BehindComma(operand, level))?;
+    machine.push(Frame::Expression(ExpressionFrame::BehindComma(operand, level)))?;
     Ok(Some(Doing::Seek(ASSIGNMENT)))
 }
 
@@ -85,11 +83,11 @@ fn operate(
     level: u8,
 ) -> Result<Option<Doing>, AllocError>
     ensures { (e : Tree) → ShowsOperand operand e →
-        Steps machine.old result machine.new (operate_of (operation_of operation) e place level) }
+        Steps machine.old result machine.new (operate_of operation e place level) }
 {
     match operation {
         Operation::Subscript => {
-            machine.push(Frame::InIndex(operand, place, level))?;
+            machine.push(Frame::Expression(ExpressionFrame::InIndex(operand, place, level)))?;
             Ok(Some(Doing::Seek(COMMA)))
         }
         Operation::Call => Ok(Some(Doing::Calling(operand, place, level))),
@@ -99,15 +97,21 @@ fn operate(
             Ok(Some(Doing::Operated(whole, level)))
         }
         Operation::Binary(operator) => {
-            machine.push(Frame::BehindBinary(operand, place, operator, level))?;
+            machine.push(Frame::Expression(ExpressionFrame::BehindBinary(
+                operand, place, operator, level,
+            )))?;
             Ok(Some(Doing::Seek(under(operator))))
         }
         Operation::Choice => {
-            machine.push(Frame::BehindQuestion(operand, place, level))?;
+            machine.push(Frame::Expression(ExpressionFrame::BehindQuestion(
+                operand, place, level,
+            )))?;
             Ok(Some(Doing::Seek(COMMA)))
         }
         Operation::Assignment(operator) => {
-            machine.push(Frame::BehindAssignment(operand, place, operator, level))?;
+            machine.push(Frame::Expression(ExpressionFrame::BehindAssignment(
+                operand, place, operator, level,
+            )))?;
             Ok(Some(Doing::Seek(ASSIGNMENT)))
         }
         Operation::Ends => Ok(None),

@@ -1,11 +1,11 @@
 -- Where a file stands in the machine.
 use Rattle.std.specs.Prelude.{◌≡◌, List, [], ◌∷◌}
-use Rattle.dae_grammar.specs.Frames.{Frame, in_file, Doing, externals, State, state}
+use Rattle.dae_grammar.specs.Frames.{Frame, awaits_declaration, in_file, Doing, externals, State, state}
 
 -- What is read of a file stands at the bottom of the stack alone.
 abbrev pub IsBottom : List Frame → Type 0
 IsBottom [] = Unit {0}
-IsBottom (in_file before ∷ s) = s ≡ []
+IsBottom (awaits_declaration (in_file before) ∷ s) = s ≡ []
 IsBottom (_ ∷ s) = IsBottom s
 
 -- Between two externals nothing stands on the stack.

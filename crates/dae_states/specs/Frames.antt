@@ -17,6 +17,18 @@ use Rattle.dae_states.specs.declared.frames.Head.{Head}
 use Rattle.dae_states.specs.declared.frames.Head.TheVariants as head
 use Rattle.dae_states.specs.declared.frames.Inside.{Inside}
 use Rattle.dae_states.specs.declared.frames.Before.{Before}
+use Rattle.dae_states.specs.declared.frames.ExpressionFrame.{ExpressionFrame}
+use Rattle.dae_states.specs.declared.frames.ExpressionFrame.TheVariants as expression
+use Rattle.dae_states.specs.declared.frames.SpecifiersFrame.{SpecifiersFrame}
+use Rattle.dae_states.specs.declared.frames.SpecifiersFrame.TheVariants as specifiers
+use Rattle.dae_states.specs.declared.frames.DeclaratorFrame.{DeclaratorFrame}
+use Rattle.dae_states.specs.declared.frames.DeclaratorFrame.TheVariants as declarator
+use Rattle.dae_states.specs.declared.frames.InitialiserFrame.{InitialiserFrame}
+use Rattle.dae_states.specs.declared.frames.InitialiserFrame.TheVariants as initialiser
+use Rattle.dae_states.specs.declared.frames.DeclarationFrame.{DeclarationFrame}
+use Rattle.dae_states.specs.declared.frames.DeclarationFrame.TheVariants as declaration
+use Rattle.dae_states.specs.declared.frames.StatementFrame.{StatementFrame}
+use Rattle.dae_states.specs.declared.frames.StatementFrame.TheVariants as statement
 use Rattle.dae_states.specs.declared.frames.Frame.{Frame}
 use Rattle.dae_states.specs.declared.frames.Frame.TheVariants as frame
 use Rattle.dae_states.specs.declared.frames.Doing.{Doing}
@@ -63,54 +75,78 @@ abbrev pub is_block : tree.Statement → Bool
 is_block (tree.Block p ds ss) = true
 is_block _ = false
 
+abbrev pub ShowsExpressionFrame : ExpressionFrame → plain.ExpressionFrame → Type 0
+ShowsExpressionFrame (expression.InParentheses p l) (plain.in_parentheses q k) = (p ≡ q) × (l ≡ k)
+ShowsExpressionFrame (expression.InIndex a p l) (plain.in_index e q k) = ShowsOperand a e × (p ≡ q) × (l ≡ k)
+ShowsExpressionFrame (expression.InArguments a p xs l) (plain.in_arguments e q es k) = ShowsOperand a e × (p ≡ q) × ShowsArguments xs es × (l ≡ k)
+ShowsExpressionFrame (expression.BehindPrefix p o l) (plain.behind_prefix q u k) = (p ≡ q) × (o ≡ u) × (l ≡ k)
+ShowsExpressionFrame (expression.BehindSizeof p l) (plain.behind_sizeof q k) = (p ≡ q) × (l ≡ k)
+ShowsExpressionFrame (expression.BehindCast p s d l) (plain.behind_cast q ws e k) = (p ≡ q) × ShowsSpecified s ws × ShowsDeclared d e × (l ≡ k)
+ShowsExpressionFrame (expression.BehindBinary a p o l) (plain.behind_binary e q u k) = ShowsOperand a e × (p ≡ q) × (o ≡ u) × (l ≡ k)
+ShowsExpressionFrame (expression.BehindQuestion a p l) (plain.behind_question e q k) = ShowsOperand a e × (p ≡ q) × (l ≡ k)
+ShowsExpressionFrame (expression.BehindColon a p b l) (plain.behind_colon e q f k) = ShowsOperand a e × (p ≡ q) × ShowsOperand b f × (l ≡ k)
+ShowsExpressionFrame (expression.BehindAssignment a p o l) (plain.behind_assignment e q u k) = ShowsOperand a e × (p ≡ q) × (o ≡ u) × (l ≡ k)
+ShowsExpressionFrame (expression.BehindComma a l) (plain.behind_comma e k) = ShowsOperand a e × (l ≡ k)
+ShowsExpressionFrame (expression.InSize d p m) (plain.in_size e q n) = ShowsDeclared d e × (p ≡ q) × (manner_of m ≡ n)
+ShowsExpressionFrame (expression.InEnumerator b xs n p) (plain.in_enumerator a es m q) = ShowsBody b a × ShowsEnumerators xs es × (n ≡ m) × (p ≡ q)
+ShowsExpressionFrame expression.InValue plain.in_value = Unit {0}
+ShowsExpressionFrame expression.InEvaluation plain.in_evaluation = Unit {0}
+ShowsExpressionFrame (expression.InTest h p) (plain.in_test a q) = ShowsHead h a × (p ≡ q)
+ShowsExpressionFrame (expression.InStart p r) (plain.in_start q u) = (p ≡ q) × (r ≡ u)
+ShowsExpressionFrame (expression.InLoopTest p r a v) (plain.in_loop_test q u e w) = (p ≡ q) × (r ≡ u) × ShowsOptional a e × (v ≡ w)
+ShowsExpressionFrame (expression.InStep l) (plain.in_step a) = ShowsLoop l a
+ShowsExpressionFrame (expression.InReturn p) (plain.in_return q) = p ≡ q
+ShowsExpressionFrame (expression.InCase p) (plain.in_case q) = p ≡ q
+ShowsExpressionFrame _ _ = ⊥
+
+abbrev pub ShowsSpecifiersFrame : SpecifiersFrame → plain.SpecifiersFrame → Type 0
+ShowsSpecifiersFrame (specifiers.ForCast p l) (plain.for_cast q k) = (p ≡ q) × (l ≡ k)
+ShowsSpecifiersFrame (specifiers.ForSizeof p r l) (plain.for_sizeof q u k) = (p ≡ q) × (r ≡ u) × (l ≡ k)
+ShowsSpecifiersFrame (specifiers.ForParameter o ps) (plain.for_parameter a before) = ShowsOpen o a × ShowsParameters ps before
+ShowsSpecifiersFrame (specifiers.ForMember b ms) (plain.for_member a before) = ShowsBody b a × ShowsMembers ms before
+ShowsSpecifiersFrame (specifiers.ForDeclaration b) (plain.for_declaration c) = b ≡ c
+ShowsSpecifiersFrame _ _ = ⊥
+
+abbrev pub ShowsDeclaratorFrame : DeclaratorFrame → plain.DeclaratorFrame → Type 0
+ShowsDeclaratorFrame (declarator.BehindStar p qs) (plain.behind_star q us) = (p ≡ q) × (qs.items ≡ us)
+ShowsDeclaratorFrame (declarator.InGroup p m) (plain.in_group q n) = (p ≡ q) × (manner_of m ≡ n)
+ShowsDeclaratorFrame (declarator.OfCast p s l) (plain.of_cast q ws k) = (p ≡ q) × ShowsSpecified s ws × (l ≡ k)
+ShowsDeclaratorFrame (declarator.OfSizeof p r s l) (plain.of_sizeof q u ws k) = (p ≡ q) × (r ≡ u) × ShowsSpecified s ws × (l ≡ k)
+ShowsDeclaratorFrame (declarator.OfParameter o ps s) (plain.of_parameter a before ws) = ShowsOpen o a × ShowsParameters ps before × ShowsSpecified s ws
+ShowsDeclaratorFrame (declarator.OfMember b ms s ds) (plain.of_member a lines ws before) = ShowsBody b a × ShowsMembers ms lines × ShowsSpecified s ws × ShowsDeclarators ds before
+ShowsDeclaratorFrame (declarator.OfItem b s is) (plain.of_item c ws before) = (b ≡ c) × ShowsSpecified s ws × ShowsItems is before
+ShowsDeclaratorFrame _ _ = ⊥
+
+abbrev pub ShowsInitialiserFrame : InitialiserFrame → plain.InitialiserFrame → Type 0
+ShowsInitialiserFrame (initialiser.InList p xs) (plain.in_list q before) = (p ≡ q) × ShowsInitialisers xs before
+ShowsInitialiserFrame (initialiser.OfValue s is d p) (plain.of_value ws before e q) = ShowsSpecified s ws × ShowsItems is before × ShowsDeclared d e × (p ≡ q)
+ShowsInitialiserFrame _ _ = ⊥
+
+abbrev pub ShowsDeclarationFrame : DeclarationFrame → plain.DeclarationFrame → Type 0
+ShowsDeclarationFrame (declaration.InFile b) (plain.in_file before) = ShowsFile b before
+ShowsDeclarationFrame (declaration.InBlock i) (plain.in_block a) = ShowsInside i a
+ShowsDeclarationFrame _ _ = ⊥
+
+abbrev pub ShowsStatementFrame : StatementFrame → plain.StatementFrame → Type 0
+ShowsStatementFrame (statement.ThenBranch p r a) (plain.then_branch q u e) = (p ≡ q) × (r ≡ u) × ShowsOperand a e
+ShowsStatementFrame (statement.ElseBranch p r a b) (plain.else_branch q u e c) = (p ≡ q) × (r ≡ u) × ShowsOperand a e × ShowsStatement b c
+ShowsStatementFrame (statement.WhileBody p r a) (plain.while_body q u e) = (p ≡ q) × (r ≡ u) × ShowsOperand a e
+ShowsStatementFrame (statement.SwitchBody p r a) (plain.switch_body q u e) = (p ≡ q) × (r ≡ u) × ShowsOperand a e
+ShowsStatementFrame (statement.DoBody p) (plain.do_body q) = p ≡ q
+ShowsStatementFrame (statement.ForBody l a) (plain.for_body k e) = ShowsLoop l k × ShowsOptional a e
+ShowsStatementFrame (statement.CaseBody p a) (plain.case_body q e) = (p ≡ q) × ShowsOperand a e
+ShowsStatementFrame (statement.DefaultBody p) (plain.default_body q) = p ≡ q
+ShowsStatementFrame (statement.InStatements i ss) (plain.in_statements a before) = ShowsInside i a × ShowsStatements ss before
+ShowsStatementFrame (statement.InDefinition s d) (plain.in_definition ws e outside) = ShowsSpecified s ws × ShowsDeclared d e
+ShowsStatementFrame _ _ = ⊥
+
 abbrev pub ShowsFrame : Frame → plain.Frame → Type 0
-ShowsFrame (frame.InParentheses p l) (plain.in_parentheses q k) = (p ≡ q) × (l ≡ k)
-ShowsFrame (frame.InIndex a p l) (plain.in_index e q k) = ShowsOperand a e × (p ≡ q) × (l ≡ k)
-ShowsFrame (frame.InArguments a p xs l) (plain.in_arguments e q es k) = ShowsOperand a e × (p ≡ q) × ShowsArguments xs es × (l ≡ k)
-ShowsFrame (frame.BehindPrefix p o l) (plain.behind_prefix q u k) = (p ≡ q) × (o ≡ u) × (l ≡ k)
-ShowsFrame (frame.BehindSizeof p l) (plain.behind_sizeof q k) = (p ≡ q) × (l ≡ k)
-ShowsFrame (frame.BehindCast p s d l) (plain.behind_cast q ws e k) = (p ≡ q) × ShowsSpecified s ws × ShowsDeclared d e × (l ≡ k)
-ShowsFrame (frame.BehindBinary a p o l) (plain.behind_binary e q u k) = ShowsOperand a e × (p ≡ q) × (o ≡ u) × (l ≡ k)
-ShowsFrame (frame.BehindQuestion a p l) (plain.behind_question e q k) = ShowsOperand a e × (p ≡ q) × (l ≡ k)
-ShowsFrame (frame.BehindColon a p b l) (plain.behind_colon e q f k) = ShowsOperand a e × (p ≡ q) × ShowsOperand b f × (l ≡ k)
-ShowsFrame (frame.BehindAssignment a p o l) (plain.behind_assignment e q u k) = ShowsOperand a e × (p ≡ q) × (o ≡ u) × (l ≡ k)
-ShowsFrame (frame.BehindComma a l) (plain.behind_comma e k) = ShowsOperand a e × (l ≡ k)
-ShowsFrame (frame.InSize d p m) (plain.in_size e q n) = ShowsDeclared d e × (p ≡ q) × (manner_of m ≡ n)
-ShowsFrame (frame.InEnumerator b xs n p) (plain.in_enumerator a es m q) = ShowsBody b a × ShowsEnumerators xs es × (n ≡ m) × (p ≡ q)
-ShowsFrame frame.InValue plain.in_value = Unit {0}
-ShowsFrame frame.InEvaluation plain.in_evaluation = Unit {0}
-ShowsFrame (frame.InTest h p) (plain.in_test a q) = ShowsHead h a × (p ≡ q)
-ShowsFrame (frame.InStart p r) (plain.in_start q u) = (p ≡ q) × (r ≡ u)
-ShowsFrame (frame.InLoopTest p r a v) (plain.in_loop_test q u e w) = (p ≡ q) × (r ≡ u) × ShowsOptional a e × (v ≡ w)
-ShowsFrame (frame.InStep l) (plain.in_step a) = ShowsLoop l a
-ShowsFrame (frame.InReturn p) (plain.in_return q) = p ≡ q
-ShowsFrame (frame.InCase p) (plain.in_case q) = p ≡ q
-ShowsFrame (frame.ForCast p l) (plain.for_cast q k) = (p ≡ q) × (l ≡ k)
-ShowsFrame (frame.ForSizeof p r l) (plain.for_sizeof q u k) = (p ≡ q) × (r ≡ u) × (l ≡ k)
-ShowsFrame (frame.ForParameter o ps) (plain.for_parameter a before) = ShowsOpen o a × ShowsParameters ps before
-ShowsFrame (frame.ForMember b ms) (plain.for_member a before) = ShowsBody b a × ShowsMembers ms before
-ShowsFrame (frame.ForDeclaration b) (plain.for_declaration c) = b ≡ c
-ShowsFrame (frame.BehindStar p qs) (plain.behind_star q us) = (p ≡ q) × (qs.items ≡ us)
-ShowsFrame (frame.InGroup p m) (plain.in_group q n) = (p ≡ q) × (manner_of m ≡ n)
-ShowsFrame (frame.OfCast p s l) (plain.of_cast q ws k) = (p ≡ q) × ShowsSpecified s ws × (l ≡ k)
-ShowsFrame (frame.OfSizeof p r s l) (plain.of_sizeof q u ws k) = (p ≡ q) × (r ≡ u) × ShowsSpecified s ws × (l ≡ k)
-ShowsFrame (frame.OfParameter o ps s) (plain.of_parameter a before ws) = ShowsOpen o a × ShowsParameters ps before × ShowsSpecified s ws
-ShowsFrame (frame.OfMember b ms s ds) (plain.of_member a lines ws before) = ShowsBody b a × ShowsMembers ms lines × ShowsSpecified s ws × ShowsDeclarators ds before
-ShowsFrame (frame.OfItem b s is) (plain.of_item c ws before) = (b ≡ c) × ShowsSpecified s ws × ShowsItems is before
-ShowsFrame (frame.InList p xs) (plain.in_list q before) = (p ≡ q) × ShowsInitialisers xs before
-ShowsFrame (frame.OfValue s is d p) (plain.of_value ws before e q) = ShowsSpecified s ws × ShowsItems is before × ShowsDeclared d e × (p ≡ q)
-ShowsFrame (frame.InFile b) (plain.in_file before) = ShowsFile b before
-ShowsFrame (frame.InBlock i) (plain.in_block a) = ShowsInside i a
-ShowsFrame (frame.ThenBranch p r a) (plain.then_branch q u e) = (p ≡ q) × (r ≡ u) × ShowsOperand a e
-ShowsFrame (frame.ElseBranch p r a b) (plain.else_branch q u e c) = (p ≡ q) × (r ≡ u) × ShowsOperand a e × ShowsStatement b c
-ShowsFrame (frame.WhileBody p r a) (plain.while_body q u e) = (p ≡ q) × (r ≡ u) × ShowsOperand a e
-ShowsFrame (frame.SwitchBody p r a) (plain.switch_body q u e) = (p ≡ q) × (r ≡ u) × ShowsOperand a e
-ShowsFrame (frame.DoBody p) (plain.do_body q) = p ≡ q
-ShowsFrame (frame.ForBody l a) (plain.for_body k e) = ShowsLoop l k × ShowsOptional a e
-ShowsFrame (frame.CaseBody p a) (plain.case_body q e) = (p ≡ q) × ShowsOperand a e
-ShowsFrame (frame.DefaultBody p) (plain.default_body q) = p ≡ q
-ShowsFrame (frame.InStatements i ss) (plain.in_statements a before) = ShowsInside i a × ShowsStatements ss before
-ShowsFrame (frame.InDefinition s d) (plain.in_definition ws e outside) = ShowsSpecified s ws × ShowsDeclared d e
+ShowsFrame (frame.Expression f) (plain.awaits_expression a) = ShowsExpressionFrame f a
+ShowsFrame (frame.Specifiers f) (plain.awaits_specifiers a) = ShowsSpecifiersFrame f a
+ShowsFrame (frame.Declarator f) (plain.awaits_declarator a) = ShowsDeclaratorFrame f a
+ShowsFrame (frame.Initialiser f) (plain.awaits_initialiser a) = ShowsInitialiserFrame f a
+ShowsFrame (frame.Declaration f) (plain.awaits_declaration a) = ShowsDeclarationFrame f a
+ShowsFrame (frame.Statement f) (plain.awaits_statement a) = ShowsStatementFrame f a
 ShowsFrame _ _ = ⊥
 
 -- the top first

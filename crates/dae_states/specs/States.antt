@@ -12,11 +12,11 @@ use Rattle.dae_states.specs.declared.machine.Machine.{Machine}
 
 -- the names that each open scope goes back to, the innermost first
 abbrev pub outside_frame : plain.Frame → List Names → List Names
-outside_frame (plain.for_parameter o before) os = o.outside ∷ os
-outside_frame (plain.of_parameter o before ws) os = o.outside ∷ os
-outside_frame (plain.in_block i) os = i.outside ∷ os
-outside_frame (plain.in_statements i before) os = i.outside ∷ os
-outside_frame (plain.in_definition ws d outside) os = outside ∷ os
+outside_frame (plain.awaits_specifiers (plain.for_parameter o before)) os = o.outside ∷ os
+outside_frame (plain.awaits_declarator (plain.of_parameter o before ws)) os = o.outside ∷ os
+outside_frame (plain.awaits_declaration (plain.in_block i)) os = i.outside ∷ os
+outside_frame (plain.awaits_statement (plain.in_statements i before)) os = i.outside ∷ os
+outside_frame (plain.awaits_statement (plain.in_definition ws d outside)) os = outside ∷ os
 outside_frame _ os = os
 
 abbrev pub outside_stack : List plain.Frame → List Names
@@ -36,6 +36,11 @@ frames_of m = reverse m.stack.items
 abbrev pub Popped : Option Frame → List Frame → List Frame → Type 0
 Popped None old new = old ≡ []
 Popped (Some f) old new = old ≡ f ∷ new
+
+-- the top frame was one of a kind and was taken, or it was none of that kind
+abbrev pub PoppedOf : {A : Type 0} → (A → Frame) → Option A → List Frame → List Frame → Type 0
+PoppedOf {A} of None old new = (x : A) (below : List Frame) → ¬ (old ≡ of x ∷ below)
+PoppedOf of (Some x) old new = old ≡ of x ∷ new
 
 -- before a step
 abbrev pub Stands : Machine → List plain.Frame → List Names → Type 0

@@ -56,9 +56,9 @@ pub struct Before {
     pub too_long: Option<Place>,
 }
 
-/// What comes behind a part that is read. A number is the level up to which the whole may go on.
+/// What awaits an expression. A number is the level up to which the whole may go on.
 #[derive(Drop)]
-pub enum Frame {
+pub enum ExpressionFrame {
     InParentheses(Place, u8),
     InIndex(Operand, Place, u8),
     InArguments(Operand, Place, Read<Vec<Expression>>, u8),
@@ -80,11 +80,21 @@ pub enum Frame {
     InStep(Loop),
     InReturn(Place),
     InCase(Place),
+}
+
+/// What awaits specifiers. A number is the level up to which the whole may go on.
+#[derive(Drop)]
+pub enum SpecifiersFrame {
     ForCast(Place, u8),
     ForSizeof(Place, Place, u8),
     ForParameter(Open, ParameterList),
     ForMember(Body, Read<Vec<Member>>),
     ForDeclaration(bool),
+}
+
+/// What awaits a declarator. A number is the level up to which the whole may go on.
+#[derive(Drop)]
+pub enum DeclaratorFrame {
     BehindStar(Place, Vec<Place>),
     InGroup(Place, Manner),
     OfCast(Place, Specified, u8),
@@ -92,10 +102,25 @@ pub enum Frame {
     OfParameter(Open, ParameterList, Specified),
     OfMember(Body, Read<Vec<Member>>, Specified, Read<Vec<Declarator>>),
     OfItem(bool, Specified, Read<Vec<Item>>),
+}
+
+/// What awaits an initialiser.
+#[derive(Drop)]
+pub enum InitialiserFrame {
     InList(Place, Read<Vec<Initialiser>>),
     OfValue(Specified, Read<Vec<Item>>, Declared, Place),
+}
+
+/// What awaits a declaration.
+#[derive(Drop)]
+pub enum DeclarationFrame {
     InFile(Before),
     InBlock(Inside),
+}
+
+/// What awaits a statement.
+#[derive(Drop)]
+pub enum StatementFrame {
     ThenBranch(Place, Place, Operand),
     ElseBranch(Place, Place, Operand, Read<Box<Statement>>),
     WhileBody(Place, Place, Operand),
@@ -106,6 +131,17 @@ pub enum Frame {
     DefaultBody(Place),
     InStatements(Inside, Read<Vec<Statement>>),
     InDefinition(Specified, Declared),
+}
+
+/// What comes behind a part that is read, by what it awaits.
+#[derive(Drop)]
+pub enum Frame {
+    Expression(ExpressionFrame),
+    Specifiers(SpecifiersFrame),
+    Declarator(DeclaratorFrame),
+    Initialiser(InitialiserFrame),
+    Declaration(DeclarationFrame),
+    Statement(StatementFrame),
 }
 
 /// What the machine does.

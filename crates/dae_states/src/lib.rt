@@ -3,7 +3,10 @@
 // the state behind the step shows the next. The steps stand in the crates above, those of declarations and those of statements.
 #![tactic(auto)]
 
-pub use frames::{Before, Body, Doing, Frame, Head, Inside, Manner, Open};
+pub use frames::{
+    Before, Body, DeclarationFrame, DeclaratorFrame, Doing, ExpressionFrame, Frame, Head,
+    InitialiserFrame, Inside, Manner, Open, SpecifiersFrame, StatementFrame,
+};
 pub use machine::Machine;
 pub use names::{begins_specifiers, is_type};
 pub use rest::Rest;
@@ -11,4 +14,5 @@ pub use rest::Rest;
 mod frames;
 mod machine;
 mod names;
+mod popping;
 mod rest;

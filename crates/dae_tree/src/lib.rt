@@ -12,9 +12,11 @@ pub use expressions::{
 pub use faults::{Construct, Fault, LexError};
 pub use files::File;
 pub use headers::{HEADERS, Header, STDIO_MACROS, STDLIB_MACROS};
+pub use levels::{ASSIGNMENT, CAST, COMMA, CONDITIONAL, LOGICAL_OR, NONE, POSTFIX, PRIMARY, UNARY};
 pub use literals::ESCAPES;
 pub use operators::{
-    AssignmentOperator, BinaryOperator, MemberOperator, PostfixOperator, PrefixOperator,
+    AssignmentOperator, BinaryOperator, MemberOperator, OPERATIONS, Operation, PREFIXES,
+    PostfixOperator, PrefixOperator,
 };
 pub use pieces::{Form, PieceKind, Spot};
 pub use seen::{Arithmetic, Seen};
@@ -28,6 +30,7 @@ mod expressions;
 mod faults;
 mod files;
 mod headers;
+mod levels;
 mod literals;
 mod operators;
 mod pieces;

@@ -1,23 +1,14 @@
-use Rattle.std.proofs.Common.{refl, ap, ◌∙◌}
+use Rattle.std.proofs.Common.{rules, refl, ap}
 use Rattle.dae_base.specs.declared.Place.{Place}
 use Rattle.dae_tree.specs.Trees as tree
-use Rattle.dae_tree.specs.Views.{view}
 use Rattle.dae_grammar.specs.FirstPlaces.{firsts, both, over}
-use Rattle.dae_parts.specs.Shown.{in_box}
-use Rattle.dae_parts.proofs.Laws.{shows_over, shows_made, shows_absent, shows_pair, ap_three}
+use Rattle.dae_parts.proofs.Laws.{shows_pair}
+use Rattle.dae_nodes.proofs.Operands.{operand_shown}
 use Rattle.dae_nodes.proofs.expressions.conditional.Goals as goal
-use Rattle.dae_nodes.proofs.expressions.conditional.Goals.{in-Some+in_ok-new-in-Some, in-None}
 
 pub returns : goal.returns
 returns c = λ a b d h k l.
     let rest = shows_pair _ _ _ _ c.args.then.read c.args.other.read c.in_ok-rest.rest b d k.read l.read c.in_ok-rest.ensures in
     let parts = shows_pair _ _ _ _ c.args.test.read c.in_ok-rest.rest c.in_ok-parts.parts a (b, d) h.read rest c.in_ok-parts.ensures in
-    let whole = shows_over _ _ c.args.test.place c.in_ok-parts.parts c.in_ok-tree.field-0 (a, (b, d)) parts c.in_ok-tree.ensures in
-    record {
-      read = elim c.match-tree.branch [
-        | in-Some+in_ok-new-in-Some w ↦ shows_made _ _ (in_box view) firsts _ c.match-tree.tree (a, (b, d)) (tree.Conditional a c.args.place b d) _ _ whole (ap (λ (p : Place). over p (both (firsts a) (both (firsts b) (firsts d)))) h.place) w.in-Some.is w.tree-is (λ e. ap view w.in_ok-new-in-Some.ensures.ok ∙ ap_three (λ x y z. tree.Conditional x c.args.place y z) (ap (λ (p : _). p.0) e) (ap (λ (p : _). p.1.0) e) (ap (λ (p : _). p.1.1) e))
-        | in-None w ↦ shows_absent _ _ (in_box view) firsts _ c.match-tree.tree (a, (b, d)) (tree.Conditional a c.args.place b d) whole (ap (λ (p : Place). over p (both (firsts a) (both (firsts b) (firsts d)))) h.place) w.in-None.is w.tree-is
-      ];
-      level = refl;
-      place = h.place;
-    }
+    operand_shown _ _ _ c.args.test.place _ c.in_ok-parts.parts c.operand_over.result (a, (b, d)) (tree.Conditional a c.args.place b d) parts c.operand_over.ensures.read c.operand_over.ensures.beside (ap (λ (p : Place). over p (both (firsts a) (both (firsts b) (firsts d)))) h.place) refl h.place
+    (λ t n made e. search rules)

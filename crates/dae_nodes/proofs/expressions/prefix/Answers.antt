@@ -1,20 +1,9 @@
-use Rattle.std.proofs.Common.{refl, ap, ◌∙◌}
+use Rattle.std.proofs.Common.{rules, refl}
 use Rattle.dae_tree.specs.Trees as tree
-use Rattle.dae_tree.specs.Views.{view}
-use Rattle.dae_grammar.specs.FirstPlaces.{firsts}
-use Rattle.dae_parts.specs.Shown.{in_box}
-use Rattle.dae_parts.proofs.Laws.{shows_over, shows_made, shows_absent}
+use Rattle.dae_nodes.proofs.Operands.{operand_shown}
 use Rattle.dae_nodes.proofs.expressions.prefix.Goals as goal
-use Rattle.dae_nodes.proofs.expressions.prefix.Goals.{in-Some+in_ok-new-in-Some, in-None}
 
 pub returns : goal.returns
 returns c = λ a h.
-    let whole = shows_over _ _ c.args.place c.args.operand.read c.in_ok-tree.field-0 a h.read c.in_ok-tree.ensures in
-    record {
-      read = elim c.match-tree.branch [
-        | in-Some+in_ok-new-in-Some w ↦ shows_made _ _ (in_box view) firsts _ c.match-tree.tree a (tree.Prefix c.args.place c.args.operator a) _ _ whole (refl) w.in-Some.is w.tree-is (λ e. ap view w.in_ok-new-in-Some.ensures.ok ∙ ap (tree.Prefix c.args.place c.args.operator) e)
-        | in-None w ↦ shows_absent _ _ (in_box view) firsts _ c.match-tree.tree a (tree.Prefix c.args.place c.args.operator a) whole (refl) w.in-None.is w.tree-is
-      ];
-      level = refl;
-      place = refl;
-    }
+    operand_shown _ _ _ c.args.place _ c.args.operand.read c.operand_over.result a (tree.Prefix c.args.place c.args.operator a) h.read c.operand_over.ensures.read c.operand_over.ensures.beside refl refl refl
+    (λ t n made e. search rules)

@@ -1,17 +1,11 @@
-use Rattle.std.proofs.Common.{refl, ap, ◌∙◌}
+use Rattle.std.proofs.Common.{rules, refl}
 use Rattle.dae_tree.specs.Trees as tree
-use Rattle.dae_tree.specs.Views.{view_optional}
 use Rattle.dae_tree.specs.FileViews.{view_statement}
 use Rattle.dae_grammar.specs.FirstPlaces.{firsts_statement}
-use Rattle.dae_parts.specs.Shown.{in_box}
-use Rattle.dae_parts.proofs.Laws.{shows_over, shows_made, shows_absent}
+use Rattle.dae_parts.proofs.Laws.{node_shown}
 use Rattle.dae_nodes.proofs.statements.return_statement.Goals as goal
-use Rattle.dae_nodes.proofs.statements.return_statement.Goals.{in-Some+in_ok-new-in-Some, in-None}
 
 pub returns : goal.returns
 returns c = λ a h.
-    let whole = shows_over _ _ c.args.place c.optional.result c.in_ok-tree.field-0 a (c.optional.ensures a h) c.in_ok-tree.ensures in
-    elim c.match-tree.branch [
-      | in-Some+in_ok-new-in-Some w ↦ shows_made _ _ (in_box view_statement) firsts_statement _ c.match-tree.tree a (tree.Return c.args.place a c.args.end) _ _ whole (refl) w.in-Some.is w.tree-is (λ e. ap view_statement w.in_ok-new-in-Some.ensures.ok ∙ ap (λ x. tree.Return c.args.place x c.args.end) (ap view_optional w.unboxed_expression-value.ensures ∙ e))
-      | in-None w ↦ shows_absent _ _ (in_box view_statement) firsts_statement _ c.match-tree.tree a (tree.Return c.args.place a c.args.end) whole (refl) w.in-None.is w.tree-is
-    ]
+    node_shown _ _ view_statement firsts_statement _ c.args.place c.optional.result c.node.result a (tree.Return c.args.place a c.args.end) (c.optional.ensures a h) c.node.ensures refl
+    (λ t n made e. search rules)

@@ -1,5 +1,7 @@
 use Rattle.std.proofs.Common.{rules, ◌≡◌, List, ◌∷◌, refl, ap, subst, ◌∙◌, Bool}
 use Rattle.dae_states.specs.declared.frames.Frame.{Frame}
+use Rattle.dae_states.specs.declared.frames.Frame.TheVariants as frame
+use Rattle.dae_states.specs.declared.frames.DeclaratorFrame.{DeclaratorFrame}
 use Rattle.dae_grammar.specs.Frames as plain
 use Rattle.dae_scope.specs.Scopes.{Scopes}
 use Rattle.dae_states.specs.Frames.{ShowsStack, manner_of}
@@ -8,16 +10,13 @@ use Rattle.dae_parse.proofs.Popped.{popped_in_group}
 use Rattle.dae_parse.proofs.Others.{other_declarator}
 use Rattle.dae_parse.proofs.given.give_declarator.Goals as goal
 
-pub returns-in_default-frame : goal.returns-in_default-frame
-returns-in_default-frame c = λ d s h k l.
-    let n = c.in_default-frame in
-    other_declarator c.in-Some.frame _ s d _ _ (subst (λ (fs : List Frame). ShowsStack fs s) c.in-Some.ensures.stack k.0)
-    n.not-BehindStar n.not-InGroup n.not-OfCast n.not-OfSizeof n.not-OfParameter n.not-OfMember n.not-OfItem
+pub returns-in_default : goal.returns-in_default
+returns-in_default c = λ d s h k l. other_declarator d (frames_of c.args.machine.now) s _ _ k.0 c.in_default.ensures.stack
 
 pub returns-in-InGroup : goal.returns-in-InGroup
 returns-in-InGroup c = λ d s h k l.
-    let below = frames_of c.pop.new.self in
-    let q = subst (λ (fs : List Frame). ShowsStack fs s) (c.in-Some.ensures.stack ∙ ap (λ (f : Frame). f ∷ below) c.in-InGroup.is) k.0 in
-    let i = popped_in_group c.in-InGroup.place c.in-InGroup.manner below (λ (u : List plain.Frame). (t : List plain.Frame) × (u ≡ plain.in_group c.in-InGroup.place (manner_of c.in-InGroup.manner) ∷ t) × ShowsStack below t) s q (λ t y. (t, refl, y)) in
+    let below = frames_of c.pop_declarator.new.self in
+    let q = subst (λ (fs : List Frame). ShowsStack fs s) (c.in-Some.ensures.stack ∙ ap (λ (f : DeclaratorFrame). frame.Declarator f ∷ below) c.in-InGroup.is) k.0 in
+    let i = popped_in_group c.in-InGroup.place c.in-InGroup.manner below (λ (u : List plain.Frame). (t : List plain.Frame) × (u ≡ plain.awaits_declarator (plain.in_group c.in-InGroup.place (manner_of c.in-InGroup.manner)) ∷ t) × ShowsStack below t) s q (λ t y. (t, refl, y)) in
     let o = ap (λ (z : Scopes Bool). z.outside) c.in-Some.ensures.scope ∙ k.1 ∙ ap outside_stack i.1 in
     rw i.1 (let f = c.in_group.ensures d h i.0 (i.2, o) in search rules)

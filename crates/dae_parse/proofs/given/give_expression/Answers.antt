@@ -1,5 +1,7 @@
 use Rattle.std.proofs.Common.{rules, ◌≡◌, List, ◌∷◌, Option, refl, ap, subst, ◌∙◌, Bool}
 use Rattle.dae_states.specs.declared.frames.Frame.{Frame}
+use Rattle.dae_states.specs.declared.frames.Frame.TheVariants as frame
+use Rattle.dae_states.specs.declared.frames.ExpressionFrame.{ExpressionFrame}
 use Rattle.dae_tree.specs.Trees.{Expression}
 use Rattle.dae_grammar.specs.Frames as plain
 use Rattle.dae_scope.specs.Scopes.{Scopes}
@@ -10,40 +12,37 @@ use Rattle.dae_parse.proofs.Popped.{popped_in_test, popped_in_start, popped_in_l
 use Rattle.dae_parse.proofs.Others.{other_expression}
 use Rattle.dae_parse.proofs.given.give_expression.Goals as goal
 
-pub returns-in_default-frame : goal.returns-in_default-frame
-returns-in_default-frame c = λ e h s k.
-    let n = c.in_default-frame in
-    other_expression c.in-Some.frame _ s e _ _ (subst (λ (fs : List Frame). ShowsStack fs s) c.in-Some.ensures.stack k.0)
-    n.not-InParentheses n.not-InIndex n.not-InArguments n.not-BehindPrefix n.not-BehindSizeof n.not-BehindCast n.not-BehindBinary n.not-BehindQuestion n.not-BehindColon n.not-BehindAssignment n.not-BehindComma n.not-InSize n.not-InEnumerator n.not-InValue n.not-InEvaluation n.not-InTest n.not-InStart n.not-InLoopTest n.not-InStep n.not-InReturn n.not-InCase
+pub returns-in_default : goal.returns-in_default
+returns-in_default c = λ e h s k. other_expression e (frames_of c.args.machine.now) s _ _ k.0 c.in_default.ensures.stack
 
 pub returns-in-InTest : goal.returns-in-InTest
 returns-in-InTest c = λ e h s k.
-    let below = frames_of c.pop.new.self in
-    let q = subst (λ (fs : List Frame). ShowsStack fs s) (c.in-Some.ensures.stack ∙ ap (λ (f : Frame). f ∷ below) c.in-InTest.is) k.0 in
-    let i = popped_in_test c.in-InTest.head c.in-InTest.paren below (λ (u : List plain.Frame). (a : plain.Head) × (t : List plain.Frame) × (u ≡ plain.in_test a c.in-InTest.paren ∷ t) × ShowsHead c.in-InTest.head a × ShowsStack below t) s q (λ a t x0 y. (a, t, refl, x0, y)) in
+    let below = frames_of c.pop_expression.new.self in
+    let q = subst (λ (fs : List Frame). ShowsStack fs s) (c.in-Some.ensures.stack ∙ ap (λ (f : ExpressionFrame). frame.Expression f ∷ below) c.in-InTest.is) k.0 in
+    let i = popped_in_test c.in-InTest.head c.in-InTest.paren below (λ (u : List plain.Frame). (a : plain.Head) × (t : List plain.Frame) × (u ≡ plain.awaits_expression (plain.in_test a c.in-InTest.paren) ∷ t) × ShowsHead c.in-InTest.head a × ShowsStack below t) s q (λ a t x0 y. (a, t, refl, x0, y)) in
     let o = ap (λ (z : Scopes Bool). z.outside) c.in-Some.ensures.scope ∙ k.1 ∙ ap outside_stack i.2 in
     rw i.2 (let f = c.in_test.ensures e i.0 h i.3 i.1 (i.4, o) in search rules)
 
 pub returns-in-InStart : goal.returns-in-InStart
 returns-in-InStart c = λ e h s k.
-    let below = frames_of c.pop.new.self in
-    let q = subst (λ (fs : List Frame). ShowsStack fs s) (c.in-Some.ensures.stack ∙ ap (λ (f : Frame). f ∷ below) c.in-InStart.is) k.0 in
-    let i = popped_in_start c.in-InStart.word c.in-InStart.paren below (λ (u : List plain.Frame). (t : List plain.Frame) × (u ≡ plain.in_start c.in-InStart.word c.in-InStart.paren ∷ t) × ShowsStack below t) s q (λ t y. (t, refl, y)) in
+    let below = frames_of c.pop_expression.new.self in
+    let q = subst (λ (fs : List Frame). ShowsStack fs s) (c.in-Some.ensures.stack ∙ ap (λ (f : ExpressionFrame). frame.Expression f ∷ below) c.in-InStart.is) k.0 in
+    let i = popped_in_start c.in-InStart.word c.in-InStart.paren below (λ (u : List plain.Frame). (t : List plain.Frame) × (u ≡ plain.awaits_expression (plain.in_start c.in-InStart.word c.in-InStart.paren) ∷ t) × ShowsStack below t) s q (λ t y. (t, refl, y)) in
     let o = ap (λ (z : Scopes Bool). z.outside) c.in-Some.ensures.scope ∙ k.1 ∙ ap outside_stack i.1 in
     rw i.1 (let f = c.in_start.ensures e h i.0 (i.2, o) in search rules)
 
 pub returns-in-InLoopTest : goal.returns-in-InLoopTest
 returns-in-InLoopTest c = λ e h s k.
-    let below = frames_of c.pop.new.self in
-    let q = subst (λ (fs : List Frame). ShowsStack fs s) (c.in-Some.ensures.stack ∙ ap (λ (f : Frame). f ∷ below) c.in-InLoopTest.is) k.0 in
-    let i = popped_in_loop_test c.in-InLoopTest.word c.in-InLoopTest.paren c.in-InLoopTest.start c.in-InLoopTest.first below (λ (u : List plain.Frame). (a : Option Expression) × (t : List plain.Frame) × (u ≡ plain.in_loop_test c.in-InLoopTest.word c.in-InLoopTest.paren a c.in-InLoopTest.first ∷ t) × ShowsOptional c.in-InLoopTest.start a × ShowsStack below t) s q (λ a t x0 y. (a, t, refl, x0, y)) in
+    let below = frames_of c.pop_expression.new.self in
+    let q = subst (λ (fs : List Frame). ShowsStack fs s) (c.in-Some.ensures.stack ∙ ap (λ (f : ExpressionFrame). frame.Expression f ∷ below) c.in-InLoopTest.is) k.0 in
+    let i = popped_in_loop_test c.in-InLoopTest.word c.in-InLoopTest.paren c.in-InLoopTest.start c.in-InLoopTest.first below (λ (u : List plain.Frame). (a : Option Expression) × (t : List plain.Frame) × (u ≡ plain.awaits_expression (plain.in_loop_test c.in-InLoopTest.word c.in-InLoopTest.paren a c.in-InLoopTest.first) ∷ t) × ShowsOptional c.in-InLoopTest.start a × ShowsStack below t) s q (λ a t x0 y. (a, t, refl, x0, y)) in
     let o = ap (λ (z : Scopes Bool). z.outside) c.in-Some.ensures.scope ∙ k.1 ∙ ap outside_stack i.2 in
     rw i.2 (let f = c.in_loop_test.ensures e i.0 h i.3 i.1 (i.4, o) in search rules)
 
 pub returns-in-InReturn : goal.returns-in-InReturn
 returns-in-InReturn c = λ e h s k.
-    let below = frames_of c.pop.new.self in
-    let q = subst (λ (fs : List Frame). ShowsStack fs s) (c.in-Some.ensures.stack ∙ ap (λ (f : Frame). f ∷ below) c.in-InReturn.is) k.0 in
-    let i = popped_in_return c.in-InReturn.place below (λ (u : List plain.Frame). (t : List plain.Frame) × (u ≡ plain.in_return c.in-InReturn.place ∷ t) × ShowsStack below t) s q (λ t y. (t, refl, y)) in
+    let below = frames_of c.pop_expression.new.self in
+    let q = subst (λ (fs : List Frame). ShowsStack fs s) (c.in-Some.ensures.stack ∙ ap (λ (f : ExpressionFrame). frame.Expression f ∷ below) c.in-InReturn.is) k.0 in
+    let i = popped_in_return c.in-InReturn.place below (λ (u : List plain.Frame). (t : List plain.Frame) × (u ≡ plain.awaits_expression (plain.in_return c.in-InReturn.place) ∷ t) × ShowsStack below t) s q (λ t y. (t, refl, y)) in
     let o = ap (λ (z : Scopes Bool). z.outside) c.in-Some.ensures.scope ∙ k.1 ∙ ap outside_stack i.1 in
     rw i.1 (let f = c.in_return.ensures e h i.0 (i.2, o) in search rules)
