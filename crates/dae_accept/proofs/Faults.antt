@@ -2,14 +2,14 @@
 use Rattle.std.proofs.Common.{◌≡◌, inl, inr, ℕ, List, [], ◌∷◌, Err, sym, subst}
 use Rattle.dae_tree.specs.Files.{Contents}
 use Rattle.dae_tree.specs.Trees.{External}
-use Rattle.dae_kinds.specs.declared.rules.Breach.{Breach}
-use Rattle.dae_kinds.specs.Tables.{Tables}
-use Rattle.dae_rules.specs.Plan.{Broken, IsChecked}
-use Rattle.dae_file_plans.specs.Files.{plan_file}
-use Rattle.dae_typed.specs.declared.files.FileParts.{FileParts}
+use Rattle.dae_types_kinds.specs.declared.rules.Breach.{Breach}
+use Rattle.dae_types_kinds.specs.Tables.{Tables}
+use Rattle.dae_types_rules.specs.Plan.{Broken, IsChecked}
+use Rattle.dae_types_file_plans.specs.Files.{plan_file}
+use Rattle.dae_types_typed.specs.declared.files.FileParts.{FileParts}
 use Rattle.dae_program.specs.declared.program.Program.{Program}
-use Rattle.dae_sources.specs.Alike.{AreLike, IsLike}
-use Rattle.dae_sources.specs.Once.{AreReadAlike}
+use Rattle.dae_accept_sources.specs.Alike.{AreLike, IsLike}
+use Rattle.dae_accept_sources.specs.Once.{AreReadAlike}
 use Rattle.dae_types.specs.Answers.{plan_in, start_in}
 use Rattle.dae_accept.specs.Accepted.{AreTyped, IsAccepted, IsFirstBroken, IsRuleRefusal}
 

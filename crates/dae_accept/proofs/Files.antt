@@ -3,9 +3,9 @@ use Rattle.std.proofs.Common.{◌≡◌, inl, inr, ℕ, ◌+◌, ◌<◌, ◌≤
 use Rattle.std.proofs.lemmas.List.{drop_all}
 use Rattle.dae_base.proofs.Laws.{drop_at}
 use Rattle.dae_tree.specs.Files.{Contents}
-use Rattle.dae_kinds.specs.declared.rules.Breach.{Breach}
-use Rattle.dae_rules.specs.Plan.{IsChecked}
-use Rattle.dae_typed.specs.declared.files.FileParts.{FileParts}
+use Rattle.dae_types_kinds.specs.declared.rules.Breach.{Breach}
+use Rattle.dae_types_rules.specs.Plan.{IsChecked}
+use Rattle.dae_types_typed.specs.declared.files.FileParts.{FileParts}
 use Rattle.dae_types.specs.Answers.{IsTypedFile, plan_in, start_in}
 use Rattle.dae_accept.specs.Accepted.{AreTyped, IsFirstBroken}
 

@@ -3,14 +3,14 @@ use Rattle.std.proofs.Common.{◌≡◌, ℕ, List, [], ◌∷◌, map, Option, 
 use Rattle.std.specs.Option.{unwrap_or}
 use Rattle.dae_tree.specs.Files.{Contents}
 use Rattle.dae_tree.specs.Trees.{External}
-use Rattle.dae_kinds.specs.Tables.{Tables}
-use Rattle.dae_rules.specs.Plan.{IsTyped}
-use Rattle.dae_file_plans.specs.Files.{Product, plan_file}
-use Rattle.dae_typed.specs.declared.files.FileParts.{FileParts}
-use Rattle.dae_typed.specs.Reading.{declarations_in}
+use Rattle.dae_types_kinds.specs.Tables.{Tables}
+use Rattle.dae_types_rules.specs.Plan.{IsTyped}
+use Rattle.dae_types_file_plans.specs.Files.{Product, plan_file}
+use Rattle.dae_types_typed.specs.declared.files.FileParts.{FileParts}
+use Rattle.dae_types_typed.specs.Reading.{declarations_in}
 use Rattle.dae_program.specs.declared.program.Program.{Program}
-use Rattle.dae_sources.specs.Alike.{AreLike, IsLike}
-use Rattle.dae_sources.specs.Once.{AreReadAlike}
+use Rattle.dae_accept_sources.specs.Alike.{AreLike, IsLike}
+use Rattle.dae_accept_sources.specs.Once.{AreReadAlike}
 use Rattle.dae_types.specs.Answers.{IsTypedFile, plan_in, start_in}
 use Rattle.dae_unit.specs.declared.errors.JoinError.{JoinError}
 use Rattle.dae_unit.specs.Joining.{cause}

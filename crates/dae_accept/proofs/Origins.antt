@@ -3,13 +3,13 @@ use Rattle.std.proofs.Common.{◌≡◌, ℕ, List, [], ◌∷◌}
 use Rattle.std.specs.List.{AllByRecursion}
 use Rattle.dae_tree.specs.Files.{Contents, IsFile}
 use Rattle.dae_program.specs.declared.program.Program.{Program}
-use Rattle.dae_typed.specs.declared.files.FileParts.{FileParts}
+use Rattle.dae_types_typed.specs.declared.files.FileParts.{FileParts}
 use Rattle.dae_types.specs.Answers.{IsTypedFile, start_in}
 use Rattle.dae_types.specs.Names.{numbers_in}
 use Rattle.dae_file_sizes.specs.Small.{StartsKeepLiterals}
 use Rattle.dae_small.specs.Sources.{AreTypedAs, IsTypedAs}
-use Rattle.dae_join.specs.Promise.{HaveParameters, IsJoinedTo}
-use Rattle.dae_sources.specs.Read.{AreRead}
+use Rattle.dae_unit_join.specs.Promise.{HaveParameters, IsJoinedTo}
+use Rattle.dae_accept_sources.specs.Read.{AreRead}
 use Rattle.dae_accept.specs.Accepted.{AreTyped}
 use Rattle.dae_accept.specs.Origins.{IsOfFiles}
 

@@ -1,12 +1,12 @@
 -- What the refusal of a stage says of all texts.
 use Rattle.std.proofs.Common.{◌≡◌, inl, inr, ℕ, List, Err, Some, sym, subst}
 use Rattle.dae_tree.specs.Files.{Contents}
-use Rattle.dae_kinds.specs.declared.rules.CheckError.{CheckError}
-use Rattle.dae_kinds.specs.declared.rules.CheckError.TheVariants as rules
-use Rattle.dae_typed.specs.declared.files.FileParts.{FileParts}
-use Rattle.dae_sources.specs.Read.{AreRead, Reads}
-use Rattle.dae_sources.specs.declared.reading.FileError.{FileError}
-use Rattle.dae_sources.specs.declared.reading.FileError.TheVariants as read
+use Rattle.dae_types_kinds.specs.declared.rules.CheckError.{CheckError}
+use Rattle.dae_types_kinds.specs.declared.rules.CheckError.TheVariants as rules
+use Rattle.dae_types_typed.specs.declared.files.FileParts.{FileParts}
+use Rattle.dae_accept_sources.specs.Read.{AreRead, Reads}
+use Rattle.dae_accept_sources.specs.declared.reading.FileError.{FileError}
+use Rattle.dae_accept_sources.specs.declared.reading.FileError.TheVariants as read
 use Rattle.dae_unit.specs.declared.errors.JoinError.{JoinError}
 use Rattle.dae_unit.specs.declared.errors.JoinError.TheVariants as joins
 use Rattle.dae_unit.specs.Joined.{IsRefused}

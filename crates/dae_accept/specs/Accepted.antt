@@ -1,15 +1,15 @@
 -- Which texts are accepted in a memory of so many bytes, and as which program; and for what other texts are refused.
 use Rattle.std.specs.Prelude.{◌≡◌, ◌≢◌, ◌⊎◌, ℕ, List, [], ◌∷◌, Some, Err}
 use Rattle.dae_tree.specs.Files.{Contents}
-use Rattle.dae_kinds.specs.declared.rules.Breach.{Breach}
-use Rattle.dae_rules.specs.Plan.{IsChecked}
-use Rattle.dae_typed.specs.declared.files.FileParts.{FileParts}
+use Rattle.dae_types_kinds.specs.declared.rules.Breach.{Breach}
+use Rattle.dae_types_rules.specs.Plan.{IsChecked}
+use Rattle.dae_types_typed.specs.declared.files.FileParts.{FileParts}
 use Rattle.dae_program.specs.declared.program.Program.{Program}
-use Rattle.dae_sources.specs.Read.{AreRead, HasNoTokens, IsTreeRefusal}
+use Rattle.dae_accept_sources.specs.Read.{AreRead, HasNoTokens, IsTreeRefusal}
 use Rattle.dae_types.specs.Answers.{IsTypedFile, plan_in, start_in}
 use Rattle.dae_unit.specs.declared.errors.JoinError.{JoinError}
 use Rattle.dae_unit.specs.Joining.{cause}
-use Rattle.dae_join.specs.Promise.{IsJoinedTo}
+use Rattle.dae_unit_join.specs.Promise.{IsJoinedTo}
 use Rattle.dae_accept.specs.declared.error.CompileError.{CompileError}
 use Rattle.dae_accept.specs.declared.error.CompileError.TheVariants as errors
 

@@ -2,9 +2,9 @@
 use Rattle.std.specs.Prelude.{List, Vec, Result, Ok, Err}
 use Rattle.std.specs.declared.alloc.Global.{Global}
 use Rattle.dae_tree.specs.Files.{Contents}
-use Rattle.dae_kinds.specs.declared.rules.CheckError.{CheckError}
-use Rattle.dae_kinds.specs.declared.rules.CheckError.TheVariants.{Rule, Memory}
-use Rattle.dae_typed.specs.declared.files.FileParts.{FileParts}
+use Rattle.dae_types_kinds.specs.declared.rules.CheckError.{CheckError}
+use Rattle.dae_types_kinds.specs.declared.rules.CheckError.TheVariants.{Rule, Memory}
+use Rattle.dae_types_typed.specs.declared.files.FileParts.{FileParts}
 use Rattle.dae_accept.specs.Accepted.{AreTyped, IsFirstBroken}
 
 -- the typed files, or a rule that is broken in the first file that breaks one; nothing is said of want of memory

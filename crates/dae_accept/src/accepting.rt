@@ -3,19 +3,19 @@
 ghost use Rattle.std.specs.Prelude.{◌≤◌, ◌^◌, length, IfErr, IfOk};
 ghost use Rattle.std.specs.List.{All};
 ghost use Rattle.dae_tree.specs.Files.{IsFile};
-ghost use Rattle.dae_sources.specs.Read.{IsShort, texts_in};
+ghost use Rattle.dae_accept_sources.specs.Read.{IsShort, texts_in};
 ghost use Rattle.dae_accept.specs.Accepted.{IsAccepted, IsRefusedFor};
 ghost use Rattle.dae_accept.specs.Checked.{Checks};
 ghost use Rattle.dae_accept.specs.Origins.{IsOfFiles};
 
 use crate::error::CompileError;
 use dae_file_sizes::starts_keep_literals;
-use dae_join::join;
-use dae_kinds::CheckError;
+use dae_unit_join::join;
+use dae_types_kinds::CheckError;
 use dae_program::Program;
-use dae_sources::read_files;
+use dae_accept_sources::read_files;
 use dae_tree::File;
-use dae_typed::TypedFile;
+use dae_types_typed::TypedFile;
 use dae_types::check;
 use std::alloc::Global;
 

@@ -4,12 +4,12 @@ ghost use Rattle.dae_accept.specs.Accepted.{AreOneCause, IsNeverBeside};
 ghost use Rattle.dae_accept.specs.Origins.{ReadAreWithin};
 ghost use Rattle.dae_accept.specs.declared.error.CompileError.{CompileError};
 ghost use Rattle.dae_accept.specs.declared.error.CompileError.TheVariants.{Join, Lex, Rule, Tree};
-ghost use Rattle.dae_kinds.specs.declared.rules.Breach.{Breach};
+ghost use Rattle.dae_types_kinds.specs.declared.rules.Breach.{Breach};
 ghost use Rattle.dae_parse.specs.declared.error.ParseError.{ParseError};
 ghost use Rattle.dae_tree.specs.declared.faults.LexError.{LexError};
 ghost use Rattle.dae_unit.specs.declared.errors.JoinError.{JoinError};
 
-use dae_sources::texts_are_read_once;
+use dae_accept_sources::texts_are_read_once;
 use dae_unit::outlines_tell_causes;
 
 /// Texts that are accepted are not refused for their tokens, nor for a tree, nor for a rule of types, nor since they don't join.

@@ -2,8 +2,8 @@
 // top call's, which is generic over where texts come from and where bytes go.
 #![tactic(auto)]
 
-use dae_command::dae_main;
-use dae_drive::noted;
+use dae_cli_command::dae_main;
+use dae_cli_drive::noted;
 use dae_io::{DirShelf, StdSink};
 use std::alloc::{AllocError, Global};
 use std::env;

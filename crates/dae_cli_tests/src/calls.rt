@@ -1,6 +1,6 @@
 //! Calls of the program over texts in memory, for its tests.
 
-use dae_command::dae_main;
+use dae_cli_command::dae_main;
 use dae_io::{FailingCall, MemShelf, MemSink};
 use std::alloc::{AllocError, Global};
 use std::test::Fail;

@@ -2,8 +2,8 @@
 
 use crate::calls::words_in;
 use dae_base::Depths;
-use dae_drive::{RunOptions, Shown};
-use dae_jobs::{Job, spelled_job};
+use dae_cli_drive::{RunOptions, Shown};
+use dae_cli_jobs::{Job, spelled_job};
 use dae_machine::Schedule;
 use std::alloc::Global;
 use std::process::Abort;

@@ -23,7 +23,7 @@ use Rattle.dae_program.specs.Lawful.{count}
 use Rattle.dae_program.specs.Trees as tree
 use Rattle.dae_program.specs.Trees.{Expression, Target, Expressions}
 use Rattle.dae_lower.specs.Lowering.{Made, ◌⨾◌, ◌≫◌, nothing, only, emit, skip, one, set, or, assigned, assigned_all, assigned_target, variable, fetched, held, put_in, operated, narrowed, checks, may_be_zero, Spot, Local, Placed, Condition, test_of, related, isnt_zero, turn, branches, gives, Ways, by_value, chosen, advanced, stepped, Links, ways, spot, operands}
-use Rattle.dae_formed.specs.Sizes.{most_made, most_made_for, most_made_of_all}
+use Rattle.dae_lower_formed.specs.Sizes.{most_made, most_made_for, most_made_of_all}
 use Rattle.dae_code_sizes.specs.Code.{burden, most_code, most_code_for, most_code_of_all}
 
 pub size_then : (a b : Form) → burden (a ⨾ b) ≡ burden a + burden b

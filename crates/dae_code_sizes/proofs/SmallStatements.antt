@@ -19,7 +19,7 @@ use Rattle.dae_program.specs.declared.statements.Piece.{Piece}
 use Rattle.dae_program.specs.declared.statements.Piece.TheVariants as piece
 use Rattle.dae_program.specs.declared.program.Slot.{Slot}
 use Rattle.dae_lower.specs.Lowering.{Made, ◌⨾◌, ◌≫◌, emit, one, checks, nowhere, test_of, Links, leave_unless, leave_unless_some, effect_of_some, loop, text_loop, prints, zeros, settings, arms_continue, search_labels, search, switch, statements, arms_from, parameters_stored, is_closed, closed}
-use Rattle.dae_formed.specs.Sizes.{most_made, most_made_of_some, most_made_of_items, most_made_of_pieces, most_made_in, most_made_in_arms, most_made_of_slots, most_made_in_function}
+use Rattle.dae_lower_formed.specs.Sizes.{most_made, most_made_of_some, most_made_of_items, most_made_of_pieces, most_made_in, most_made_in_arms, most_made_of_slots, most_made_in_function}
 use Rattle.dae_code_sizes.specs.Code.{burden, item_burden, most_code, most_code_of_some, most_code_of_items, most_code_of_pieces, most_code_in, most_code_in_arms, most_code_of_slots, CodeWithin}
 use Rattle.dae_code_sizes.proofs.Small.{size_then, Small, Any, chain, weaker, nothing_small, branches_small, expression_small, operands_small, inner_and_count}
 

@@ -5,15 +5,15 @@ use Rattle.std.specs.List.{All, list_all}
 use Rattle.dae_image.specs.declared.Image.{Image}
 use Rattle.dae_image.specs.Contents.{is_name}
 use Rattle.dae_ir.specs.declared.form.Ir.{Ir}
-use Rattle.dae_runs.specs.Promises.{DoesForm}
-use Rattle.dae_sides.specs.declared.error.CodeError.{CodeError}
-use Rattle.dae_sides.specs.declared.error.CodeError.TheVariants as errors
+use Rattle.dae_machine_runs.specs.Promises.{DoesForm}
+use Rattle.dae_link_sides.specs.declared.error.CodeError.{CodeError}
+use Rattle.dae_link_sides.specs.declared.error.CodeError.TheVariants as errors
 use Rattle.dae_program.specs.declared.program.Program.{Program}
-use Rattle.dae_formed.specs.Formed.{IsLowered}
-use Rattle.dae_make_forms.specs.Lowered.{HasRoom}
+use Rattle.dae_lower_formed.specs.Formed.{IsLowered}
+use Rattle.dae_lower_forms.specs.Lowered.{HasRoom}
 use Rattle.dae_link.specs.Linked.{IsCompiledOf}
-use Rattle.dae_generate.specs.Generated.{FitsMachine, HasFramesWithin, IsShort, NeedsTooMuch, words_of_form}
-use Rattle.dae_promise.specs.Promises.{KeepsMeaning, ImageKeepsMeaning}
+use Rattle.dae_compile_generate.specs.Generated.{FitsMachine, HasFramesWithin, IsShort, NeedsTooMuch, words_of_form}
+use Rattle.dae_compile_promise.specs.Promises.{KeepsMeaning, ImageKeepsMeaning}
 use Rattle.dae_compile.specs.Compiled.{IsCompiledFrom, HasTooMuchPrivate, HasTooMuchCode}
 
 pub fits : (p : Program) (calls : ℕ) (ir : Ir) (content : List ℕ) (names : List (List ℕ)) → content ≡ p.content

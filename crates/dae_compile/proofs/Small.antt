@@ -17,9 +17,9 @@ use Rattle.dae_ir.specs.declared.form.Function.{Function as FormFunction}
 use Rattle.dae_ir.specs.declared.form.Ir.{Ir}
 use Rattle.dae_ir.specs.declared.form.Item.{Item}
 use Rattle.dae_ir.specs.declared.form.Item.TheVariants.{Call}
-use Rattle.dae_walks.specs.Homes.{frame_words}
-use Rattle.dae_generate.specs.Generated.{calls_of_form, is_call, words_of_form, words_of_functions, HasFramesWithin, HaveAtMost, IsShort, NeedsTooMuch}
-use Rattle.dae_formed.specs.Formed.{AreFormsOf, IsFormOf, IsLowered}
+use Rattle.dae_select_walks.specs.Homes.{frame_words}
+use Rattle.dae_compile_generate.specs.Generated.{calls_of_form, is_call, words_of_form, words_of_functions, HasFramesWithin, HaveAtMost, IsShort, NeedsTooMuch}
+use Rattle.dae_lower_formed.specs.Formed.{AreFormsOf, IsFormOf, IsLowered}
 use Rattle.dae_code_sizes.specs.Code.{burden, item_burden}
 use Rattle.dae_small.specs.Promise.{burdens_of, DefinitionsAreShort, FormsAreWithin, FramesAreWithin, IsForm}
 use Rattle.dae_small.specs.Sources.{AreUpTo, bytes_in, tokens_in}

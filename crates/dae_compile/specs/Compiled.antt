@@ -3,9 +3,9 @@ use Rattle.std.specs.Prelude.{◌≡◌, ℕ, ◌^◌, ◌<◌}
 use Rattle.dae_image.specs.declared.Image.{Image}
 use Rattle.dae_ir.specs.declared.form.Ir.{Ir}
 use Rattle.dae_program.specs.declared.program.Program.{Program}
-use Rattle.dae_formed.specs.Formed.{IsLowered}
+use Rattle.dae_lower_formed.specs.Formed.{IsLowered}
 use Rattle.dae_link.specs.Linked.{IsCompiledOf}
-use Rattle.dae_generate.specs.Generated.{HasFramesWithin, IsShort, NeedsTooMuch, words_of_form}
+use Rattle.dae_compile_generate.specs.Generated.{HasFramesWithin, IsShort, NeedsTooMuch, words_of_form}
 
 -- It has the program's data, memory and limit on calls, and is compiled of the form of the program, where a group
 -- holds at most cap loads for E and as many copies. The form bounds its code and its private memories.

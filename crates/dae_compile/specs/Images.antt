@@ -1,9 +1,9 @@
 -- What the image of several texts is.
 use Rattle.std.specs.Prelude.{◌≡◌, ℕ, List}
 use Rattle.dae_image.specs.declared.Image.{Image}
-use Rattle.dae_pair.specs.Budget.{IsWithinCap}
+use Rattle.dae_ir_pair.specs.Budget.{IsWithinCap}
 use Rattle.dae_program.specs.declared.program.Program.{Program}
-use Rattle.dae_promise.specs.Promises.{KeepsMeaning}
+use Rattle.dae_compile_promise.specs.Promises.{KeepsMeaning}
 use Rattle.dae_accept.specs.Accepted.{IsAccepted}
 use Rattle.dae_compile.specs.Compiled.{IsCompiledFrom}
 use Rattle.dae_compile.specs.declared.options.Options.{Options}

@@ -3,7 +3,7 @@
 ghost use Rattle.std.specs.Prelude.{◌≡◌, ◌≤◌, length, IfErr, IfOk, IsTrue};
 ghost use Rattle.std.specs.List.{All, list_all};
 ghost use Rattle.dae_image.specs.Contents.{is_name};
-ghost use Rattle.dae_sources.specs.Read.{IsShort, texts_in};
+ghost use Rattle.dae_accept_sources.specs.Read.{IsShort, texts_in};
 ghost use Rattle.dae_accept.specs.Accepted.{IsRefusedFor};
 ghost use Rattle.dae_compile.specs.Images.{IsImageOf};
 ghost use Rattle.dae_compile.specs.Sizes.{IsSmallBeside};
@@ -13,7 +13,7 @@ use crate::programs::compile_program;
 use dae_accept::{CompileError, accept, read_are_within};
 use dae_base::{Items, Text};
 use dae_image::Image;
-use dae_sides::CodeError;
+use dae_link_sides::CodeError;
 use dae_small::{definitions_are_short, forms_are_within, frames_are_within};
 use std::alloc::Global;
 

@@ -3,18 +3,18 @@
 ghost use Rattle.std.specs.Prelude.{◌≡◌, ◌<◌, ◌≤◌, ◌%◌, length, IfErr, IfOk, IsTrue};
 ghost use Rattle.std.specs.List.{All, list_all};
 ghost use Rattle.dae_image.specs.Contents.{is_name};
-ghost use Rattle.dae_pair.specs.Budget.{IsWithinCap};
-ghost use Rattle.dae_promise.specs.Promises.{KeepsMeaning};
-ghost use Rattle.dae_sides.specs.declared.error.CodeError.TheVariants as errors;
+ghost use Rattle.dae_ir_pair.specs.Budget.{IsWithinCap};
+ghost use Rattle.dae_compile_promise.specs.Promises.{KeepsMeaning};
+ghost use Rattle.dae_link_sides.specs.declared.error.CodeError.TheVariants as errors;
 ghost use Rattle.dae_compile.specs.Compiled.{IsCompiledFrom, HasTooMuchPrivate, HasTooMuchCode};
 
 use dae_base::{Items, Text};
-use dae_generate::generate;
+use dae_compile_generate::generate;
 use dae_image::Image;
-use dae_make_forms::lower;
+use dae_lower_forms::lower;
 use dae_program::Program;
-use dae_promise::image_keeps_meaning;
-use dae_sides::CodeError;
+use dae_compile_promise::image_keeps_meaning;
+use dae_link_sides::CodeError;
 use std::alloc::Global;
 
 // A byte is below 256.

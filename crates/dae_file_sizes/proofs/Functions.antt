@@ -8,25 +8,25 @@ use Rattle.dae_tree.specs.Statements.{spell_external}
 use Rattle.dae_tree.specs.Trees.{External}
 use Rattle.dae_program.specs.Trees as tree
 use Rattle.dae_program.specs.Views.{view_statements}
-use Rattle.dae_kinds.specs.declared.rules.Breach.{Breach}
-use Rattle.dae_kinds.specs.declared.tables.Local.{Local}
-use Rattle.dae_kinds.specs.declared.tables.Routine.{Routine}
-use Rattle.dae_kinds.specs.declared.tables.Storage.{Storage}
-use Rattle.dae_kinds.specs.declared.types.Shape.{Shape}
-use Rattle.dae_kinds.specs.declared.types.Shape.TheVariants as shape
-use Rattle.dae_kinds.specs.Tables.{Tables}
-use Rattle.dae_kinds.specs.Types.{shape_of, shape_or}
-use Rattle.dae_kinds.specs.Values.{routine_type, parameters_of}
-use Rattle.dae_rules.specs.Plan.{IsChecked, check_of}
-use Rattle.dae_plans.specs.Steps.{parameters_from, parameter_types}
-use Rattle.dae_file_plans.specs.Files.{Product, Declares, Data, Body, plan_file}
-use Rattle.dae_file_plans.specs.Promise.{FilesAreChecked}
-use Rattle.dae_typed.specs.Frames.{is_variable, variables_of, slots_of}
-use Rattle.dae_typed.specs.Reading.{Written, written_in, view_functions}
-use Rattle.dae_typed.specs.Sound.{tables_of}
-use Rattle.dae_typed.specs.declared.files.FileParts.{FileParts}
-use Rattle.dae_typed.specs.declared.files.TypedFunction.{TypedFunction}
-use Rattle.dae_formed.specs.Sizes.{most_made_in}
+use Rattle.dae_types_kinds.specs.declared.rules.Breach.{Breach}
+use Rattle.dae_types_kinds.specs.declared.tables.Local.{Local}
+use Rattle.dae_types_kinds.specs.declared.tables.Routine.{Routine}
+use Rattle.dae_types_kinds.specs.declared.tables.Storage.{Storage}
+use Rattle.dae_types_kinds.specs.declared.types.Shape.{Shape}
+use Rattle.dae_types_kinds.specs.declared.types.Shape.TheVariants as shape
+use Rattle.dae_types_kinds.specs.Tables.{Tables}
+use Rattle.dae_types_kinds.specs.Types.{shape_of, shape_or}
+use Rattle.dae_types_kinds.specs.Values.{routine_type, parameters_of}
+use Rattle.dae_types_rules.specs.Plan.{IsChecked, check_of}
+use Rattle.dae_types_plans.specs.Steps.{parameters_from, parameter_types}
+use Rattle.dae_types_file_plans.specs.Files.{Product, Declares, Data, Body, plan_file}
+use Rattle.dae_types_file_plans.specs.Promise.{FilesAreChecked}
+use Rattle.dae_types_typed.specs.Frames.{is_variable, variables_of, slots_of}
+use Rattle.dae_types_typed.specs.Reading.{Written, written_in, view_functions}
+use Rattle.dae_types_typed.specs.Sound.{tables_of}
+use Rattle.dae_types_typed.specs.declared.files.FileParts.{FileParts}
+use Rattle.dae_types_typed.specs.declared.files.TypedFunction.{TypedFunction}
+use Rattle.dae_lower_formed.specs.Sizes.{most_made_in}
 use Rattle.dae_tree_sizes.specs.Sizes.{priced, TokensPay}
 use Rattle.dae_typed_sizes.specs.Bodies.{PlannedBody, bodies_in, IsPaidBy, ArePaidBy, BodiesPaid}
 use Rattle.dae_typed_sizes.specs.Paid.{for_each, bytes_of_literal, price}

@@ -5,14 +5,14 @@ use Rattle.std.proofs.lemmas.Bool.Decides.{nat_tests}
 use Rattle.std.specs.List.{AllByRecursion, list_all}
 use Rattle.std.specs.Prelude.{nat_eq, not, ◌||◌}
 use Rattle.dae_program.specs.Lawful.{is_lawful_body}
-use Rattle.dae_kinds.specs.declared.tables.LibraryFunction.{LibraryFunction}
-use Rattle.dae_kinds.specs.declared.tables.LibraryFunction.TheVariants as library
-use Rattle.dae_kinds.specs.Tables.{Tables}
-use Rattle.dae_plans.specs.Steps.{parameter_types}
-use Rattle.dae_file_plans.specs.Files.{Numbers, with_library, with_stdio, with_stdlib, empty_tables, printf_type, putchar_type, exit_type, abort_type}
-use Rattle.dae_typed.specs.Sound.{tables_of, is_called_main, function_at, is_sound_function}
-use Rattle.dae_typed.specs.declared.files.FileParts.{FileParts}
-use Rattle.dae_typed.specs.declared.files.TypedFunction.{TypedFunction}
+use Rattle.dae_types_kinds.specs.declared.tables.LibraryFunction.{LibraryFunction}
+use Rattle.dae_types_kinds.specs.declared.tables.LibraryFunction.TheVariants as library
+use Rattle.dae_types_kinds.specs.Tables.{Tables}
+use Rattle.dae_types_plans.specs.Steps.{parameter_types}
+use Rattle.dae_types_file_plans.specs.Files.{Numbers, with_library, with_stdio, with_stdlib, empty_tables, printf_type, putchar_type, exit_type, abort_type}
+use Rattle.dae_types_typed.specs.Sound.{tables_of, is_called_main, function_at, is_sound_function}
+use Rattle.dae_types_typed.specs.declared.files.FileParts.{FileParts}
+use Rattle.dae_types_typed.specs.declared.files.TypedFunction.{TypedFunction}
 use Rattle.dae_file_sizes.specs.Small.{HasParameters, SoundHaveParameters, StartsKeepLiterals}
 
 first_true : (b c : Bool) → (b && c) ≡ true → b ≡ true

@@ -6,15 +6,15 @@ use Rattle.dae_program.specs.Trees.{Expression, Target, Expressions, Setting, St
 use Rattle.dae_program.specs.declared.statements.Piece.{Piece}
 use Rattle.dae_program.specs.declared.statements.Piece.TheVariants as piece
 use Rattle.dae_program.specs.declared.program.Slot.{Slot}
-use Rattle.dae_kinds.specs.declared.tables.Local.{Local}
-use Rattle.dae_kinds.specs.declared.tables.Storage.{Storage}
-use Rattle.dae_kinds.specs.declared.tables.Storage.TheVariants as storage
-use Rattle.dae_kinds.specs.Tables.{Tables}
-use Rattle.dae_kinds.specs.Types.{shape_of}
-use Rattle.dae_kinds.specs.Values.{load_kind}
-use Rattle.dae_file_plans.specs.Statements.{storage_target}
-use Rattle.dae_file_plans.specs.Files.{zero_if, begun_with}
-use Rattle.dae_formed.specs.Sizes.{most_made, most_made_for, most_made_of_all, most_made_of_some, most_made_of_items, most_made_of_pieces, most_made_in, most_made_in_arms, most_made_of_slots}
+use Rattle.dae_types_kinds.specs.declared.tables.Local.{Local}
+use Rattle.dae_types_kinds.specs.declared.tables.Storage.{Storage}
+use Rattle.dae_types_kinds.specs.declared.tables.Storage.TheVariants as storage
+use Rattle.dae_types_kinds.specs.Tables.{Tables}
+use Rattle.dae_types_kinds.specs.Types.{shape_of}
+use Rattle.dae_types_kinds.specs.Values.{load_kind}
+use Rattle.dae_types_file_plans.specs.Statements.{storage_target}
+use Rattle.dae_types_file_plans.specs.Files.{zero_if, begun_with}
+use Rattle.dae_lower_formed.specs.Sizes.{most_made, most_made_for, most_made_of_all, most_made_of_some, most_made_of_items, most_made_of_pieces, most_made_in, most_made_in_arms, most_made_of_slots}
 use Rattle.dae_typed_sizes.specs.Weights.{weight, weight_of_target, weight_of_all, weight_of_some, weight_of_items, weight_of_pieces, weight_in, weight_in_arms}
 use Rattle.dae_code_sizes.specs.Code.{most_code, most_code_for, most_code_of_all, most_code_of_some, most_code_of_items, most_code_of_pieces, most_code_in, most_code_in_arms, most_code_of_slots}
 

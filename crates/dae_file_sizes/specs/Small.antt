@@ -7,15 +7,15 @@ use Rattle.dae_tree.specs.Trees.{External}
 use Rattle.dae_program.specs.Trees.{Statements}
 use Rattle.dae_program.specs.Views.{view_statements}
 use Rattle.dae_program.specs.declared.program.Slot.{Slot}
-use Rattle.dae_kinds.specs.Tables.{Tables}
-use Rattle.dae_rules.specs.Plan.{IsChecked}
-use Rattle.dae_plans.specs.Steps.{parameter_types}
-use Rattle.dae_file_plans.specs.Files.{Product, Numbers, plan_file, start_of}
-use Rattle.dae_typed.specs.Reading.{Reads}
-use Rattle.dae_typed.specs.Sound.{tables_of, IsSound, HaveRoom}
-use Rattle.dae_typed.specs.declared.files.FileParts.{FileParts}
-use Rattle.dae_typed.specs.declared.files.TypedFunction.{TypedFunction}
-use Rattle.dae_formed.specs.Sizes.{most_made_of_slots, most_made_in}
+use Rattle.dae_types_kinds.specs.Tables.{Tables}
+use Rattle.dae_types_rules.specs.Plan.{IsChecked}
+use Rattle.dae_types_plans.specs.Steps.{parameter_types}
+use Rattle.dae_types_file_plans.specs.Files.{Product, Numbers, plan_file, start_of}
+use Rattle.dae_types_typed.specs.Reading.{Reads}
+use Rattle.dae_types_typed.specs.Sound.{tables_of, IsSound, HaveRoom}
+use Rattle.dae_types_typed.specs.declared.files.FileParts.{FileParts}
+use Rattle.dae_types_typed.specs.declared.files.TypedFunction.{TypedFunction}
+use Rattle.dae_lower_formed.specs.Sizes.{most_made_of_slots, most_made_in}
 use Rattle.dae_tree_sizes.specs.Sizes.{priced, IsDefinition}
 use Rattle.dae_typed_sizes.specs.Paid.{bytes_of_literal}
 use Rattle.dae_code_sizes.specs.Code.{most_code_of_slots, most_code_in}

@@ -11,7 +11,7 @@ pub fn variables_are_few()
 {
     dae_tree_sizes::tokens_pay();
     dae_typed_sizes::bodies_paid();
-    dae_file_plans::files_are_checked();
+    dae_types_file_plans::files_are_checked();
 }
 
 /// The same of their code, which weighs less than 16 for each token of its definition and 8 for each byte of its literals, where
@@ -21,7 +21,7 @@ pub fn code_is_little()
 {
     dae_tree_sizes::tokens_pay();
     dae_typed_sizes::bodies_paid();
-    dae_file_plans::files_are_checked();
+    dae_types_file_plans::files_are_checked();
 }
 
 /// Each function of a sound file has the parameters of its type, where the objects that the file uses have room anywhere.

@@ -21,7 +21,7 @@ use crate::output::{Output, fault_at};
 use crate::pieces::{Piece, next_of};
 use crate::replace::replace_piece;
 use dae_base::Place;
-use dae_scan::{find_header, number_kind};
+use dae_lex_scan::{find_header, number_kind};
 use dae_tree::{
     Construct, Header, Includes, LexError, PieceKind, STDIO_MACROS, STDLIB_MACROS, Sign,
 };

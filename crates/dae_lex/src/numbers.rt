@@ -7,7 +7,7 @@ ghost use Rattle.dae_tree.specs.declared.faults.LexError.TheVariants.{Memory};
 
 use crate::pieces::Piece;
 use dae_base::Items;
-use dae_scan::append_values;
+use dae_lex_scan::append_values;
 use dae_tree::{LexError, PieceKind};
 use indexmap::IndexSet;
 use std::alloc::Global;

@@ -12,7 +12,7 @@ ghost use Rattle.dae_tree.specs.declared.faults.LexError.TheVariants.{Memory};
 use crate::numbers::{NumberedPiece, Numbers, between_quotes};
 use crate::pieces::Piece;
 use dae_base::Place;
-use dae_scan::{find_keyword, find_refused_word};
+use dae_lex_scan::{find_keyword, find_refused_word};
 use dae_tree::{Constant, Construct, Fault, Keyword, LexError, PieceKind, Room, Sign};
 use std::alloc::Global;
 

@@ -10,7 +10,7 @@ ghost use Rattle.dae_tree.specs.declared.faults.LexError.TheVariants.{Memory};
 
 use crate::lines::Joined;
 use dae_base::Place;
-use dae_scan::form_at;
+use dae_lex_scan::form_at;
 use dae_tree::{Form, LexError, PieceKind};
 use std::alloc::Global;
 

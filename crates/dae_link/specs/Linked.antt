@@ -12,13 +12,13 @@ use Rattle.dae_ir.specs.declared.stream.Class.{Class}
 use Rattle.dae_ir.specs.declared.stream.Pair.{Pair}
 use Rattle.dae_ir.specs.Programs.{AreClassesOf, IsPairOf}
 use Rattle.dae_ir.specs.Budgets.{IsBudgetOf}
-use Rattle.dae_uses.specs.Uses.{IsUnused}
-use Rattle.dae_faithful.specs.Made.{IsMade, IsReady}
-use Rattle.dae_runs.specs.Promises.{DoesForm}
+use Rattle.dae_link_uses.specs.Uses.{IsUnused}
+use Rattle.dae_link_faithful.specs.Made.{IsMade, IsReady}
+use Rattle.dae_machine_runs.specs.Promises.{DoesForm}
 use Rattle.dae_select.specs.declared.growing.PlacedWord.{PlacedWord}
-use Rattle.dae_sides.specs.Sides.{HasLimits, HasPlaces}
-use Rattle.dae_sides.specs.Settled.{IsTooDeep, IsPrivateWithin}
-use Rattle.dae_sides.specs.Sizes.{most_words}
+use Rattle.dae_link_sides.specs.Sides.{HasLimits, HasPlaces}
+use Rattle.dae_link_sides.specs.Settled.{IsTooDeep, IsPrivateWithin}
+use Rattle.dae_link_sides.specs.Sizes.{most_words}
 use Rattle.dae_link.specs.Marked.{IsMarkOf, line_marks}
 use Rattle.dae_link.specs.declared.marks.MarkRoom.{MarkRoom}
 

@@ -1,9 +1,9 @@
 -- What the grammar's machine does, by what the machine in memory does.
 use Rattle.std.proofs.Common.{◌∷◌}
-use Rattle.dae_nodes.specs.Parts.{ShowsOperand, ShowsOptional, ShowsSpecified, ShowsEnumerators, ShowsDeclared, ShowsItems, ShowsStatement, ShowsLoop}
-use Rattle.dae_grammar.specs.Frames as plain
-use Rattle.dae_states.specs.declared.frames.Doing.TheVariants as doing
-use Rattle.dae_states.specs.Frames.{ShowsBefore, ShowsBody, ShowsDoing, manner_of}
+use Rattle.dae_parse_nodes.specs.Parts.{ShowsOperand, ShowsOptional, ShowsSpecified, ShowsEnumerators, ShowsDeclared, ShowsItems, ShowsStatement, ShowsLoop}
+use Rattle.dae_parse_grammar.specs.Frames as plain
+use Rattle.dae_parse_states.specs.declared.frames.Doing.TheVariants as doing
+use Rattle.dae_parse_states.specs.Frames.{ShowsBefore, ShowsBody, ShowsDoing, manner_of}
 
 pub does_enumerated : (b : _) (xs : _) (n : _) (P : plain.Doing → Type 0) (does : plain.Doing) → ShowsDoing (doing.Enumerated b xs n) does
     → ((a : _) (es : _) → ShowsBody b a → ShowsEnumerators xs es → P (plain.enumerated a es n)) → P does

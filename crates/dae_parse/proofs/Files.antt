@@ -19,13 +19,13 @@ use Rattle.dae_tree.specs.declared.words.Keyword.TheVariants as keywords
 use Rattle.dae_tree.specs.declared.signs.Sign.{Sign}
 use Rattle.dae_tree.specs.declared.signs.Sign.TheVariants as signs
 use Rattle.dae_base.specs.declared.Place.{Place}
-use Rattle.dae_grammar.specs.FirstPlaces.{or_else, firsts_external, firsts_file}
-use Rattle.dae_grammar.specs.Machine.{onto}
-use Rattle.dae_grammar.proofs.Laws.{unique, first_deep}
-use Rattle.dae_parts.specs.Shown.{firsts_list}
-use Rattle.dae_parts.proofs.Laws.{seen_at}
-use Rattle.dae_states.specs.declared.frames.Before.{Before}
-use Rattle.dae_states.specs.Frames.{ShowsFile}
+use Rattle.dae_parse_grammar.specs.FirstPlaces.{or_else, firsts_external, firsts_file}
+use Rattle.dae_parse_grammar.specs.Machine.{onto}
+use Rattle.dae_parse_grammar.proofs.Laws.{unique, first_deep}
+use Rattle.dae_parse_parts.specs.Shown.{firsts_list}
+use Rattle.dae_parse_parts.proofs.Laws.{seen_at}
+use Rattle.dae_parse_states.specs.declared.frames.Before.{Before}
+use Rattle.dae_parse_states.specs.Frames.{ShowsFile}
 use Rattle.dae_parse.specs.declared.error.ParseError.{ParseError}
 use Rattle.dae_parse.specs.declared.error.ParseError.TheVariants as errors
 use Rattle.dae_parse.specs.Parsed.{IsWithinLimits, IsFileOf, IsRefused, IsCause, AreAlike, Answers}

@@ -2,11 +2,11 @@
 use Rattle.std.proofs.Common.{◌≡◌, List, [], ◌∷◌, None, refl}
 use Rattle.dae_tree.specs.Marks.{Mark}
 use Rattle.dae_tree.specs.Names.{Names}
-use Rattle.dae_grammar.specs.Frames as plain
-use Rattle.dae_grammar.specs.Machine.{given, specifiers_taken, declarator_taken, initialiser_taken, declaration_taken, statement_taken}
-use Rattle.dae_states.specs.declared.frames.Frame.{Frame}
-use Rattle.dae_states.specs.declared.frames.Frame.TheVariants as frame
-use Rattle.dae_states.specs.Frames.{ShowsStack}
+use Rattle.dae_parse_grammar.specs.Frames as plain
+use Rattle.dae_parse_grammar.specs.Machine.{given, specifiers_taken, declarator_taken, initialiser_taken, declaration_taken, statement_taken}
+use Rattle.dae_parse_states.specs.declared.frames.Frame.{Frame}
+use Rattle.dae_parse_states.specs.declared.frames.Frame.TheVariants as frame
+use Rattle.dae_parse_states.specs.Frames.{ShowsStack}
 
 pub other_expression : (e : _) (fs : List Frame) (s : List plain.Frame) (names : Names) (ts : List Mark) → ShowsStack fs s
     → ((f : _) (below : List Frame) → ¬ (fs ≡ frame.Expression f ∷ below)) → given e s names ts ≡ None

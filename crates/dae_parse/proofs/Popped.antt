@@ -1,13 +1,13 @@
 -- What stands on the stack of the grammar's machine, by the top frame in memory.
 use Rattle.std.proofs.Common.{List, [], ◌∷◌}
-use Rattle.dae_nodes.specs.Parts.{ShowsOptional, ShowsSpecified, ShowsDeclared, ShowsLoop}
-use Rattle.dae_grammar.specs.Frames as plain
-use Rattle.dae_states.specs.declared.frames.Frame.{Frame}
-use Rattle.dae_states.specs.declared.frames.Frame.TheVariants as frame
-use Rattle.dae_states.specs.declared.frames.ExpressionFrame.TheVariants as expression
-use Rattle.dae_states.specs.declared.frames.DeclaratorFrame.TheVariants as declarator
-use Rattle.dae_states.specs.declared.frames.StatementFrame.TheVariants as statement
-use Rattle.dae_states.specs.Frames.{manner_of, ShowsHead, ShowsStack}
+use Rattle.dae_parse_nodes.specs.Parts.{ShowsOptional, ShowsSpecified, ShowsDeclared, ShowsLoop}
+use Rattle.dae_parse_grammar.specs.Frames as plain
+use Rattle.dae_parse_states.specs.declared.frames.Frame.{Frame}
+use Rattle.dae_parse_states.specs.declared.frames.Frame.TheVariants as frame
+use Rattle.dae_parse_states.specs.declared.frames.ExpressionFrame.TheVariants as expression
+use Rattle.dae_parse_states.specs.declared.frames.DeclaratorFrame.TheVariants as declarator
+use Rattle.dae_parse_states.specs.declared.frames.StatementFrame.TheVariants as statement
+use Rattle.dae_parse_states.specs.Frames.{manner_of, ShowsHead, ShowsStack}
 
 pub popped_in_test : (h : _) (p : _) (below : List Frame) (P : List plain.Frame → Type 0) (stack : List plain.Frame) → ShowsStack (frame.Expression (expression.InTest h p) ∷ below) stack
     → ((a : _) (t : List plain.Frame) → ShowsHead h a → ShowsStack below t → P (plain.awaits_expression (plain.in_test a p) ∷ t)) → P stack

@@ -5,23 +5,23 @@ use Rattle.dae_tree.specs.Marks.{Mark, marks}
 use Rattle.dae_tree.specs.Names.{Names}
 use Rattle.dae_tree.specs.Statements.{IsTreeOf}
 use Rattle.dae_tree.specs.Trees.{External}
-use Rattle.dae_grammar.specs.Frames.{Frame, State, state, externals}
-use Rattle.dae_grammar.specs.Frames as plain
-use Rattle.dae_grammar.specs.Machine.{step, step_at, begun, onto}
-use Rattle.dae_grammar.specs.Measure.{measure}
-use Rattle.dae_grammar.specs.Runs.{run}
-use Rattle.dae_grammar.specs.Standing.{Holds}
-use Rattle.dae_grammar.specs.Taken.{tokens_of}
-use Rattle.dae_grammar.proofs.Laws.{run_next, stands, run_keeps, step_falls, sound, stopped}
-use Rattle.dae_states.specs.declared.frames.Before.{Before}
-use Rattle.dae_states.specs.declared.frames.Doing.{Doing}
-use Rattle.dae_states.specs.declared.machine.Machine.{Machine}
-use Rattle.dae_states.specs.declared.frames.Doing.TheVariants as doing
-use Rattle.dae_states.specs.declared.frames.Frame.{Frame as Top}
-use Rattle.dae_scope.specs.Scopes.{Scopes}
-use Rattle.dae_states.specs.Frames.{ShowsFile, ShowsStack}
-use Rattle.dae_states.specs.States.{Follows}
-use Rattle.dae_states.specs.Bottom.{IsEmptyAt, IsBottomState}
+use Rattle.dae_parse_grammar.specs.Frames.{Frame, State, state, externals}
+use Rattle.dae_parse_grammar.specs.Frames as plain
+use Rattle.dae_parse_grammar.specs.Machine.{step, step_at, begun, onto}
+use Rattle.dae_parse_grammar.specs.Measure.{measure}
+use Rattle.dae_parse_grammar.specs.Runs.{run}
+use Rattle.dae_parse_grammar.specs.Standing.{Holds}
+use Rattle.dae_parse_grammar.specs.Taken.{tokens_of}
+use Rattle.dae_parse_grammar.proofs.Laws.{run_next, stands, run_keeps, step_falls, sound, stopped}
+use Rattle.dae_parse_states.specs.declared.frames.Before.{Before}
+use Rattle.dae_parse_states.specs.declared.frames.Doing.{Doing}
+use Rattle.dae_parse_states.specs.declared.machine.Machine.{Machine}
+use Rattle.dae_parse_states.specs.declared.frames.Doing.TheVariants as doing
+use Rattle.dae_parse_states.specs.declared.frames.Frame.{Frame as Top}
+use Rattle.dae_parse_scope.specs.Scopes.{Scopes}
+use Rattle.dae_parse_states.specs.Frames.{ShowsFile, ShowsStack}
+use Rattle.dae_parse_states.specs.States.{Follows}
+use Rattle.dae_parse_states.specs.Bottom.{IsEmptyAt, IsBottomState}
 use Rattle.dae_parse.specs.Reached.{IsWhole, IsNotWhole, Reached}
 use Rattle.dae_parse.proofs.Bottoms.{bottom_of_run}
 

@@ -10,15 +10,15 @@ use Rattle.dae_tree.specs.Reading.{Reading}
 use Rattle.dae_base.specs.declared.Place.{Place}
 use Rattle.dae_tree.specs.Statements.{IsTreeOf}
 use Rattle.dae_tree.specs.Trees.{Expression, External}
-use Rattle.dae_grammar.specs.Frames as plain
-use Rattle.dae_grammar.specs.Frames.{Frame, State, state}
-use Rattle.dae_grammar.specs.Machine.{step, begun}
-use Rattle.dae_grammar.specs.Runs.{run}
-use Rattle.dae_grammar.specs.Stuck.{rest_of, stuck}
-use Rattle.dae_grammar.proofs.Laws.{nothing_goes_on, run_left}
-use Rattle.dae_states.specs.declared.frames.Doing.{Doing}
-use Rattle.dae_states.specs.declared.frames.Doing.TheVariants as doing
-use Rattle.dae_states.specs.Frames.{ShowsDoing}
+use Rattle.dae_parse_grammar.specs.Frames as plain
+use Rattle.dae_parse_grammar.specs.Frames.{Frame, State, state}
+use Rattle.dae_parse_grammar.specs.Machine.{step, begun}
+use Rattle.dae_parse_grammar.specs.Runs.{run}
+use Rattle.dae_parse_grammar.specs.Stuck.{rest_of, stuck}
+use Rattle.dae_parse_grammar.proofs.Laws.{nothing_goes_on, run_left}
+use Rattle.dae_parse_states.specs.declared.frames.Doing.{Doing}
+use Rattle.dae_parse_states.specs.declared.frames.Doing.TheVariants as doing
+use Rattle.dae_parse_states.specs.Frames.{ShowsDoing}
 use Rattle.dae_parse.specs.Parsed.{NothingBegins, IsStuckAt, IsPlaceOfSyntax, place_from}
 use Rattle.dae_parse.proofs.Reaching.{length_marks}
 

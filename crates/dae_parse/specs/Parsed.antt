@@ -9,9 +9,9 @@ use Rattle.dae_tree.specs.Trees.{External}
 use Rattle.dae_tree.specs.Statements.{IsTreeOf}
 use Rattle.dae_tree.specs.Depth.{nodes_file, first_deeper, greatest_depth, first_too_long}
 use Rattle.dae_tree.specs.FileViews.{view_externals}
-use Rattle.dae_grammar.specs.Machine.{step, begun}
-use Rattle.dae_grammar.specs.Runs.{run}
-use Rattle.dae_grammar.specs.Stuck.{stuck}
+use Rattle.dae_parse_grammar.specs.Machine.{step, begun}
+use Rattle.dae_parse_grammar.specs.Runs.{run}
+use Rattle.dae_parse_grammar.specs.Stuck.{stuck}
 use Rattle.dae_parse.specs.declared.error.ParseError.{ParseError}
 use Rattle.dae_parse.specs.declared.error.ParseError.TheVariants as errors
 

@@ -4,15 +4,15 @@ use Rattle.dae_tree.specs.declared.tokens.Token.{Token}
 use Rattle.dae_tree.specs.Marks.{Mark, marks}
 use Rattle.dae_tree.specs.Statements.{IsTreeOf}
 use Rattle.dae_tree.specs.Trees.{External}
-use Rattle.dae_grammar.specs.Frames as plain
-use Rattle.dae_grammar.specs.Machine.{begun, onto}
-use Rattle.dae_grammar.specs.Measure.{measure}
-use Rattle.dae_grammar.specs.Runs.{run}
-use Rattle.dae_states.specs.declared.frames.Before.{Before}
-use Rattle.dae_states.specs.declared.frames.Doing.{Doing}
-use Rattle.dae_states.specs.declared.machine.Machine.{Machine}
-use Rattle.dae_states.specs.Frames.{ShowsDoing, ShowsFile}
-use Rattle.dae_states.specs.States.{Stands, Follows, outside_stack, outside_doing}
+use Rattle.dae_parse_grammar.specs.Frames as plain
+use Rattle.dae_parse_grammar.specs.Machine.{begun, onto}
+use Rattle.dae_parse_grammar.specs.Measure.{measure}
+use Rattle.dae_parse_grammar.specs.Runs.{run}
+use Rattle.dae_parse_states.specs.declared.frames.Before.{Before}
+use Rattle.dae_parse_states.specs.declared.frames.Doing.{Doing}
+use Rattle.dae_parse_states.specs.declared.machine.Machine.{Machine}
+use Rattle.dae_parse_states.specs.Frames.{ShowsDoing, ShowsFile}
+use Rattle.dae_parse_states.specs.States.{Stands, Follows, outside_stack, outside_doing}
 use Rattle.dae_parse.specs.Parsed.{IsStuckAt}
 use Rattle.dae_parse.specs.declared.turn.Turn.{Turn}
 use Rattle.dae_parse.specs.declared.turn.Turn.TheVariants as turn

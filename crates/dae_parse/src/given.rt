@@ -2,30 +2,30 @@
 
 ghost use Rattle.std.specs.Prelude.{◌≡◌, ◌∷◌, List, length, IfOk};
 ghost use Rattle.dae_tree.specs.Trees.{Expression, Specifiers, Declarator, Initialiser as InitialiserTree, Declaration as DeclarationTree, Statement as StatementTree};
-ghost use Rattle.dae_grammar.specs.Frames as plain;
-ghost use Rattle.dae_grammar.specs.Frames.{Frame as PlainFrame, state};
-ghost use Rattle.dae_grammar.specs.Machine.{given, specifiers_taken, declarator_taken, initialiser_taken, declaration_taken, statement_taken};
-ghost use Rattle.dae_grammar.specs.Standing.{Holds};
-ghost use Rattle.dae_grammar.specs.Taken.{tokens_of};
-ghost use Rattle.dae_states.specs.Bottom.{IsBottom};
-ghost use Rattle.dae_nodes.specs.Parts.{ShowsOperand, ShowsSpecified, ShowsDeclared, ShowsInitialiser, ShowsDeclaration, ShowsStatement};
-ghost use Rattle.dae_states.specs.Frames.{is_block};
-ghost use Rattle.dae_states.specs.States.{Stands, Follows, outside_stack, Steps};
+ghost use Rattle.dae_parse_grammar.specs.Frames as plain;
+ghost use Rattle.dae_parse_grammar.specs.Frames.{Frame as PlainFrame, state};
+ghost use Rattle.dae_parse_grammar.specs.Machine.{given, specifiers_taken, declarator_taken, initialiser_taken, declaration_taken, statement_taken};
+ghost use Rattle.dae_parse_grammar.specs.Standing.{Holds};
+ghost use Rattle.dae_parse_grammar.specs.Taken.{tokens_of};
+ghost use Rattle.dae_parse_states.specs.Bottom.{IsBottom};
+ghost use Rattle.dae_parse_nodes.specs.Parts.{ShowsOperand, ShowsSpecified, ShowsDeclared, ShowsInitialiser, ShowsDeclaration, ShowsStatement};
+ghost use Rattle.dae_parse_states.specs.Frames.{is_block};
+ghost use Rattle.dae_parse_states.specs.States.{Stands, Follows, outside_stack, Steps};
 
-use dae_declaration_steps::{
+use dae_parse_declarations::{
     behind_star, for_cast, for_declaration, for_member, for_parameter, for_sizeof, in_block,
     in_definition, in_enumerator, in_file, in_group, in_list, in_size, in_value, of_cast, of_item,
     of_member, of_parameter, of_sizeof, of_value,
 };
-use dae_nodes::{Declared, Operand, Specified};
-use dae_parts::Read;
-use dae_statement_steps::{
+use dae_parse_nodes::{Declared, Operand, Specified};
+use dae_parse_parts::Read;
+use dae_parse_statements::{
     behind_assignment, behind_binary, behind_cast, behind_colon, behind_comma, behind_prefix,
     behind_question, behind_sizeof, case_body, default_body, do_body, else_branch, for_body,
     in_arguments, in_case, in_evaluation, in_index, in_loop_test, in_parentheses, in_return,
     in_start, in_statements, in_step, in_test, switch_body, then_branch, while_body,
 };
-use dae_states::{
+use dae_parse_states::{
     DeclarationFrame, DeclaratorFrame, Doing, ExpressionFrame, InitialiserFrame, Machine,
     SpecifiersFrame, StatementFrame,
 };

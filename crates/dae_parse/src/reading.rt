@@ -11,8 +11,8 @@ ghost use Rattle.dae_parse.specs.declared.error.ParseError.TheVariants as errors
 use crate::error::ParseError;
 use crate::run::{Outcome, run};
 use dae_base::{Items, Place};
-use dae_parts::tree_or_depth;
-use dae_states::Before;
+use dae_parse_parts::tree_or_depth;
+use dae_parse_states::Before;
 use dae_tree::{File, Header, Includes, Tokens};
 use std::alloc::{AllocError, Global};
 

@@ -3,16 +3,16 @@
 ghost use Rattle.std.specs.Prelude.{◌≡◌, List, length, IfOk};
 ghost use Rattle.dae_tree.specs.Marks.{Mark};
 ghost use Rattle.dae_tree.specs.Names.{Names};
-ghost use Rattle.dae_grammar.specs.Frames as plain;
-ghost use Rattle.dae_grammar.specs.Frames.{Frame as PlainFrame, state};
-ghost use Rattle.dae_grammar.specs.Stuck.{stuck};
-ghost use Rattle.dae_states.specs.Frames.{ShowsDoing};
+ghost use Rattle.dae_parse_grammar.specs.Frames as plain;
+ghost use Rattle.dae_parse_grammar.specs.Frames.{Frame as PlainFrame, state};
+ghost use Rattle.dae_parse_grammar.specs.Stuck.{stuck};
+ghost use Rattle.dae_parse_states.specs.Frames.{ShowsDoing};
 ghost use Rattle.dae_parse.specs.Reached.{Comes};
 
 use crate::turn::{Turn, take_turn};
-use dae_nodes::no_externals;
-use dae_scope::Scope;
-use dae_states::{Before, Doing, Machine, Rest};
+use dae_parse_nodes::no_externals;
+use dae_parse_scope::Scope;
+use dae_parse_states::{Before, Doing, Machine, Rest};
 use dae_tree::Token;
 use std::alloc::{AllocError, Global};
 

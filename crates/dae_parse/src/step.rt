@@ -1,30 +1,30 @@
 // One step of the machine, by what it does.
 
 ghost use Rattle.std.specs.Prelude.{◌≡◌, List, length, IfOk};
-ghost use Rattle.dae_grammar.specs.Frames as plain;
-ghost use Rattle.dae_grammar.specs.Frames.{Frame as PlainFrame, state};
-ghost use Rattle.dae_grammar.specs.Machine.{step_at};
-ghost use Rattle.dae_grammar.specs.Standing.{Holds};
-ghost use Rattle.dae_grammar.specs.Taken.{tokens_of};
-ghost use Rattle.dae_states.specs.Bottom.{IsBottom};
-ghost use Rattle.dae_states.specs.Frames.{ShowsDoing};
-ghost use Rattle.dae_states.specs.States.{Stands, Follows, outside_stack, outside_doing};
+ghost use Rattle.dae_parse_grammar.specs.Frames as plain;
+ghost use Rattle.dae_parse_grammar.specs.Frames.{Frame as PlainFrame, state};
+ghost use Rattle.dae_parse_grammar.specs.Machine.{step_at};
+ghost use Rattle.dae_parse_grammar.specs.Standing.{Holds};
+ghost use Rattle.dae_parse_grammar.specs.Taken.{tokens_of};
+ghost use Rattle.dae_parse_states.specs.Bottom.{IsBottom};
+ghost use Rattle.dae_parse_states.specs.Frames.{ShowsDoing};
+ghost use Rattle.dae_parse_states.specs.States.{Stands, Follows, outside_stack, outside_doing};
 
 use crate::given::{
     give_declaration, give_declarator, give_expression, give_initialiser, give_specifiers,
     give_statement,
 };
-use dae_declaration_steps::{
+use dae_parse_declarations::{
     read_behind_comma, read_behind_enumerator, read_behind_item, read_body, read_declarator,
     read_enumerator, read_enumerator_value, read_external, read_initialiser, read_list,
     read_member, read_parameters, read_qualifier, read_size, read_specifier, read_suffix, read_tag,
 };
-use dae_statement_steps::{
+use dae_parse_statements::{
     read_block, read_break, read_call, read_continue, read_declaration, read_default, read_do_end,
     read_for, read_loop_start, read_loop_step, read_loop_test, read_operator, read_return,
     read_sizeof, read_statement, read_test, seek_operand,
 };
-use dae_states::{Doing, Machine};
+use dae_parse_states::{Doing, Machine};
 use std::alloc::AllocError;
 
 /// One step of the machine, in a file of so many tokens: what it does next, or none where the tokens go no further.

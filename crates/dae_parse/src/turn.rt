@@ -1,18 +1,18 @@
 // One turn: the step, or the end of the file.
 
 ghost use Rattle.std.specs.Prelude.{◌≡◌, List, length, IfOk};
-ghost use Rattle.dae_grammar.specs.Frames as plain;
-ghost use Rattle.dae_grammar.specs.Frames.{Frame as PlainFrame, state};
-ghost use Rattle.dae_grammar.specs.Machine.{step_at};
-ghost use Rattle.dae_grammar.specs.Standing.{Holds};
-ghost use Rattle.dae_grammar.specs.Taken.{tokens_of};
-ghost use Rattle.dae_states.specs.Frames.{ShowsDoing};
-ghost use Rattle.dae_states.specs.States.{Stands, outside_stack, outside_doing};
-ghost use Rattle.dae_states.specs.Bottom.{IsBottom};
+ghost use Rattle.dae_parse_grammar.specs.Frames as plain;
+ghost use Rattle.dae_parse_grammar.specs.Frames.{Frame as PlainFrame, state};
+ghost use Rattle.dae_parse_grammar.specs.Machine.{step_at};
+ghost use Rattle.dae_parse_grammar.specs.Standing.{Holds};
+ghost use Rattle.dae_parse_grammar.specs.Taken.{tokens_of};
+ghost use Rattle.dae_parse_states.specs.Frames.{ShowsDoing};
+ghost use Rattle.dae_parse_states.specs.States.{Stands, outside_stack, outside_doing};
+ghost use Rattle.dae_parse_states.specs.Bottom.{IsBottom};
 ghost use Rattle.dae_parse.specs.Reached.{TurnFollows, IsNotWhole};
 
 use crate::step::step;
-use dae_states::{Before, Doing, Machine};
+use dae_parse_states::{Before, Doing, Machine};
 use std::alloc::AllocError;
 
 /// What a turn comes to: what the machine does next, a whole file, or tokens that go no further.

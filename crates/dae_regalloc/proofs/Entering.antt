@@ -4,7 +4,7 @@ use Rattle.std.proofs.Math.Path.{fun_ext}
 use Rattle.std.specs.Prelude.{nat_eq}
 use Rattle.std.proofs.lemmas.Bool.Decides.{nat_tests}
 use Rattle.dae_ir.specs.Classes.{VariableSet}
-use Rattle.dae_walks.specs.Live.{with_all, only, parameters_of}
+use Rattle.dae_select_walks.specs.Live.{with_all, only, parameters_of}
 
 or_false : (b : Bool) → b || false ≡ b
 or_false true = refl

@@ -5,9 +5,9 @@ use Rattle.std.specs.List.{AllByRecursion, AllZip, IsDistinct}
 use Rattle.std.proofs.lemmas.Bool.Decides.{nat_tests}
 use Rattle.std.proofs.lemmas.Option.{same_Some}
 use Rattle.dae_ir.specs.Classes.{VariableSet}
-use Rattle.dae_walks.specs.Homes.{is_home_register, IsHome, AreApart, AreHomes, home_or, home_in}
-use Rattle.dae_walks.specs.declared.Home.{Home}
-use Rattle.dae_walks.specs.declared.Home.TheVariants.{Register, Slot}
+use Rattle.dae_select_walks.specs.Homes.{is_home_register, IsHome, AreApart, AreHomes, home_or, home_in}
+use Rattle.dae_select_walks.specs.declared.Home.{Home}
+use Rattle.dae_select_walks.specs.declared.Home.TheVariants.{Register, Slot}
 use Rattle.dae_regalloc.specs.declared.Span.{Span}
 use Rattle.dae_regalloc.specs.declared.spans.Spans.{Spans}
 use Rattle.dae_regalloc.specs.Scan.{register_at, free_at, placed, scan, AreClear, IsPaired, depth_at, NoSlot}

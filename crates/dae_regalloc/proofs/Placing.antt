@@ -11,10 +11,10 @@ use Rattle.dae_ir.specs.declared.stream.Action.{Action}
 use Rattle.dae_ir.specs.declared.stream.Branch.{Branch}
 use Rattle.dae_ir.specs.declared.stream.Step.{Step}
 use Rattle.dae_ir.specs.declared.stream.Step.TheVariants as step
-use Rattle.dae_walks.specs.Live.{Ways, ways, live, lives, before, sets, decided, with_all, turn, body_ways, step_ways, none, nowhere, parameters_of, function_lives}
-use Rattle.dae_walks.proofs.LawsOfWalks.{turn_again}
-use Rattle.dae_live.specs.Members.{member}
-use Rattle.dae_live.proofs.Laws.{onto_if, onto_loop, drop_at}
+use Rattle.dae_select_walks.specs.Live.{Ways, ways, live, lives, before, sets, decided, with_all, turn, body_ways, step_ways, none, nowhere, parameters_of, function_lives}
+use Rattle.dae_select_walks.proofs.LawsOfWalks.{turn_again}
+use Rattle.dae_select_live.specs.Members.{member}
+use Rattle.dae_select_live.proofs.Laws.{onto_if, onto_loop, drop_at}
 use Rattle.dae_regalloc.specs.declared.spans.Spans.{Spans}
 use Rattle.dae_regalloc.specs.Seen.{AreSeen, ArePlacesOf, ArePlacesOfStep}
 

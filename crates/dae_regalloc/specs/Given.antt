@@ -2,9 +2,9 @@
 use Rattle.std.specs.Prelude.{◌≡◌, ℕ, ◌≤◌, true, nat_eq, List, length, slice_get, Option, Some, None}
 use Rattle.std.specs.List.{AllByRecursion, IsDistinct}
 use Rattle.dae_ir.specs.Classes.{VariableSet}
-use Rattle.dae_walks.specs.Homes.{is_home_register, home_or}
-use Rattle.dae_walks.specs.declared.Home.{Home}
-use Rattle.dae_walks.specs.declared.Home.TheVariants.{Register, Slot}
+use Rattle.dae_select_walks.specs.Homes.{is_home_register, home_or}
+use Rattle.dae_select_walks.specs.declared.Home.{Home}
+use Rattle.dae_select_walks.specs.declared.Home.TheVariants.{Register, Slot}
 use Rattle.dae_regalloc.specs.declared.Span.{Span}
 use Rattle.dae_regalloc.specs.Seen.{IsLiveAt}
 

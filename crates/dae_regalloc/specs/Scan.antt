@@ -2,8 +2,8 @@
 -- register that is free at its first place, and where there is none, the slot of its variable's number.
 use Rattle.std.specs.Prelude.{◌≡◌, ◌≢◌, ℕ, ◌+◌, ◌≤◌, ◌⊎◌, true, ◌&&◌, nat_lt, nat_le, List, [], ◌∷◌, slice_set, Option, Some, None, if◌then◌else◌}
 use Rattle.dae_ir.specs.Classes.{VariableSet}
-use Rattle.dae_walks.specs.declared.Home.{Home}
-use Rattle.dae_walks.specs.declared.Home.TheVariants.{Register, Slot}
+use Rattle.dae_select_walks.specs.declared.Home.{Home}
+use Rattle.dae_select_walks.specs.declared.Home.TheVariants.{Register, Slot}
 use Rattle.dae_regalloc.specs.declared.Span.{Span}
 
 -- the registers that variables may have: x8, x9, x11 to x16, x18 to x27

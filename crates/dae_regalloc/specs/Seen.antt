@@ -4,8 +4,8 @@ use Rattle.std.specs.List.{AllByRecursion}
 use Rattle.dae_ir.specs.Classes.{VariableSet}
 use Rattle.dae_ir.specs.Streams.{Actions, step_onto}
 use Rattle.dae_ir.specs.declared.stream.Step.{Step}
-use Rattle.dae_walks.specs.Live.{Ways, ways, live, lives}
-use Rattle.dae_live.specs.Members.{member}
+use Rattle.dae_select_walks.specs.Live.{Ways, ways, live, lives}
+use Rattle.dae_select_live.specs.Members.{member}
 use Rattle.dae_regalloc.specs.declared.Span.{Span}
 use Rattle.dae_regalloc.specs.declared.spans.Spans.{Spans}
 use Rattle.dae_regalloc.specs.Scan.{AreInOrder}

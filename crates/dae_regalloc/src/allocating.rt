@@ -3,8 +3,8 @@
 ghost use Rattle.std.specs.Prelude.{◌≡◌, ℕ, ◌≤◌, length, IfOk};
 ghost use Rattle.std.specs.List.{AllByRecursion};
 ghost use Rattle.dae_ir.specs.Streams.{actions_of};
-ghost use Rattle.dae_walks.specs.Homes.{AreHomes, home_in};
-ghost use Rattle.dae_walks.specs.Live.{function_lives};
+ghost use Rattle.dae_select_walks.specs.Homes.{AreHomes, home_in};
+ghost use Rattle.dae_select_walks.specs.Live.{function_lives};
 ghost use Rattle.dae_regalloc.specs.Seen.{number_in, AreBelow};
 ghost use Rattle.dae_regalloc.specs.Given.{numbered_home, IsRegister, AreFew};
 
@@ -12,7 +12,7 @@ use crate::numbers::Numbers;
 use crate::places::spans_of;
 use crate::scanning::homes_of;
 use dae_ir::Step;
-use dae_walks::Home;
+use dae_select_walks::Home;
 use std::alloc::{AllocError, Global};
 
 /// The home of the span that has a number.

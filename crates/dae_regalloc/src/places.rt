@@ -2,13 +2,13 @@
 
 ghost use Rattle.std.specs.Prelude.{◌≡◌, IfOk};
 ghost use Rattle.dae_ir.specs.Streams.{actions_of};
-ghost use Rattle.dae_live.specs.Members.{member};
-ghost use Rattle.dae_walks.specs.Live.{ways, with_all, sets, parameters_of, function_lives};
+ghost use Rattle.dae_select_live.specs.Members.{member};
+ghost use Rattle.dae_select_walks.specs.Live.{ways, with_all, sets, parameters_of, function_lives};
 ghost use Rattle.dae_regalloc.specs.Seen.{AreSeen, ArePlacesOf, ArePlacesOfStep};
 
 use crate::spans::Spans;
 use dae_ir::{Action, Step};
-use dae_live::{LiveSet, live_at_turn, live_before_action, live_with_branch, set_by};
+use dae_select_live::{LiveSet, live_at_turn, live_before_action, live_with_branch, set_by};
 use std::alloc::{AllocError, Global};
 
 /// What is live at the place of an action: what is live before it, and what it sets.

@@ -5,10 +5,10 @@ ghost use Rattle.dae_regalloc.specs.Scan.{free_at as first_free, register_at as 
 ghost use Rattle.std.specs.List.{AllByRecursion, AllZip};
 ghost use Rattle.dae_regalloc.specs.Given.{IsOwnHome};
 ghost use Rattle.dae_ir.specs.Classes.{VariableSet};
-ghost use Rattle.dae_walks.specs.Homes.{AreApart};
+ghost use Rattle.dae_select_walks.specs.Homes.{AreApart};
 
 use crate::Span;
-use dae_walks::Home;
+use dae_select_walks::Home;
 use std::alloc::{AllocError, Global};
 
 /// The first register that is free at a place.

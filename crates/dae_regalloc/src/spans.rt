@@ -2,12 +2,12 @@
 
 ghost use Rattle.std.specs.Prelude.{◌≡◌, ℕ, ◌<◌, ◌∷◌, [], List, true, length, slice_get, slice_set, Some, OnOk, IfOk};
 ghost use Rattle.dae_ir.specs.Classes.{VariableSet};
-ghost use Rattle.dae_live.specs.Members.{member};
+ghost use Rattle.dae_select_live.specs.Members.{member};
 ghost use Rattle.dae_regalloc.specs.Seen.{widened, number_in, with_number, IsFurther, AreSeen};
 
 use crate::Span;
 use crate::numbers::Numbers;
-use dae_live::LiveSet;
+use dae_select_live::LiveSet;
 use std::alloc::{AllocError, Global};
 
 /// The spans of the variables that are live at the places seen so far, which are seen from the last to the first: the place

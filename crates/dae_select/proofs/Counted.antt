@@ -10,9 +10,9 @@ use Rattle.dae_ir.specs.declared.stream.Mark.{Mark}
 use Rattle.dae_ir.specs.declared.stream.Branch.{Branch}
 use Rattle.dae_ir.specs.declared.stream.Step.{Step, Act, If', Loop'}
 use Rattle.dae_ir.specs.declared.stream.Step.TheVariants as step
-use Rattle.dae_live.proofs.Laws.{onto_if, onto_loop, drop_at}
-use Rattle.dae_blocks.specs.Code.{does_nothing}
-use Rattle.dae_blocks.specs.Sizes.{most_words_in}
+use Rattle.dae_select_live.proofs.Laws.{onto_if, onto_loop, drop_at}
+use Rattle.dae_select_blocks.specs.Code.{does_nothing}
+use Rattle.dae_select_blocks.specs.Sizes.{most_words_in}
 use Rattle.dae_select.specs.Counting.{capped}
 
 -- a sum of what is counted counts as much as the sum

@@ -1,7 +1,7 @@
 -- A jump's immediates depend on its distance modulo 2 ^ 32 only.
 use Rattle.std.proofs.Common.{◌≡◌, ℕ, ◌%◌, ◌^◌, refl, ap, sym, arith}
 use Rattle.dae_base.specs.Words.{signed}
-use Rattle.dae_blocks.specs.Blocks.{upper, lower, near_offset, jump_by}
+use Rattle.dae_select_blocks.specs.Blocks.{upper, lower, near_offset, jump_by}
 
 upper_of : (w : ℕ) → upper (w % 2 ^ 32) ≡ upper w
 unfolding upper

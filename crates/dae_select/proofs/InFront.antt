@@ -6,13 +6,13 @@ use Rattle.dae_encode.specs.declared.Inst.{Inst}
 use Rattle.dae_ir.specs.Code.{Done, Do, If, Loop}
 use Rattle.dae_ir.specs.Classes.{VariableSet}
 use Rattle.dae_ir.specs.Streams.{Actions}
-use Rattle.dae_walks.specs.Agrees.{Plan}
-use Rattle.dae_walks.specs.declared.Standing.{Standing}
-use Rattle.dae_walks.specs.declared.Standing.TheVariants.{Settled}
-use Rattle.dae_walks.specs.Multiples.{unknown, multiples_behind, is_placed}
-use Rattle.dae_walks.specs.Live.{Ways, behind, live, step_ways, body_ways}
-use Rattle.dae_blocks.specs.Blocks.{jump_words, jump_back}
-use Rattle.dae_blocks.specs.Code.{standing_behind, block_code, branch_code, does_nothing, past_code, either_code, code_of, followed}
+use Rattle.dae_select_walks.specs.Agrees.{Plan}
+use Rattle.dae_select_walks.specs.declared.Standing.{Standing}
+use Rattle.dae_select_walks.specs.declared.Standing.TheVariants.{Settled}
+use Rattle.dae_select_walks.specs.Multiples.{unknown, multiples_behind, is_placed}
+use Rattle.dae_select_walks.specs.Live.{Ways, behind, live, step_ways, body_ways}
+use Rattle.dae_select_blocks.specs.Blocks.{jump_words, jump_back}
+use Rattle.dae_select_blocks.specs.Code.{standing_behind, block_code, branch_code, does_nothing, past_code, either_code, code_of, followed}
 use Rattle.dae_select.specs.Grown.{Grown, no_code, advance, in_front}
 use Rattle.dae_select.specs.Growing.{marked_code}
 use Rattle.dae_select.specs.declared.growing.PlacedWord.{PlacedWord}

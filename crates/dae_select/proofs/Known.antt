@@ -3,8 +3,8 @@ use Rattle.std.proofs.Common.{◌≡◌, ℕ, Bool, true, false, not, ◌&&◌, 
 use Rattle.std.proofs.Math.Path.{fun_ext}
 use Rattle.std.specs.Prelude.{nat_eq, if◌then◌else◌}
 use Rattle.dae_ir.specs.Classes.{VariableSet}
-use Rattle.dae_walks.specs.Live.{with_all, only}
-use Rattle.dae_live.specs.Members.{without}
+use Rattle.dae_select_walks.specs.Live.{with_all, only}
+use Rattle.dae_select_live.specs.Members.{without}
 
 pub with_one : (known : VariableSet) (v : ℕ) (c : Bool) → c ≡ true → with_all (only v) known ≡ (λ u. if nat_eq u v then c else known u)
 with_one known v c e = fun_ext (λ u. rw e (by (nat_eq u v) (known u)))

@@ -4,9 +4,9 @@ use Rattle.std.specs.Prelude.{nat_eq}
 use Rattle.std.proofs.lemmas.Bool.Decides.{nat_tests}
 use Rattle.dae_encode.specs.declared.Inst.{Inst}
 use Rattle.dae_ir.specs.declared.stream.Argument.{Argument}
-use Rattle.dae_walks.specs.Agrees.{Plan}
-use Rattle.dae_blocks.specs.Blocks.{argument_code, arguments_code}
-use Rattle.dae_blocks.specs.Code.{some_below}
+use Rattle.dae_select_walks.specs.Agrees.{Plan}
+use Rattle.dae_select_blocks.specs.Blocks.{argument_code, arguments_code}
+use Rattle.dae_select_blocks.specs.Code.{some_below}
 
 pub drop_get : {X : Type 0} (list : List X) (i : ℕ) (other : X) → i < length list → drop i list ≡ get_or list i other ∷ drop (suc i) list
 drop_get [] i other lt = absurd (omega arith)

@@ -3,7 +3,7 @@ use Rattle.std.proofs.Common.{◌≡◌, ℕ, zero, suc, ◌-◌, ◌*◌, ◌%�
 use Rattle.std.specs.Prelude.{nat_eq}
 use Rattle.std.proofs.lemmas.Bool.Decides.{nat_tests}
 use Rattle.std.proofs.lemmas.Nat.{pow_below}
-use Rattle.dae_blocks.specs.Blocks.{exponent_below}
+use Rattle.dae_select_blocks.specs.Blocks.{exponent_below}
 
 -- 1, shifted by one less than this
 pub one_shifted : (above by shifted : ℕ) → 0 < above → above ≤ 32 → by ≡ above - 1 → shifted ≡ 1 * 2 ^ (by % 32) % 4294967296 → shifted ≡ 2 ^ (above - 1)

@@ -12,17 +12,17 @@ use Rattle.dae_ir.specs.declared.form.Value.{Value}
 use Rattle.dae_ir.specs.declared.stream.Branch.{Branch}
 use Rattle.dae_ir.specs.declared.stream.Step.{Step, Act, If', Loop'}
 use Rattle.dae_ir.specs.declared.stream.Step.TheVariants as step
-use Rattle.dae_walks.specs.Multiples.{unknown, multiples_behind, is_placed}
-use Rattle.dae_walks.specs.Agrees.{Plan}
-use Rattle.dae_walks.specs.declared.Standing.{Standing}
-use Rattle.dae_walks.specs.declared.Standing.TheVariants.{Settled, Early, Late}
-use Rattle.dae_walks.specs.Live.{Ways, ways, live, before, decided, with_all, turn, body_ways, step_ways, none, nowhere}
-use Rattle.dae_walks.proofs.LawsOfWalks.{turn_again}
-use Rattle.dae_live.specs.Members.{member}
-use Rattle.dae_live.proofs.Laws.{onto_if, onto_loop, drop_at}
-use Rattle.dae_blocks.proofs.LawsOfBlocks.{by_pairs}
-use Rattle.dae_blocks.specs.Blocks.{jump_words, jump_over, jump_back}
-use Rattle.dae_blocks.specs.Code.{reads_once, standing_behind, if_settled, pair_standing, block_code, branch_code, does_nothing, past_code}
+use Rattle.dae_select_walks.specs.Multiples.{unknown, multiples_behind, is_placed}
+use Rattle.dae_select_walks.specs.Agrees.{Plan}
+use Rattle.dae_select_walks.specs.declared.Standing.{Standing}
+use Rattle.dae_select_walks.specs.declared.Standing.TheVariants.{Settled, Early, Late}
+use Rattle.dae_select_walks.specs.Live.{Ways, ways, live, before, decided, with_all, turn, body_ways, step_ways, none, nowhere}
+use Rattle.dae_select_walks.proofs.LawsOfWalks.{turn_again}
+use Rattle.dae_select_live.specs.Members.{member}
+use Rattle.dae_select_live.proofs.Laws.{onto_if, onto_loop, drop_at}
+use Rattle.dae_select_blocks.proofs.LawsOfBlocks.{by_pairs}
+use Rattle.dae_select_blocks.specs.Blocks.{jump_words, jump_over, jump_back}
+use Rattle.dae_select_blocks.specs.Code.{reads_once, standing_behind, if_settled, pair_standing, block_code, branch_code, does_nothing, past_code}
 use Rattle.dae_select.specs.Grown.{Grown, no_code, glue, acting, in_front}
 use Rattle.dae_select.specs.Placed.{multiples_after, is_placed_step, placed_flags, multiples_at}
 use Rattle.dae_select.specs.Growing.{marked_code, IsCodeOf, standing_after, standing_between, step_before, standing_before, IsTakenBy, IsTakenByStep, IsStepCode}

@@ -6,15 +6,15 @@ use Rattle.dae_ir.specs.Streams.{Actions, step_onto}
 use Rattle.dae_ir.specs.declared.stream.Action.{Action}
 use Rattle.dae_ir.specs.declared.stream.Action.TheVariants.{Receive, Accept}
 use Rattle.dae_ir.specs.declared.stream.Step.{Step, Act, If', Loop'}
-use Rattle.dae_walks.specs.Live.{Ways, ways, behind, live, nowhere, step_ways, body_ways}
-use Rattle.dae_walks.specs.Multiples.{unknown, multiples_behind, is_placed}
-use Rattle.dae_walks.specs.Agrees.{Plan}
-use Rattle.dae_walks.specs.declared.Standing.{Standing}
-use Rattle.dae_walks.specs.declared.Standing.TheVariants.{Settled, Early}
-use Rattle.dae_live.specs.Members.{member}
-use Rattle.dae_blocks.specs.Blocks.{jump_words, jump_over, jump_back}
-use Rattle.dae_blocks.specs.Code.{reads_once, standing_behind, pair_standing, if_settled, block_code, branch_code, does_nothing, past_code, entry_code}
-use Rattle.dae_blocks.specs.Sizes.{is_short}
+use Rattle.dae_select_walks.specs.Live.{Ways, ways, behind, live, nowhere, step_ways, body_ways}
+use Rattle.dae_select_walks.specs.Multiples.{unknown, multiples_behind, is_placed}
+use Rattle.dae_select_walks.specs.Agrees.{Plan}
+use Rattle.dae_select_walks.specs.declared.Standing.{Standing}
+use Rattle.dae_select_walks.specs.declared.Standing.TheVariants.{Settled, Early}
+use Rattle.dae_select_live.specs.Members.{member}
+use Rattle.dae_select_blocks.specs.Blocks.{jump_words, jump_over, jump_back}
+use Rattle.dae_select_blocks.specs.Code.{reads_once, standing_behind, pair_standing, if_settled, block_code, branch_code, does_nothing, past_code, entry_code}
+use Rattle.dae_select_blocks.specs.Sizes.{is_short}
 use Rattle.dae_select.specs.Grown.{Grown, no_code, glue, acting, in_front, from_front}
 use Rattle.dae_select.specs.Placed.{multiples_after, is_placed_step}
 use Rattle.dae_select.specs.declared.growing.PlacedWord.{PlacedWord}

@@ -2,7 +2,7 @@
 use Rattle.std.specs.Prelude.{ℕ, zero, suc, Bool, false, List, [], ◌∷◌}
 use Rattle.dae_ir.specs.Classes.{VariableSet}
 use Rattle.dae_ir.specs.declared.stream.Step.{Step, Act, If', Loop'}
-use Rattle.dae_walks.specs.Multiples.{unknown, multiples_behind, is_placed}
+use Rattle.dae_select_walks.specs.Multiples.{unknown, multiples_behind, is_placed}
 
 -- those variables that are multiples behind a step, where these are before it
 abbrev pub multiples_after : Step → VariableSet → VariableSet

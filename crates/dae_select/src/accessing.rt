@@ -1,9 +1,9 @@
 // The blocks of accesses to queues and memory, of printing and of halting.
 
 ghost use Rattle.std.specs.Prelude.{◌≡◌, ◌++◌, ◌∷◌, [], OnOk};
-ghost use Rattle.dae_blocks.specs.Blocks.{source, fetch, issue_code, address_code, take_code, call_number, system_code, hear_code, stop_code};
+ghost use Rattle.dae_select_blocks.specs.Blocks.{source, fetch, issue_code, address_code, take_code, call_number, system_code, hear_code, stop_code};
 ghost use Rattle.dae_select.specs.Layouts.{is_a};
-ghost use Rattle.dae_walks.specs.Homes.{home_in};
+ghost use Rattle.dae_select_walks.specs.Homes.{home_in};
 ghost use Rattle.dae_select.specs.Tables.{IsNear, AreNear};
 
 use crate::fetching::{fetch, keep, move_code, register_or, source};
@@ -11,7 +11,7 @@ use dae_base::{LoadKind, Side, Width};
 use dae_encode::Inst;
 use dae_ir::Operand;
 use dae_meaning::Spelling;
-use dae_walks::Home;
+use dae_select_walks::Home;
 use std::alloc::AllocError;
 
 fn issue_inst(kind: LoadKind, queue: u8, base: u8) -> Inst

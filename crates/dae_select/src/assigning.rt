@@ -1,8 +1,8 @@
 // The code of values: of what an action sets a variable to.
 
 ghost use Rattle.std.specs.Prelude.{◌≡◌, ◌++◌, OnOk};
-ghost use Rattle.dae_blocks.specs.Blocks.{operation_code, combine_registers, binary_code, extend_code, compare_code, compare_registers, compare_operands, test_code, frame_code, value_code, register_or, keep};
-ghost use Rattle.dae_walks.specs.Homes.{home_in};
+ghost use Rattle.dae_select_blocks.specs.Blocks.{operation_code, combine_registers, binary_code, extend_code, compare_code, compare_registers, compare_operands, test_code, frame_code, value_code, register_or, keep};
+ghost use Rattle.dae_select_walks.specs.Homes.{home_in};
 ghost use Rattle.dae_select.specs.Tables.{AreNear};
 
 use crate::fetching::{
@@ -13,7 +13,7 @@ use dae_base::LoadKind;
 use dae_encode::Inst;
 use dae_ir::{Operand, Test, Value};
 use dae_meaning::{Comparison, Operator};
-use dae_walks::Home;
+use dae_select_walks::Home;
 use std::alloc::AllocError;
 
 /// An operation on two registers, into a third.

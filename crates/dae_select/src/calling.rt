@@ -1,12 +1,12 @@
 // The blocks of calls and returns, and the code that a function begins with.
 
 ghost use Rattle.std.specs.Prelude.{◌≡◌, ℕ, ◌+◌, ◌++◌, ◌∷◌, [], ◌<◌, ◌^◌, ◌%◌, Bool, true, false, ◌&&◌, List, length, slice_index, IfOk, OnOk};
-ghost use Rattle.dae_blocks.specs.Blocks.{waits_at, arguments_code, argument_code, is_register, save_code, restore_code, deeper_code, back_code, result_code, leave_code};
-ghost use Rattle.dae_blocks.specs.Code.{some_below, filtered, registers_in, call_code, entry_code};
+ghost use Rattle.dae_select_blocks.specs.Blocks.{waits_at, arguments_code, argument_code, is_register, save_code, restore_code, deeper_code, back_code, result_code, leave_code};
+ghost use Rattle.dae_select_blocks.specs.Code.{some_below, filtered, registers_in, call_code, entry_code};
 ghost use Rattle.dae_select.specs.Layouts.{is_a, plan_of, variables_of, AreSmall};
 ghost use Rattle.dae_select.specs.Tables.{IsNear, AreNear};
-ghost use Rattle.dae_live.specs.Members.{member};
-ghost use Rattle.dae_walks.specs.Homes.{kept_at, home_in};
+ghost use Rattle.dae_select_live.specs.Members.{member};
+ghost use Rattle.dae_select_walks.specs.Homes.{kept_at, home_in};
 
 use crate::fetching::{
     fetch, home_of, keep, load_code, move_code, register_or, source, store_code,
@@ -17,8 +17,8 @@ use crate::numbers::{less_code, more_code};
 use dae_base::Side;
 use dae_encode::Inst;
 use dae_ir::{Argument, Operand};
-use dae_live::LiveSet;
-use dae_walks::Home;
+use dae_select_live::LiveSet;
+use dae_select_walks::Home;
 use std::alloc::{AllocError, Global};
 
 /// The registers that variables may have.

@@ -1,10 +1,10 @@
 // The blocks of checks.
 
 ghost use Rattle.std.specs.Prelude.{◌≡◌, ℕ, ◌+◌, ◌-◌, ◌++◌, ◌∷◌, [], ◌<◌, ◌^◌, nat_lt, if◌then◌else◌, OnOk};
-ghost use Rattle.dae_blocks.specs.Blocks.{fail_code, over, align_code, bounds_code, room_code, place_code, zero_code, depth_code, frames_room_code, call_room_code, frame_room_code, check_code};
-ghost use Rattle.dae_blocks.specs.Code.{placed_code};
+ghost use Rattle.dae_select_blocks.specs.Blocks.{fail_code, over, align_code, bounds_code, room_code, place_code, zero_code, depth_code, frames_room_code, call_room_code, frame_room_code, check_code};
+ghost use Rattle.dae_select_blocks.specs.Code.{placed_code};
 ghost use Rattle.dae_select.specs.Layouts.{is_a, plan_of, homes_at};
-ghost use Rattle.dae_walks.specs.Homes.{home_in};
+ghost use Rattle.dae_select_walks.specs.Homes.{home_in};
 ghost use Rattle.dae_select.specs.Tables.{AreNear};
 
 use crate::fetching::{fetch, number_code, source};
@@ -12,7 +12,7 @@ use crate::layouts::Layouts;
 use dae_base::{Side, Width};
 use dae_encode::Inst;
 use dae_ir::{Action, Check, Operand};
-use dae_walks::Home;
+use dae_select_walks::Home;
 use std::alloc::AllocError;
 
 /// The code of a trap is pushed, and the processor halts.

@@ -4,7 +4,7 @@ ghost use Rattle.std.specs.Prelude.{◌≡◌, ◌+◌, ◌*◌, ◌≤◌, ◌^
 ghost use Rattle.dae_ir.specs.Code.{Done};
 ghost use Rattle.dae_ir.specs.Sizes.{action_weight};
 ghost use Rattle.dae_ir.specs.Streams.{actions_of, step_onto};
-ghost use Rattle.dae_blocks.specs.Sizes.{one_call, most_words_in, is_short};
+ghost use Rattle.dae_select_blocks.specs.Sizes.{one_call, most_words_in, is_short};
 ghost use Rattle.dae_select.specs.Counting.{capped};
 
 use dae_ir::{Action, Step};

@@ -1,17 +1,17 @@
 // How numbers, words of the private frame and operands come into registers, and how results go home.
 
 ghost use Rattle.std.specs.Prelude.{◌≡◌, ℕ, ◌<◌, ◌^◌, ◌*◌, ◌+◌, ◌++◌, length, OnOk};
-ghost use Rattle.dae_blocks.specs.Blocks.{upper, lower, is_immediate, number_code, load_code, store_code, source, register_or, fetch, fetch_home, move_code, keep};
-ghost use Rattle.dae_walks.specs.Homes.{home_in};
+ghost use Rattle.dae_select_blocks.specs.Blocks.{upper, lower, is_immediate, number_code, load_code, store_code, source, register_or, fetch, fetch_home, move_code, keep};
+ghost use Rattle.dae_select_walks.specs.Homes.{home_in};
 ghost use Rattle.dae_select.specs.Tables.{IsNear, AreNear};
 
 use dae_encode::Inst;
 use dae_ir::Operand;
-use dae_walks::Home;
+use dae_select_walks::Home;
 use std::alloc::AllocError;
 
 /// The part of a word for LUI: with the signed low part it makes the word.
-#[tactic(auto, unfolding(dae_blocks::specs::Blocks::upper))]
+#[tactic(auto, unfolding(dae_select_blocks::specs::Blocks::upper))]
 pub fn upper(word: u32) -> i32
     ensures { result ≡ upper word }
 {
@@ -20,7 +20,7 @@ pub fn upper(word: u32) -> i32
 }
 
 /// The low twelve bits of a word as a signed number.
-#[tactic(auto, unfolding(dae_blocks::specs::Blocks::lower))]
+#[tactic(auto, unfolding(dae_select_blocks::specs::Blocks::lower))]
 pub fn lower(word: u32) -> i32
     ensures { result ≡ lower word }
 {
@@ -29,7 +29,7 @@ pub fn lower(word: u32) -> i32
 }
 
 /// Whether the immediate of an instruction can be this number: as a signed one it has twelve bits.
-#[tactic(auto, unfolding(dae_blocks::specs::Blocks::is_immediate))]
+#[tactic(auto, unfolding(dae_select_blocks::specs::Blocks::is_immediate))]
 pub fn is_immediate(number: u32) -> bool
     ensures { result ≡ is_immediate number }
 {

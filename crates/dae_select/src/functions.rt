@@ -1,13 +1,13 @@
 // The code of a whole function.
 
 ghost use Rattle.std.specs.Prelude.{◌≡◌, ℕ, length, IfOk, OnOk};
-ghost use Rattle.dae_walks.specs.Live.{live, nowhere};
-ghost use Rattle.dae_walks.specs.Multiples.{unknown};
-ghost use Rattle.dae_live.specs.Members.{member};
-ghost use Rattle.dae_walks.specs.declared.Standing.TheVariants.{Settled as IsSettled};
+ghost use Rattle.dae_select_walks.specs.Live.{live, nowhere};
+ghost use Rattle.dae_select_walks.specs.Multiples.{unknown};
+ghost use Rattle.dae_select_live.specs.Members.{member};
+ghost use Rattle.dae_select_walks.specs.declared.Standing.TheVariants.{Settled as IsSettled};
 ghost use Rattle.dae_ir.specs.Streams.{actions_of};
-ghost use Rattle.dae_blocks.specs.Code.{entry_code, function_code};
-ghost use Rattle.dae_blocks.specs.Sizes.{is_short};
+ghost use Rattle.dae_select_blocks.specs.Code.{entry_code, function_code};
+ghost use Rattle.dae_select_blocks.specs.Sizes.{is_short};
 ghost use Rattle.dae_select.specs.Grown.{no_code};
 ghost use Rattle.dae_select.specs.Growing.{marked_code, function_places};
 ghost use Rattle.dae_select.specs.Layouts.{plan_of, variables_of, AreSmall};
@@ -19,7 +19,7 @@ use crate::layouts::Layouts;
 use crate::walking::{Exits, list_code};
 use dae_encode::Inst;
 use dae_ir::{Operand, Step};
-use dae_live::LiveSet;
+use dae_select_live::LiveSet;
 use std::alloc::{AllocError, Global};
 
 /// The code of a function's actions; and what is live before them.

@@ -2,10 +2,10 @@
 
 ghost use Rattle.std.specs.Prelude.{◌≡◌, ℕ, ◌+◌, ◌*◌, ◌++◌, ◌∷◌, [], ◌<◌, ◌≤◌, ◌^◌, OnOk};
 ghost use Rattle.dae_encode.specs.declared.Inst.TheVariants.{Jal};
-ghost use Rattle.dae_blocks.specs.Blocks.{near_offset, jump_by, jump_words, jump_over, jump_back, enter_code};
-ghost use Rattle.dae_blocks.specs.Blocks.{source, against_zero, immediate_of, branch_inst, opposite, one_way, goes_code};
-ghost use Rattle.dae_blocks.specs.Code.{past_code, told_code, branch_code};
-ghost use Rattle.dae_walks.specs.Homes.{home_in};
+ghost use Rattle.dae_select_blocks.specs.Blocks.{near_offset, jump_by, jump_words, jump_over, jump_back, enter_code};
+ghost use Rattle.dae_select_blocks.specs.Blocks.{source, against_zero, immediate_of, branch_inst, opposite, one_way, goes_code};
+ghost use Rattle.dae_select_blocks.specs.Code.{past_code, told_code, branch_code};
+ghost use Rattle.dae_select_walks.specs.Homes.{home_in};
 ghost use Rattle.dae_select.specs.Tables.{AreNear};
 
 use crate::assigning::test_code;
@@ -14,7 +14,7 @@ use crate::numbers::{takes_number, tell_number};
 use dae_encode::Inst;
 use dae_ir::{Branch, Operand, Test};
 use dae_meaning::Comparison;
-use dae_walks::Home;
+use dae_select_walks::Home;
 use std::alloc::AllocError;
 
 /// As many words as the bytes of all addresses are.
@@ -27,7 +27,7 @@ fn jump_by(code: &mut Vec<Inst>, bytes: u32) -> Result<(), AllocError>
 }
 
 /// The offset of a jump as JAL has it: the low 21 bits as a signed number.
-#[tactic(auto, unfolding(dae_blocks::specs::Blocks::near_offset))]
+#[tactic(auto, unfolding(dae_select_blocks::specs::Blocks::near_offset))]
 fn near_offset(bytes: u32) -> i32
     ensures { result ≡ near_offset bytes }
 {

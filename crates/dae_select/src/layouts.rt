@@ -3,11 +3,11 @@
 ghost use Rattle.std.specs.Prelude.{◌≡◌, ℕ, slice_get};
 ghost use Rattle.dae_select.specs.Layouts.{is_a, homes_at, variables_at, entry_at, frame_at, plan_of, variables_of, AreSmall};
 ghost use Rattle.dae_select.specs.Tables.{AreNear};
-ghost use Rattle.dae_walks.specs.Homes.{frame_words, home_in};
+ghost use Rattle.dae_select_walks.specs.Homes.{frame_words, home_in};
 
 use crate::fetching::home_of;
 use dae_base::{Items, Side};
-use dae_walks::Home;
+use dae_select_walks::Home;
 
 /// What is settled of a function: the homes of its variables, how many variables there are, the bytes of its frame in
 /// common memory, the word at which it is entered, and the word at which its actions begin.

@@ -1,12 +1,12 @@
 // Which tests of places need none of their alignment: those whose address is made of multiples of four.
 
 ghost use Rattle.std.specs.Prelude.{◌≡◌, false, IfOk, nat_eq, slice_get, unwrap_or, if◌then◌else◌};
-ghost use Rattle.dae_walks.specs.Multiples.{unknown, is_multiple, makes_multiple, multiples_behind};
-ghost use Rattle.dae_live.specs.Members.{member};
+ghost use Rattle.dae_select_walks.specs.Multiples.{unknown, is_multiple, makes_multiple, multiples_behind};
+ghost use Rattle.dae_select_live.specs.Members.{member};
 ghost use Rattle.dae_select.specs.Placed.{multiples_after, is_placed_step, placed_flags};
 
 use dae_ir::{Action, Check, Operand, Step, Value};
-use dae_live::LiveSet;
+use dae_select_live::LiveSet;
 use dae_meaning::Operator;
 use std::alloc::{AllocError, Global};
 

@@ -2,7 +2,7 @@
 
 ghost use Rattle.std.specs.Prelude.{◌≡◌, ◌++◌, Some, None, if◌then◌else◌, OnOk};
 ghost use Rattle.dae_base.specs.Words.{minus};
-ghost use Rattle.dae_blocks.specs.Blocks.{is_immediate, exponent, power_code, immediate_code, commutes, exchanged_code, takes_number, compare_number_code, tell_number_code, more_code, less_code};
+ghost use Rattle.dae_select_blocks.specs.Blocks.{is_immediate, exponent, power_code, immediate_code, commutes, exchanged_code, takes_number, compare_number_code, tell_number_code, more_code, less_code};
 ghost use Rattle.dae_meaning.specs.declared.Comparison.TheVariants.{Equal, NotEqual};
 
 use crate::fetching::{is_immediate, lower, number_code};
@@ -18,7 +18,7 @@ fn negated(number: u32) -> u32
 }
 
 /// Which power of 2 a number is.
-#[tactic(auto, unfolding(dae_blocks::specs::Blocks::exponent))]
+#[tactic(auto, unfolding(dae_select_blocks::specs::Blocks::exponent))]
 fn exponent(number: u32) -> Option<u8>
     ensures { result ≡ exponent number }
 {

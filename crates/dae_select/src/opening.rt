@@ -2,8 +2,8 @@
 
 ghost use Rattle.std.specs.Prelude.{◌≡◌, ◌-◌, ◌++◌, ◌∷◌, [], pos, if◌then◌else◌, IfOk, OnOk};
 ghost use Rattle.dae_encode.specs.declared.Inst.TheVariants.{Addi};
-ghost use Rattle.dae_blocks.specs.Blocks.{number_code};
-ghost use Rattle.dae_blocks.specs.Code.{start_code, finish_code};
+ghost use Rattle.dae_select_blocks.specs.Blocks.{number_code};
+ghost use Rattle.dae_select_blocks.specs.Code.{start_code, finish_code};
 ghost use Rattle.dae_select.specs.Layouts.{is_a, plan_of, AreSmall};
 
 use crate::fetching::number_code;

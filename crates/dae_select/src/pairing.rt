@@ -2,13 +2,13 @@
 // instruction that computes with it.
 
 ghost use Rattle.std.specs.Prelude.{◌≡◌, ◌≤◌, ◌++◌, length, true, OnOk, Some as IsThere};
-ghost use Rattle.dae_walks.specs.Live.{in_operand};
-ghost use Rattle.dae_walks.specs.Homes.{home_in};
-ghost use Rattle.dae_live.specs.Members.{member};
-ghost use Rattle.dae_blocks.specs.Blocks.{value_code};
-ghost use Rattle.dae_blocks.specs.Code.{either_one, written_last, passes_on, reads_once, taken_standing, pair_standing, with_home, late_code, early_code, taking_code};
-ghost use Rattle.dae_walks.specs.declared.Standing.TheVariants.{Early as IsEarly};
-ghost use Rattle.dae_walks.specs.declared.Home.TheVariants.{Register as IsRegister};
+ghost use Rattle.dae_select_walks.specs.Live.{in_operand};
+ghost use Rattle.dae_select_walks.specs.Homes.{home_in};
+ghost use Rattle.dae_select_live.specs.Members.{member};
+ghost use Rattle.dae_select_blocks.specs.Blocks.{value_code};
+ghost use Rattle.dae_select_blocks.specs.Code.{either_one, written_last, passes_on, reads_once, taken_standing, pair_standing, with_home, late_code, early_code, taking_code};
+ghost use Rattle.dae_select_walks.specs.declared.Standing.TheVariants.{Early as IsEarly};
+ghost use Rattle.dae_select_walks.specs.declared.Home.TheVariants.{Register as IsRegister};
 ghost use Rattle.dae_ir.specs.declared.form.Value.TheVariants.{Binary as IsBinary, Holds as IsHolds};
 ghost use Rattle.dae_select.specs.Growing.{standing_between, step_before, IsTakenBy};
 ghost use Rattle.dae_select.specs.Tables.{AreNear};
@@ -18,9 +18,9 @@ use crate::fetching::{fetch, home_of, keep, register_or, source};
 use crate::numbers::{compare_number, exchanged, immediate, takes_number};
 use dae_encode::Inst;
 use dae_ir::{Action, Operand, Step, Test, Value};
-use dae_live::LiveSet;
+use dae_select_live::LiveSet;
 use dae_meaning::Operator;
-use dae_walks::{Home, Standing};
+use dae_select_walks::{Home, Standing};
 use std::alloc::AllocError;
 
 // ---- which actions are pairs

@@ -4,17 +4,17 @@ ghost use Rattle.std.specs.Prelude.{◌≡◌, ℕ, ◌+◌, ◌-◌, ◌++◌, 
 ghost use Rattle.dae_encode.specs.declared.Inst.{Inst as AnInst};
 ghost use Rattle.dae_ir.specs.Classes.{VariableSet};
 ghost use Rattle.dae_ir.specs.Streams.{Actions, actions_of, step_onto};
-ghost use Rattle.dae_walks.specs.Live.{ways, is};
-ghost use Rattle.dae_walks.specs.Multiples.{unknown};
-ghost use Rattle.dae_live.specs.Members.{member};
-ghost use Rattle.dae_blocks.specs.Blocks.{take_code, own_code, jump_words, jump_over, jump_back};
-ghost use Rattle.dae_blocks.specs.Code.{action_code, block_code, call_code, branch_code};
-ghost use Rattle.dae_blocks.specs.Code.{does_nothing, past_code};
+ghost use Rattle.dae_select_walks.specs.Live.{ways, is};
+ghost use Rattle.dae_select_walks.specs.Multiples.{unknown};
+ghost use Rattle.dae_select_live.specs.Members.{member};
+ghost use Rattle.dae_select_blocks.specs.Blocks.{take_code, own_code, jump_words, jump_over, jump_back};
+ghost use Rattle.dae_select_blocks.specs.Code.{action_code, block_code, call_code, branch_code};
+ghost use Rattle.dae_select_blocks.specs.Code.{does_nothing, past_code};
 ghost use Rattle.dae_select.specs.Grown.{glue, acting, in_front};
 ghost use Rattle.dae_select.specs.Growing.{IsCodeOf, IsStepCode, IsTakenBy, IsTakenByStep};
-ghost use Rattle.dae_walks.specs.declared.Standing.TheVariants.{Settled as IsSettled};
+ghost use Rattle.dae_select_walks.specs.declared.Standing.TheVariants.{Settled as IsSettled};
 ghost use Rattle.dae_select.specs.Layouts.{plan_of, variables_of, AreSmall};
-ghost use Rattle.dae_walks.specs.Homes.{home_in};
+ghost use Rattle.dae_select_walks.specs.Homes.{home_in};
 ghost use Rattle.dae_select.specs.Tables.{AreNear};
 
 use crate::accessing::{
@@ -32,8 +32,8 @@ use crate::pairing::{late_code, standing_between, taking_code};
 use dae_base::{LoadKind, Place};
 use dae_encode::Inst;
 use dae_ir::{Action, Argument, Branch, Operand, Step};
-use dae_live::{LiveSet, live_at_turn, live_before_action, live_with_branch};
-use dae_walks::{Home, Standing};
+use dae_select_live::{LiveSet, live_at_turn, live_before_action, live_with_branch};
+use dae_select_walks::{Home, Standing};
 use std::alloc::{AllocError, Global};
 
 /// Where a Break goes and a Continue: what is live there, and how many words lie between the end of the code and there.

@@ -11,8 +11,8 @@ use Rattle.dae_ir.specs.Streams.{actions_of}
 use Rattle.dae_ir.specs.declared.form.Function.{Function as FormFunction}
 use Rattle.dae_ir.specs.declared.stream.StreamFunction.{StreamFunction}
 use Rattle.dae_tree_sizes.specs.Sizes.{IsDefinition}
-use Rattle.dae_formed.specs.Formed.{plain, IsFunctionFormOf, AreFormsOf, IsFormOf}
-use Rattle.dae_formed.specs.Sizes.{IsSmall, FormsSmall}
+use Rattle.dae_lower_formed.specs.Formed.{plain, IsFunctionFormOf, AreFormsOf, IsFormOf}
+use Rattle.dae_lower_formed.specs.Sizes.{IsSmall, FormsSmall}
 use Rattle.dae_code_sizes.specs.Code.{burden, most_code_in_function, CodeWithin}
 use Rattle.dae_word_sizes.specs.Words.{words_in, WordsAreBounded}
 use Rattle.dae_file_sizes.specs.From.{AreFrom}

@@ -5,8 +5,8 @@ use Rattle.dae_tree.specs.FileViews.{view_externals}
 use Rattle.dae_tree.specs.Trees.{External}
 use Rattle.dae_program.specs.Views.{view_statements}
 use Rattle.dae_program.specs.declared.program.Function.{Function}
-use Rattle.dae_typed.specs.declared.files.FileParts.{FileParts}
-use Rattle.dae_typed.specs.declared.files.TypedFunction.{TypedFunction}
+use Rattle.dae_types_typed.specs.declared.files.FileParts.{FileParts}
+use Rattle.dae_types_typed.specs.declared.files.TypedFunction.{TypedFunction}
 use Rattle.dae_unit.specs.Meanings.{function_of, functions_in, functions_from}
 use Rattle.dae_file_sizes.specs.From.{AreFrom}
 use Rattle.dae_file_sizes.specs.Small.{HasFew, HasLittle, VariablesAreFew, CodeIsLittle}

@@ -9,7 +9,7 @@ use Rattle.dae_tree.specs.Marks.{literal_numbers}
 use Rattle.dae_tree.specs.Names.{Names, after_external}
 use Rattle.dae_tree.specs.Statements.{AreExternals, spell_external, spell_file}
 use Rattle.dae_tree.specs.Trees.{External, Declared, Defined}
-use Rattle.dae_typed.specs.declared.files.FileParts.{FileParts}
+use Rattle.dae_types_typed.specs.declared.files.FileParts.{FileParts}
 use Rattle.dae_ir.specs.Form.{form_of}
 use Rattle.dae_ir.specs.Streams.{actions_of}
 use Rattle.dae_ir.specs.declared.form.Function.{Function as FormFunction}

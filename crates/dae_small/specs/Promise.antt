@@ -6,7 +6,7 @@ use Rattle.dae_tree.specs.Files.{Contents}
 use Rattle.dae_program.specs.Views.{view_statements}
 use Rattle.dae_program.specs.declared.program.Function.{Function}
 use Rattle.dae_program.specs.declared.program.Program.{Program}
-use Rattle.dae_typed.specs.declared.files.FileParts.{FileParts}
+use Rattle.dae_types_typed.specs.declared.files.FileParts.{FileParts}
 use Rattle.dae_unit.specs.Meanings.{functions_from}
 use Rattle.dae_ir.specs.Classes.{Classes}
 use Rattle.dae_ir.specs.Form.{form_of}
@@ -16,7 +16,7 @@ use Rattle.dae_ir.specs.declared.form.Function.{Function as FormFunction}
 use Rattle.dae_ir.specs.declared.form.Ir.{Ir}
 use Rattle.dae_ir.specs.declared.stream.Stream.{Stream}
 use Rattle.dae_ir.specs.declared.stream.StreamFunction.{StreamFunction}
-use Rattle.dae_formed.specs.Formed.{IsFormOf}
+use Rattle.dae_lower_formed.specs.Formed.{IsFormOf}
 use Rattle.dae_tree_sizes.specs.Sizes.{IsDefinition}
 use Rattle.dae_code_sizes.specs.Code.{burden}
 use Rattle.dae_word_sizes.specs.Words.{words_in}

@@ -5,8 +5,8 @@ use Rattle.dae_tree.specs.Files.{Contents, IsFile}
 use Rattle.dae_tree.specs.FileViews.{view_externals}
 use Rattle.dae_tree.specs.Statements.{spell_file}
 use Rattle.dae_tree.specs.Trees.{External}
-use Rattle.dae_kinds.specs.Tables.{Tables}
-use Rattle.dae_typed.specs.declared.files.FileParts.{FileParts}
+use Rattle.dae_types_kinds.specs.Tables.{Tables}
+use Rattle.dae_types_typed.specs.declared.files.FileParts.{FileParts}
 use Rattle.dae_tree_sizes.specs.Sizes.{IsDefinition}
 use Rattle.dae_file_sizes.specs.Small.{tokens, HasParameters, IsPlanned}
 

@@ -26,7 +26,7 @@ pub fn functions_are_little()
 pub fn forms_are_few()
     ensures { FormsAreFew }
 {
-    dae_formed::forms_small();
+    dae_lower_formed::forms_small();
     functions_are_few();
 }
 

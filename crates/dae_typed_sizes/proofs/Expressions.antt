@@ -7,13 +7,13 @@ use Rattle.dae_tree.specs.Trees.{Expression, Expressions, Specifiers, Specifier,
 use Rattle.dae_tree.specs.Depth.{place_of, place_of_specifiers}
 use Rattle.dae_tree.specs.Names.{declared_name}
 use Rattle.dae_program.specs.Trees as program
-use Rattle.dae_kinds.specs.declared.types.Layout.{Layout}
-use Rattle.dae_kinds.specs.declared.tables.Context.{Context}
-use Rattle.dae_kinds.specs.declared.tables.Context.TheVariants as context
-use Rattle.dae_kinds.specs.Types.{no_parameters_id, layout}
-use Rattle.dae_kinds.specs.Values.{literal}
-use Rattle.dae_plans.specs.Steps.{declared_place, name_in, count_of, is_last}
-use Rattle.dae_plans.specs.Expressions.{plan, plan_arguments, plan_specifiers, plan_specifier, plan_members, plan_component_list, plan_enumerators, plan_declarator, plan_parameters, plan_type, plan_value}
+use Rattle.dae_types_kinds.specs.declared.types.Layout.{Layout}
+use Rattle.dae_types_kinds.specs.declared.tables.Context.{Context}
+use Rattle.dae_types_kinds.specs.declared.tables.Context.TheVariants as context
+use Rattle.dae_types_kinds.specs.Types.{no_parameters_id, layout}
+use Rattle.dae_types_kinds.specs.Values.{literal}
+use Rattle.dae_types_plans.specs.Steps.{declared_place, name_in, count_of, is_last}
+use Rattle.dae_types_plans.specs.Expressions.{plan, plan_arguments, plan_specifiers, plan_specifier, plan_members, plan_component_list, plan_enumerators, plan_declarator, plan_parameters, plan_type, plan_value}
 use Rattle.dae_tree_sizes.specs.Sizes.{worth, worth_of_all, worth_of_more, declares, declares_in_all, declares_in_specifiers, declares_in_specifier, declares_in_members, declares_in_enumerators, declares_in_declarators, declares_in, declares_in_parameters}
 use Rattle.dae_typed_sizes.specs.Paid.{price}
 use Rattle.dae_typed_sizes.proofs.Within.{Within, none, same, stays, weaker, fewer, lighter, unmeasured, pure_within, maps_stays, both_within, chain_within, nothing_within, scoped_within, unused_within}

@@ -11,26 +11,26 @@ use Rattle.dae_tree.specs.Trees.{Specifiers, Declarator, Parameters, Initialiser
 use Rattle.dae_tree.specs.Depth.{place_of_specifiers}
 use Rattle.dae_tree.specs.Names.{declared_name, has_typedef, function_part, is_bare}
 use Rattle.dae_program.specs.Trees as program
-use Rattle.dae_kinds.specs.declared.rules.Breach.{Breach}
-use Rattle.dae_kinds.specs.declared.tables.Context.TheVariants as context
-use Rattle.dae_kinds.specs.declared.tables.Entity.{Entity}
-use Rattle.dae_kinds.specs.declared.tables.Entity.TheVariants as entity
-use Rattle.dae_kinds.specs.declared.tables.Local.{Local}
-use Rattle.dae_kinds.specs.declared.tables.NamedType.{NamedType}
-use Rattle.dae_kinds.specs.declared.tables.Object.{Object}
-use Rattle.dae_kinds.specs.declared.tables.Routine.{Routine}
-use Rattle.dae_kinds.specs.declared.tables.Storage.{Storage}
-use Rattle.dae_kinds.specs.declared.tables.Storage.TheVariants as storage
-use Rattle.dae_kinds.specs.Tables.{Tables, closed, reopened}
-use Rattle.dae_kinds.specs.Types.{shape_of, is_function, layout_at, rounded, composite}
-use Rattle.dae_rules.specs.Sites.{Site}
-use Rattle.dae_rules.specs.Table.{is_extern, is_static}
-use Rattle.dae_rules.specs.Plan.{Plan, pure, ask_all}
-use Rattle.dae_plans.specs.Steps.{declared_place}
-use Rattle.dae_file_plans.specs.declared.declarations.Role.{Role}
-use Rattle.dae_file_plans.specs.declared.declarations.Role.TheVariants.{Reference, Definition}
-use Rattle.dae_file_plans.specs.Statements.{own_of, is_alone}
-use Rattle.dae_file_plans.specs.Files.{Product, Declares, Data, Body, retyped, new_routine, declared_function, function_at, new_object, replaced, declared_object, object_at, role_of, declares_object, declares_function, type_of_object, with_object_type, plan_data, plan_either, plan_typed, plan_item_at, plan_items, storage_of, plan_declared, in_variable, kept_from, is_direct, definition_at, defined_or, define, second_at, unnamed_site, unnamed_sites, parameters_in, count_parameters, named_at, settled_locals, in_body, keep_scope, first_time, body_product, second_time, twice, plan_body_of, plan_defined_as, some_of, plan_defined, plan_external, plan_externals, plan_file}
+use Rattle.dae_types_kinds.specs.declared.rules.Breach.{Breach}
+use Rattle.dae_types_kinds.specs.declared.tables.Context.TheVariants as context
+use Rattle.dae_types_kinds.specs.declared.tables.Entity.{Entity}
+use Rattle.dae_types_kinds.specs.declared.tables.Entity.TheVariants as entity
+use Rattle.dae_types_kinds.specs.declared.tables.Local.{Local}
+use Rattle.dae_types_kinds.specs.declared.tables.NamedType.{NamedType}
+use Rattle.dae_types_kinds.specs.declared.tables.Object.{Object}
+use Rattle.dae_types_kinds.specs.declared.tables.Routine.{Routine}
+use Rattle.dae_types_kinds.specs.declared.tables.Storage.{Storage}
+use Rattle.dae_types_kinds.specs.declared.tables.Storage.TheVariants as storage
+use Rattle.dae_types_kinds.specs.Tables.{Tables, closed, reopened}
+use Rattle.dae_types_kinds.specs.Types.{shape_of, is_function, layout_at, rounded, composite}
+use Rattle.dae_types_rules.specs.Sites.{Site}
+use Rattle.dae_types_rules.specs.Table.{is_extern, is_static}
+use Rattle.dae_types_rules.specs.Plan.{Plan, pure, ask_all}
+use Rattle.dae_types_plans.specs.Steps.{declared_place}
+use Rattle.dae_types_file_plans.specs.declared.declarations.Role.{Role}
+use Rattle.dae_types_file_plans.specs.declared.declarations.Role.TheVariants.{Reference, Definition}
+use Rattle.dae_types_file_plans.specs.Statements.{own_of, is_alone}
+use Rattle.dae_types_file_plans.specs.Files.{Product, Declares, Data, Body, retyped, new_routine, declared_function, function_at, new_object, replaced, declared_object, object_at, role_of, declares_object, declares_function, type_of_object, with_object_type, plan_data, plan_either, plan_typed, plan_item_at, plan_items, storage_of, plan_declared, in_variable, kept_from, is_direct, definition_at, defined_or, define, second_at, unnamed_site, unnamed_sites, parameters_in, count_parameters, named_at, settled_locals, in_body, keep_scope, first_time, body_product, second_time, twice, plan_body_of, plan_defined_as, some_of, plan_defined, plan_external, plan_externals, plan_file}
 use Rattle.dae_tree_sizes.specs.Sizes.{worth_of_declarations, worth_of_statements, worth_of_external, declares_in, declares_in_specifiers, declares_in_parameters, declares_in_value, declares_in_declarations, declares_in_statements, declares_in_external, IsDefinition}
 use Rattle.dae_typed_sizes.specs.Weights.{weight_in}
 use Rattle.dae_typed_sizes.specs.Paid.{price}

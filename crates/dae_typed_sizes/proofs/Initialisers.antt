@@ -7,16 +7,16 @@ use Rattle.dae_tree.specs.Trees as tree
 use Rattle.dae_tree.specs.Trees.{Expression, Initialiser, Initialisers}
 use Rattle.dae_tree.specs.Depth.{place_of}
 use Rattle.dae_program.specs.Trees as program
-use Rattle.dae_kinds.specs.declared.types.Shape.{Shape}
-use Rattle.dae_kinds.specs.declared.types.Shape.TheVariants as shape
-use Rattle.dae_kinds.specs.declared.values.Known.{Known}
-use Rattle.dae_kinds.specs.declared.values.Known.TheVariants as known
-use Rattle.dae_kinds.specs.Tables.{Tables, with_shape}
-use Rattle.dae_kinds.specs.Types.{shape_of, int_id, is_scalar}
-use Rattle.dae_kinds.specs.Values.{Typed, number, load_kind, known_as}
-use Rattle.dae_rules.specs.Plan.{Plan}
-use Rattle.dae_plans.specs.Expressions.{plan_value}
-use Rattle.dae_file_plans.specs.Initialisers.{Once, Slot, Filling, Landing, Opening, Content, over, literal_in, has_literal, landed_in, lowered, next_slot, literal_bytes, constant_tree, setting, byte_settings, item_by, item_in, item_at, value_item, is_one_literal, is_text_array, parts_of, open_with, opens, list_at, plan_initialiser, plan_initialisers, empty_filling, plan_unused_initialiser, whole_by, is_value_for, filled_type, plan_content}
+use Rattle.dae_types_kinds.specs.declared.types.Shape.{Shape}
+use Rattle.dae_types_kinds.specs.declared.types.Shape.TheVariants as shape
+use Rattle.dae_types_kinds.specs.declared.values.Known.{Known}
+use Rattle.dae_types_kinds.specs.declared.values.Known.TheVariants as known
+use Rattle.dae_types_kinds.specs.Tables.{Tables, with_shape}
+use Rattle.dae_types_kinds.specs.Types.{shape_of, int_id, is_scalar}
+use Rattle.dae_types_kinds.specs.Values.{Typed, number, load_kind, known_as}
+use Rattle.dae_types_rules.specs.Plan.{Plan}
+use Rattle.dae_types_plans.specs.Expressions.{plan_value}
+use Rattle.dae_types_file_plans.specs.Initialisers.{Once, Slot, Filling, Landing, Opening, Content, over, literal_in, has_literal, landed_in, lowered, next_slot, literal_bytes, constant_tree, setting, byte_settings, item_by, item_in, item_at, value_item, is_one_literal, is_text_array, parts_of, open_with, opens, list_at, plan_initialiser, plan_initialisers, empty_filling, plan_unused_initialiser, whole_by, is_value_for, filled_type, plan_content}
 use Rattle.dae_tree_sizes.specs.Sizes.{worth, worth_of_initialiser, worth_of_initialisers, declares, declares_in_initialiser, declares_in_initialisers}
 use Rattle.dae_typed_sizes.specs.Weights.{weight, weight_of_items}
 use Rattle.dae_typed_sizes.specs.Paid.{bytes_or_none, for_each, price}

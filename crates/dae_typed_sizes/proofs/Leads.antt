@@ -2,11 +2,11 @@
 use Rattle.std.proofs.Common.{◌≡◌, ℕ, ◌≤◌, List, Result, Ok, Err, Option, Some, None, ◌∙◌}
 use Rattle.std.specs.Prelude.{IfOk}
 use Rattle.dae_tree.specs.declared.expressions.Name.{Name}
-use Rattle.dae_kinds.specs.declared.rules.Breach.{Breach}
-use Rattle.dae_kinds.specs.Tables.{Tables}
-use Rattle.dae_rules.specs.Sites.{Site}
-use Rattle.dae_rules.specs.Plan.{Plan, pure, node, maps, chain, ask_all, check_of}
-use Rattle.dae_plans.specs.Steps.{settles_name}
+use Rattle.dae_types_kinds.specs.declared.rules.Breach.{Breach}
+use Rattle.dae_types_kinds.specs.Tables.{Tables}
+use Rattle.dae_types_rules.specs.Sites.{Site}
+use Rattle.dae_types_rules.specs.Plan.{Plan, pure, node, maps, chain, ask_all, check_of}
+use Rattle.dae_types_plans.specs.Steps.{settles_name}
 use Rattle.dae_typed_sizes.proofs.Within.{Grown, Got, Within, bind, all_asked}
 
 -- the tables have these literals, and After holds of them and of the value

@@ -11,15 +11,15 @@ use Rattle.dae_meaning.specs.declared.Spelling.TheVariants as spelling
 use Rattle.dae_program.specs.declared.statements.Piece.{Piece}
 use Rattle.dae_program.specs.declared.statements.Piece.TheVariants as piece
 use Rattle.dae_program.specs.Trees as program
-use Rattle.dae_kinds.specs.declared.rules.Breach.{Breach}
-use Rattle.dae_kinds.specs.declared.rules.Rule.TheVariants as rule
-use Rattle.dae_kinds.specs.Tables.{Tables}
-use Rattle.dae_rules.specs.Sites.{AtFormat}
-use Rattle.dae_rules.specs.Plan.{ask_all}
-use Rattle.dae_plans.specs.Steps.{count_of}
-use Rattle.dae_file_plans.specs.Initialisers.{literal_in, literal_bytes}
-use Rattle.dae_file_plans.specs.Formats.{Part, InText, BehindPercent, BehindLong, with_piece, number_piece, letter_piece, converted_with, pieces_from, letters}
-use Rattle.dae_file_plans.specs.Statements.{format_of, wanted_by, pieces_or, format_at, plan_printed, listed_all, plan_printf, arguments_of}
+use Rattle.dae_types_kinds.specs.declared.rules.Breach.{Breach}
+use Rattle.dae_types_kinds.specs.declared.rules.Rule.TheVariants as rule
+use Rattle.dae_types_kinds.specs.Tables.{Tables}
+use Rattle.dae_types_rules.specs.Sites.{AtFormat}
+use Rattle.dae_types_rules.specs.Plan.{ask_all}
+use Rattle.dae_types_plans.specs.Steps.{count_of}
+use Rattle.dae_types_file_plans.specs.Initialisers.{literal_in, literal_bytes}
+use Rattle.dae_types_file_plans.specs.Formats.{Part, InText, BehindPercent, BehindLong, with_piece, number_piece, letter_piece, converted_with, pieces_from, letters}
+use Rattle.dae_types_file_plans.specs.Statements.{format_of, wanted_by, pieces_or, format_at, plan_printed, listed_all, plan_printf, arguments_of}
 use Rattle.dae_tree_sizes.specs.Sizes.{worth, worth_of_all, worth_of_more, declares, declares_in_all}
 use Rattle.dae_typed_sizes.specs.Weights.{weight_of_all, weight_of_pieces, weight_in}
 use Rattle.dae_typed_sizes.specs.Paid.{for_each, price}

@@ -9,18 +9,18 @@ use Rattle.dae_tree.specs.Trees.{Expression, Expressions, Initialiser, Item, Dec
 use Rattle.dae_tree.specs.Depth.{place_of, place_of_specifiers}
 use Rattle.dae_tree.specs.Names.{declared_name, has_typedef}
 use Rattle.dae_program.specs.Trees as program
-use Rattle.dae_kinds.specs.declared.tables.Context.TheVariants as context
-use Rattle.dae_kinds.specs.declared.tables.NamedType.{NamedType}
-use Rattle.dae_kinds.specs.declared.tables.Storage.{Storage}
-use Rattle.dae_kinds.specs.declared.tables.Storage.TheVariants as storage
-use Rattle.dae_kinds.specs.Tables.{Tables}
-use Rattle.dae_kinds.specs.Types.{shape_of, is_scalar}
-use Rattle.dae_kinds.specs.Values.{Typed, converted}
-use Rattle.dae_rules.specs.Plan.{Plan}
-use Rattle.dae_plans.specs.Steps.{declared_place}
-use Rattle.dae_file_plans.specs.declared.surroundings.Surrounding.{Surrounding}
-use Rattle.dae_file_plans.specs.Initialisers.{Content}
-use Rattle.dae_file_plans.specs.Statements.{behind_all, appended, with_typedef, typedef_at, local_at, type_of_local, storage_target, offset_of_local, set_to, with_zero, names_stored, taken_or_not, zero_or_not, scalar_value_at, plan_scalar, plan_first_scalar, with_type, initialised_at, plan_given, plan_local, plan_item_at, plan_items, is_alone, plan_declaration, plan_declarations, in_loop, in_switch, returned, nothing_returned, as_result, plan_return, is_printf_name, callee_name, arguments_of, plan_evaluation, plan_evaluate, Armed, arms_of, is_done, with_label, with_statement, Arming, case_at, default_at, label_at, plan_optional, plan_condition, plan_test, started, starting_place, plan_statement, plan_statements, plan_body, plan_arms, plan_labelled, plan_block}
+use Rattle.dae_types_kinds.specs.declared.tables.Context.TheVariants as context
+use Rattle.dae_types_kinds.specs.declared.tables.NamedType.{NamedType}
+use Rattle.dae_types_kinds.specs.declared.tables.Storage.{Storage}
+use Rattle.dae_types_kinds.specs.declared.tables.Storage.TheVariants as storage
+use Rattle.dae_types_kinds.specs.Tables.{Tables}
+use Rattle.dae_types_kinds.specs.Types.{shape_of, is_scalar}
+use Rattle.dae_types_kinds.specs.Values.{Typed, converted}
+use Rattle.dae_types_rules.specs.Plan.{Plan}
+use Rattle.dae_types_plans.specs.Steps.{declared_place}
+use Rattle.dae_types_file_plans.specs.declared.surroundings.Surrounding.{Surrounding}
+use Rattle.dae_types_file_plans.specs.Initialisers.{Content}
+use Rattle.dae_types_file_plans.specs.Statements.{behind_all, appended, with_typedef, typedef_at, local_at, type_of_local, storage_target, offset_of_local, set_to, with_zero, names_stored, taken_or_not, zero_or_not, scalar_value_at, plan_scalar, plan_first_scalar, with_type, initialised_at, plan_given, plan_local, plan_item_at, plan_items, is_alone, plan_declaration, plan_declarations, in_loop, in_switch, returned, nothing_returned, as_result, plan_return, is_printf_name, callee_name, arguments_of, plan_evaluation, plan_evaluate, Armed, arms_of, is_done, with_label, with_statement, Arming, case_at, default_at, label_at, plan_optional, plan_condition, plan_test, started, starting_place, plan_statement, plan_statements, plan_body, plan_arms, plan_labelled, plan_block}
 use Rattle.dae_tree_sizes.specs.Sizes.{worth, worth_of_initialiser, worth_of_initialisers, worth_of_value, worth_of_items, worth_of_declarations, worth_of_optional, worth_of_statement, worth_of_statements, declares, declares_in, declares_in_specifiers, declares_in_initialiser, declares_in_initialisers, declares_in_value, declares_in_items, declares_in_declarations, declares_in_optional, declares_in_statement, declares_in_statements}
 use Rattle.dae_typed_sizes.specs.Weights.{weight, weight_of_target, weight_of_some, weight_in, weight_in_arms}
 use Rattle.dae_typed_sizes.specs.Paid.{price}

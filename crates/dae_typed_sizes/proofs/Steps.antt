@@ -16,21 +16,21 @@ use Rattle.dae_tree.specs.declared.operators.MemberOperator.{MemberOperator}
 use Rattle.dae_tree.specs.declared.operators.MemberOperator.TheVariants as signs
 use Rattle.dae_tree.specs.Trees as tree
 use Rattle.dae_program.specs.Trees as program
-use Rattle.dae_kinds.specs.declared.types.Layout.{Layout}
-use Rattle.dae_kinds.specs.declared.types.Shape.TheVariants as shape
-use Rattle.dae_kinds.specs.declared.tables.Context.{Context}
-use Rattle.dae_kinds.specs.declared.tables.Entity.{Entity}
-use Rattle.dae_kinds.specs.declared.tables.Entity.TheVariants as entity
-use Rattle.dae_kinds.specs.declared.tables.LibraryFunction.{LibraryFunction}
-use Rattle.dae_kinds.specs.declared.tables.NamedType.{NamedType}
-use Rattle.dae_kinds.specs.declared.tables.Tagged.{Tagged}
-use Rattle.dae_kinds.specs.declared.tables.Tagged.TheVariants as tagged
-use Rattle.dae_kinds.specs.Tables.{Tables, with_shape, with_name, found_name, own_tag}
-use Rattle.dae_kinds.specs.Types.{int_id, shape_of, pointee, layout}
-use Rattle.dae_kinds.specs.Values.{Typed, addressed, known_and, known_or, component_in, owner, library_of, joined, operator_of}
-use Rattle.dae_rules.specs.Sites.{Site}
-use Rattle.dae_rules.specs.Plan.{Plan, Mark, OfName, OfTag, OfMember, node, maps, pardons, settles, unless_spoiled}
-use Rattle.dae_plans.specs.Steps.{base_at, word_at, type_name_at, tag_in, tag_at, mentioned, new_structure, with_optional_tag, begins, begins_at, with_member, settles_member, member_at, number_of, completes, ends_at, structure_body, enumeration_tag, enumeration_at, enumerator_at, enumeration_body, constant_at, pointer, unsized, count_at, sized, function, with_named_local, with_parameter, adjusted, parameter_at, type_of, value_at, name_at, condition_at, marked_entity, marked_name, address_at, star_at, step_at, promoted_of, prefix_at, postfix_at, operands_at, combination_of, and_at, or_at, binary_at, index_at, member_of, access_at, sizeof_at, cast_at, assignment_at, conditional_at, comma_at, passed, parameter_type, argument_at, with_call, call_at, call_by, routine_in, call_of}
+use Rattle.dae_types_kinds.specs.declared.types.Layout.{Layout}
+use Rattle.dae_types_kinds.specs.declared.types.Shape.TheVariants as shape
+use Rattle.dae_types_kinds.specs.declared.tables.Context.{Context}
+use Rattle.dae_types_kinds.specs.declared.tables.Entity.{Entity}
+use Rattle.dae_types_kinds.specs.declared.tables.Entity.TheVariants as entity
+use Rattle.dae_types_kinds.specs.declared.tables.LibraryFunction.{LibraryFunction}
+use Rattle.dae_types_kinds.specs.declared.tables.NamedType.{NamedType}
+use Rattle.dae_types_kinds.specs.declared.tables.Tagged.{Tagged}
+use Rattle.dae_types_kinds.specs.declared.tables.Tagged.TheVariants as tagged
+use Rattle.dae_types_kinds.specs.Tables.{Tables, with_shape, with_name, found_name, own_tag}
+use Rattle.dae_types_kinds.specs.Types.{int_id, shape_of, pointee, layout}
+use Rattle.dae_types_kinds.specs.Values.{Typed, addressed, known_and, known_or, component_in, owner, library_of, joined, operator_of}
+use Rattle.dae_types_rules.specs.Sites.{Site}
+use Rattle.dae_types_rules.specs.Plan.{Plan, Mark, OfName, OfTag, OfMember, node, maps, pardons, settles, unless_spoiled}
+use Rattle.dae_types_plans.specs.Steps.{base_at, word_at, type_name_at, tag_in, tag_at, mentioned, new_structure, with_optional_tag, begins, begins_at, with_member, settles_member, member_at, number_of, completes, ends_at, structure_body, enumeration_tag, enumeration_at, enumerator_at, enumeration_body, constant_at, pointer, unsized, count_at, sized, function, with_named_local, with_parameter, adjusted, parameter_at, type_of, value_at, name_at, condition_at, marked_entity, marked_name, address_at, star_at, step_at, promoted_of, prefix_at, postfix_at, operands_at, combination_of, and_at, or_at, binary_at, index_at, member_of, access_at, sizeof_at, cast_at, assignment_at, conditional_at, comma_at, passed, parameter_type, argument_at, with_call, call_at, call_by, routine_in, call_of}
 use Rattle.dae_typed_sizes.specs.Weights.{weight}
 use Rattle.dae_typed_sizes.proofs.Within.{Grown, Got, Within, none, added, same, stays, grows, grown_more, fewer, measured, unmeasured, node_within, node_stays, maps_stays, node_reads, maps_reads, asks_within, both_within, chain_within, nothing_within, looks_within, settles_within}
 use Rattle.dae_typed_sizes.proofs.Weighing.{cost, weight_of_list, weight-append, marked_grown, joined_grown, valued_weighs, converted_weighs, valued_got, named_got, combined_weighs, subscripted_weighs, starred_weighs, negated_weighs, complemented_weighs, inverted_weighs, member_weighs, assigned_weighs, updated_weighs, stepped_weighs, conditional_got, called_weighs}

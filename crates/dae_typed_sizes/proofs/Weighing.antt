@@ -10,23 +10,23 @@ use Rattle.dae_tree.specs.declared.operators.MemberOperator.{MemberOperator}
 use Rattle.dae_tree.specs.declared.operators.MemberOperator.TheVariants as signs
 use Rattle.dae_program.specs.Trees as program
 use Rattle.dae_program.specs.Trees.{Expression}
-use Rattle.dae_kinds.specs.declared.types.Shape.{Shape}
-use Rattle.dae_kinds.specs.declared.types.Shape.TheVariants as shape
-use Rattle.dae_kinds.specs.declared.values.Category.{Category}
-use Rattle.dae_kinds.specs.declared.values.Category.TheVariants as category
-use Rattle.dae_kinds.specs.declared.values.Known.{Known}
-use Rattle.dae_kinds.specs.declared.values.Known.TheVariants as known
-use Rattle.dae_kinds.specs.declared.tables.Component.{Component}
-use Rattle.dae_kinds.specs.declared.tables.Entity.{Entity}
-use Rattle.dae_kinds.specs.declared.tables.Entity.TheVariants as entity
-use Rattle.dae_kinds.specs.declared.tables.LibraryFunction.{LibraryFunction}
-use Rattle.dae_kinds.specs.declared.tables.LibraryFunction.TheVariants as library
-use Rattle.dae_kinds.specs.declared.tables.Local.{Local}
-use Rattle.dae_kinds.specs.declared.tables.Storage.{Storage}
-use Rattle.dae_kinds.specs.declared.tables.Storage.TheVariants as storage
-use Rattle.dae_kinds.specs.Tables.{Tables, with_shape, with_use, set_local, written_at}
-use Rattle.dae_kinds.specs.Types.{same as same_type, shape_of, is_void, is_integer, layout_at, composite, composite_shape, composite_within, int_id}
-use Rattle.dae_kinds.specs.Values.{Typed, plain, is_null, common, number, valued_by, local_type, stored_in, named, load_kind, read_by, valued, changes, changed, known_as, converted_by, converted, further, scaled, sum_of, difference_of, Deed, Operates, Compares, deed, Combination, Words, PointerFirst, PointerSecond, Distance, Pointers, combination, known_by, tree_by, address_tree, is_unsigned_for, type_for, operated, indexed, indexed_behind, indexed_back, distance, combined_as, subscripted, starred, marked, negated, complemented, inverted, known_not, member_value, member_in, member_by, known_further, target_of, assigned, updated_by, updated, stepped, joined_shape, joined, conditional_by, conditional_as, either_category, known_if, known_branch, listed, first_of_list, call_tree, called, is_difference, library_of}
+use Rattle.dae_types_kinds.specs.declared.types.Shape.{Shape}
+use Rattle.dae_types_kinds.specs.declared.types.Shape.TheVariants as shape
+use Rattle.dae_types_kinds.specs.declared.values.Category.{Category}
+use Rattle.dae_types_kinds.specs.declared.values.Category.TheVariants as category
+use Rattle.dae_types_kinds.specs.declared.values.Known.{Known}
+use Rattle.dae_types_kinds.specs.declared.values.Known.TheVariants as known
+use Rattle.dae_types_kinds.specs.declared.tables.Component.{Component}
+use Rattle.dae_types_kinds.specs.declared.tables.Entity.{Entity}
+use Rattle.dae_types_kinds.specs.declared.tables.Entity.TheVariants as entity
+use Rattle.dae_types_kinds.specs.declared.tables.LibraryFunction.{LibraryFunction}
+use Rattle.dae_types_kinds.specs.declared.tables.LibraryFunction.TheVariants as library
+use Rattle.dae_types_kinds.specs.declared.tables.Local.{Local}
+use Rattle.dae_types_kinds.specs.declared.tables.Storage.{Storage}
+use Rattle.dae_types_kinds.specs.declared.tables.Storage.TheVariants as storage
+use Rattle.dae_types_kinds.specs.Tables.{Tables, with_shape, with_use, set_local, written_at}
+use Rattle.dae_types_kinds.specs.Types.{same as same_type, shape_of, is_void, is_integer, layout_at, composite, composite_shape, composite_within, int_id}
+use Rattle.dae_types_kinds.specs.Values.{Typed, plain, is_null, common, number, valued_by, local_type, stored_in, named, load_kind, read_by, valued, changes, changed, known_as, converted_by, converted, further, scaled, sum_of, difference_of, Deed, Operates, Compares, deed, Combination, Words, PointerFirst, PointerSecond, Distance, Pointers, combination, known_by, tree_by, address_tree, is_unsigned_for, type_for, operated, indexed, indexed_behind, indexed_back, distance, combined_as, subscripted, starred, marked, negated, complemented, inverted, known_not, member_value, member_in, member_by, known_further, target_of, assigned, updated_by, updated, stepped, joined_shape, joined, conditional_by, conditional_as, either_category, known_if, known_branch, listed, first_of_list, call_tree, called, is_difference, library_of}
 use Rattle.dae_typed_sizes.specs.Weights.{weight, weight_of_target, weight_of_all}
 use Rattle.dae_typed_sizes.proofs.Within.{Grown, Got, same, stays, grows, grown_more}
 

@@ -2,13 +2,13 @@
 -- comes measures little. There is one lemma for each constructor of plans.
 use Rattle.std.proofs.Common.{◌≡◌, ℕ, ◌+◌, ◌≤◌, Bool, true, false, List, [], ◌∷◌, length, Option, Some, None, Result, Ok, Err, refl, ◌∙◌, arith}
 use Rattle.std.specs.Prelude.{IfOk}
-use Rattle.dae_kinds.specs.declared.rules.Rule.{Rule}
-use Rattle.dae_kinds.specs.declared.rules.Breach.{Breach}
-use Rattle.dae_kinds.specs.Tables.{Tables, closed, opened, with_uses}
-use Rattle.dae_rules.specs.Sites.{Site, place}
-use Rattle.dae_rules.specs.Table.{breaks, asked}
-use Rattle.dae_rules.specs.Plan.{Plan, pure, both, node, maps, chain, ◌>>=◌, ask_in, ask_all, check_of}
-use Rattle.dae_plans.specs.Steps.{looks, changes_to, ends, scoped, unused, settles_name}
+use Rattle.dae_types_kinds.specs.declared.rules.Rule.{Rule}
+use Rattle.dae_types_kinds.specs.declared.rules.Breach.{Breach}
+use Rattle.dae_types_kinds.specs.Tables.{Tables, closed, opened, with_uses}
+use Rattle.dae_types_rules.specs.Sites.{Site, place}
+use Rattle.dae_types_rules.specs.Table.{breaks, asked}
+use Rattle.dae_types_rules.specs.Plan.{Plan, pure, both, node, maps, chain, ◌>>=◌, ask_in, ask_all, check_of}
+use Rattle.dae_types_plans.specs.Steps.{looks, changes_to, ends, scoped, unused, settles_name}
 use Rattle.dae_tree.specs.declared.expressions.Name.{Name}
 
 -- tables go on from others with the same literals and storages, and at most n locals more

@@ -3,11 +3,11 @@ use Rattle.std.specs.Prelude.{◌≡◌, ◌⊎◌, ℕ, ◌+◌, ◌≤◌, Lis
 use Rattle.dae_base.specs.declared.Place.{Place}
 use Rattle.dae_tree.specs.Trees.{External}
 use Rattle.dae_program.specs.Trees.{Statements}
-use Rattle.dae_kinds.specs.declared.tables.Local.{Local}
-use Rattle.dae_kinds.specs.declared.tables.Storage.{Storage}
-use Rattle.dae_kinds.specs.Tables.{Tables}
-use Rattle.dae_rules.specs.Plan.{check_of}
-use Rattle.dae_file_plans.specs.Files.{Product, Declares, Data, Body, begun_with, plan_file}
+use Rattle.dae_types_kinds.specs.declared.tables.Local.{Local}
+use Rattle.dae_types_kinds.specs.declared.tables.Storage.{Storage}
+use Rattle.dae_types_kinds.specs.Tables.{Tables}
+use Rattle.dae_types_rules.specs.Plan.{check_of}
+use Rattle.dae_types_file_plans.specs.Files.{Product, Declares, Data, Body, begun_with, plan_file}
 use Rattle.dae_tree_sizes.specs.Sizes.{worth_of_external, declares_in_external, IsDefinition}
 use Rattle.dae_typed_sizes.specs.Weights.{weight_in}
 use Rattle.dae_typed_sizes.specs.Paid.{price}

@@ -1,10 +1,10 @@
 -- The tokens and literals of a file pay for what its plan gives.
 use Rattle.std.specs.Prelude.{◌≡◌, ℕ, ◌+◌, ◌≤◌, List, [], ◌∷◌, Option, Some, None, Ok, slice_get}
 use Rattle.dae_tree.specs.Trees.{Expression}
-use Rattle.dae_kinds.specs.Tables.{Tables}
-use Rattle.dae_kinds.specs.Values.{Typed}
-use Rattle.dae_rules.specs.Plan.{check_of}
-use Rattle.dae_plans.specs.Expressions.{plan_value}
+use Rattle.dae_types_kinds.specs.Tables.{Tables}
+use Rattle.dae_types_kinds.specs.Values.{Typed}
+use Rattle.dae_types_rules.specs.Plan.{check_of}
+use Rattle.dae_types_plans.specs.Expressions.{plan_value}
 use Rattle.dae_tree_sizes.specs.Sizes.{worth}
 use Rattle.dae_typed_sizes.specs.Weights.{weight}
 

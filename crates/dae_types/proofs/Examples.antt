@@ -1,12 +1,12 @@
 -- Sizes, alignments and offsets of C90's types: of `struct s { char c; int n; short h; };`, of arrays of it, of a structure that
 -- isn't complete, and of what is no object type.
 use Rattle.std.proofs.Common.{◌≡◌, ℕ, [], ◌∷◌, ◌++◌, Some, None, true, false, refl}
-use Rattle.dae_kinds.specs.declared.types.Shape.TheVariants as shape
-use Rattle.dae_kinds.specs.declared.tables.Component.{Component}
-use Rattle.dae_kinds.specs.Tables.{Tables}
-use Rattle.dae_kinds.specs.Types.{char_id, int_id, layout, layout_at, layout_of, no_parameters_id, shape_of, short_id, void_id}
-use Rattle.dae_file_plans.specs.Files.{empty_tables}
-use Rattle.dae_typed.specs.Sound.{laid_out, members_of}
+use Rattle.dae_types_kinds.specs.declared.types.Shape.TheVariants as shape
+use Rattle.dae_types_kinds.specs.declared.tables.Component.{Component}
+use Rattle.dae_types_kinds.specs.Tables.{Tables}
+use Rattle.dae_types_kinds.specs.Types.{char_id, int_id, layout, layout_at, layout_of, no_parameters_id, shape_of, short_id, void_id}
+use Rattle.dae_types_file_plans.specs.Files.{empty_tables}
+use Rattle.dae_types_typed.specs.Sound.{laid_out, members_of}
 use Rattle.dae_types.specs.Layouts.{align_of_type, member_of_type, size_of_type}
 
 -- a member of the first structure

@@ -5,11 +5,11 @@ use Rattle.std.proofs.lemmas.Bool.{eq-eqb, ne_eqb}
 use Rattle.std.proofs.lemmas.List.{drop_more}
 use Rattle.std.proofs.lemmas.List.Sums.{take_while-cons}
 use Rattle.std.specs.Prelude.{filter, not, find, option_map, take_while}
-use Rattle.dae_kinds.specs.declared.types.Layout.{Layout}
-use Rattle.dae_kinds.specs.declared.tables.Component.{Component}
-use Rattle.dae_kinds.specs.Tables.{Tables}
-use Rattle.dae_kinds.specs.Types.{layout_at, placed}
-use Rattle.dae_typed.specs.Sound.{is_member_of}
+use Rattle.dae_types_kinds.specs.declared.types.Layout.{Layout}
+use Rattle.dae_types_kinds.specs.declared.tables.Component.{Component}
+use Rattle.dae_types_kinds.specs.Tables.{Tables}
+use Rattle.dae_types_kinds.specs.Types.{layout_at, placed}
+use Rattle.dae_types_typed.specs.Sound.{is_member_of}
 use Rattle.dae_types.specs.Layouts.{is_member_called, member_behind, place_after, with_members}
 
 -- behind a member of another structure

@@ -2,11 +2,11 @@
 use Rattle.std.proofs.Common.{◌≡◌, Err, subst}
 use Rattle.dae_tree.specs.Files.{Contents}
 use Rattle.dae_tree.specs.FileViews.{view_externals}
-use Rattle.dae_kinds.specs.declared.rules.CheckError.{CheckError}
-use Rattle.dae_kinds.specs.declared.rules.CheckError.TheVariants as errors
-use Rattle.dae_kinds.specs.Tables.{Tables}
-use Rattle.dae_rules.specs.Plan.{Fails, IsChecked, check_of}
-use Rattle.dae_file_plans.specs.Promise.{FilesAreChecked}
+use Rattle.dae_types_kinds.specs.declared.rules.CheckError.{CheckError}
+use Rattle.dae_types_kinds.specs.declared.rules.CheckError.TheVariants as errors
+use Rattle.dae_types_kinds.specs.Tables.{Tables}
+use Rattle.dae_types_rules.specs.Plan.{Fails, IsChecked, check_of}
+use Rattle.dae_types_file_plans.specs.Promise.{FilesAreChecked}
 use Rattle.dae_types.specs.Answers.{Answers, plan_in, start_in}
 
 pub refused : (c : Contents) (e : CheckError) (s : Tables) → FilesAreChecked → s ≡ start_in c → Fails e (check_of (plan_in c) s) → Answers c (Err e)

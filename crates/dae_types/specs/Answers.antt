@@ -2,13 +2,13 @@
 use Rattle.std.specs.Prelude.{List, Result, Ok, Err}
 use Rattle.dae_tree.specs.Files.{Contents}
 use Rattle.dae_tree.specs.FileViews.{view_externals}
-use Rattle.dae_kinds.specs.declared.rules.CheckError.{CheckError}
-use Rattle.dae_kinds.specs.declared.rules.CheckError.TheVariants as errors
-use Rattle.dae_kinds.specs.Tables.{Tables}
-use Rattle.dae_rules.specs.Plan.{Plan, IsChecked}
-use Rattle.dae_file_plans.specs.Files.{Product, plan_file, start_of}
-use Rattle.dae_typed.specs.declared.files.FileParts.{FileParts}
-use Rattle.dae_typed.specs.Reading.{Reads}
+use Rattle.dae_types_kinds.specs.declared.rules.CheckError.{CheckError}
+use Rattle.dae_types_kinds.specs.declared.rules.CheckError.TheVariants as errors
+use Rattle.dae_types_kinds.specs.Tables.{Tables}
+use Rattle.dae_types_rules.specs.Plan.{Plan, IsChecked}
+use Rattle.dae_types_file_plans.specs.Files.{Product, plan_file, start_of}
+use Rattle.dae_types_typed.specs.declared.files.FileParts.{FileParts}
+use Rattle.dae_types_typed.specs.Reading.{Reads}
 use Rattle.dae_types.specs.Names.{numbers_in}
 
 -- going through a file, from what is declared before its first token

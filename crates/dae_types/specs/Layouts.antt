@@ -1,12 +1,12 @@
 -- The size and the alignment of a type, and where the members of a structure are (C90 6.1.2.5, 6.3.3.4 and 6.5.2.1).
 use Rattle.std.specs.Prelude.{ℕ, List, Option, Some, None, Bool, true, false, ◌&&◌, not, nat_eq, if◌then◌else◌, find, fold, option_map, take_while}
-use Rattle.dae_kinds.specs.declared.types.Layout.{Layout}
-use Rattle.dae_kinds.specs.declared.types.Shape.{Shape}
-use Rattle.dae_kinds.specs.declared.types.Shape.TheVariants as shape
-use Rattle.dae_kinds.specs.declared.tables.Component.{Component}
-use Rattle.dae_kinds.specs.Tables.{Tables}
-use Rattle.dae_kinds.specs.Types.{is_complete, layout, layout_at, placed, rounded, shape_of, structure_of}
-use Rattle.dae_typed.specs.Sound.{members_of}
+use Rattle.dae_types_kinds.specs.declared.types.Layout.{Layout}
+use Rattle.dae_types_kinds.specs.declared.types.Shape.{Shape}
+use Rattle.dae_types_kinds.specs.declared.types.Shape.TheVariants as shape
+use Rattle.dae_types_kinds.specs.declared.tables.Component.{Component}
+use Rattle.dae_types_kinds.specs.Tables.{Tables}
+use Rattle.dae_types_kinds.specs.Types.{is_complete, layout, layout_at, placed, rounded, shape_of, structure_of}
+use Rattle.dae_types_typed.specs.Sound.{members_of}
 
 -- ---- sizes and alignments
 

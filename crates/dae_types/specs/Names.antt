@@ -2,7 +2,7 @@
 -- 5.1.2.2.1). A name's number is its place among the file's names, none of which stands twice.
 use Rattle.std.specs.Prelude.{ℕ, suc, List, [], ◌∷◌, Option, Some, None, if◌then◌else◌, codes}
 use Rattle.std.specs.Str.{bytes_eq}
-use Rattle.dae_file_plans.specs.Files.{Numbers}
+use Rattle.dae_types_file_plans.specs.Files.{Numbers}
 
 abbrev pub number_behind : ℕ → List (List ℕ) → List ℕ → Option ℕ
 number_behind n [] name = None

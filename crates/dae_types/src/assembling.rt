@@ -1,16 +1,16 @@
 // The parts of a typed file, from the tables and products at its end.
 
 ghost use Rattle.std.specs.Prelude.{◌≡◌, IfOk};
-ghost use Rattle.dae_tables.specs.Seen.{tables};
-ghost use Rattle.dae_typed.specs.Reading.{Reads};
-ghost use Rattle.dae_products.specs.Products.{as_products};
+ghost use Rattle.dae_types_tables.specs.Seen.{tables};
+ghost use Rattle.dae_types_typed.specs.Reading.{Reads};
+ghost use Rattle.dae_types_products.specs.Products.{as_products};
 
 use crate::names::copy_all;
 use dae_base::Items;
-use dae_kinds::CheckError;
-use dae_products::{Product, functions_in, places_of_bodies, sort};
-use dae_tables::{Checker, file_tables};
-use dae_typed::FileParts;
+use dae_types_kinds::CheckError;
+use dae_types_products::{Product, functions_in, places_of_bodies, sort};
+use dae_types_tables::{Checker, file_tables};
+use dae_types_typed::FileParts;
 use std::alloc::Global;
 
 /// The parts of a typed file: what the tables hold at its end, and what it comes to, with its names.

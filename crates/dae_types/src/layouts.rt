@@ -1,14 +1,14 @@
 // The sizes and alignments of a typed file's types, and the members of its structures.
 
 ghost use Rattle.std.specs.Prelude.{◌≡◌};
-ghost use Rattle.dae_kinds.specs.Types.{layout};
-ghost use Rattle.dae_typed.specs.Sound.{members_of, tables_of};
+ghost use Rattle.dae_types_kinds.specs.Types.{layout};
+ghost use Rattle.dae_types_typed.specs.Sound.{members_of, tables_of};
 ghost use Rattle.dae_types.specs.Layouts.{align_of_type, is_sized, member_behind, member_of_type, size_of_type};
 
-use dae_kinds::{Layout, Shape};
-use dae_sound::{is_complete, layout_at, shape_of};
-use dae_tables::{place_member, round_up};
-use dae_typed::{FileParts, TypedFile};
+use dae_types_kinds::{Layout, Shape};
+use dae_types_sound::{is_complete, layout_at, shape_of};
+use dae_types_tables::{place_member, round_up};
+use dae_types_typed::{FileParts, TypedFile};
 
 /// Whether a type is a complete object type (C90 6.1.2.5).
 fn is_sized(parts: &FileParts, type_id: usize) -> bool

@@ -1,13 +1,13 @@
 // The numbers of the names of main and of the library's functions, and copies of names and literals.
 
 ghost use Rattle.std.specs.Prelude.{◌≡◌, IfOk, Ok};
-ghost use Rattle.dae_rules.specs.Plan.{Gives};
-ghost use Rattle.dae_linkage.specs.Numbering.{view_numbers};
+ghost use Rattle.dae_types_rules.specs.Plan.{Gives};
+ghost use Rattle.dae_types_linkage.specs.Numbering.{view_numbers};
 ghost use Rattle.dae_types.specs.Names.{numbers_in, number_among};
 
 use dae_base::Items;
-use dae_kinds::CheckError;
-use dae_linkage::Numbers;
+use dae_types_kinds::CheckError;
+use dae_types_linkage::Numbers;
 use std::alloc::{AllocError, Global};
 
 /// The number of a name among names, if it is there.

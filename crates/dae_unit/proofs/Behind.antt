@@ -1,8 +1,8 @@
 -- Lists that grow at their ends.
 use Rattle.std.proofs.Common.{◌≡◌, ℕ, suc, ◌+◌, length, arith, List, [], ◌∷◌, ◌++◌, refl}
 use Rattle.dae_program.specs.declared.program.Function.{Function}
-use Rattle.dae_typed.specs.declared.files.TypedFunction.{TypedFunction}
-use Rattle.dae_typed.specs.declared.files.FileParts.{FileParts}
+use Rattle.dae_types_typed.specs.declared.files.TypedFunction.{TypedFunction}
+use Rattle.dae_types_typed.specs.declared.files.FileParts.{FileParts}
 use Rattle.dae_unit.specs.Meanings.{function_of, functions_in, functions_from}
 
 pub functions_behind : (done : List Function) (k : ℕ) (fs : List TypedFunction) (f : TypedFunction) → functions_in done k (fs ++ f ∷ []) ≡ functions_in done k fs ++ function_of k f ∷ []

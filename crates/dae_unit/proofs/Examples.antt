@@ -5,20 +5,20 @@ use Rattle.dae_base.specs.declared.Place.{Place}
 use Rattle.dae_base.specs.declared.Width.TheVariants.{B4}
 use Rattle.dae_program.specs.declared.expressions.Expression.TheVariants as expression
 use Rattle.dae_program.specs.declared.program.Links.{Links}
-use Rattle.dae_kinds.specs.declared.types.Shape.{Shape}
-use Rattle.dae_kinds.specs.declared.types.Shape.TheVariants as shape
-use Rattle.dae_kinds.specs.declared.tables.Entity.TheVariants as entity
-use Rattle.dae_kinds.specs.declared.tables.Object.{Object}
-use Rattle.dae_kinds.specs.declared.tables.Routine.{Routine}
-use Rattle.dae_kinds.specs.declared.tables.Use.{Use}
-use Rattle.dae_kinds.specs.Types.{first_shapes, shape_of, layout_of, layout_at}
-use Rattle.dae_file_plans.specs.declared.declarations.FileDeclaration.{FileDeclaration}
-use Rattle.dae_file_plans.specs.declared.declarations.Role.{Role}
-use Rattle.dae_file_plans.specs.declared.declarations.Role.TheVariants.{Reference, Tentative, Definition}
-use Rattle.dae_file_plans.specs.Files.{header_shapes}
-use Rattle.dae_typed.specs.declared.files.Datum.{Datum}
-use Rattle.dae_typed.specs.declared.files.FileParts.{FileParts}
-use Rattle.dae_typed.specs.declared.files.TypedFunction.{TypedFunction}
+use Rattle.dae_types_kinds.specs.declared.types.Shape.{Shape}
+use Rattle.dae_types_kinds.specs.declared.types.Shape.TheVariants as shape
+use Rattle.dae_types_kinds.specs.declared.tables.Entity.TheVariants as entity
+use Rattle.dae_types_kinds.specs.declared.tables.Object.{Object}
+use Rattle.dae_types_kinds.specs.declared.tables.Routine.{Routine}
+use Rattle.dae_types_kinds.specs.declared.tables.Use.{Use}
+use Rattle.dae_types_kinds.specs.Types.{first_shapes, shape_of, layout_of, layout_at}
+use Rattle.dae_types_file_plans.specs.declared.declarations.FileDeclaration.{FileDeclaration}
+use Rattle.dae_types_file_plans.specs.declared.declarations.Role.{Role}
+use Rattle.dae_types_file_plans.specs.declared.declarations.Role.TheVariants.{Reference, Tentative, Definition}
+use Rattle.dae_types_file_plans.specs.Files.{header_shapes}
+use Rattle.dae_types_typed.specs.declared.files.Datum.{Datum}
+use Rattle.dae_types_typed.specs.declared.files.FileParts.{FileParts}
+use Rattle.dae_types_typed.specs.declared.files.TypedFunction.{TypedFunction}
 use Rattle.dae_unit.specs.declared.errors.JoinError.TheVariants.{DefinedTwice, TypesDiffer, NotDefined, NoMain, DataTooLarge}
 use Rattle.dae_unit.specs.Linkage.{external_name, is_one, rows_of}
 use Rattle.dae_unit.specs.Across.{same_across}

@@ -12,11 +12,11 @@ use Rattle.std.specs.Map.{lookup}
 use Rattle.std.specs.Option.{unwrap_or}
 use Rattle.std.specs.Str.{bytes_eq}
 use Rattle.dae_base.proofs.Laws.{drop_at}
-use Rattle.dae_kinds.specs.declared.tables.Entity.{Entity}
-use Rattle.dae_kinds.specs.declared.tables.Entity.TheVariants as entity
-use Rattle.dae_typed.specs.declared.files.FileParts.{FileParts}
-use Rattle.dae_typed.specs.Linkage.{is_object}
-use Rattle.dae_typed.specs.Sound.{same_entity}
+use Rattle.dae_types_kinds.specs.declared.tables.Entity.{Entity}
+use Rattle.dae_types_kinds.specs.declared.tables.Entity.TheVariants as entity
+use Rattle.dae_types_typed.specs.declared.files.FileParts.{FileParts}
+use Rattle.dae_types_typed.specs.Linkage.{is_object}
+use Rattle.dae_types_typed.specs.Sound.{same_entity}
 use Rattle.dae_unit.specs.declared.errors.Clash.{Clash}
 use Rattle.dae_unit.specs.declared.errors.Clash.TheVariants.{Definitions, Types}
 use Rattle.dae_unit.specs.declared.identities.Identity.{Identity}

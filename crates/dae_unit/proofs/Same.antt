@@ -7,11 +7,11 @@ use Rattle.std.specs.Prelude.{nat_eq}
 use Rattle.std.specs.List.{list_any}
 use Rattle.std.specs.Str.{bytes_eq}
 use Rattle.indexmap.specs.IndexSet.{insert_key}
-use Rattle.dae_kinds.specs.declared.tables.Entity.{Entity}
-use Rattle.dae_kinds.specs.declared.tables.Entity.TheVariants as entity
-use Rattle.dae_typed.specs.declared.files.FileParts.{FileParts}
-use Rattle.dae_typed.specs.Linkage.{same_name}
-use Rattle.dae_typed.specs.Sound.{same_entity}
+use Rattle.dae_types_kinds.specs.declared.tables.Entity.{Entity}
+use Rattle.dae_types_kinds.specs.declared.tables.Entity.TheVariants as entity
+use Rattle.dae_types_typed.specs.declared.files.FileParts.{FileParts}
+use Rattle.dae_types_typed.specs.Linkage.{same_name}
+use Rattle.dae_types_typed.specs.Sound.{same_entity}
 use Rattle.dae_unit.specs.declared.identities.Identity.{Identity}
 use Rattle.dae_unit.specs.declared.identities.Identity.TheVariants.{Named, Object, Function}
 use Rattle.dae_unit.specs.contracts.identities.IdentityPartialEq.TheImpl.{ghosts}

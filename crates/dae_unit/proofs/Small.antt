@@ -5,7 +5,7 @@ use Rattle.std.proofs.lemmas.List.Elements.{All-push, All-nil}
 use Rattle.std.proofs.Math.Nat.{lt-div-mul-add, div-mul-le_self}
 use Rattle.std.specs.Prelude.{nat_eq, nat_le, if◌then◌else◌}
 use Rattle.std.specs.List.{All}
-use Rattle.dae_kinds.specs.declared.types.Layout.{Layout}
+use Rattle.dae_types_kinds.specs.declared.types.Layout.{Layout}
 use Rattle.dae_unit.specs.Placing.{rounded_up, place_behind, places_from, end_from, last_place}
 
 rounded_within : (n to : ℕ) → n ≤ last_place → (n ≤ rounded_up n to) × (rounded_up n to ≤ last_place)

@@ -2,13 +2,13 @@
 -- their tags alone.
 use Rattle.std.specs.Prelude.{ℕ, zero, suc, Bool, true, false, ◌&&◌, ◌||◌, List, [], ◌∷◌, length, Option, Some, None, is_some, slice_get}
 use Rattle.std.specs.Str.{bytes_eq}
-use Rattle.dae_kinds.specs.declared.types.Shape.{Shape}
-use Rattle.dae_kinds.specs.declared.types.Shape.TheVariants as shape
-use Rattle.dae_kinds.specs.declared.types.Structure.{Structure}
-use Rattle.dae_kinds.specs.declared.tables.Component.{Component}
-use Rattle.dae_kinds.specs.Types.{shape_of, layout_of, counts_agree}
-use Rattle.dae_typed.specs.declared.files.FileParts.{FileParts}
-use Rattle.dae_typed.specs.Sound.{tables_of, bytes_of, members_of}
+use Rattle.dae_types_kinds.specs.declared.types.Shape.{Shape}
+use Rattle.dae_types_kinds.specs.declared.types.Shape.TheVariants as shape
+use Rattle.dae_types_kinds.specs.declared.types.Structure.{Structure}
+use Rattle.dae_types_kinds.specs.declared.tables.Component.{Component}
+use Rattle.dae_types_kinds.specs.Types.{shape_of, layout_of, counts_agree}
+use Rattle.dae_types_typed.specs.declared.files.FileParts.{FileParts}
+use Rattle.dae_types_typed.specs.Sound.{tables_of, bytes_of, members_of}
 
 abbrev pub tag_by : List (List ℕ) → Option ℕ → Option (List ℕ)
 tag_by names None = None

@@ -1,11 +1,11 @@
 -- What keeps files from joining: definitions, types, uses and main.
 use Rattle.std.specs.Prelude.{ℕ, suc, Bool, true, false, ◌&&◌, not, List, [], ◌∷◌, Option, Some, None, nat_eq, slice_get, find, codes}
 use Rattle.std.specs.List.{list_any}
-use Rattle.dae_kinds.specs.declared.tables.Entity.{Entity}
-use Rattle.dae_kinds.specs.declared.tables.Entity.TheVariants as entity
-use Rattle.dae_kinds.specs.declared.tables.Use.{Use}
-use Rattle.dae_typed.specs.declared.files.FileParts.{FileParts}
-use Rattle.dae_typed.specs.Linkage.{is_function, is_library, same_name, type_in}
+use Rattle.dae_types_kinds.specs.declared.tables.Entity.{Entity}
+use Rattle.dae_types_kinds.specs.declared.tables.Entity.TheVariants as entity
+use Rattle.dae_types_kinds.specs.declared.tables.Use.{Use}
+use Rattle.dae_types_typed.specs.declared.files.FileParts.{FileParts}
+use Rattle.dae_types_typed.specs.Linkage.{is_function, is_library, same_name, type_in}
 use Rattle.dae_unit.specs.declared.errors.Clash.{Clash}
 use Rattle.dae_unit.specs.declared.errors.Clash.TheVariants.{Definitions, Types}
 use Rattle.dae_unit.specs.declared.rows.FileRow.{FileRow}

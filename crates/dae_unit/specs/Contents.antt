@@ -6,8 +6,8 @@ use Rattle.dae_program.specs.declared.expressions.Expression.{Expression}
 use Rattle.dae_program.specs.declared.expressions.Expression.TheVariants as expression
 use Rattle.dae_program.specs.declared.program.Links.{Links}
 use Rattle.dae_program.specs.declared.statements.Setting.{Setting}
-use Rattle.dae_typed.specs.declared.files.Datum.{Datum}
-use Rattle.dae_typed.specs.declared.files.FileParts.{FileParts}
+use Rattle.dae_types_typed.specs.declared.files.Datum.{Datum}
+use Rattle.dae_types_typed.specs.declared.files.FileParts.{FileParts}
 use Rattle.dae_unit.specs.Placing.{first_place}
 
 -- a constant's word, by the addresses of its file's literals and objects

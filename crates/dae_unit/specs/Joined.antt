@@ -1,6 +1,6 @@
 -- What files join to.
 use Rattle.std.specs.Prelude.{◌≡◌, ◌⊎◌, ℕ, List, [], Some, None}
-use Rattle.dae_typed.specs.declared.files.FileParts.{FileParts}
+use Rattle.dae_types_typed.specs.declared.files.FileParts.{FileParts}
 use Rattle.dae_unit.specs.declared.errors.JoinError.{JoinError}
 use Rattle.dae_unit.specs.declared.errors.JoinError.TheVariants.{Memory}
 use Rattle.dae_unit.specs.declared.joining.ProgramParts.{ProgramParts}

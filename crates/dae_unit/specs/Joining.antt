@@ -2,8 +2,8 @@
 use Rattle.std.specs.Prelude.{ℕ, Bool, true, false, List, Option, Some, None, nat_le, if◌then◌else◌}
 use Rattle.std.specs.List.{list_any}
 use Rattle.dae_base.specs.declared.Place.{Place}
-use Rattle.dae_kinds.specs.declared.tables.Use.{Use}
-use Rattle.dae_typed.specs.declared.files.FileParts.{FileParts}
+use Rattle.dae_types_kinds.specs.declared.tables.Use.{Use}
+use Rattle.dae_types_typed.specs.declared.files.FileParts.{FileParts}
 use Rattle.dae_unit.specs.declared.errors.Clash.TheVariants.{Definitions, Types}
 use Rattle.dae_unit.specs.declared.errors.JoinError.{JoinError}
 use Rattle.dae_unit.specs.declared.errors.JoinError.TheVariants.{DefinedTwice, TypesDiffer, NotDefined, NoMain, DataTooLarge}

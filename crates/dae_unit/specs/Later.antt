@@ -4,8 +4,8 @@ use Rattle.std.specs.Borrow.{Bor}
 use Rattle.std.specs.declared.alloc.Global.{Global}
 use Rattle.std.specs.Map.{lookup}
 use Rattle.std.specs.Str.{bytes_eq}
-use Rattle.dae_typed.specs.declared.files.FileParts.{FileParts}
-use Rattle.dae_typed.specs.Linkage.{same_name}
+use Rattle.dae_types_typed.specs.declared.files.FileParts.{FileParts}
+use Rattle.dae_types_typed.specs.Linkage.{same_name}
 use Rattle.dae_unit.specs.declared.rows.FileRow.{FileRow}
 use Rattle.dae_unit.specs.Clashes.{name_of, types_differ}
 use Rattle.dae_unit.specs.Linkage.{declares_same, defines}

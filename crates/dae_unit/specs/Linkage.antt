@@ -1,12 +1,12 @@
 -- Names that several files share (C90 6.1.2.2).
 use Rattle.std.specs.Prelude.{ℕ, suc, Bool, true, false, ◌&&◌, ◌||◌, List, [], ◌∷◌, ◌++◌, Option, Some, None, nat_eq, slice_get}
-use Rattle.dae_kinds.specs.declared.tables.Entity.{Entity}
-use Rattle.dae_file_plans.specs.declared.declarations.FileDeclaration.{FileDeclaration}
-use Rattle.dae_file_plans.specs.declared.declarations.Role.{Role}
-use Rattle.dae_file_plans.specs.declared.declarations.Role.TheVariants.{Definition}
-use Rattle.dae_typed.specs.declared.files.FileParts.{FileParts}
-use Rattle.dae_typed.specs.Linkage.{is_reference, name_in, same_name}
-use Rattle.dae_typed.specs.Sound.{same_entity}
+use Rattle.dae_types_kinds.specs.declared.tables.Entity.{Entity}
+use Rattle.dae_types_file_plans.specs.declared.declarations.FileDeclaration.{FileDeclaration}
+use Rattle.dae_types_file_plans.specs.declared.declarations.Role.{Role}
+use Rattle.dae_types_file_plans.specs.declared.declarations.Role.TheVariants.{Definition}
+use Rattle.dae_types_typed.specs.declared.files.FileParts.{FileParts}
+use Rattle.dae_types_typed.specs.Linkage.{is_reference, name_in, same_name}
+use Rattle.dae_types_typed.specs.Sound.{same_entity}
 use Rattle.dae_unit.specs.declared.rows.FileRow.{FileRow}
 
 -- ---- the declarations of all files, in the order of the files and of the text, behind those so far

@@ -3,14 +3,14 @@
 use Rattle.std.specs.Prelude.{ℕ, suc, List, [], ◌∷◌, ◌++◌, length, take, drop, Some, nat_lt, if◌then◌else◌, slice_index, codes}
 use Rattle.dae_program.specs.declared.program.Function.{Function}
 use Rattle.dae_program.specs.declared.program.Links.{Links}
-use Rattle.dae_kinds.specs.declared.tables.Entity.{Entity}
-use Rattle.dae_kinds.specs.declared.tables.Entity.TheVariants as entity
-use Rattle.dae_kinds.specs.declared.tables.Object.{Object}
-use Rattle.dae_kinds.specs.declared.tables.Routine.{Routine}
-use Rattle.dae_file_plans.specs.declared.declarations.Role.TheVariants.{Definition}
-use Rattle.dae_typed.specs.declared.files.FileParts.{FileParts}
-use Rattle.dae_typed.specs.declared.files.TypedFunction.{TypedFunction}
-use Rattle.dae_typed.specs.Linkage.{same_name}
+use Rattle.dae_types_kinds.specs.declared.tables.Entity.{Entity}
+use Rattle.dae_types_kinds.specs.declared.tables.Entity.TheVariants as entity
+use Rattle.dae_types_kinds.specs.declared.tables.Object.{Object}
+use Rattle.dae_types_kinds.specs.declared.tables.Routine.{Routine}
+use Rattle.dae_types_file_plans.specs.declared.declarations.Role.TheVariants.{Definition}
+use Rattle.dae_types_typed.specs.declared.files.FileParts.{FileParts}
+use Rattle.dae_types_typed.specs.declared.files.TypedFunction.{TypedFunction}
+use Rattle.dae_types_typed.specs.Linkage.{same_name}
 use Rattle.dae_unit.specs.declared.rows.FileRow.{FileRow}
 use Rattle.dae_unit.specs.Linkage.{external_name, is_one, entity_of}
 use Rattle.dae_unit.specs.Clashes.{is_main}

@@ -1,6 +1,6 @@
 -- What the joining of files depends on: neither on what objects hold nor on bodies.
 use Rattle.std.specs.Prelude.{◌≡◌, ℕ, List, [], map}
-use Rattle.dae_typed.specs.declared.files.FileParts.{FileParts}
+use Rattle.dae_types_typed.specs.declared.files.FileParts.{FileParts}
 use Rattle.dae_unit.specs.Joining.{cause}
 
 -- a file without what its objects hold and without its bodies

@@ -3,12 +3,12 @@
 -- Frames begin behind them, at a multiple of 4. Sums stop at 2^64 - 1.
 use Rattle.std.specs.Prelude.{ℕ, ◌+◌, ◌-◌, ◌*◌, ◌/◌, ◌^◌, Bool, ◌&&◌, not, List, [], ◌∷◌, ◌++◌, length, Option, Some, None, nat_eq, nat_le, if◌then◌else◌, slice_get, min}
 use Rattle.std.specs.List.{list_any}
-use Rattle.dae_kinds.specs.declared.types.Layout.{Layout}
-use Rattle.dae_kinds.specs.declared.tables.Entity.{Entity}
-use Rattle.dae_kinds.specs.Types.{layout, layout_at, greatest_word}
-use Rattle.dae_typed.specs.declared.files.FileParts.{FileParts}
-use Rattle.dae_typed.specs.Linkage.{is_object, type_in}
-use Rattle.dae_typed.specs.Sound.{tables_of}
+use Rattle.dae_types_kinds.specs.declared.types.Layout.{Layout}
+use Rattle.dae_types_kinds.specs.declared.tables.Entity.{Entity}
+use Rattle.dae_types_kinds.specs.Types.{layout, layout_at, greatest_word}
+use Rattle.dae_types_typed.specs.declared.files.FileParts.{FileParts}
+use Rattle.dae_types_typed.specs.Linkage.{is_object, type_in}
+use Rattle.dae_types_typed.specs.Sound.{tables_of}
 use Rattle.dae_unit.specs.declared.rows.FileRow.{FileRow}
 use Rattle.dae_unit.specs.Linkage.{is_one, entity_of, refers}
 

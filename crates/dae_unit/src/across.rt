@@ -1,12 +1,12 @@
 // The same type in two files.
 
 ghost use Rattle.std.specs.Prelude.{◌≡◌, ◌<◌, ◌∷◌, [], MatchOption, length, filter, option_copied, slice_get, is_some, false};
-ghost use Rattle.dae_kinds.specs.Types.{counts_agree, layout_of, shape_of};
-ghost use Rattle.dae_typed.specs.Sound.{bytes_of, is_member_of, members_of, tables_of};
+ghost use Rattle.dae_types_kinds.specs.Types.{counts_agree, layout_of, shape_of};
+ghost use Rattle.dae_types_typed.specs.Sound.{bytes_of, is_member_of, members_of, tables_of};
 ghost use Rattle.dae_unit.specs.Across.{same_tag, tag_of, same_members, same_bodies, same_structure, same_plain, shape_across, same_within_files, same_across};
 
-use dae_kinds::{Component, Shape};
-use dae_typed::FileParts;
+use dae_types_kinds::{Component, Shape};
+use dae_types_typed::FileParts;
 
 fn counts_agree(left: Option<u32>, right: Option<u32>) -> bool
     ensures { result ≡ counts_agree left right }
@@ -49,7 +49,7 @@ fn same_tag(left: Option<&[u8]>, right: Option<&[u8]>) -> bool
 }
 
 /// The shape of a type of a file.
-#[tactic(auto, unfolding(dae_kinds::specs::Types::shape_of))]
+#[tactic(auto, unfolding(dae_types_kinds::specs::Types::shape_of))]
 pub fn shape_of(parts: &FileParts, type_id: usize) -> Shape
     ensures { result ≡ shape_of (tables_of parts.now) type_id }
 {
@@ -59,7 +59,7 @@ pub fn shape_of(parts: &FileParts, type_id: usize) -> Shape
     }
 }
 
-#[tactic(auto, unfolding(dae_kinds::specs::Types::layout_of))]
+#[tactic(auto, unfolding(dae_types_kinds::specs::Types::layout_of))]
 fn is_complete(parts: &FileParts, structure: usize) -> bool
     ensures { result ≡ is_some (layout_of (tables_of parts.now) structure) }
 {

@@ -6,7 +6,7 @@ ghost use Rattle.dae_unit.specs.Joining.{cause_by};
 use crate::clashes::{first_clash, first_missing, has_main};
 use crate::errors::{Clash, JoinError};
 use crate::rows::FileRow;
-use dae_typed::TypedFile;
+use dae_types_typed::TypedFile;
 use std::alloc::{AllocError, Global};
 
 /// The first cause why files with these declarations don't join, where frames would begin at an address in a memory of so

@@ -4,7 +4,7 @@ ghost use Rattle.std.specs.Prelude.{◌≡◌, ◌∷◌, ℕ, List, IfOk, None,
 ghost use Rattle.std.specs.Borrow.{Bor};
 ghost use Rattle.std.specs.List.{list_any};
 ghost use Rattle.std.specs.Str.{bytes_eq};
-ghost use Rattle.dae_typed.specs.Linkage.{is_function, type_in};
+ghost use Rattle.dae_types_typed.specs.Linkage.{is_function, type_in};
 ghost use Rattle.dae_unit.specs.Clashes.{clashes, types_differ, first_clash, is_library_in, is_missing, first_missing, is_main};
 ghost use Rattle.dae_unit.specs.Identities.{AreGivers};
 ghost use Rattle.dae_unit.specs.Later.{AreLater, AreNextDefinitions, entry_of_name, items_or_none, nearest, put_first};
@@ -17,8 +17,8 @@ use crate::givers::{givers_of, is_given};
 use crate::identities::Identity;
 use crate::linkage::{declares_same, defines, external_name, same_name};
 use crate::rows::FileRow;
-use dae_kinds::{Entity, Use};
-use dae_typed::{FileParts, TypedFile};
+use dae_types_kinds::{Entity, Use};
+use dae_types_typed::{FileParts, TypedFile};
 use indexmap::{IndexMap, IndexSet};
 use std::alloc::{AllocError, Global};
 

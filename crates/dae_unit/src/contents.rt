@@ -9,7 +9,7 @@ use crate::meanings::behind;
 use byteorder::{ByteOrder, LittleEndian};
 use dae_base::{Items, Width};
 use dae_program::{Expression, Links, Setting};
-use dae_typed::{Datum, TypedFile};
+use dae_types_typed::{Datum, TypedFile};
 use std::alloc::{AllocError, Global};
 
 fn put(content: &mut [u8], at: usize, byte: u8)

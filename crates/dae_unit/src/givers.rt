@@ -11,8 +11,8 @@ ghost use Rattle.dae_unit.specs.declared.rows.FileRow.{FileRow};
 use crate::identities::{Identity, identity_of};
 use crate::linkage::refers;
 use crate::rows::FileRow;
-use dae_kinds::Entity;
-use dae_typed::TypedFile;
+use dae_types_kinds::Entity;
+use dae_types_typed::TypedFile;
 use indexmap::IndexSet;
 use std::alloc::{AllocError, Global};
 

@@ -3,8 +3,8 @@
 ghost use Rattle.dae_unit.specs.Identities.{IsIdentity};
 
 use crate::linkage::external_name;
-use dae_kinds::Entity;
-use dae_typed::TypedFile;
+use dae_types_kinds::Entity;
+use dae_types_typed::TypedFile;
 
 /// What stands for an object or a function of a file: the name by which other files know it; where they know it by none, its
 /// file and its number there.

@@ -17,7 +17,7 @@ use crate::placing::{
 use crate::rows::{FileRow, rows_of};
 use dae_base::Items;
 use dae_program::{Function, Links};
-use dae_typed::TypedFile;
+use dae_types_typed::TypedFile;
 use std::alloc::{AllocError, Global};
 
 /// What files join to: what the memory holds from address 16 on, where frames begin, what the numbers of each file mean, the

@@ -1,14 +1,14 @@
 // Names that several files share.
 
 ghost use Rattle.std.specs.Prelude.{◌≡◌, slice_get, option_copied};
-ghost use Rattle.dae_typed.specs.Linkage.{name_in, object_name, routine_name, same_name};
-ghost use Rattle.dae_typed.specs.Sound.{same_entity};
+ghost use Rattle.dae_types_typed.specs.Linkage.{name_in, object_name, routine_name, same_name};
+ghost use Rattle.dae_types_typed.specs.Sound.{same_entity};
 ghost use Rattle.dae_unit.specs.Linkage.{external_name, declares_same, defines, refers};
 
 use crate::rows::FileRow;
-use dae_file_plans::Role;
-use dae_kinds::Entity;
-use dae_typed::{FileParts, TypedFile};
+use dae_types_file_plans::Role;
+use dae_types_kinds::Entity;
+use dae_types_typed::{FileParts, TypedFile};
 
 /// Whether a declaration is a definition.
 pub fn defines(row: FileRow) -> bool

@@ -11,10 +11,10 @@ use crate::linkage::{external_name, same_name};
 use crate::numbers::{NumberedRows, number_of};
 use crate::rows::FileRow;
 use dae_base::Items;
-use dae_file_plans::{FileDeclaration, Role};
-use dae_kinds::{Entity, Object, Routine};
+use dae_types_file_plans::{FileDeclaration, Role};
+use dae_types_kinds::{Entity, Object, Routine};
 use dae_program::{Function, Links};
-use dae_typed::{FileParts, TypedFile, TypedFunction};
+use dae_types_typed::{FileParts, TypedFile, TypedFunction};
 use std::alloc::{AllocError, Global};
 
 /// Declarations that give room, and the places of objects and literals.

@@ -8,8 +8,8 @@ ghost use Rattle.dae_unit.specs.declared.identities.Identity.{Identity};
 
 use crate::identities::{Identity, identity_of};
 use crate::rows::FileRow;
-use dae_kinds::Entity;
-use dae_typed::TypedFile;
+use dae_types_kinds::Entity;
+use dae_types_typed::TypedFile;
 use indexmap::IndexMap;
 use std::alloc::{AllocError, Global};
 

@@ -2,9 +2,9 @@
 
 ghost use Rattle.std.specs.Prelude.{◌≡◌, ℕ, ◌<◌, ◌^◌, ◌++◌, ◌∷◌, [], List, IfOk, OnOk, if◌then◌else◌, slice_get};
 ghost use Rattle.std.specs.List.{All};
-ghost use Rattle.dae_kinds.specs.Types.{layout_of, layout_else, repeated, layout_within, layout_at};
-ghost use Rattle.dae_typed.specs.Linkage.{is_object};
-ghost use Rattle.dae_typed.specs.Sound.{tables_of};
+ghost use Rattle.dae_types_kinds.specs.Types.{layout_of, layout_else, repeated, layout_within, layout_at};
+ghost use Rattle.dae_types_typed.specs.Linkage.{is_object};
+ghost use Rattle.dae_types_typed.specs.Sound.{tables_of};
 ghost use Rattle.dae_unit.specs.Identities.{AreDeclaredIn};
 ghost use Rattle.dae_unit.specs.declared.rows.FileRow.{FileRow};
 ghost use Rattle.dae_unit.specs.Placing.{gives_room, is_first, placed_rows, layout_of_row, object_layouts, literal_layout, literal_layouts, all_literals, rooms_of, rounded_up, place_behind, places_from, end_from, first_place};
@@ -16,8 +16,8 @@ use crate::identities::Identity;
 use crate::linkage::refers;
 use crate::rows::FileRow;
 use dae_base::Items;
-use dae_kinds::{Entity, Layout, Shape};
-use dae_typed::{FileParts, TypedFile};
+use dae_types_kinds::{Entity, Layout, Shape};
+use dae_types_typed::{FileParts, TypedFile};
 use indexmap::IndexSet;
 use std::alloc::{AllocError, Global};
 
@@ -103,7 +103,7 @@ fn layout(size: u32, align: u32) -> Layout
     Layout { size, align }
 }
 
-#[tactic(auto, unfolding(dae_kinds::specs::Types::layout_of))]
+#[tactic(auto, unfolding(dae_types_kinds::specs::Types::layout_of))]
 fn layout_of(parts: &FileParts, structure: usize) -> Layout
     ensures { result ≡ layout_else (layout_of (tables_of parts.now) structure) }
 {
@@ -141,7 +141,7 @@ fn layout_within(parts: &FileParts, depth: usize, type_id: usize) -> Layout
     }
 }
 
-#[tactic(auto, unfolding(dae_kinds::specs::Types::layout_at))]
+#[tactic(auto, unfolding(dae_types_kinds::specs::Types::layout_at))]
 fn layout_at(parts: &FileParts, type_id: usize) -> Layout
     ensures { result ≡ layout_at (tables_of parts.now) type_id }
 {

@@ -3,8 +3,8 @@
 ghost use Rattle.std.specs.Prelude.{◌≡◌, IfOk, OnOk};
 ghost use Rattle.dae_unit.specs.Linkage.{rows_of, rows_of_file};
 
-use dae_file_plans::FileDeclaration;
-use dae_typed::TypedFile;
+use dae_types_file_plans::FileDeclaration;
+use dae_types_typed::TypedFile;
 use std::alloc::{AllocError, Global};
 
 /// A declaration at file scope, by the number of its file.

@@ -7,7 +7,7 @@ use Rattle.dae_ir.specs.Classes.{VariableSet, Classes, has_check}
 use Rattle.dae_ir.specs.Rounds.{Jump, Breaks, Continues, Enters, Gives, Halts, Rounds, Group, Alone, Joins, Closes, Separates, stand, decision, closed, place_of, is_full, placed, region, one_sided, rounds}
 use Rattle.dae_ir.specs.Streams.{Actions, mark, when, a_part, e_part, parts, message, gives_address, hears_check, e_last, group_of, set_of, arguments_in, jump_action, inside_of, has_loop, region_of, side_of, stream_of}
 use Rattle.dae_ir.specs.Sizes.{bit, action_weight, actions_size}
-use Rattle.dae_pair.specs.Budget.{is_test, any_part}
+use Rattle.dae_ir_pair.specs.Budget.{is_test, any_part}
 use Rattle.dae_code_sizes.specs.Code.{burden, item_burden}
 use Rattle.dae_word_sizes.specs.Words.{one_call, calls_in, WordsAreBounded}
 use Rattle.dae_ir.specs.declared.form.Operand.{Operand}

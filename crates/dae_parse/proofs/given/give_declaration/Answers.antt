@@ -1,4 +1,4 @@
-use Rattle.dae_states.specs.States.{frames_of}
+use Rattle.dae_parse_states.specs.States.{frames_of}
 use Rattle.dae_parse.proofs.Others.{other_declaration}
 use Rattle.dae_parse.proofs.given.give_declaration.Goals as goal
 

@@ -1,11 +1,11 @@
 use Rattle.std.proofs.Common.{rules, ◌≡◌, List, ◌∷◌, refl, ap, subst, ◌∙◌, Bool}
-use Rattle.dae_states.specs.declared.frames.Frame.{Frame}
-use Rattle.dae_states.specs.declared.frames.Frame.TheVariants as frame
-use Rattle.dae_states.specs.declared.frames.DeclaratorFrame.{DeclaratorFrame}
-use Rattle.dae_grammar.specs.Frames as plain
-use Rattle.dae_scope.specs.Scopes.{Scopes}
-use Rattle.dae_states.specs.Frames.{ShowsStack, manner_of}
-use Rattle.dae_states.specs.States.{frames_of, outside_stack}
+use Rattle.dae_parse_states.specs.declared.frames.Frame.{Frame}
+use Rattle.dae_parse_states.specs.declared.frames.Frame.TheVariants as frame
+use Rattle.dae_parse_states.specs.declared.frames.DeclaratorFrame.{DeclaratorFrame}
+use Rattle.dae_parse_grammar.specs.Frames as plain
+use Rattle.dae_parse_scope.specs.Scopes.{Scopes}
+use Rattle.dae_parse_states.specs.Frames.{ShowsStack, manner_of}
+use Rattle.dae_parse_states.specs.States.{frames_of, outside_stack}
 use Rattle.dae_parse.proofs.Popped.{popped_in_group}
 use Rattle.dae_parse.proofs.Others.{other_declarator}
 use Rattle.dae_parse.proofs.given.give_declarator.Goals as goal

@@ -1,13 +1,13 @@
 use Rattle.std.proofs.Common.{rules, ◌≡◌, List, ◌∷◌, Option, refl, ap, subst, ◌∙◌, Bool}
-use Rattle.dae_states.specs.declared.frames.Frame.{Frame}
-use Rattle.dae_states.specs.declared.frames.Frame.TheVariants as frame
-use Rattle.dae_states.specs.declared.frames.ExpressionFrame.{ExpressionFrame}
+use Rattle.dae_parse_states.specs.declared.frames.Frame.{Frame}
+use Rattle.dae_parse_states.specs.declared.frames.Frame.TheVariants as frame
+use Rattle.dae_parse_states.specs.declared.frames.ExpressionFrame.{ExpressionFrame}
 use Rattle.dae_tree.specs.Trees.{Expression}
-use Rattle.dae_grammar.specs.Frames as plain
-use Rattle.dae_scope.specs.Scopes.{Scopes}
-use Rattle.dae_nodes.specs.Parts.{ShowsOptional}
-use Rattle.dae_states.specs.Frames.{ShowsStack, ShowsHead}
-use Rattle.dae_states.specs.States.{frames_of, outside_stack}
+use Rattle.dae_parse_grammar.specs.Frames as plain
+use Rattle.dae_parse_scope.specs.Scopes.{Scopes}
+use Rattle.dae_parse_nodes.specs.Parts.{ShowsOptional}
+use Rattle.dae_parse_states.specs.Frames.{ShowsStack, ShowsHead}
+use Rattle.dae_parse_states.specs.States.{frames_of, outside_stack}
 use Rattle.dae_parse.proofs.Popped.{popped_in_test, popped_in_start, popped_in_loop_test, popped_in_return}
 use Rattle.dae_parse.proofs.Others.{other_expression}
 use Rattle.dae_parse.proofs.given.give_expression.Goals as goal

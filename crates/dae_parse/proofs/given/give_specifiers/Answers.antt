@@ -1,4 +1,4 @@
-use Rattle.dae_states.specs.States.{frames_of}
+use Rattle.dae_parse_states.specs.States.{frames_of}
 use Rattle.dae_parse.proofs.Others.{other_specifiers}
 use Rattle.dae_parse.proofs.given.give_specifiers.Goals as goal
 

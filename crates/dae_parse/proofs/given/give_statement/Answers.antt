@@ -1,16 +1,16 @@
 use Rattle.std.proofs.Common.{rules, ◌≡◌, List, ◌∷◌, Option, length, refl, sym, ap, subst, ◌∙◌, Bool}
-use Rattle.dae_states.specs.declared.frames.Frame.{Frame}
-use Rattle.dae_states.specs.declared.frames.Frame.TheVariants as frame
-use Rattle.dae_states.specs.declared.frames.StatementFrame.{StatementFrame}
+use Rattle.dae_parse_states.specs.declared.frames.Frame.{Frame}
+use Rattle.dae_parse_states.specs.declared.frames.Frame.TheVariants as frame
+use Rattle.dae_parse_states.specs.declared.frames.StatementFrame.{StatementFrame}
 use Rattle.dae_tree.specs.Trees.{Expression, Specifiers, Declarator}
 use Rattle.dae_tree.specs.Names.{Names}
 use Rattle.dae_tree.specs.Marks.{Mark}
-use Rattle.dae_grammar.specs.Taken.{tokens_of}
-use Rattle.dae_grammar.specs.Frames as plain
-use Rattle.dae_scope.specs.Scopes.{Scopes}
-use Rattle.dae_nodes.specs.Parts.{ShowsOptional, ShowsLoop, ShowsSpecified, ShowsDeclared}
-use Rattle.dae_states.specs.Frames.{ShowsStack}
-use Rattle.dae_states.specs.States.{frames_of, outside_stack}
+use Rattle.dae_parse_grammar.specs.Taken.{tokens_of}
+use Rattle.dae_parse_grammar.specs.Frames as plain
+use Rattle.dae_parse_scope.specs.Scopes.{Scopes}
+use Rattle.dae_parse_nodes.specs.Parts.{ShowsOptional, ShowsLoop, ShowsSpecified, ShowsDeclared}
+use Rattle.dae_parse_states.specs.Frames.{ShowsStack}
+use Rattle.dae_parse_states.specs.States.{frames_of, outside_stack}
 use Rattle.dae_parse.proofs.Popped.{popped_for_body, popped_in_definition}
 use Rattle.dae_parse.proofs.Others.{other_statement}
 use Rattle.dae_parse.proofs.given.give_statement.Goals as goal

@@ -6,9 +6,9 @@ use Rattle.dae_tree.specs.Marks.{marks}
 use Rattle.dae_tree.specs.Reading.{Reading}
 use Rattle.dae_tree.specs.Statements.{IsTreeOf}
 use Rattle.dae_tree.specs.Trees.{External}
-use Rattle.dae_grammar.specs.Machine.{onto}
-use Rattle.dae_states.specs.declared.frames.Before.{Before}
-use Rattle.dae_states.specs.Frames.{ShowsFile}
+use Rattle.dae_parse_grammar.specs.Machine.{onto}
+use Rattle.dae_parse_states.specs.declared.frames.Before.{Before}
+use Rattle.dae_parse_states.specs.Frames.{ShowsFile}
 use Rattle.dae_parse.specs.Parsed.{IsWithinLimits, IsFileOf}
 use Rattle.dae_parse.proofs.Files.{deep_at, none_of, seen_file, is_file}
 use Rattle.dae_parse.proofs.reading.whole.Goals as goal

@@ -1,6 +1,6 @@
 use Rattle.std.proofs.Common.{◌∙◌, subst, arith}
-use Rattle.dae_states.specs.declared.frames.Doing.{Doing}
-use Rattle.dae_states.specs.Frames.{ShowsDoing}
+use Rattle.dae_parse_states.specs.declared.frames.Doing.{Doing}
+use Rattle.dae_parse_states.specs.Frames.{ShowsDoing}
 use Rattle.dae_parse.proofs.Stuck.{left_behind_operand, left_elsewhere}
 use Rattle.dae_parse.proofs.run.left_where_stuck.Goals as goal
 

@@ -2,7 +2,7 @@ use Rattle.std.proofs.Common.{refl, subst, arith}
 use Rattle.dae_tree.specs.Marks.{marks}
 use Rattle.dae_parse.specs.declared.turn.Turn.{Turn}
 use Rattle.dae_parse.specs.Reached.{TurnFollows}
-use Rattle.dae_grammar.specs.Machine.{step_at}
+use Rattle.dae_parse_grammar.specs.Machine.{step_at}
 use Rattle.dae_parse.proofs.Reaching.{start, holds_there, bottom_there, count_there, next_reached, no_more, whole_reached, none_reached}
 use Rattle.dae_parse.proofs.Stuck.{stuck_at}
 use Rattle.dae_parse.proofs.run.run.Goals as goal

@@ -1,10 +1,10 @@
 use Rattle.std.proofs.Common.{◌≡◌, List, ◌∷◌, Option, refl, subst}
 use Rattle.dae_tree.specs.Trees.{Expression, Specifier, Specifiers, Declarator, Item, Statement}
 use Rattle.dae_tree.specs.Lists as lists
-use Rattle.dae_grammar.specs.Frames as plain
-use Rattle.dae_nodes.specs.Parts.{ShowsOperand, ShowsOptional, ShowsSpecified, ShowsEnumerators, ShowsDeclared, ShowsItems, ShowsStatement, ShowsLoop}
-use Rattle.dae_states.specs.declared.frames.Doing.{Doing}
-use Rattle.dae_states.specs.Frames.{ShowsBefore, ShowsBody, ShowsDoing, manner_of}
+use Rattle.dae_parse_grammar.specs.Frames as plain
+use Rattle.dae_parse_nodes.specs.Parts.{ShowsOperand, ShowsOptional, ShowsSpecified, ShowsEnumerators, ShowsDeclared, ShowsItems, ShowsStatement, ShowsLoop}
+use Rattle.dae_parse_states.specs.declared.frames.Doing.{Doing}
+use Rattle.dae_parse_states.specs.Frames.{ShowsBefore, ShowsBody, ShowsDoing, manner_of}
 use Rattle.dae_parse.proofs.Doings.{does_operated, does_calling, does_tagged, does_enumerated, does_suffixing, does_sizing, does_parametering, does_gave_declarator, does_itemed, does_finishing, does_testing, does_stepping}
 use Rattle.dae_parse.proofs.step.step.Goals as goal
 

@@ -2,12 +2,12 @@ use Rattle.std.proofs.Common.{◌≡◌, ℕ, ◌≤◌, List, subst, sym, arith
 use Rattle.std.specs.List.{AllByRecursion, AllZip}
 use Rattle.std.proofs.lemmas.Result.{IfOk-weaker}
 use Rattle.dae_ir.specs.Streams.{actions_of}
-use Rattle.dae_walks.specs.Live.{function_lives}
-use Rattle.dae_walks.specs.declared.Home.{Home}
+use Rattle.dae_select_walks.specs.Live.{function_lives}
+use Rattle.dae_select_walks.specs.declared.Home.{Home}
 use Rattle.dae_regalloc.specs.declared.Span.{Span}
 use Rattle.dae_regalloc.specs.Scan.{AreClear, depth_at, NoSlot}
 use Rattle.dae_regalloc.specs.Seen.{number_in, AreBelow}
-use Rattle.dae_walks.specs.Homes.{home_in}
+use Rattle.dae_select_walks.specs.Homes.{home_in}
 use Rattle.dae_regalloc.specs.Given.{IsOwnHome, numbered_home}
 use Rattle.dae_regalloc.proofs.Giving.{allocated, all_registers, held_below}
 use Rattle.dae_regalloc.proofs.allocating.allocate.Goals as goal

@@ -1,6 +1,6 @@
 use Rattle.std.specs.Prelude.{◌≡◌, ℕ, ◌<◌, length}
 use Rattle.dae_regalloc.specs.Seen.{number_in}
-use Rattle.dae_walks.specs.Homes.{home_in}
+use Rattle.dae_select_walks.specs.Homes.{home_in}
 use Rattle.dae_regalloc.specs.Given.{numbered_home}
 use Rattle.dae_regalloc.proofs.allocating.homes_by_variable.Given as goal
 

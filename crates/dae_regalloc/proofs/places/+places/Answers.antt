@@ -1,9 +1,9 @@
 use Rattle.std.proofs.Common.{◌≡◌, ℕ, List, refl, ap, ◌∙◌, subst, drop, arith}
 use Rattle.dae_ir.specs.Streams.{actions_of}
 use Rattle.dae_ir.specs.declared.stream.Step.{Step}
-use Rattle.dae_walks.specs.Live.{ways, turn}
+use Rattle.dae_select_walks.specs.Live.{ways, turn}
 use Rattle.dae_regalloc.specs.Seen.{ArePlacesOf}
-use Rattle.dae_live.specs.Members.{member}
+use Rattle.dae_select_live.specs.Members.{member}
 use Rattle.dae_regalloc.proofs.Placing.{acted, branched, looped, none_placed, one_more, moved}
 use Rattle.dae_regalloc.proofs.places.+places.Goals as goal
 

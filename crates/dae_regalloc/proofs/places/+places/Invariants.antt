@@ -1,7 +1,7 @@
 use Rattle.std.specs.Prelude.{drop}
 use Rattle.dae_ir.specs.Streams.{actions_of}
-use Rattle.dae_walks.specs.Live.{ways}
-use Rattle.dae_live.specs.Members.{member}
+use Rattle.dae_select_walks.specs.Live.{ways}
+use Rattle.dae_select_live.specs.Members.{member}
 use Rattle.dae_regalloc.specs.Seen.{ArePlacesOf}
 use Rattle.dae_regalloc.proofs.places.+places.Given as goal
 

@@ -1,6 +1,6 @@
 use Rattle.std.proofs.Common.{ℕ, List, Bool, Option, ap, sym, ◌∙◌}
-use Rattle.dae_live.specs.Members.{member}
-use Rattle.dae_walks.specs.Live.{with_all, only, is}
+use Rattle.dae_select_live.specs.Members.{member}
+use Rattle.dae_select_walks.specs.Live.{with_all, only, is}
 use Rattle.dae_regalloc.proofs.Entering.{with_none, with_one}
 use Rattle.dae_regalloc.proofs.places.live_at_action.Goals as goal
 use Rattle.dae_regalloc.proofs.places.live_at_action.Goals.{in-Some+in_ok-insert-in-Some, in-None}

@@ -1,6 +1,6 @@
 use Rattle.std.proofs.Common.{◌+◌, ap, ◌∙◌}
-use Rattle.dae_live.specs.Members.{member}
-use Rattle.dae_walks.specs.Live.{with_all, only}
+use Rattle.dae_select_live.specs.Members.{member}
+use Rattle.dae_select_walks.specs.Live.{with_all, only}
 use Rattle.dae_regalloc.proofs.Entering.{before_parameters, one_parameter_more}
 use Rattle.dae_regalloc.proofs.places.live_at_entry.Goals as goal
 

@@ -1,5 +1,5 @@
 use Rattle.std.specs.Prelude.{◌≡◌, ◌++◌, drop}
-use Rattle.dae_blocks.specs.Blocks.{arguments_code}
+use Rattle.dae_select_blocks.specs.Blocks.{arguments_code}
 use Rattle.dae_select.specs.Layouts.{plan_of}
 use Rattle.dae_select.proofs.calling.arguments_code.Given as goal
 

@@ -1,7 +1,7 @@
 use Rattle.std.proofs.Common.{◌&&◌, sym, ◌∙◌}
-use Rattle.dae_live.specs.Members.{member}
-use Rattle.dae_blocks.specs.Blocks.{is_register}
-use Rattle.dae_walks.specs.Homes.{home_in}
+use Rattle.dae_select_live.specs.Members.{member}
+use Rattle.dae_select_blocks.specs.Blocks.{is_register}
+use Rattle.dae_select_walks.specs.Homes.{home_in}
 use Rattle.dae_select.proofs.Listed.{some_at}
 use Rattle.dae_select.proofs.calling.is_home_of.Goals as goal
 

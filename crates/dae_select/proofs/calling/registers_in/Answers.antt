@@ -1,4 +1,4 @@
-use Rattle.dae_blocks.specs.Code.{registers_in}
+use Rattle.dae_select_blocks.specs.Code.{registers_in}
 use Rattle.dae_select.proofs.calling.registers_in.Goals as goal
 
 pub returns : goal.returns

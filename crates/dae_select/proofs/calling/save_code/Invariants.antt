@@ -1,5 +1,5 @@
 use Rattle.std.specs.Prelude.{◌≡◌, ◌++◌, drop}
-use Rattle.dae_blocks.specs.Blocks.{save_code}
+use Rattle.dae_select_blocks.specs.Blocks.{save_code}
 use Rattle.dae_select.proofs.calling.save_code.Given as goal
 
 abbrev pub invariant-loop-register : goal.invariant-loop-register

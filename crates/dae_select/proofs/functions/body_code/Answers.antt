@@ -1,8 +1,8 @@
 use Rattle.std.proofs.lemmas.Result.{IfOk-weaker}
 use Rattle.dae_ir.specs.Streams.{actions_of}
-use Rattle.dae_walks.specs.Live.{ways}
-use Rattle.dae_live.specs.Members.{member}
-use Rattle.dae_blocks.specs.Sizes.{is_short}
+use Rattle.dae_select_walks.specs.Live.{ways}
+use Rattle.dae_select_live.specs.Members.{member}
+use Rattle.dae_select_blocks.specs.Sizes.{is_short}
 use Rattle.dae_select.specs.Layouts.{plan_of, variables_of}
 use Rattle.dae_select.proofs.Stacked.{bare, told_so}
 use Rattle.dae_select.proofs.functions.body_code.Goals as goal

@@ -4,16 +4,16 @@ use Rattle.dae_ir.specs.Classes.{VariableSet}
 use Rattle.dae_ir.specs.Streams.{actions_of}
 use Rattle.dae_ir.specs.declared.form.Operand.TheVariants.{Number}
 use Rattle.std.specs.Prelude.{Some}
-use Rattle.dae_walks.specs.declared.Home.{Home}
-use Rattle.dae_walks.specs.Live.{live, nowhere}
-use Rattle.dae_walks.specs.Multiples.{unknown}
-use Rattle.dae_live.specs.Members.{member}
-use Rattle.dae_blocks.specs.Blocks.{leave_code}
-use Rattle.dae_blocks.specs.Code.{code_of, entry_code}
+use Rattle.dae_select_walks.specs.declared.Home.{Home}
+use Rattle.dae_select_walks.specs.Live.{live, nowhere}
+use Rattle.dae_select_walks.specs.Multiples.{unknown}
+use Rattle.dae_select_live.specs.Members.{member}
+use Rattle.dae_select_blocks.specs.Blocks.{leave_code}
+use Rattle.dae_select_blocks.specs.Code.{code_of, entry_code}
 use Rattle.dae_select.specs.Grown.{Grown, from_front}
-use Rattle.dae_walks.specs.declared.Standing.TheVariants.{Settled}
+use Rattle.dae_select_walks.specs.declared.Standing.TheVariants.{Settled}
 use Rattle.dae_select.specs.Growing.{marked_code}
-use Rattle.dae_blocks.specs.Sizes.{is_short}
+use Rattle.dae_select_blocks.specs.Sizes.{is_short}
 use Rattle.dae_select.specs.Layouts.{plan_of, variables_of}
 use Rattle.dae_select.proofs.InFront.{same_code}
 use Rattle.dae_select.proofs.functions.function_code.Goals as goal

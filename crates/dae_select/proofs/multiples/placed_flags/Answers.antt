@@ -1,6 +1,6 @@
 use Rattle.std.proofs.Common.{Bool, List, ◌++◌, ap, ◌∙◌}
 use Rattle.dae_ir.specs.Classes.{VariableSet}
-use Rattle.dae_live.specs.Members.{member}
+use Rattle.dae_select_live.specs.Members.{member}
 use Rattle.dae_select.specs.Placed.{placed_flags}
 use Rattle.dae_select.proofs.multiples.placed_flags.Goals as goal
 

@@ -1,6 +1,6 @@
 use Rattle.std.specs.Prelude.{◌≡◌, ◌++◌, drop}
-use Rattle.dae_walks.specs.Multiples.{unknown}
-use Rattle.dae_live.specs.Members.{member}
+use Rattle.dae_select_walks.specs.Multiples.{unknown}
+use Rattle.dae_select_live.specs.Members.{member}
 use Rattle.dae_select.specs.Placed.{placed_flags}
 use Rattle.dae_select.proofs.multiples.placed_flags.Given as goal
 

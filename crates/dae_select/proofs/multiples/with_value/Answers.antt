@@ -1,6 +1,6 @@
 use Rattle.std.proofs.Common.{sym, ap, ◌∙◌}
-use Rattle.dae_walks.specs.Multiples.{makes_multiple}
-use Rattle.dae_live.specs.Members.{member}
+use Rattle.dae_select_walks.specs.Multiples.{makes_multiple}
+use Rattle.dae_select_live.specs.Members.{member}
 use Rattle.dae_select.proofs.Known.{with_one, without_one}
 use Rattle.dae_select.proofs.multiples.with_value.Goals.{then-makes_multiple+in_ok-insert, else-makes_multiple}
 use Rattle.dae_select.proofs.multiples.with_value.Goals as goal

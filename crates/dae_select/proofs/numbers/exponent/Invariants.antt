@@ -1,5 +1,5 @@
 use Rattle.std.specs.Prelude.{◌≡◌}
-use Rattle.dae_blocks.specs.Blocks.{exponent_below, exponent}
+use Rattle.dae_select_blocks.specs.Blocks.{exponent_below, exponent}
 use Rattle.dae_select.proofs.numbers.exponent.Given as goal
 
 abbrev pub invariant-loop-power : goal.invariant-loop-power

@@ -2,7 +2,7 @@ use Rattle.std.proofs.Common.{◌≡◌, ◌<◌, ap, sym, ◌∙◌, arith}
 use Rattle.std.specs.Prelude.{Option}
 use Rattle.std.proofs.lemmas.Bool.Decides.{nat_tests}
 use Rattle.dae_ir.specs.declared.stream.Step.{Step}
-use Rattle.dae_live.specs.Members.{member}
+use Rattle.dae_select_live.specs.Members.{member}
 use Rattle.dae_select.specs.Growing.{standing_between}
 use Rattle.dae_select.proofs.Stacked.{before_is}
 use Rattle.dae_select.proofs.pairing.standing_between.Goals as goal

@@ -5,14 +5,14 @@ use Rattle.dae_ir.specs.Classes.{VariableSet}
 use Rattle.dae_ir.specs.Streams.{actions_of}
 use Rattle.dae_ir.specs.declared.stream.Step.{Step}
 use Rattle.dae_ir.proofs.stream.Step.TheLaws.{the_size}
-use Rattle.dae_walks.specs.declared.Home.{Home}
-use Rattle.dae_walks.specs.Live.{ways, turn}
-use Rattle.dae_walks.specs.Multiples.{unknown}
-use Rattle.dae_live.specs.Members.{member}
-use Rattle.dae_blocks.specs.Blocks.{jump_words}
-use Rattle.dae_blocks.specs.Code.{branch_code, does_nothing, past_code}
+use Rattle.dae_select_walks.specs.declared.Home.{Home}
+use Rattle.dae_select_walks.specs.Live.{ways, turn}
+use Rattle.dae_select_walks.specs.Multiples.{unknown}
+use Rattle.dae_select_live.specs.Members.{member}
+use Rattle.dae_select_blocks.specs.Blocks.{jump_words}
+use Rattle.dae_select_blocks.specs.Code.{branch_code, does_nothing, past_code}
 use Rattle.dae_select.specs.Grown.{Grown, no_code, glue, acting, in_front}
-use Rattle.dae_walks.specs.declared.Standing.TheVariants.{Settled}
+use Rattle.dae_select_walks.specs.declared.Standing.TheVariants.{Settled}
 use Rattle.dae_select.specs.Placed.{multiples_after, is_placed_step, multiples_at}
 use Rattle.dae_select.specs.Growing.{IsCodeOf, step_before, standing_before}
 use Rattle.dae_select.specs.Layouts.{plan_of, variables_of}

@@ -1,9 +1,9 @@
 use Rattle.std.specs.Prelude.{◌≡◌, drop}
 use Rattle.dae_ir.specs.Streams.{actions_of}
-use Rattle.dae_walks.specs.Live.{ways}
-use Rattle.dae_walks.specs.Multiples.{unknown}
+use Rattle.dae_select_walks.specs.Live.{ways}
+use Rattle.dae_select_walks.specs.Multiples.{unknown}
 use Rattle.dae_select.specs.Placed.{multiples_at}
-use Rattle.dae_live.specs.Members.{member}
+use Rattle.dae_select_live.specs.Members.{member}
 use Rattle.dae_select.specs.Growing.{IsCodeOf, step_before, standing_before}
 use Rattle.dae_select.specs.Layouts.{plan_of, variables_of}
 use Rattle.dae_select.proofs.walking.+code.Given as goal

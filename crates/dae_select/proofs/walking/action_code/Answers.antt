@@ -1,8 +1,8 @@
 use Rattle.std.proofs.Common.{ℕ, ◌++◌, ap, ◌∙◌}
 use Rattle.std.proofs.lemmas.Result.{on_ok_weaker}
 use Rattle.dae_ir.specs.declared.form.Operand.TheVariants.{Variable}
-use Rattle.dae_walks.specs.declared.Home.{Home}
-use Rattle.dae_blocks.specs.Blocks.{value_code, register_or, keep, own_code, take_code, move_code}
+use Rattle.dae_select_walks.specs.declared.Home.{Home}
+use Rattle.dae_select_blocks.specs.Blocks.{value_code, register_or, keep, own_code, take_code, move_code}
 use Rattle.dae_select.proofs.walking.action_code.Goals as goal
 
 pub returns-in-Set : goal.returns-in-Set

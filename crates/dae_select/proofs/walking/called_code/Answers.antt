@@ -1,9 +1,9 @@
 use Rattle.std.proofs.Common.{ℕ, Bool, List, not, ◌&&◌, ◌++◌, ap, ◌∙◌}
 use Rattle.std.proofs.lemmas.Result.{on_ok_weaker}
 use Rattle.dae_ir.specs.Classes.{VariableSet}
-use Rattle.dae_walks.specs.Live.{is}
-use Rattle.dae_live.specs.Members.{member}
-use Rattle.dae_blocks.specs.Code.{call_code}
+use Rattle.dae_select_walks.specs.Live.{is}
+use Rattle.dae_select_live.specs.Members.{member}
+use Rattle.dae_select_blocks.specs.Code.{call_code}
 use Rattle.dae_select.specs.Layouts.{plan_of, variables_of}
 use Rattle.dae_select.proofs.walking.called_code.Goals as goal
 

@@ -1,7 +1,7 @@
 use Rattle.std.proofs.Common.{◌∙◌, ap, sym}
-use Rattle.dae_kinds.specs.declared.types.Shape.{Shape}
-use Rattle.dae_kinds.specs.Types.{structure_of}
-use Rattle.dae_typed.specs.Sound.{tables_of}
+use Rattle.dae_types_kinds.specs.declared.types.Shape.{Shape}
+use Rattle.dae_types_kinds.specs.Types.{structure_of}
+use Rattle.dae_types_typed.specs.Sound.{tables_of}
 use Rattle.dae_types.specs.Layouts.{member_if}
 use Rattle.dae_types.proofs.layouts.member.Goals as goal
 

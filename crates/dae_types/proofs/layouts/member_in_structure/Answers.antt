@@ -1,5 +1,5 @@
 use Rattle.std.proofs.Common.{◌∙◌, sym}
-use Rattle.dae_typed.specs.Sound.{tables_of}
+use Rattle.dae_types_typed.specs.Sound.{tables_of}
 use Rattle.dae_types.proofs.Members.{of_another, of_other_name}
 use Rattle.dae_types.proofs.layouts.member_in_structure.Goals.{then-component-structure+else-component-name, else-component-structure}
 use Rattle.dae_types.proofs.layouts.member_in_structure.Goals as goal

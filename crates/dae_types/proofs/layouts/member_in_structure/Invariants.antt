@@ -1,7 +1,7 @@
 use Rattle.std.proofs.Common.{◌≡◌, drop}
 use Rattle.std.specs.Prelude.{filter}
-use Rattle.dae_kinds.specs.Types.{layout}
-use Rattle.dae_typed.specs.Sound.{is_member_of, members_of, tables_of}
+use Rattle.dae_types_kinds.specs.Types.{layout}
+use Rattle.dae_types_typed.specs.Sound.{is_member_of, members_of, tables_of}
 use Rattle.dae_types.specs.Layouts.{member_behind}
 use Rattle.dae_types.proofs.layouts.member_in_structure.Given as goal
 

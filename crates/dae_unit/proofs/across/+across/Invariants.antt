@@ -1,5 +1,5 @@
 use Rattle.std.proofs.Common.{◌≡◌, ◌+◌, ◌*◌, length, filter, false}
-use Rattle.dae_typed.specs.Sound.{is_member_of, members_of, tables_of}
+use Rattle.dae_types_typed.specs.Sound.{is_member_of, members_of, tables_of}
 use Rattle.dae_unit.specs.Across.{same_members, same_within_files}
 use Rattle.dae_unit.proofs.across.+across.Given as goal
 

@@ -1,5 +1,5 @@
 use Rattle.std.proofs.Common.{◌≡◌, drop, filter}
-use Rattle.dae_typed.specs.Sound.{is_member_of}
+use Rattle.dae_types_typed.specs.Sound.{is_member_of}
 use Rattle.dae_unit.proofs.across.next_member.Given as goal
 
 abbrev pub invariant-loop-index : goal.invariant-loop-index

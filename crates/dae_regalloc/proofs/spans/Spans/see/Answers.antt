@@ -1,5 +1,5 @@
 use Rattle.std.proofs.Common.{refl}
-use Rattle.dae_live.specs.Members.{member}
+use Rattle.dae_select_live.specs.Members.{member}
 use Rattle.dae_regalloc.specs.declared.spans.Spans.{Spans}
 use Rattle.dae_regalloc.proofs.Widening.{seen_more}
 use Rattle.dae_regalloc.proofs.spans.Spans.see.Goals as goal

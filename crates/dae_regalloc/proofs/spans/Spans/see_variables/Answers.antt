@@ -1,5 +1,5 @@
 use Rattle.std.proofs.Common.{◌≡◌, ◌+◌, ◌<◌, true, length, inl, inr, sym, ◌∙◌, arith}
-use Rattle.dae_live.specs.Members.{member}
+use Rattle.dae_select_live.specs.Members.{member}
 use Rattle.dae_regalloc.proofs.Widening.{further_none, further_then, further_same, live_below, below_or_last}
 use Rattle.dae_regalloc.proofs.spans.Spans.see_variables.Goals as goal
 use Rattle.dae_regalloc.proofs.spans.Spans.see_variables.Goals.{then-contains+in_ok-see_variable, else-contains}

@@ -1,5 +1,5 @@
 use Rattle.std.specs.Prelude.{◌≡◌, ◌<◌, true}
-use Rattle.dae_live.specs.Members.{member}
+use Rattle.dae_select_live.specs.Members.{member}
 use Rattle.dae_regalloc.specs.Seen.{IsFurther}
 use Rattle.dae_regalloc.proofs.spans.Spans.see_variables.Given as goal
 

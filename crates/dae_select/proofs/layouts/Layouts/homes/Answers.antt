@@ -1,9 +1,9 @@
 use Rattle.std.proofs.Common.{◌≡◌, List, length, slice_get, Option, Some, None, ap, sym, ◌∙◌, refl, subst}
 use Rattle.std.proofs.lemmas.Option.{slice_get_past, slice_get_read}
-use Rattle.dae_walks.specs.declared.Home.{Home}
+use Rattle.dae_select_walks.specs.declared.Home.{Home}
 use Rattle.dae_select.specs.declared.layouts.FunctionLayout.{FunctionLayout}
 use Rattle.dae_select.specs.Layouts.{homes_at}
-use Rattle.dae_walks.specs.Homes.{home_in}
+use Rattle.dae_select_walks.specs.Homes.{home_in}
 use Rattle.dae_select.specs.Tables.{IsNear}
 use Rattle.dae_select.proofs.layouts.Layouts.homes.Goals as goal
 

@@ -1,5 +1,0 @@
-use Rattle.dae_blocks.proofs.Beginning.{code_begins}
-use Rattle.dae_blocks.proofs.laws.code_begins.Goals as goal
-
-pub returns : goal.returns
-returns c = code_begins

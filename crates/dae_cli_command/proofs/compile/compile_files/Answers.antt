@@ -1,0 +1,19 @@
+use Rattle.std.proofs.Common.{inl}
+use Rattle.dae_cli_drive.specs.Puts.{stop_answer}
+use Rattle.dae_cli_command.specs.Sources.{due_no_image, due_of_image}
+use Rattle.dae_cli_command.proofs.Keeping.{held_before, keeping_before}
+use Rattle.dae_cli_command.proofs.compile.compile_files.Goals as goal
+
+pub returns-in-Ok-clause-gives : goal.returns-in-Ok-clause-gives
+returns-in-Ok-clause-gives g c = λ out.
+    let r = c.keep_image.ensures.gives out in
+    (r.0, due_of_image c.in-Ok.image c.in-Ok.ensures.ok (keeping_before _ _ _ _ _ _ _ c.in-Ok.ensures.held c.in-Ok.ensures.counted r.0 r.1), r.2)
+
+pub returns-in-Ok-clause-held : goal.returns-in-Ok-clause-held
+returns-in-Ok-clause-held g c = held_before _ c.in-Ok.ensures.held c.keep_image.ensures.held
+
+pub returns-in-Err-clause-gives : goal.returns-in-Err-clause-gives
+returns-in-Err-clause-gives g c = λ out. (stop_answer c.in-Err.stop, due_no_image c.in-Err.ensures.err, c.tell.ensures out)
+
+pub returns-in-Err-clause-held : goal.returns-in-Err-clause-held
+returns-in-Err-clause-held g c = inl c.in-Err.ensures.held

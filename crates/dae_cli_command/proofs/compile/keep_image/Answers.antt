@@ -1,0 +1,22 @@
+use Rattle.std.proofs.Common.{◌≡◌, ◌∙◌, refl, rules}
+use Rattle.dae_image.specs.Images.{contents}
+use Rattle.dae_image.specs.Spelling.{spelling_2}
+use Rattle.dae_io.specs.Sinks.{IsPut, IsPutFailed}
+use Rattle.dae_cli_drive.specs.Notes.{budget_line}
+use Rattle.dae_cli_command.specs.Keeping.{due_memory_to_keep}
+use Rattle.dae_cli_command.proofs.Keeping.{not_begun, then_kept}
+use Rattle.dae_cli_command.proofs.compile.keep_image.Goals as goal
+
+pub returns-in_default-clause-gives : goal.returns-in_default-clause-gives
+returns-in_default-clause-gives g c = λ out. (_, due_memory_to_keep, c.tell.ensures out)
+
+pub returns-in-Ok-put-clause-gives : goal.returns-in-Ok-put-clause-gives
+returns-in-Ok-put-clause-gives g c = λ out.
+    let put : IsPut (budget_line c.args.image.now.budget) (g.N.Sink.seen c.args.note.now) (g.N.Sink.seen c.put.new.self) = search rules in
+    let same : c.as_slice.result.now ≡ spelling_2 (contents c.args.image.now) = c.as_slice.ensures.value ∙ search rules in
+    then_kept same put c.keep_bytes.ensures.gives
+
+pub returns-clause-gives : goal.returns-clause-gives
+returns-clause-gives g c = λ out.
+    let part : IsPutFailed (budget_line c.args.image.now.budget) (g.N.Sink.seen c.args.note.now) (g.N.Sink.seen c.put.new.self) = search rules in
+    not_begun (λ name. refl) part

@@ -1,0 +1,39 @@
+// Laws of what is due for words.
+ghost use Rattle.std.specs.Prelude.{◌≢◌, ℕ, List};
+ghost use Rattle.dae_compile.specs.declared.options.Options.{Options};
+ghost use Rattle.dae_cli_drive.specs.declared.options.RunOptions.{RunOptions};
+ghost use Rattle.dae_cli_drive.specs.Puts.{Answer};
+ghost use Rattle.dae_cli_command.specs.Answers.{IsDue};
+ghost use Rattle.dae_cli_command.specs.One.{AreOne, IsSeenWhole};
+ghost use Rattle.dae_cli_command.specs.Promises.{RunsKeepMeaning};
+ghost use Rattle.dae_cli_command.specs.Shelves.{ShelfSeen};
+ghost use Rattle.dae_cli_jobs.specs.Words.{SpellsRun};
+
+use dae_accept::{accepted_have_no_fault, one_cause_is_told};
+
+/// What is due for an image that keeps the meaning of a program is the answer of a run of that program. It is never that
+/// the machine is stuck. It tells of a depth below the budget exactly where one is, but for want of memory. Where the
+/// program ends or traps, a run that ended tells so, with the program's output and memory, and no run stops before where
+/// the steps that it may take are enough for the program's work. Where the program goes on, no run ends.
+pub fn runs_keep_meaning()
+    ensures { RunsKeepMeaning }
+{}
+
+/// For one list of words and one shelf that tells all its texts, whose count of faults did not rise, at most one answer is
+/// due, but for want of memory, and but for what texts of source files come to that have tokens and trees: of two answers for
+/// those, both tell why the same texts are refused, or both are due for images of them.
+pub fn one_answer_for_words()
+    ensures { (words : List (List ℕ)) (s : ShelfSeen) (status : ℕ) (a b : Answer) → IsSeenWhole s
+        → IsDue words s status a → IsDue words s status b → a.status ≢ 7 → b.status ≢ 7
+        → AreOne words s status a b }
+{
+    accepted_have_no_fault();
+    one_cause_is_told();
+}
+
+/// For words that ask to run source files it is never due that the machine is stuck.
+pub fn never_stuck()
+    ensures { (words : List (List ℕ)) (s : ShelfSeen) (status : ℕ) (c : Options) (o : RunOptions)
+        (files : List (List ℕ)) (a : Answer) → SpellsRun words c o files → IsDue words s status a
+        → a.status ≢ 9 }
+{}

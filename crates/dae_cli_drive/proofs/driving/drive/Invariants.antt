@@ -1,0 +1,9 @@
+use Rattle.std.proofs.Common.{◌-◌, ◌≤◌}
+use Rattle.dae_cli_drive.proofs.OnTheWay.{OnTheWay}
+use Rattle.dae_cli_drive.proofs.driving.drive.Given as goal
+
+abbrev pub invariant-loop : goal.invariant-loop
+invariant-loop g l = record {
+  begun : l.initial.machine.state.steps ≤ l.counter;
+  way : OnTheWay l.initial.machine.setup l.initial.machine.state l.initial.words (l.counter - l.initial.machine.state.steps) l.machine.setup l.machine.state l.words (g.O.Sink.seen l.initial.out) (g.O.Sink.seen l.out);
+}

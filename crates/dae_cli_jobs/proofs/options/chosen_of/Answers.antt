@@ -1,0 +1,33 @@
+use Rattle.std.proofs.Common.{map, string_bytes, arith}
+use Rattle.std.specs.Prelude.{None, Some}
+use Rattle.std.proofs.lemmas.List.{at_drop_all}
+use Rattle.dae_cli_jobs.specs.Options.{IsTheOne, SpellsOption}
+use Rattle.dae_cli_jobs.proofs.Choosing.{left_next, left_at_end, none_by_setting, none_by_two, words_from}
+use Rattle.dae_cli_jobs.proofs.options.chosen_of.Goals as goal
+
+pub returns-in_err-option_of : goal.returns-in_err-option_of
+returns-in_err-option_of c =
+    let e = words_from string_bytes c.args.words.now c.loop-word.word-index c.word-item.result (omega arith) c.word-item.is in
+    let left = rw e at c.loop-word.invariant in
+    let one : IsTheOne (SpellsOption c.args.command (string_bytes c.word-item.result)) None = rw (← c.as_str.ensures.value) c.in_err-option_of.ensures in
+    rw c.from_residual.ensures (none_by_setting c.args.command _ _ _ c.loop-word.chosen left one)
+
+pub returns-in_err-chosen : goal.returns-in_err-chosen
+returns-in_err-chosen c =
+    let e = words_from string_bytes c.args.words.now c.loop-word.word-index c.word-item.result (omega arith) c.word-item.is in
+    let left = rw e at c.loop-word.invariant in
+    let one : IsTheOne (SpellsOption c.args.command (string_bytes c.word-item.result)) (Some c.in_ok-option_of.field-0) = rw (← c.as_str.ensures.value) c.in_ok-option_of.ensures in
+    rw c.from_residual-in_err-chosen.ensures (none_by_two c.args.command _ _ _ c.in_ok-option_of.field-0 c.loop-word.chosen left one (rw (← c.alone.ensures) c.in_err-chosen.ensures))
+
+pub loop-word-preserved : goal.loop-word-preserved
+loop-word-preserved c =
+    let e = words_from string_bytes c.args.words.now c.loop-word.word-index c.word-item.result (omega arith) c.word-item.is in
+    let left = rw e at c.loop-word.invariant in
+    let one : IsTheOne (SpellsOption c.args.command (string_bytes c.word-item.result)) (Some c.in_ok-option_of.field-0) = rw (← c.as_str.ensures.value) c.in_ok-option_of.ensures in
+    left_next c.args.command _ _ _ c.in_ok-option_of.field-0 c.loop-word.chosen c.in_ok-chosen.chosen left one (rw (← c.alone.ensures) c.in_ok-chosen.ensures)
+
+pub returns : goal.returns
+returns c =
+    let e = at_drop_all (map string_bytes) c.args.words.now c.loop-word.word-index (omega arith) in
+    let left = rw e at c.loop-word.invariant in
+    left_at_end c.args.command _ _ left

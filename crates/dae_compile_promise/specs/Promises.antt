@@ -1,0 +1,61 @@
+-- What an image promises of a typed program: in every order of steps, and at all depths that reach the image's budget, it
+-- does what the program means.
+use Rattle.std.specs.Prelude.{◌≡◌, ℕ, suc, ◌+◌, ◌*◌, ◌≤◌, List, length, Some}
+use Rattle.dae_base.specs.declared.Depths.{Depths}
+use Rattle.dae_base.specs.Budgets.{Reaches}
+use Rattle.dae_encode.specs.declared.Halt.{Halt}
+use Rattle.dae_encode.specs.declared.Halt.TheVariants.{Status, Trap}
+use Rattle.dae_image.specs.declared.Image.{Image}
+use Rattle.dae_machine.specs.declared.Pick.{Pick}
+use Rattle.dae_machine.specs.Machine.{State, Runs, IsFinal, IsStuck}
+use Rattle.dae_machine.specs.Opened.{setup_of, opened}
+use Rattle.dae_machine.specs.Ends.{CanOnlyEnd, GoesOn as RunsGoOn}
+use Rattle.dae_meaning.specs.Worlds.{World}
+use Rattle.dae_meaning.specs.Results.{Halted, Trapped}
+use Rattle.dae_ir.specs.declared.form.Ir.{Ir}
+use Rattle.dae_program.specs.Outcomes.{Outcome, last_world}
+use Rattle.dae_program.specs.Programs.{meaning_of, program_end, GoesOn}
+use Rattle.dae_program.specs.declared.program.Program.{Program}
+use Rattle.dae_lower_formed.specs.Formed.{IsLowered}
+use Rattle.dae_machine_runs.specs.Promises.{DoesForm}
+
+-- ---- every run
+
+-- every run can only end: in one final state, after one number of steps, whatever the depths. It has the program's halt,
+-- memory and output, and each run has printed a front of that
+pub record OnlyEnds (image : Image) (halt : Halt) (w : World) : Type 0 where
+  pub end : State
+  pub picks : List Pick
+  pub short : length picks ≤ 1365 * (w.items + 1)
+  pub halts : end.e.halt ≡ Some halt
+  pub memory : end.memory ≡ w.memory
+  pub printed : end.printed ≡ w.printed
+  pub runs : (depths : Depths) → Reaches depths image.budget
+      → Runs (setup_of image depths) (opened image) picks end
+  pub final : (depths : Depths) → Reaches depths image.budget → IsFinal (setup_of image depths) end
+  pub only : (depths : Depths) → Reaches depths image.budget
+      → CanOnlyEnd (setup_of image depths) (opened image) end (length picks)
+
+-- what a program has printed
+abbrev pub output : Outcome ℕ → List ℕ
+output r = let w = last_world r in w.printed
+
+-- no run reaches a stuck state; where the program ends or traps under a bound on the turns of loops, every run can only end
+-- so; where it goes on, every run goes on, and prints nothing but its output so far
+pub record KeepsMeaning (p : Program) (limit : ℕ) (image : Image) : Type 0 where
+  pub never_stuck : (depths : Depths) → Reaches depths image.budget → (picks : List Pick) (s : State)
+      → Runs (setup_of image depths) (opened image) picks s → ¬ (IsStuck (setup_of image depths) s)
+  pub ends : (n status : ℕ) → program_end (meaning_of p limit n) ≡ Halted status
+      → OnlyEnds image (Status status) (last_world (meaning_of p limit n))
+  pub traps : (n code : ℕ) → program_end (meaning_of p limit n) ≡ Trapped code
+      → OnlyEnds image (Trap code) (last_world (meaning_of p limit n))
+  pub goes_on : GoesOn (meaning_of p limit) → (depths : Depths) → Reaches depths image.budget
+      → RunsGoOn (setup_of image depths) (opened image) (λ n. output (meaning_of p limit n))
+
+-- ---- from a program to an image that does its form
+
+-- an image that holds a program's data, and does the program's form with 14 instructions a move, keeps its meaning
+abbrev pub ImageKeepsMeaning : Type 0
+ImageKeepsMeaning =
+    (p : Program) (depth : ℕ) (ir : Ir) (image : Image) → IsLowered p ir → ir.calls ≡ suc depth
+    → image.content ≡ p.content → DoesForm ir image 14 → KeepsMeaning p (suc depth) image

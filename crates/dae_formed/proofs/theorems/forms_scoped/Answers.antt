@@ -1,5 +1,0 @@
-use Rattle.dae_formed.proofs.Programs.{forms_scoped}
-use Rattle.dae_formed.proofs.theorems.forms_scoped.Goals as goal
-
-pub returns : goal.returns
-returns c = forms_scoped c.forms_close.ensures

@@ -1,5 +1,0 @@
-use Rattle.dae_formed.proofs.Programs.{forms_set_first}
-use Rattle.dae_formed.proofs.theorems.forms_set_first.Goals as goal
-
-pub returns : goal.returns
-returns c = forms_set_first

@@ -1,5 +1,0 @@
-use Rattle.dae_formed.proofs.Programs.{made_set_first}
-use Rattle.dae_formed.proofs.theorems.made_set_first.Goals as goal
-
-pub returns : goal.returns
-returns c = made_set_first

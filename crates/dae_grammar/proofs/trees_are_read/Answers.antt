@@ -1,5 +1,0 @@
-use Rattle.dae_grammar.proofs.Runs.{complete}
-use Rattle.dae_grammar.proofs.trees_are_read.Goals as goal
-
-pub returns : goal.returns
-returns c = λ tokens file i. complete tokens file i

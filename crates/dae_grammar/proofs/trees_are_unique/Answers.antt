@@ -1,5 +1,0 @@
-use Rattle.dae_grammar.proofs.Runs.{unique}
-use Rattle.dae_grammar.proofs.trees_are_unique.Goals as goal
-
-pub returns : goal.returns
-returns c = λ tokens a b i j. unique tokens a b i j

@@ -1,5 +1,0 @@
-use Rattle.dae_grammar.proofs.Runs.{stands}
-use Rattle.dae_grammar.proofs.what_is_read_stands.Goals as goal
-
-pub returns : goal.returns
-returns c = λ tokens turns. stands tokens turns

@@ -1,5 +1,0 @@
-use Rattle.dae_join.proofs.Counts.{joined_have_parameters}
-use Rattle.dae_join.proofs.joined_have_parameters.Goals as goal
-
-pub returns : goal.returns
-returns c = joined_have_parameters c.sound_have_parameters.ensures

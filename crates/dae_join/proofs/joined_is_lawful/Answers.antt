@@ -1,5 +1,0 @@
-use Rattle.dae_join.proofs.Whole.{joined_lawful}
-use Rattle.dae_join.proofs.joined_is_lawful.Goals as goal
-
-pub returns : goal.returns
-returns c = joined_lawful

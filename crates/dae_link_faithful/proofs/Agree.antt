@@ -1,0 +1,162 @@
+-- Where a processor stands when its side stands at a spot: at a place from which the code of the list is done, and behind it
+-- the code of all that follows; and each call that waits is resumed, and then stands so.
+use Rattle.std.proofs.Common.{◌≡◌, ℕ, ◌+◌, ◌*◌, Bool, true, List, [], ◌∷◌, length}
+use Rattle.std.specs.Prelude.{Option, Some, is_some}
+use Rattle.dae_encode.specs.Processor.{Processor}
+use Rattle.dae_machine.specs.Machine.{Setup}
+use Rattle.dae_ir.specs.Code.{Done, Do, If, Loop, Each}
+use Rattle.dae_meaning.specs.Variables.{Env}
+use Rattle.dae_ir.specs.Form.{Program}
+use Rattle.dae_ir.specs.Classes.{VariableSet}
+use Rattle.dae_ir.specs.Streams.{Actions}
+use Rattle.dae_machine_rounds.specs.Spots.{Behind, Ends, After, Body, Turn, Spot, Waiting}
+use Rattle.dae_select_walks.specs.Walks.{Setting, Comes}
+use Rattle.dae_select_walks.specs.Live.{live, nowhere}
+use Rattle.dae_select_walks.specs.Multiples.{AreMultiples, unknown}
+use Rattle.dae_select_walks.specs.Agrees.{Plan, Moment, Waiting as Waiting', IsWithin}
+use Rattle.dae_select_walks.specs.Compiled.{Exit, Exits, exits, with_result, IsAnswered, Lands, At as At', CodeDone, Turns}
+use Rattle.dae_link_faithful.specs.Made.{IsFit, AnyBranch, IsTight, IsClosed, setting_of}
+
+-- the same of a list with what comes behind it
+abbrev pub TightAt : Actions → Behind → Type 0
+TightAt code Ends = IsTight code
+TightAt code (After k b) = TightAt code b × TightAt k b
+TightAt code (Body x y k b) = TightAt k b
+TightAt code (Turn x y k b) = TightAt k b
+
+abbrev pub ClosedAt : Actions → Behind → Type 0
+ClosedAt code Ends = IsClosed code
+ClosedAt code (After k b) = ClosedAt k b
+ClosedAt code (Body x y k b) = ClosedAt k b
+ClosedAt code (Turn x y k b) = ClosedAt k b
+
+-- ---- at a function's end
+
+abbrev pub Holds : Actions → Behind → Type 0 → Type 0 → Type 0
+Holds Done Ends landed stands = landed
+Holds Done (After k b) landed stands = stands
+Holds Done (Body x y k b) landed stands = stands
+Holds Done (Turn x y k b) landed stands = stands
+Holds (Do m a k) b landed stands = stands
+Holds (If m c x y k) b landed stands = stands
+Holds (Loop m x y k) b landed stands = stands
+
+-- the places of a loop: where a turn begins, where its step begins, behind the step, and behind the loop
+pub record Around : Type 0 where
+  pub begin : Exit
+  pub again : Exit
+  pub end : Exit
+  pub next : Exit
+
+abbrev pub body_exits : Around → Exits
+body_exits l = exits l.again l.next l.again
+
+abbrev pub step_exits : Around → Exits
+step_exits l = exits l.end l.next l.end
+
+module _ (setup : Setup) (plan : Plan) (p : Program) (body : ℕ → Actions) (most widest functions : ℕ) (answered : ℕ → Bool) where
+  abbrev pub s : Setting
+  s = setting_of setup plan.by_a
+
+  abbrev pub entries : ℕ → VariableSet
+  entries f = live (body f) nowhere
+
+  -- the function f runs at this moment, and the processor goes on at this place
+  abbrev pub GoesOn : ℕ → Exit → Moment → Processor → Type 0
+  GoesOn f x m q = At' s plan p entries most widest f x m q
+
+  -- the code of a list is done where these variables are multiples of four, or none is known to be one
+  abbrev pub CodeWith : ℕ → VariableSet → Actions → Exit → Exits → Type 0
+  CodeWith f known code here x = CodeDone s plan p entries most widest f known code here x
+
+  abbrev pub CodeAt : ℕ → Actions → Exit → Exits → Type 0
+  CodeAt f code here x = CodeWith f unknown code here x
+
+  abbrev pub TurnsAt : ℕ → Exit → Exit → Type 0
+  TurnsAt f x y = Turns s plan p entries most widest f x y
+
+  abbrev pub FitsCode : ℕ → Actions → Type 0
+  FitsCode f code = Each (IsFit functions answered f) AnyBranch code
+
+  abbrev pub FitsBehind : ℕ → Behind → Type 0
+  FitsBehind f Ends = Unit {0}
+  FitsBehind f (After k b) = FitsCode f k × FitsBehind f b
+  FitsBehind f (Body x y k b) = FitsCode f x × FitsCode f y × FitsCode f k × FitsBehind f b
+  FitsBehind f (Turn x y k b) = FitsCode f x × FitsCode f y × FitsCode f k × FitsBehind f b
+
+  pub record LoopDone (f : ℕ) (x y k : Actions) (l : Around) (z : Exits) : Type 0 where
+    pub in_body : CodeAt f x l.begin (body_exits l)
+    pub in_step : CodeAt f y l.again (step_exits l)
+    pub back : TurnsAt f l.end l.begin
+    pub rest : CodeAt f k l.next z
+
+  -- what comes behind a list is done from where the list goes on
+  abbrev pub BehindDone : ℕ → Behind → Exits → Type 0
+  BehindDone f Ends x = Unit {0}
+  BehindDone f (After k b) x = (next : Exit) × (z : Exits) × (x ≡ exits next z.leaves z.skips) × CodeAt f k next z × BehindDone f b z
+  BehindDone f (Body x y k b) e = (l : Around) × (z : Exits) × (e ≡ body_exits l) × LoopDone f x y k l z × BehindDone f b z
+  BehindDone f (Turn x y k b) e = (l : Around) × (z : Exits) × (e ≡ step_exits l) × LoopDone f x y k l z × BehindDone f b z
+
+  -- a point of the function f that goes on at a place, where these variables are multiples of four
+  pub record Placed (f : ℕ) (known : VariableSet) (code : Actions) (behind : Behind) (here : Exit) (x : Exits) : Type 0 where
+    pub done : CodeWith f known code here x
+    pub next : BehindDone f behind x
+    pub fits : FitsCode f code
+    pub fits_next : FitsBehind f behind
+    pub tight : TightAt code behind
+    pub closed : ClosedAt code behind
+
+  abbrev pub moment : ℕ → Env → ℕ → List Waiting' → Moment
+  moment f env frame ws = record { function = f; env = env; frame = frame; waiting = ws }
+
+  -- a call of the function f waits
+  pub record Waits (f : ℕ) (c : Waiting) (w : Waiting') (ws : List Waiting') : Type 0 where
+    pub here : Exit
+    pub exits' : Exits
+    pub placed : Placed w.function unknown c.point.code c.point.behind here exits'
+    pub env : w.env ≡ c.env
+    pub frame : w.frame ≡ c.frame
+    pub top : c.top ≡ w.frame + plan.frame w.function
+    pub depth : c.depth ≡ length ws + 1
+    pub within : IsWithin plan (moment w.function w.env w.frame ws)
+    pub answer : is_some c.result ≡ true → answered f ≡ true
+    pub resume : (result : Option ℕ) (q : Processor) → IsAnswered c.result result → Lands plan w ws result q
+        → Comes s (3 * most) q (GoesOn w.function here (moment w.function (with_result c.result result w.env) w.frame ws))
+
+  abbrev pub AreCalls : ℕ → List Waiting → List Waiting' → Type 0
+  AreCalls f [] [] = Unit {0}
+  AreCalls f [] (w ∷ ws) = ⊥
+  AreCalls f (c ∷ cs) [] = ⊥
+  AreCalls f (c ∷ cs) (w ∷ ws) = Waits f c w ws × AreCalls w.function cs ws
+
+  pub record StandsAt (at' : Spot) (q : Processor) : Type 0 where
+    pub function : ℕ
+    pub waiting : List Waiting'
+    pub here : Exit
+    pub exits' : Exits
+    pub known : VariableSet
+    pub placed : Placed function known at'.point.code at'.point.behind here exits'
+    pub multiples : AreMultiples known at'.env
+    pub stands : GoesOn function here (moment function at'.env at'.frame waiting) q
+    pub top : at'.top ≡ at'.frame + plan.frame function
+    pub depth : at'.depth ≡ length waiting + 1
+    pub calls : AreCalls function at'.calls waiting
+
+  -- it has returned to a call, with the result that the call waits for
+  pub record HasReturned (x : ℕ) (c : Waiting) (cs : List Waiting) (q : Processor) : Type 0 where
+    pub function : ℕ
+    pub first : Waiting'
+    pub others : List Waiting'
+    pub waits : Waits function c first others
+    pub calls : AreCalls first.function cs others
+    pub result : Option ℕ
+    pub lands : Lands plan first others result q
+    pub answer : is_some c.result ≡ true → result ≡ Some x
+
+  -- where main has returned nothing is said
+  abbrev pub Landed : ℕ → List Waiting → Processor → Type 0
+  Landed x [] q = Unit {0}
+  Landed x (c ∷ cs) q = HasReturned x c cs q
+
+  abbrev pub At : Spot → Processor → Type 0
+  At at' q = Holds at'.point.code at'.point.behind (Landed (at'.env 0) at'.calls q) (StandsAt at' q)

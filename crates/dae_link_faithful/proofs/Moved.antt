@@ -1,0 +1,423 @@
+-- Each move of a side is a walk of its code.
+use Rattle.std.proofs.Common.{◌≡◌, ℕ, zero, suc, ◌+◌, ◌*◌, ◌^◌, ◌≤◌, ◌<◌, Bool, true, false, ◌||◌, List, [], ◌∷◌, length, refl, ap, sym, ◌∙◌, subst, arith}
+use Rattle.std.specs.Prelude.{Option, Some, None, is_some, nat_lt, nat_eq, not, if◌then◌else◌}
+use Rattle.std.specs.List.{AllByRecursion}
+use Rattle.std.proofs.lemmas.Bool.Decides.{nat_tests}
+use Rattle.dae_encode.specs.Processor.{Processor}
+use Rattle.dae_machine.specs.Machine.{Setup}
+use Rattle.dae_ir.specs.Code.{Done, Do, If, Loop}
+use Rattle.dae_meaning.specs.Worlds.{World}
+use Rattle.dae_meaning.specs.Operations.{passed}
+use Rattle.dae_meaning.specs.Variables.{Env, put}
+use Rattle.dae_ir.specs.Form.{Program, value, holds, deeper}
+use Rattle.dae_ir.specs.Classes.{VariableSet}
+use Rattle.dae_ir.specs.Streams.{Actions}
+use Rattle.dae_ir.specs.Deeds.{Deed, deed, told_on, heard_on}
+use Rattle.dae_ir.specs.declared.form.Operand.{Operand}
+use Rattle.dae_ir.specs.declared.form.Test.{Test}
+use Rattle.dae_ir.specs.declared.stream.Mark.{Mark}
+use Rattle.dae_ir.specs.declared.stream.Argument.{Argument}
+use Rattle.dae_ir.specs.declared.stream.Action.{Action}
+use Rattle.dae_ir.specs.declared.stream.Action.TheVariants.{Set as Compute, Issue, Own, Receive, Address, Datum, Offer, Accept, Emit, Probe, Tell, Hear, Stop, Break, Continue, Call, Return}
+use Rattle.dae_ir.specs.declared.stream.Branch.TheVariants.{Silent, Tells, Hears}
+use Rattle.dae_machine.specs.Uses.{Use, Pushes}
+use Rattle.dae_machine.specs.Uses.{Takes}
+use Rattle.dae_machine_rounds.specs.Follows.{IsFit as IsFitUse, Outcome, Leaves, Quits, Follows, went, takes, pushes, reserves, sends, says, halts}
+use Rattle.dae_machine_rounds.specs.Spots.{Behind, Ends, After, Body, Turn, Point, point, left, skipped, Spot, spot, Waiting, waits, put_some, resumed, given, with_result, weight, Came, came, Moves, acts, goes_behind, ends_body, ends_step, breaks, continues, branches, tells, hears, enters, calls_it, returns, goes_back}
+use Rattle.dae_machine_rounds.specs.Sides.{Walked, Agrees, Implements}
+use Rattle.dae_select_walks.specs.Walks.{Comes}
+use Rattle.dae_select_walks.specs.Does.{Does}
+use Rattle.dae_select_walks.specs.Live.{none}
+use Rattle.dae_select_walks.specs.Multiples.{AreMultiples, LeavesOnly, unknown, multiples_behind}
+use Rattle.dae_select_walks.proofs.LawsOfWalks.{deed_multiples}
+use Rattle.dae_select_walks.specs.Agrees.{Plan, Moment, Waiting as Waiting', IsWithin, top_of}
+use Rattle.dae_select_walks.specs.declared.Standing.{Standing}
+use Rattle.dae_select_walks.specs.declared.Standing.TheVariants.{Settled, Early, Late}
+use Rattle.dae_select_walks.specs.Compiled.{HoldsAt, Exit, Exits, exit, exits, with_env, with_result as with_result', result_of, given as given', waiting_of, called, IsAnswered, Lands, IsWorldOf}
+use Rattle.dae_select_blocks.specs.Wanted.{IsPlanOf}
+use Rattle.dae_link_faithful.specs.Made.{IsTight, IsClosed, AreWhole}
+use Rattle.dae_link_faithful.proofs.Walked.{Walks_to, Ended, comes_walks, nears_walks, here_walks, walks_more, just_comes, use_walks, acts_walks, does_walks}
+use Rattle.dae_link_faithful.proofs.Agree.{Around, body_exits, step_exits, TightAt, ClosedAt, s, entries, GoesOn, CodeAt, FitsCode, FitsBehind, LoopDone, BehindDone, moment, StandsAt, AreCalls, HasReturned, Landed, At}
+use Rattle.dae_link_faithful.proofs.Ways.{tight_map, closed_map, agrees_at, Leads_to, left_leads, skipped_leads}
+
+-- ---- small facts
+
+none_known : (env : Env) → AreMultiples unknown env
+none_known env v e = absurd (let z : false ≡ true = e in cc)
+
+-- what a deed leaves, whatever words the queues give
+follows_only : {d : Deed} {uses : List Use} {o : Outcome} (P : Env → Type 0) → Follows d uses o → LeavesOnly P d → (e : Env) → o ≡ Leaves e → P e
+follows_only P (went {env}) h e same = let left : env ≡ e = cc in subst P left h
+follows_only P (takes x f) h e same = follows_only P f (h x) e same
+follows_only P (pushes f) h e same = follows_only P f h e same
+follows_only P (reserves f) h e same = follows_only P f h e same
+follows_only P (sends f) h e same = follows_only P f h e same
+follows_only P (says f) h e same = follows_only P f h e same
+follows_only P halts h e same = absurd cc
+
+-- there is room where the check of it doesn't fail
+room_is : (a b c d : ℕ) → passed (nat_lt a b || nat_lt c d) ≡ None → (b ≤ a) × (d ≤ c)
+room_is a b c d h = by (nat_lt a b) (nat_lt c d) refl refl h
+  where
+    by : (x y : Bool) → nat_lt a b ≡ x → nat_lt c d ≡ y → passed (x || y) ≡ None → (b ≤ a) × (d ≤ c)
+    by false false ea eb e = (grind (arith, nat_tests), grind (arith, nat_tests))
+    by false true ea eb e = absurd cc
+    by true y ea eb e = absurd cc
+
+same_given : (xs : List Argument) (env : Env) → given' xs env ≡ given xs env
+same_given [] env = refl
+same_given (x ∷ xs) env = ap (λ (e : Env). put true x.parameter (value x.operand env) e) (same_given xs env)
+
+-- however what it holds stands to the moment, the moment is within the limits
+at_within : (plan : Plan) (standing : Standing) (live : VariableSet) (m : Moment) (word : ℕ) (q : Processor) → HoldsAt plan standing live m word q → IsWithin plan m
+at_within plan Settled live m word q h = h.agrees.within
+at_within plan (Early v x) live m word q h = (let w = h.agrees.within in record { depth = w.depth; frame = w.frame })
+at_within plan (Late v x) live m word q h = (let w = h.2.agrees.within in record { depth = w.depth; frame = w.frame })
+
+abbrev is_leaving : Outcome → Bool
+is_leaving (Leaves env) = true
+is_leaving (Quits quit) = false
+
+module _ (setup : Setup) (plan : Plan) (p : Program) (body : ℕ → Actions) (n widest functions : ℕ) (answered : ℕ → Bool) where
+  abbrev S : Spot → Processor → Type 0
+  S at' q = StandsAt setup plan p body n widest functions answered at' q
+
+  abbrev pub A : Spot → Processor → Type 0
+  A at' q = At setup plan p body n widest functions answered at' q
+
+  abbrev On : ℕ → Exit → Moment → Processor → Type 0
+  On f x m q = GoesOn setup plan p body n widest functions answered f x m q
+
+  abbrev To : ℕ → ℕ → Processor → List Use → (Processor → Type 0) → Type 0
+  To least most q uses Q = Walks_to setup plan.by_a least most q uses Q
+
+  -- each function is done from its start, ends with a return or a halt, and gives the results that are waited for
+  pub record IsDone : Type 0 where
+    pub memory : setup.memory ≡ plan.memory
+    pub is_plan : IsPlanOf p plan
+    pub bodies : (f : ℕ) → f < functions → (end : ℕ) × CodeAt setup plan p body n widest functions answered f (body f) (exit (plan.start f) (entries setup plan p body n widest functions answered f)) (exits (exit end none) (exit end none) (exit end none))
+    pub whole : AreWhole functions answered body
+
+  stands_as : {f : ℕ} {m m' : Moment} (x : Exit) (q : Processor) → m ≡ m' → On f x m q → On f x m' q
+  stands_as {f} {m} {m'} x q e h = subst (λ (z : Moment). On f x z q) e h
+
+  -- ---- calls
+
+  call_within : (f g : ℕ) (env : Env) (w : World) (ws : List Waiting') (first : Waiting') (xs : List Argument) → IsDone → length w.memory ≡ setup.memory → passed (nat_lt p.limit (w.depth + 1) || nat_lt (length w.memory) (w.top + p.frame g)) ≡ None → w.top ≡ w.frame + plan.frame f → w.depth ≡ length ws + 1
+      → IsWithin plan (called plan g xs first (moment setup plan p body n widest functions answered f env w.frame ws))
+  call_within f g env w ws first xs d size room top depth =
+      let r = room_is p.limit (w.depth + 1) (length w.memory) (w.top + p.frame g) room in
+      let r0 = r.0 in let r1 = r.1 in let e = d.memory in let l = d.is_plan.limit in
+      record { depth = omega arith; frame = omega arith }
+
+  call_moved : (q : Processor) {m : Mark} {v : Option ℕ} {f : ℕ} {xs : List Argument} {k : Actions} {b : Behind} {env : Env} {calls : List Waiting} (w : World) → IsDone → length w.memory ≡ setup.memory → passed (nat_lt p.limit (w.depth + 1) || nat_lt (length w.memory) (w.top + p.frame f)) ≡ None
+      → S (spot (point (Do m (Call v f xs) k) b) env w calls) q → To 0 (widest + 6 * length xs) q [] (A (spot (point (body f) Ends) (given xs env) (deeper p f w) (waits v (point k b) env w ∷ calls)))
+  call_moved q {m} {v} {f} {xs} {k} {b} {env} {calls} w d size room h =
+      let M : Moment = moment setup plan p body n widest functions answered h.function env w.frame h.waiting in
+      let x : Exits = h.exits' in
+      let done = h.placed.done in
+      let fits = h.placed.fits in
+      let first : Waiting' = waiting_of v done.0.live done.1.0 M in
+      let within = call_within h.function f env w h.waiting first xs d size room h.top h.depth in
+      let known = d.is_plan.frame f in
+      let enters = done.1.1 M q h.stands within in
+      let own : IsWithin plan M = at_within plan h.here.standing h.here.live M h.here.word q h.stands.1 in
+      let body_done = d.bodies f fits.0.0 in
+      let same : called plan f xs first M ≡ moment setup plan p body n widest functions answered f (given xs env) w.top (first ∷ h.waiting) =
+      ap (λ (e : Env). record { function = f; env = e; frame = top_of plan M; waiting = first ∷ h.waiting }) (same_given xs env) ∙ ap (λ (t : ℕ). record { function = f; env = given xs env; frame = t; waiting = first ∷ h.waiting }) (sym h.top) in
+      let depth = h.depth in
+      just_comes setup plan.by_a enters (λ r g.
+      agrees_at setup plan p body n widest functions answered (body f) Ends (given xs env) w.top (w.top + p.frame f) (w.depth + 1) (waits v (point k b) env w ∷ calls) r (record {
+        function = f;
+        waiting = first ∷ h.waiting;
+        here = exit (plan.start f) (entries setup plan p body n widest functions answered f);
+        exits' = exits (exit body_done.0 none) (exit body_done.0 none) (exit body_done.0 none);
+        placed = record { done = body_done.1; next = tt; fits = d.whole.fits f fits.0.0; fits_next = tt; tight = d.whole.tight f fits.0.0; closed = d.whole.closed f fits.0.0 };
+        known = unknown;
+        multiples = none_known _;
+        stands = stands_as (exit (plan.start f) (entries setup plan p body n widest functions answered f)) r same g;
+        top = (omega arith);
+        depth = (omega arith);
+        calls = (
+          record {
+            here = done.0;
+            exits' = x;
+            placed = record { done = done.2; next = h.placed.next; fits = fits.1; fits_next = h.placed.fits_next; tight = tight_map (Do m (Call v f xs) k) k b (λ t. t) h.placed.tight; closed = closed_map (Do m (Call v f xs) k) k b (λ t. t) h.placed.closed };
+            env = refl;
+            frame = refl;
+            top = h.top;
+            depth = h.depth;
+            within = own;
+            answer = fits.0.1;
+            resume = λ result t ok lands. done.1.2 M result t refl own ok lands;
+          },
+          h.calls,
+        );
+      })) (omega arith)
+
+  -- ---- returns
+
+  has_result : (y : Option Operand) (env : Env) → is_some y ≡ true → result_of y env ≡ Some (with_result y env 0)
+  has_result None env h = absurd cc
+  has_result (Some x) env h = refl
+
+  returned : (q : Processor) (f : ℕ) (y : Option Operand) (env : Env) (calls : List Waiting) (ws : List Waiting') → AreCalls setup plan p body n widest functions answered f calls ws → (answered f ≡ true → is_some y ≡ true)
+      → ((first : Waiting') (others : List Waiting') → ws ≡ first ∷ others → Comes (s setup plan p body n widest functions answered) n q (Lands plan first others (result_of y env))) → To 0 n q [] (Landed setup plan p body n widest functions answered (with_result y env 0) calls)
+  returned q f y env [] ws h ok back =
+      walks_more setup plan.by_a {a = 0} {b = 0} (omega arith) (omega arith) (here_walks setup plan.by_a {p = q} {Q = λ (t : Processor). Unit {0}} tt)
+  returned q f y env (c ∷ cs) [] h ok back = absurd h
+  returned q f y env (c ∷ cs) (first ∷ others) h ok back =
+      just_comes setup plan.by_a (back first others refl) (λ r lands. record { function = f; first = first; others = others; waits = h.0; calls = h.1; result = result_of y env; lands = lands; answer = λ e. has_result y env (ok (h.0.answer e)) }) (omega arith)
+
+  return_moved : (q : Processor) {m : Mark} {y : Option Operand} {k : Actions} {b : Behind} {env : Env} {calls : List Waiting} (w : World) → S (spot (point (Do m (Return y) k) b) env w calls) q → To 0 n q [] (A (spot (point Done Ends) (with_result y env) w calls))
+  return_moved q {m} {y} {k} {b} {env} {calls} w h =
+      let M : Moment = moment setup plan p body n widest functions answered h.function env w.frame h.waiting in
+      returned q h.function y env calls h.waiting h.calls h.placed.fits.0 (h.placed.done.1 M q h.stands).1
+
+  -- ---- back behind a call
+
+  is_answered : (v result : Option ℕ) (x : ℕ) → (is_some v ≡ true → result ≡ Some x) → IsAnswered v result
+  is_answered None result x h = tt
+  is_answered (Some v) None x h = (let e = h refl in absurd cc)
+  is_answered (Some v) (Some y) x h = tt
+
+  puts_result : (v result : Option ℕ) (x : ℕ) (env env' : Env) → env ≡ env' → (is_some v ≡ true → result ≡ Some x) → with_result' v result env ≡ put_some v x env'
+  puts_result None result x env env' e h = e
+  puts_result (Some v) None x env env' e h = (let f = h refl in absurd cc)
+  puts_result (Some v) (Some y) x env env' e h = (let f : Some y ≡ Some x = h refl in let g : y ≡ x = cc in rw (g, e) refl)
+
+  back_moved : (q : Processor) (x : ℕ) {c : Waiting} {calls : List Waiting} → HasReturned setup plan p body n widest functions answered x c calls q → To 0 (3 * n) q [] (A (resumed c x calls))
+  back_moved q x {c} {calls} h =
+      let w = h.waits in
+      let same : moment setup plan p body n widest functions answered h.first.function (with_result' c.result h.result h.first.env) h.first.frame h.others ≡ moment setup plan p body n widest functions answered h.first.function (put_some c.result x c.env) c.frame h.others =
+      ap (λ (e : Env). record { function = h.first.function; env = e; frame = h.first.frame; waiting = h.others }) (puts_result c.result h.result x h.first.env c.env w.env h.answer) ∙ ap (λ (t : ℕ). record { function = h.first.function; env = put_some c.result x c.env; frame = t; waiting = h.others }) w.frame in
+      let top = w.top in let frame = w.frame in
+      just_comes setup plan.by_a (w.resume h.result q (is_answered c.result h.result x h.answer) h.lands) (λ r g.
+      agrees_at setup plan p body n widest functions answered c.point.code c.point.behind (put_some c.result x c.env) c.frame c.top c.depth calls r (record {
+        function = h.first.function;
+        waiting = h.others;
+        here = w.here;
+        exits' = w.exits';
+        placed = w.placed;
+        known = unknown;
+        multiples = none_known _;
+        stands = stands_as w.here r same g;
+        top = (omega arith);
+        depth = w.depth;
+        calls = h.calls;
+      })) (omega arith)
+
+  -- ---- branches and loops
+
+  chosen : {f : ℕ} (x y k : Actions) (b : Behind) (env : Env) (calls : List Waiting) (w : World) (ws : List Waiting') (first second next : Exit) (z : Exits) (t : Bool) (q : Processor)
+      → CodeAt setup plan p body n widest functions answered f x first (record z { next = next }) → CodeAt setup plan p body n widest functions answered f y second (record z { next = next }) → CodeAt setup plan p body n widest functions answered f k next z → BehindDone setup plan p body n widest functions answered f b z
+      → FitsCode setup plan p body n widest functions answered f x → FitsCode setup plan p body n widest functions answered f y → FitsCode setup plan p body n widest functions answered f k → FitsBehind setup plan p body n widest functions answered f b → TightAt x b → TightAt y b → TightAt k b → ClosedAt k b
+      → w.top ≡ w.frame + plan.frame f → w.depth ≡ length ws + 1 → AreCalls setup plan p body n widest functions answered f calls ws
+      → On f (if t then first else second) (moment setup plan p body n widest functions answered f env w.frame ws) q
+      → A (spot (point (if t then x else y) (After k b)) env w calls) q
+  chosen {f} x y k b env calls w ws first second next z true q dx dy dk db fx fy fk fb tx ty tk ck top depth ac g =
+      agrees_at setup plan p body n widest functions answered x (After k b) env w.frame w.top w.depth calls q (record { function = f; waiting = ws; here = first; exits' = record z { next = next }; placed = record { done = dx; next = (next, z, refl, dk, db); fits = fx; fits_next = (fk, fb); tight = (tx, tk); closed = ck }; known = unknown; multiples = none_known _; stands = g; top = top; depth = depth; calls = ac })
+  chosen {f} x y k b env calls w ws first second next z false q dx dy dk db fx fy fk fb tx ty tk ck top depth ac g =
+      agrees_at setup plan p body n widest functions answered y (After k b) env w.frame w.top w.depth calls q (record { function = f; waiting = ws; here = second; exits' = record z { next = next }; placed = record { done = dy; next = (next, z, refl, dk, db); fits = fy; fits_next = (fk, fb); tight = (ty, tk); closed = ck }; known = unknown; multiples = none_known _; stands = g; top = top; depth = depth; calls = ac })
+
+  silent_moved : (q : Processor) {m : Mark} {t : Test} {x y k : Actions} {b : Behind} {env : Env} {calls : List Waiting} (w : World) → S (spot (point (If m (Silent t) x y k) b) env w calls) q → To 0 n q [] (A (spot (point (if holds t env then x else y) (After k b)) env w calls))
+  silent_moved q {m} {t} {x} {y} {k} {b} {env} {calls} w h =
+      let d = h.placed.done in let z : Exits = h.exits' in let fits = h.placed.fits in
+      let M : Moment = moment setup plan p body n widest functions answered h.function env w.frame h.waiting in
+      let tx = tight_map (If m (Silent t) x y k) x b (λ u. u.0) h.placed.tight in
+      let ty = tight_map (If m (Silent t) x y k) y b (λ u. u.1) h.placed.tight in
+      let tk = tight_map (If m (Silent t) x y k) k b (λ u. u.2) h.placed.tight in
+      let ck = closed_map (If m (Silent t) x y k) k b (λ u. u) h.placed.closed in
+      just_comes setup plan.by_a (d.3 M q h.stands) (λ r g. chosen x y k b env calls w h.waiting d.0 d.1 d.2 z (holds t env) r d.4 d.5 d.6 h.placed.next fits.1 fits.2 fits.3 h.placed.fits_next tx ty tk ck h.top h.depth h.calls g) (omega arith)
+
+  tells_moved : (q : Processor) {m : Mark} {t : Test} {x y k : Actions} {b : Behind} {env : Env} {calls : List Waiting} (w : World) → S (spot (point (If m (Tells t) x y k) b) env w calls) q → To 0 n q (Pushes (told_on plan.by_a) (if holds t env then 1 else 0) ∷ []) (A (spot (point (if holds t env then x else y) (After k b)) env w calls))
+  tells_moved q {m} {t} {x} {y} {k} {b} {env} {calls} w h =
+      let d = h.placed.done in let z : Exits = h.exits' in let fits = h.placed.fits in
+      let M : Moment = moment setup plan p body n widest functions answered h.function env w.frame h.waiting in
+      let tx = tight_map (If m (Tells t) x y k) x b (λ u. u.0) h.placed.tight in
+      let ty = tight_map (If m (Tells t) x y k) y b (λ u. u.1) h.placed.tight in
+      let tk = tight_map (If m (Tells t) x y k) k b (λ u. u.2) h.placed.tight in
+      let ck = closed_map (If m (Tells t) x y k) k b (λ u. u) h.placed.closed in
+      let does = d.3 M q h.stands in
+      nears_walks setup plan.by_a does.1 (λ l r a. use_walks setup plan.by_a {k = l} (Pushes (told_on plan.by_a) (if holds t env then 1 else 0)) (if holds t env then 1 else 0) refl does.0 a (λ o c. just_comes setup plan.by_a c (λ e g. chosen x y k b env calls w h.waiting d.0 d.1 d.2 z (holds t env) e d.4 d.5 d.6 h.placed.next fits.1 fits.2 fits.3 h.placed.fits_next tx ty tk ck h.top h.depth h.calls g) (omega arith)) (omega arith)) (omega arith)
+
+  hears_moved : (q : Processor) {m : Mark} {x y k : Actions} {b : Behind} {env : Env} {calls : List Waiting} (w : World) (told : Bool) → S (spot (point (If m Hears x y k) b) env w calls) q → To 0 n q (Takes (heard_on plan.by_a) (if told then 1 else 0) ∷ []) (A (spot (point (if told then x else y) (After k b)) env w calls))
+  hears_moved q {m} {x} {y} {k} {b} {env} {calls} w told h =
+      let d = h.placed.done in let z : Exits = h.exits' in let fits = h.placed.fits in
+      let M : Moment = moment setup plan p body n widest functions answered h.function env w.frame h.waiting in
+      let tx = tight_map (If m Hears x y k) x b (λ u. u.0) h.placed.tight in
+      let ty = tight_map (If m Hears x y k) y b (λ u. u.1) h.placed.tight in
+      let tk = tight_map (If m Hears x y k) k b (λ u. u.2) h.placed.tight in
+      let ck = closed_map (If m Hears x y k) k b (λ u. u) h.placed.closed in
+      let word : ℕ = if told then 1 else 0 in
+      nears_walks setup plan.by_a (d.3 M q h.stands) (λ l r a. let g = a word (bit_small told) in use_walks setup plan.by_a {k = l} (Takes (heard_on plan.by_a) word) g.0 tt tt g.1 (λ o c. just_comes setup plan.by_a c (λ e g. chosen x y k b env calls w h.waiting d.0 d.1 d.2 z told e d.4 d.5 d.6 h.placed.next fits.1 fits.2 fits.3 h.placed.fits_next tx ty tk ck h.top h.depth h.calls (heard _ _ _ _ _ told g)) (omega arith)) (omega arith)) (omega arith)
+    where
+      bit_small : (t : Bool) → (if t then 1 else 0) < 2 ^ 32
+      bit_small true = omega arith
+      bit_small false = omega arith
+
+      heard : (f : ℕ) (i j : Exit) (M : Moment) (e : Processor) (t : Bool) → On f (if not (nat_eq (if t then 1 else 0) 0) then i else j) M e → On f (if t then i else j) M e
+      heard f i j M e true g = g
+      heard f i j M e false g = g
+
+  enters_moved : (q : Processor) {m : Mark} {x y k : Actions} {b : Behind} {env : Env} {calls : List Waiting} (w : World) → S (spot (point (Loop m x y k) b) env w calls) q → To 0 2 q [] (A (spot (point x (Body x y k b)) env w calls))
+  enters_moved q {m} {x} {y} {k} {b} {env} {calls} w h =
+      let d = h.placed.done in let z : Exits = h.exits' in let fits = h.placed.fits in
+      let M : Moment = moment setup plan p body n widest functions answered h.function env w.frame h.waiting in
+      let l : Around = record { begin = d.0; again = d.1; end = d.2; next = d.3 } in
+      let loop : LoopDone setup plan p body n widest functions answered h.function x y k l z = record { in_body = d.5; in_step = d.6; back = d.7; rest = d.8 } in
+      just_comes setup plan.by_a (d.4 M q h.stands) (λ r c.
+      agrees_at setup plan p body n widest functions answered x (Body x y k b) env w.frame w.top w.depth calls r (record {
+        function = h.function;
+        waiting = h.waiting;
+        here = l.begin;
+        exits' = body_exits l;
+        placed = record { done = d.5; next = (l, z, refl, loop, h.placed.next); fits = fits.0; fits_next = (fits.0, fits.1, fits.2, h.placed.fits_next); tight = tight_map (Loop m x y k) k b (λ u. u) h.placed.tight; closed = closed_map (Loop m x y k) k b (λ u. u) h.placed.closed };
+        known = unknown;
+        multiples = none_known _;
+        stands = c;
+        top = h.top;
+        depth = h.depth;
+        calls = h.calls;
+      })) (omega arith)
+
+  -- ---- ends of lists, and jumps
+
+  -- where it goes on, it agrees
+  led : {f : ℕ} {from : Exit} (at' : Point) (env : Env) (w : World) (calls : List Waiting) (ws : List Waiting') (l : Leads_to setup plan p body n widest functions answered f from at') → w.top ≡ w.frame + plan.frame f → w.depth ≡ length ws + 1 → AreCalls setup plan p body n widest functions answered f calls ws
+      → (q : Processor) → On f from (moment setup plan p body n widest functions answered f env w.frame ws) q → To 0 2 q [] (A (spot at' env w calls))
+  led {f} at' env w calls ws l top depth ac q h =
+      just_comes setup plan.by_a (l.walks (moment setup plan p body n widest functions answered f env w.frame ws) q h) (λ r g.
+      agrees_at setup plan p body n widest functions answered at'.code at'.behind env w.frame w.top w.depth calls r (record { function = f; waiting = ws; here = l.here; exits' = l.exits'; placed = l.placed; known = unknown; multiples = none_known _; stands = g; top = top; depth = depth; calls = ac })) (omega arith)
+
+  behind_moved : (q : Processor) {k : Actions} {b : Behind} {env : Env} {calls : List Waiting} (w : World) → S (spot (point Done (After k b)) env w calls) q → To 0 2 q [] (A (spot (point k b) env w calls))
+  behind_moved q {k} {b} {env} {calls} w h =
+      let M : Moment = moment setup plan p body n widest functions answered h.function env w.frame h.waiting in
+      let x : Exits = h.exits' in
+      let g = h.placed.next in
+      let fits = h.placed.fits_next in
+      just_comes setup plan.by_a (h.placed.done M q h.stands) (λ r c.
+      agrees_at setup plan p body n widest functions answered k b env w.frame w.top w.depth calls r (record { function = h.function; waiting = h.waiting; here = g.0; exits' = g.1; placed = record { done = g.3; next = g.4; fits = fits.0; fits_next = fits.1; tight = h.placed.tight.1; closed = h.placed.closed }; known = unknown; multiples = none_known _; stands = subst (λ (e : Exits). On h.function e.next M r) g.2 c; top = h.top; depth = h.depth; calls = h.calls })) (omega arith)
+
+  body_moved : (q : Processor) {x y k : Actions} {b : Behind} {env : Env} {calls : List Waiting} (w : World) → S (spot (point Done (Body x y k b)) env w calls) q → To 0 2 q [] (A (spot (point y (Turn x y k b)) env w calls))
+  body_moved q {x} {y} {k} {b} {env} {calls} w h =
+      let M : Moment = moment setup plan p body n widest functions answered h.function env w.frame h.waiting in
+      let g = h.placed.next in
+      let fits = h.placed.fits_next in
+      just_comes setup plan.by_a (h.placed.done M q h.stands) (λ r c.
+      agrees_at setup plan p body n widest functions answered y (Turn x y k b) env w.frame w.top w.depth calls r (record { function = h.function; waiting = h.waiting; here = g.0.again; exits' = step_exits g.0; placed = record { done = g.3.in_step; next = (g.0, g.1, refl, g.3, g.4); fits = fits.1; fits_next = fits; tight = h.placed.tight; closed = h.placed.closed }; known = unknown; multiples = none_known _; stands = subst (λ (e : Exits). On h.function e.next M r) g.2 c; top = h.top; depth = h.depth; calls = h.calls })) (omega arith)
+
+  step_moved : (q : Processor) {x y k : Actions} {b : Behind} {env : Env} {calls : List Waiting} (w : World) → S (spot (point Done (Turn x y k b)) env w calls) q → To 1 4 q [] (A (spot (point x (Body x y k b)) env w calls))
+  step_moved q {x} {y} {k} {b} {env} {calls} w h =
+      let M : Moment = moment setup plan p body n widest functions answered h.function env w.frame h.waiting in
+      let g = h.placed.next in
+      let fits = h.placed.fits_next in
+      let l : Around = g.0 in let z : Exits = g.1 in
+      comes_walks setup plan.by_a {k = 2} (h.placed.done M q h.stands) (λ r c.
+      let a = g.3.back M r (subst (λ (e : Exits). On h.function e.next M r) g.2 c) in
+      acts_walks setup plan.by_a {k = 1} a.1 (λ o c. just_comes setup plan.by_a c (λ e i.
+      agrees_at setup plan p body n widest functions answered x (Body x y k b) env w.frame w.top w.depth calls e (record {
+        function = h.function;
+        waiting = h.waiting;
+        here = l.begin;
+        exits' = body_exits l;
+        placed = record { done = g.3.in_body; next = (l, z, refl, g.3, g.4); fits = fits.0; fits_next = fits; tight = h.placed.tight; closed = h.placed.closed };
+        known = unknown;
+        multiples = none_known _;
+        stands = i;
+        top = h.top;
+        depth = h.depth;
+        calls = h.calls;
+      })) (omega arith)) (omega arith)) (omega arith)
+
+  break_moved : (q : Processor) {m : Mark} {k : Actions} {b : Behind} {env : Env} {calls : List Waiting} (w : World) → S (spot (point (Do m Break k) b) env w calls) q → To 0 4 q [] (A (spot (left b) env w calls))
+  break_moved q {m} {k} {b} {env} {calls} w h =
+      let M : Moment = moment setup plan p body n widest functions answered h.function env w.frame h.waiting in
+      let l = left_leads setup plan p body n widest functions answered h.function b h.exits' (Do m Break k) (Do m Break k) (λ u. u) h.placed.tight h.placed.closed h.placed.next h.placed.fits_next in
+      comes_walks setup plan.by_a {k = 2} (h.placed.done.1 M q h.stands) (λ r c. led (left b) env w calls h.waiting l h.top h.depth h.calls r c) (omega arith)
+
+  continue_moved : (q : Processor) {m : Mark} {k : Actions} {b : Behind} {env : Env} {calls : List Waiting} (w : World) → S (spot (point (Do m Continue k) b) env w calls) q → To 1 4 q [] (A (spot (skipped b) env w calls))
+  continue_moved q {m} {k} {b} {env} {calls} w h =
+      let M : Moment = moment setup plan p body n widest functions answered h.function env w.frame h.waiting in
+      let l = skipped_leads setup plan p body n widest functions answered h.function b h.exits' (Do m Continue k) (Do m Continue k) (λ u. u) h.placed.tight h.placed.closed h.placed.next h.placed.fits_next in
+      let a = h.placed.done.1 M q h.stands in
+      acts_walks setup plan.by_a {k = 3} a.1 (λ r c. comes_walks setup plan.by_a {k = 2} c (λ o g. led (skipped b) env w calls h.waiting l h.top h.depth h.calls o g) (omega arith)) (omega arith)
+
+  -- ---- actions
+
+  acted : (q : Processor) {m : Mark} (x : Action) {k : Actions} {b : Behind} {env : Env} {calls : List Waiting} {uses : List Use} {o : Outcome} (w : World) → IsDone → length w.memory ≡ setup.memory → Follows (deed p plan.by_a x w env) uses o → AllByRecursion (IsFitUse setup.memory) uses
+      → (h : S (spot (point (Do m x k) b) env w calls) q)
+      → ((M : Moment) (w : World) (r : Processor) → On h.function h.here M r → IsWorldOf plan M w → AreMultiples h.known M.env → Does (s setup plan p body n widest functions answered) n (deed p plan.by_a x w M.env) (λ e. On h.function h.placed.done.0 (with_env e M)) r)
+      → (is_leaving o ≡ true → (IsTight (Do m x k) → IsTight k) × (IsClosed (Do m x k) → IsClosed k))
+      → To 0 n q uses (Agrees A (came o (λ (e : Env). spot (point k b) e w calls)))
+  acted q {m} x {k} {b} {env} {calls} {uses} {o} w d size follows fit h done ways =
+      let M : Moment = moment setup plan p body n widest functions answered h.function env w.frame h.waiting in
+      let top = h.top in let depth = h.depth in let memory = d.memory in
+      let world : IsWorldOf plan M w = record { frame = refl; top = h.top; depth = h.depth; memory = (omega arith) } in
+      let to : Env → Processor → Type 0 = λ e. On h.function h.placed.done.0 (with_env e M) in
+      let r = does_walks setup plan.by_a n to (deed p plan.by_a x w env) q (done M w q h.stands world h.multiples) follows fit in
+      record { after = r.after; steps = r.steps; walks = r.walks; holds = by o r.after ways r.holds (follows_only (AreMultiples (multiples_behind x h.known)) follows (deed_multiples p plan.by_a x w env h.known h.multiples)); some = omega arith; few = r.few; words = r.words }
+    where
+      by : (o : Outcome) (r : Processor) → (is_leaving o ≡ true → (IsTight (Do m x k) → IsTight k) × (IsClosed (Do m x k) → IsClosed k)) → Ended setup plan.by_a o (λ e. On h.function h.placed.done.0 (with_env e (moment setup plan p body n widest functions answered h.function env w.frame h.waiting))) r
+          → ((e : Env) → o ≡ Leaves e → AreMultiples (multiples_behind x h.known) e)
+          → Agrees A (came o (λ (e : Env). spot (point k b) e w calls)) r
+      by (Leaves e) r f g only =
+          let fit = f refl in
+          agrees_at setup plan p body n widest functions answered k b e w.frame w.top w.depth calls r (record {
+            function = h.function;
+            waiting = h.waiting;
+            here = h.placed.done.0;
+            exits' = h.exits';
+            placed = record { done = h.placed.done.2; next = h.placed.next; fits = h.placed.fits.1; fits_next = h.placed.fits_next; tight = tight_map (Do m x k) k b fit.0 h.placed.tight; closed = closed_map (Do m x k) k b fit.1 h.placed.closed };
+            known = multiples_behind x h.known;
+            multiples = only e refl;
+            stands = g;
+            top = h.top;
+            depth = h.depth;
+            calls = h.calls;
+          })
+      by (Quits quit) r f g only = g
+
+  -- ---- all moves
+
+  walked : {least most : ℕ} {q : Processor} {uses : List Use} {c : Came} (big : ℕ) → most ≤ big → To least most q uses (Agrees A c) → Walked setup plan.by_a A least big q uses c
+  walked big l r = let few = r.few in record { after = r.after; steps = r.steps; walks = r.walks; agrees = r.holds; some = r.some; few = omega arith; words = r.words }
+
+  module _ (most : ℕ) (wide : n ≤ most) (call : widest ≤ 4 * most) (argument : 6 ≤ most) (d : IsDone) where
+    pub moved : {k : ℕ} {at' : Spot} {uses : List Use} {c : Came} (q : Processor) → A at' q → Moves p plan.by_a setup.memory body k at' uses c → AllByRecursion (IsFitUse setup.memory) uses → Walked setup plan.by_a A k (most * weight at') q uses c
+    moved q h (acts {x = Compute v y} w is size follows) fit = walked (most * 1) (omega arith) (acted q (Compute v y) w d size follows fit h h.placed.done.1 (λ e. (λ t. t, λ t. t)))
+    moved q h (acts {x = Issue kind y} w is size follows) fit = walked (most * 1) (omega arith) (acted q (Issue kind y) w d size follows fit h h.placed.done.1 (λ e. (λ t. t, λ t. t)))
+    moved q h (acts {x = Own v kind y} w is size follows) fit = walked (most * 1) (omega arith) (acted q (Own v kind y) w d size follows fit h h.placed.done.1 (λ e. (λ t. t, λ t. t)))
+    moved q h (acts {x = Receive v} w is size follows) fit = walked (most * 1) (omega arith) (acted q (Receive v) w d size follows fit h h.placed.done.1 (λ e. (λ t. t, λ t. t)))
+    moved q h (acts {x = Address width y} w is size follows) fit = walked (most * 1) (omega arith) (acted q (Address width y) w d size follows fit h h.placed.done.1 (λ e. (λ t. t, λ t. t)))
+    moved q h (acts {x = Datum y} w is size follows) fit = walked (most * 1) (omega arith) (acted q (Datum y) w d size follows fit h h.placed.done.1 (λ e. (λ t. t, λ t. t)))
+    moved q h (acts {x = Offer v} w is size follows) fit = walked (most * 1) (omega arith) (acted q (Offer v) w d size follows fit h h.placed.done.1 (λ e. (λ t. t, λ t. t)))
+    moved q h (acts {x = Accept v} w is size follows) fit = walked (most * 1) (omega arith) (acted q (Accept v) w d size follows fit h h.placed.done.1 (λ e. (λ t. t, λ t. t)))
+    moved q h (acts {x = Emit spelling y} w is size follows) fit = walked (most * 1) (omega arith) (acted q (Emit spelling y) w d size follows fit h h.placed.done.1 (λ e. (λ t. t, λ t. t)))
+    moved q h (acts {x = Probe check} w is size follows) fit = walked (most * 1) (omega arith) (acted q (Probe check) w d size follows fit h h.placed.done.1 (λ e. (λ t. t, λ t. t)))
+    moved q h (acts {x = Tell y} w is size follows) fit = walked (most * 1) (omega arith) (acted q (Tell y) w d size follows fit h h.placed.done.1 (λ e. (λ t. t, λ t. t)))
+    moved q h (acts {x = Hear} w is size follows) fit = walked (most * 1) (omega arith) (acted q Hear w d size follows fit h h.placed.done.1 (λ e. (λ t. t, λ t. t)))
+    moved q h (acts {x = Stop y} w is size halts) fit = walked (most * 1) (omega arith) (acted q (Stop y) w d size halts fit h h.placed.done.1 (λ e. absurd cc))
+    moved q h (acts {x = Break} w is size follows) fit = absurd cc
+    moved q h (acts {x = Continue} w is size follows) fit = absurd cc
+    moved q h (acts {x = Call v f xs} w is size follows) fit = absurd cc
+    moved q h (acts {x = Return y} w is size follows) fit = absurd cc
+    moved q h (goes_behind w) fit = walked (most * 1) (omega arith) (behind_moved q w h)
+    moved q h (ends_body w) fit = walked (most * 1) (omega arith) (body_moved q w h)
+    moved q h (ends_step w) fit = walked (most * 1) (omega arith) (step_moved q w h)
+    moved q h (breaks w) fit = walked (most * 1) (omega arith) (break_moved q w h)
+    moved q h (continues w) fit = walked (most * 1) (omega arith) (continue_moved q w h)
+    moved q h (branches w) fit = walked (most * 1) (omega arith) (silent_moved q w h)
+    moved q h (tells w) fit = walked (most * 1) (omega arith) (tells_moved q w h)
+    moved q h (hears w told) fit = walked (most * 1) (omega arith) (hears_moved q w told h)
+    moved q h (enters w) fit = walked (most * 1) (omega arith) (enters_moved q w h)
+    moved q h (calls_it {xs = xs} w size room) fit = walked (most * (4 + length xs)) (many (length xs)) (call_moved q w d size room h)
+      where
+        many : (k : ℕ) → widest + 6 * k ≤ most * (4 + k)
+        many zero = omega arith
+        many (suc k) = (let l = many k in omega (arith, l))
+    moved q h (returns w) fit = walked (most * 1) (omega arith) (return_moved q w h)
+    moved q h (goes_back {env = env} w) fit = walked (most * 3) (omega arith) (back_moved q (env 0) h)
+
+    pub implements : Implements setup p plan.by_a body most A
+    implements = record { moves = moved }

@@ -1,0 +1,136 @@
+-- How long code is doesn't depend on the words at which functions are entered.
+use Rattle.std.proofs.Common.{◌≡◌, ℕ, ◌+◌, Bool, true, false, ◌||◌, List, [], ◌∷◌, ◌++◌, length, refl, ap, sym, ◌∙◌, length-append}
+use Rattle.std.specs.Prelude.{Option, if◌then◌else◌}
+use Rattle.dae_encode.specs.declared.Inst.{Inst}
+use Rattle.dae_ir.specs.Code.{Done, Do, If, Loop}
+use Rattle.dae_ir.specs.Classes.{VariableSet}
+use Rattle.dae_ir.specs.Streams.{Actions}
+use Rattle.dae_ir.specs.declared.form.Check.{Check}
+use Rattle.dae_ir.specs.declared.form.Check.TheVariants.{Place, Zero, Room, Frame, Abort}
+use Rattle.dae_ir.specs.declared.stream.Argument.{Argument}
+use Rattle.dae_ir.specs.declared.stream.Action.{Action}
+use Rattle.dae_ir.specs.declared.stream.Action.TheVariants.{Set as Compute, Issue, Own, Receive, Address, Datum, Offer, Accept, Emit, Probe, Tell, Hear, Stop, Break, Continue, Call, Return}
+use Rattle.dae_select_walks.specs.Live.{Ways, behind, live, nowhere, step_ways, body_ways}
+use Rattle.dae_select_walks.specs.Multiples.{unknown, multiples_behind, is_placed}
+use Rattle.dae_select_walks.specs.Agrees.{Plan}
+use Rattle.dae_select_blocks.specs.Blocks.{arguments_code, argument_code, save_code, deeper_code, check_code, enter_code, jump_words, jump_over, jump_back}
+use Rattle.dae_select_blocks.specs.Sizes.{is_short}
+use Rattle.dae_select_walks.specs.declared.Standing.{Standing}
+use Rattle.dae_select_walks.specs.declared.Standing.TheVariants.{Settled, Early, Late}
+use Rattle.dae_select_blocks.specs.Code.{registers_in, standing_behind, placed_code, block_code, action_code, branch_code, does_nothing, past_code, call_code, code_of, function_code, entry_code}
+
+-- lists with parts that are as long are as long
+pub both_long : (xs xs' ys ys' : List Inst) → length xs ≡ length xs' → length ys ≡ length ys' → length (xs ++ ys) ≡ length (xs' ++ ys')
+both_long xs xs' ys ys' h k = length-append xs ys ∙ (ap (λ (n : ℕ). n + length ys) h ∙ ap (λ (n : ℕ). length xs' + n) k) ∙ sym (length-append xs' ys')
+
+over_long : (short : Bool) (m n : ℕ) → length (jump_over short m) ≡ length (jump_over short n)
+over_long true m n = refl
+over_long false m n = refl
+
+back_long : (short : Bool) (m n : ℕ) → length (jump_back short m) ≡ length (jump_back short n)
+back_long true m n = refl
+back_long false m n = refl
+
+-- the plan with the functions at other words
+abbrev pub at_words : Plan → (ℕ → ℕ) → (ℕ → ℕ) → ℕ → Plan
+at_words p entry start finish = record {
+  by_a = p.by_a;
+  functions = p.functions;
+  home = p.home;
+  entry = entry;
+  start = start;
+  words = p.words;
+  frame = p.frame;
+  finish = finish;
+  largest = p.largest;
+  private = p.private;
+  limit = p.limit;
+  memory = p.memory;
+}
+
+module _ (p : Plan) (entry start : ℕ → ℕ) (finish : ℕ) (variables : ℕ → ℕ) (f : ℕ) where
+  abbrev q : Plan
+  q = at_words p entry start finish
+
+  arguments_same : (g : ℕ) (xs : List Argument) → arguments_code q f g xs ≡ arguments_code p f g xs
+  arguments_same g [] = refl
+  arguments_same g (x ∷ xs) = ap (λ (is : List Inst). is ++ argument_code p f g x) (arguments_same g xs)
+
+  check_same : (check : Check) → check_code q f check ≡ check_code p f check
+  check_same (Place width x) = refl
+  check_same (Zero x) = refl
+  check_same (Room g) = refl
+  check_same Frame = refl
+  check_same Abort = refl
+
+  call_long : (v : Option ℕ) (g : ℕ) (xs : List Argument) (k : VariableSet) → length (call_code q variables f v g xs k) ≡ length (call_code p variables f v g xs k)
+  call_long v g xs k =
+      both_long (arguments_code q f g xs) (arguments_code p f g xs) _ _ (ap length (arguments_same g xs))
+      (both_long (save_code (registers_in (p.home f) (variables f) k)) (save_code (registers_in (p.home f) (variables f) k)) _ _ refl
+      (both_long (deeper_code q f) (deeper_code p f) _ _ refl (both_long (enter_code (entry g)) (enter_code (p.entry g)) _ _ refl refl)))
+
+  module _ (short : Bool) where
+    -- nor on how far jumps lead
+    action_long : (a : Action) (k : VariableSet) (l s m t : ℕ) → length (action_code q variables f a k (jump_over short l) (jump_over short s)) ≡ length (action_code p variables f a k (jump_over short m) (jump_over short t))
+    action_long (Compute v x) k l s m t = refl
+    action_long (Issue kind x) k l s m t = refl
+    action_long (Own v kind x) k l s m t = refl
+    action_long (Receive v) k l s m t = refl
+    action_long (Address width x) k l s m t = refl
+    action_long (Datum x) k l s m t = refl
+    action_long (Offer v) k l s m t = refl
+    action_long (Accept v) k l s m t = refl
+    action_long (Emit spelling x) k l s m t = refl
+    action_long (Probe check) k l s m t = ap length (check_same check)
+    action_long (Tell x) k l s m t = refl
+    action_long Hear k l s m t = refl
+    action_long (Stop x) k l s m t = refl
+    action_long Break k l s m t = over_long short l m
+    action_long Continue k l s m t = over_long short s t
+    action_long (Call v g xs) k l s m t = call_long v g xs _
+    action_long (Return x) k l s m t = refl
+
+    settled_long : (placed : Bool) (a : Action) (k : VariableSet) (l s m t : ℕ) → length (if placed then placed_code (p.home f) a else action_code q variables f a k (jump_over short l) (jump_over short s)) ≡ length (if placed then placed_code (p.home f) a else action_code p variables f a k (jump_over short m) (jump_over short t))
+    settled_long true a k l s m t = refl
+    settled_long false a k l s m t = action_long a k l s m t
+
+    block_long : (placed : Bool) (g : Standing) (a : Action) (g' : Standing) (k : VariableSet) (l s m t : ℕ) → length (block_code q variables f placed g a g' k (jump_over short l) (jump_over short s)) ≡ length (block_code p variables f placed g a g' k (jump_over short m) (jump_over short t))
+    block_long placed Settled a Settled k l s m t = settled_long placed a k l s m t
+    block_long placed Settled a (Early v x) k l s m t = refl
+    block_long placed Settled a (Late v x) k l s m t = refl
+    block_long placed (Early v x) a g' k l s m t = refl
+    block_long placed (Late v x) a g' k l s m t = refl
+
+    code_long : (g : Standing) (known : VariableSet) (code : Actions) (x : Ways) (l s m t : ℕ) → length (code_of short q variables f g known code x l s) ≡ length (code_of short p variables f g known code x m t)
+    code_long g known Done x l s m t = refl
+    code_long g known (Do mark a k) x l s m t = both_long _ _ _ _ (block_long (is_placed known a) g a (standing_behind a k x) (live k x) _ _ _ _) (code_long (standing_behind a k x) (multiples_behind a known) k x l s m t)
+    code_long g known (If mark b y n k) x l s m t =
+        let none = does_nothing y in let none' = none || does_nothing n in
+        let rest = code_of short q variables f Settled unknown k x l s in let rest' = code_of short p variables f Settled unknown k x m t in
+        let second = code_of short q variables f Settled unknown n (behind (live k x) x) (length rest + l) (length rest + s) in
+        let second' = code_of short p variables f Settled unknown n (behind (live k x) x) (length rest' + m) (length rest' + t) in
+        let two : length second ≡ length second' = code_long Settled unknown n (behind (live k x) x) _ _ _ _ in
+        let past = past_code short none' (length second) in let past' = past_code short none' (length second') in
+        let over : length past ≡ length past' = ap (λ (w : ℕ). length (past_code short none' w)) two in
+        let far = length past + length second + length rest in let far' = length past' + length second' + length rest' in
+        let first = code_of short q variables f Settled unknown y (behind (live k x) x) (far + l) (far + s) in
+        let first' = code_of short p variables f Settled unknown y (behind (live k x) x) (far' + m) (far' + t) in
+        let one : length first ≡ length first' = code_long Settled unknown y (behind (live k x) x) _ _ _ _ in
+        let led : (if none then length second else length first + length past) ≡ (if none then length second' else length first' + length past') =
+        ap (λ (w : ℕ). if none then w else length first + length past) two ∙ ap (λ (w : ℕ). if none then length second' else w + length past) one ∙ ap (λ (w : ℕ). if none then length second' else length first' + w) over in
+        both_long (branch_code (p.home f) short b none (if none then length second else length first + length past)) (branch_code (p.home f) short b none (if none then length second' else length first' + length past')) _ _
+        (ap (λ (w : ℕ). length (branch_code (p.home f) short b none w)) led)
+        (both_long first first' _ _ one (both_long past past' _ _ over (both_long second second' _ _ two (code_long Settled unknown k x l s m t))))
+    code_long g known (Loop mark body step k) x l s m t =
+        let rest = code_of short q variables f Settled unknown k x l s in let rest' = code_of short p variables f Settled unknown k x m t in
+        let again = code_of short q variables f Settled unknown step (step_ways body step (live k x)) (jump_words short) 0 in
+        let again' = code_of short p variables f Settled unknown step (step_ways body step (live k x)) (jump_words short) 0 in
+        let turned = code_of short q variables f Settled unknown body (body_ways body step (live k x)) (length again + jump_words short) 0 in
+        let turned' = code_of short p variables f Settled unknown body (body_ways body step (live k x)) (length again' + jump_words short) 0 in
+        let back = jump_back short (length turned + length again) in let back' = jump_back short (length turned' + length again') in
+        both_long turned turned' (again ++ (back ++ rest)) (again' ++ (back' ++ rest')) (code_long Settled unknown body (body_ways body step (live k x)) (length again + jump_words short) 0 (length again' + jump_words short) 0)
+        (both_long again again' (back ++ rest) (back' ++ rest') (code_long Settled unknown step (step_ways body step (live k x)) (jump_words short) 0 (jump_words short) 0)
+        (both_long back back' rest rest' (back_long short (length turned + length again) (length turned' + length again')) (code_long Settled unknown k x l s m t)))
+
+  pub function_long : (code : Actions) → length (function_code q variables f code) ≡ length (function_code p variables f code)
+  function_long code = both_long (entry_code p variables f (live code nowhere)) (entry_code p variables f (live code nowhere)) _ _ refl (both_long _ _ _ _ (code_long (is_short code) Settled unknown code nowhere 0 0 0 0) refl)

@@ -1,0 +1,55 @@
+-- What is settled of a side before its functions have places: homes, frames and private memory.
+use Rattle.std.specs.Prelude.{◌≡◌, ◌⊎◌, ℕ, ◌-◌, ◌*◌, ◌^◌, ◌≤◌, ◌<◌, List, length}
+use Rattle.std.specs.List.{AllByRecursion, AllZip}
+use Rattle.dae_ir.specs.Streams.{actions_of}
+use Rattle.dae_ir.specs.declared.stream.Stream.{Stream}
+use Rattle.dae_ir.specs.declared.stream.StreamFunction.{StreamFunction}
+use Rattle.dae_select_walks.specs.Homes.{AreHomes, frame_words, home_in}
+use Rattle.dae_select_walks.specs.Live.{function_lives}
+use Rattle.dae_regalloc.specs.Seen.{AreBelow}
+use Rattle.dae_select.specs.declared.layouts.FunctionLayout.{FunctionLayout}
+use Rattle.dae_select.specs.declared.layouts.Layouts.{Layouts}
+
+-- the homes are right, and a variable that is live anywhere has one of them. The function is at word 0
+pub record IsLayoutOf (f : StreamFunction) (l : FunctionLayout) : Type 0 where
+  pub count : l.variables ≡ length l.homes
+  pub few : l.variables < 2 ^ 26 - 19
+  pub homes : AreHomes l.variables (function_lives f.parameters (actions_of f.body)) (home_in l.homes)
+  pub inside : AllByRecursion (AreBelow l.variables) (function_lives f.parameters (actions_of f.body))
+  pub least : (n : ℕ) → AllByRecursion (AreBelow n) (function_lives f.parameters (actions_of f.body)) → l.variables ≤ n
+  pub frame : l.frame ≡ f.frame
+  pub entry : l.entry ≡ 0
+
+abbrev pub IsFrameWithin : ℕ → FunctionLayout → Type 0
+IsFrameWithin largest l = frame_words l.variables ≤ largest
+
+-- what is live anywhere in the function is one of its variables, of which there are at most n
+pub record HasAtMost (n : ℕ) (f : StreamFunction) : Type 0 where
+  pub own : AllByRecursion (AreBelow f.variables) (function_lives f.parameters (actions_of f.body))
+  pub few : f.variables ≤ n
+
+-- by so many variables a frame would have too many words
+abbrev pub AreTooMany : List StreamFunction → Type 0
+AreTooMany functions = (n : ℕ) → AllByRecursion (HasAtMost n) functions → 2 ^ 26 ≤ frame_words n
+
+-- with frames for so many variables the deepest calls would need too much private memory, or one frame has too many words
+abbrev pub IsTooDeep : Stream → Type 0
+IsTooDeep stream =
+    (n : ℕ) → AllByRecursion (HasAtMost n) stream.functions → (2 ^ 26 ≤ frame_words n) ⊎ (2 ^ 28 < stream.calls * frame_words n)
+
+-- so many words are no more than those of frames for all variables, in the deepest calls
+abbrev pub IsPrivateWithin : Stream → ℕ → Type 0
+IsPrivateWithin stream words = (n : ℕ) → AllByRecursion (HasAtMost n) stream.functions → words ≤ stream.calls * frame_words n
+
+-- the layouts of a stream's functions, with private memory for the deepest calls of the largest frames
+pub record AreUnplaced (stream : Stream) (all : Layouts) : Type 0 where
+  pub side : all.side ≡ stream.side
+  pub limit : all.limit ≡ stream.calls
+  pub memory : all.memory ≡ stream.memory
+  pub functions : AllZip IsLayoutOf stream.functions all.functions
+  pub frames : AllByRecursion (IsFrameWithin all.largest) all.functions
+  pub least : 19 ≤ all.largest
+  pub most : all.largest < 2 ^ 26
+  pub few : (n : ℕ) → 19 ≤ n → AllByRecursion (IsFrameWithin n) all.functions → all.largest ≤ n
+  pub private : all.private ≡ all.limit * all.largest
+  pub low : all.private ≤ 2 ^ 28

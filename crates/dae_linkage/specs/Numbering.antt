@@ -1,6 +1,0 @@
--- The numbers of names in memory, as plain data.
-use Rattle.dae_file_plans.specs.Files.{Numbers}
-use Rattle.dae_linkage.specs.declared.headers.Numbers.{Numbers as NumbersInMemory}
-
-abbrev pub view_numbers : NumbersInMemory → Numbers
-view_numbers n = record { printf = n.printf; putchar = n.putchar; exit = n.exit; abort = n.abort; main = n.main }

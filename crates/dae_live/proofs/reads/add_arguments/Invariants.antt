@@ -1,7 +1,0 @@
-use Rattle.std.specs.Prelude.{◌≡◌, drop}
-use Rattle.dae_walks.specs.Live.{with_all, in_arguments}
-use Rattle.dae_live.specs.Members.{member}
-use Rattle.dae_live.proofs.reads.add_arguments.Given as goal
-
-abbrev pub invariant-loop-index : goal.invariant-loop-index
-invariant-loop-index l = member l.set ≡ with_all (in_arguments (drop l.index l.arguments)) (member l.fn.set)

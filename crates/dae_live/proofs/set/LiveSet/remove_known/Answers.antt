@@ -1,4 +1,0 @@
-use Rattle.dae_live.proofs.set.LiveSet.remove_known.Goals as goal
-
-pub returns-in-Some : goal.returns-in-Some
-returns-in-Some c = rw c.in-Some.is c.remove.ensures

@@ -1,0 +1,111 @@
+-- The parts of statements make good code: the loops of text and of zeros, items of aggregates, and the search for an arm.
+use Rattle.std.proofs.Common.{ℕ, zero, suc, ◌+◌, ◌<◌, ◌≤◌, ◌^◌, Bool, true, List, [], ◌∷◌, refl, arith}
+use Rattle.std.specs.List.{AllByRecursion}
+use Rattle.dae_base.specs.declared.Place.{Place}
+use Rattle.dae_ir.specs.Classes.{VariableSet, IsWithin}
+use Rattle.dae_ir.specs.SetFirst.{with_set, all_set}
+use Rattle.dae_ir.specs.declared.form.Function.{Function}
+use Rattle.dae_ir.specs.declared.form.Item.TheVariants.{Print}
+use Rattle.dae_ir.specs.declared.form.Operand.{Operand}
+use Rattle.dae_ir.specs.declared.form.Operand.TheVariants.{Number}
+use Rattle.dae_meaning.specs.declared.Spelling.TheVariants.{Byte}
+use Rattle.dae_program.specs.Printing.{argument}
+use Rattle.dae_program.specs.declared.statements.Piece.{Piece}
+use Rattle.dae_program.specs.declared.statements.Piece.TheVariants as piece
+use Rattle.dae_lower.specs.Lowering.{Made, emit, loop, text_loop, prints, zeros}
+use Rattle.dae_lower_formed.specs.Bytes.{IsByte}
+use Rattle.dae_program.specs.SetFirst.{both}
+use Rattle.dae_lower_formed.proofs.Good.{and_true, set_here, set_on, good_wider, operand_wider}
+use Rattle.dae_lower_formed.proofs.Makes.{OperandFits, AllFit, Anything, all_still, number_fits, Makes, chain, nothing_makes, item_makes}
+
+argument_fits : (n : ℕ) (d : VariableSet) (xs : List Operand) (k : ℕ) → AllFit n d xs → OperandFits n d (argument (Number 0) xs k)
+argument_fits n d [] k h = number_fits n d 0 (omega arith)
+argument_fits n d (x ∷ xs) zero h = h.0
+argument_fits n d (x ∷ xs) (suc k) h = argument_fits n d xs k h.1
+
+module _ (functions : List Function) {i r : Bool} where
+  -- a loop, behind which nothing more is known
+  pub loop_makes : {n m : ℕ} {d b c e : VariableSet} {body : Made (Unit {0})} (p : Place) (step : ℕ → Made (Unit {0})) → m ≤ n → IsWithin c d → Makes functions true r Anything n d b body →
+      ((q : ℕ) → m ≤ q → Makes functions true r Anything q d e (step q)) → Makes functions i r Anything n d c (loop p body step)
+  loop_makes {n} {m} {d} {b} {c} {e} {body} p step j w h next = record {
+    grows = omega (arith, h.grows, second.grows);
+    good = (good_wider functions true r body.next (step body.next).next second.grows body.code d h.good, second.good, tt);
+    sets = w;
+    given = tt;
+  } where
+    second : Makes functions true r Anything body.next d e (step body.next)
+    second = next body.next (omega (arith, j, h.grows))
+
+  -- ---- printing
+
+  pub text_makes : {n m : ℕ} {d c : VariableSet} (p : Place) (x : Operand) → 0 < m → m ≤ n → IsWithin c d → OperandFits n d x → Makes functions i r Anything n d c (text_loop p x n)
+  text_makes {n} {m} {d} {c} p x some j w h =
+      let at = with_set n d in
+      let byte = with_set (n + 1) at in
+      let here = set_here n d in
+      let there = set_here (n + 1) at in
+      record {
+        grows = omega arith;
+        good = (
+          (refl, ((omega (arith, some, j), omega arith), operand_wider functions n (n + 2) (omega arith) x h.0), h.1),
+          (
+            (
+              (refl, omega arith, here),
+              (
+                (refl, ((omega arith, omega arith), omega arith), here),
+                (
+                  ((omega arith, omega arith), and_true (byte (n + 1)) true there refl),
+                  tt,
+                  ((refl, tt, tt), tt),
+                  ((refl, omega arith, and_true (byte (n + 1)) true there refl), tt),
+                ),
+              ),
+            ),
+            ((refl, ((omega (arith, some, j), omega arith), (omega arith, omega arith)), and_true (at n) true here refl), tt),
+            tt,
+          ),
+        );
+        sets = λ v z. set_on n d v (w v z);
+        given = tt;
+      }
+
+  pub prints_make : {m : ℕ} {c : VariableSet} (p : Place) (ps : List Piece) (xs : List Operand) → AllByRecursion IsByte ps → 0 < m → (n : ℕ) (d : VariableSet) → m ≤ n → IsWithin c d → AllFit n d xs → Makes functions i r Anything n d c (prints p ps xs n)
+  prints_make p [] xs h some n d j w g = nothing_makes functions tt w tt
+  prints_make p (piece.Byte b ∷ ps) xs h some n d j w g =
+      chain functions (λ x. prints p ps xs) j (item_makes functions p (Print Byte (Number b)) w (refl, (let k = h.0 in omega (arith, k)), refl))
+      (λ q e y k o t u x. prints_make p ps xs h.1 some q e k u (all_still n q d e o t xs g))
+  prints_make p (piece.Word spelling a ∷ ps) xs h some n d j w g =
+      let x = argument_fits n d xs a g in
+      chain functions (λ x. prints p ps xs) j (item_makes functions p (Print spelling (argument (Number 0) xs a)) w (refl, x.0, x.1))
+      (λ q e y k o t u x. prints_make p ps xs h.1 some q e k u (all_still n q d e o t xs g))
+  prints_make p (piece.String a ∷ ps) xs h some n d j w g =
+      chain functions (λ x. prints p ps xs) j (text_makes p (argument (Number 0) xs a) some j w (argument_fits n d xs a g))
+      (λ q e y k o t u x. prints_make p ps xs h.1 some q e k u (all_still n q d e o t xs g))
+
+  -- ---- aggregates
+
+  pub zeros_make : {n m : ℕ} {d c : VariableSet} (p : Place) (offset size : ℕ) → 0 < m → m ≤ n → IsWithin c d → offset < 2 ^ 32 → size < 2 ^ 32 → Makes functions i r Anything (n + 1) d c (emit (zeros p offset size n) (n + 3))
+  zeros_make {n} {m} {d} {c} p offset size some j w h g =
+      let start = with_set (n + 2) d in
+      let count = with_set (n + 1) start in
+      let started = set_on (n + 1) start (n + 2) (set_here (n + 2) d) in
+      let counted = set_here (n + 1) start in
+      let inside = both count all_set in
+      let began = and_true (count (n + 2)) true started refl in
+      let came = and_true (count (n + 1)) true counted refl in
+      record {
+        grows = omega arith;
+        good = (
+          (refl, ((omega arith, omega arith), h), refl),
+          (
+            (refl, ((omega arith, omega arith), omega arith), refl),
+            (
+              (((omega arith, g), came), tt, ((refl, tt, tt), tt), ((refl, ((omega (arith, some, j), omega arith), (omega arith, omega arith)), and_true (inside (n + 2)) (inside (n + 1)) began came), ((refl, (omega arith, omega arith), (set_here n inside, refl)), tt))),
+              ((refl, ((omega arith, omega arith), (omega arith, omega arith)), came), tt),
+              tt,
+            ),
+          ),
+        );
+        sets = λ v z. set_on (n + 1) start v (set_on (n + 2) d v (w v z));
+        given = tt;
+      }

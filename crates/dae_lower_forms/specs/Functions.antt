@@ -1,0 +1,39 @@
+-- The form of a function, where its file has these links, and of a parameter that is stored in the frame.
+use Rattle.std.specs.Prelude.{◌≡◌, ℕ, ◌+◌, Bool, length, Some}
+use Rattle.dae_base.specs.declared.Place.{Place}
+use Rattle.dae_lower_formed.specs.Formed.{form_variables}
+use Rattle.dae_ir.specs.Code.{Do}
+use Rattle.dae_ir.specs.Form.{form_of}
+use Rattle.dae_ir.specs.declared.form.Function.{Function as FormFunction}
+use Rattle.dae_ir.specs.declared.form.Item.TheVariants.{Assign, Store}
+use Rattle.dae_ir.specs.declared.form.Operand.TheVariants.{Variable}
+use Rattle.dae_ir.specs.declared.form.Value.TheVariants.{FrameAddress}
+use Rattle.dae_lower.specs.Lowering.{Made, emit, function_code, one}
+use Rattle.dae_program.specs.declared.program.Function.{Function}
+use Rattle.dae_program.specs.declared.program.Links.{Links}
+use Rattle.dae_program.specs.declared.program.Slot.{Slot}
+use Rattle.dae_program.specs.Resolved.{address_in, callee_in}
+use Rattle.dae_program.specs.Trees as tree
+use Rattle.dae_program.specs.Views.{view_statements}
+
+-- a function as plain data
+abbrev pub linked : (none : ℕ) → Links → Function → tree.Function
+linked none links f = record {
+  address = address_in (Some links);
+  callee = callee_in none (Some links);
+  parameters = f.parameters;
+  frame = f.frame;
+  body = view_statements f.body;
+}
+
+pub record IsFormWith (none : ℕ) (links : Links) (is_main : Bool) (f : Function) (g : FormFunction) : Type 0 where
+  pub name : g.name ≡ f.name
+  pub parameters : g.parameters ≡ length f.parameters
+  pub variables : g.variables ≡ form_variables f.place (linked none links f) f.variables
+  pub frame : g.frame ≡ f.frame
+  pub body : form_of g.body ≡ function_code f.place is_main (linked none links f) f.variables
+
+-- a variable is stored in the frame, whose address is in the next one
+abbrev pub slot_stored : Place → (variable : ℕ) → Slot → ℕ → Made (Unit {0})
+slot_stored p v slot n =
+    emit (Do p (Assign n (FrameAddress slot.offset)) (one p (Store slot.width (Variable n) (Variable v)))) (n + 1)

@@ -1,0 +1,9 @@
+use Rattle.dae_base.specs.Words.{width_of}
+use Rattle.dae_ir.specs.declared.form.Check.TheVariants.{Place}
+use Rattle.dae_ir.specs.declared.form.Item.TheVariants.{Expect, Store}
+use Rattle.dae_lower_maker.specs.Making.{so_far}
+use Rattle.dae_lower_maker.proofs.Rows.{checked_item}
+use Rattle.dae_lower_maker.proofs.maker.Maker.store.Goals as goal
+
+pub returns : goal.returns
+returns c = checked_item c.args.checked c.args.place (Expect (Place (width_of c.args.kind) c.args.x)) (Store (width_of c.args.kind) c.args.x c.args.y) (so_far c.args.self.now) (so_far c.item_if.new.self) (so_far c.item.new.self) _ _ c.args.y (rw (c.width.ensures) at (c.in_ok-item_if.ensures)) (rw (c.width-2.ensures) at (c.in_ok-item.ensures))

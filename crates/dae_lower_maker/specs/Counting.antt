@@ -1,0 +1,31 @@
+-- How often variables are assigned: a number for each.
+use Rattle.std.specs.Prelude.{◌≡◌, ℕ, ◌+◌, not, nat_eq, if◌then◌else◌, slice_index}
+use Rattle.dae_ir.specs.Classes.{VariableSet}
+use Rattle.dae_lower_maker.specs.declared.later.Later.{Later}
+use Rattle.dae_lower_maker.specs.declared.later.Change.{Change}
+use Rattle.dae_lower_maker.specs.declared.later.Change.TheVariants.{Add, Remove}
+
+abbrev pub Counts : Type 0
+Counts = ℕ → ℕ
+
+abbrev pub never : Counts
+never v = 0
+
+abbrev pub once : ℕ → Counts
+once u v = if nat_eq v u then 1 else 0
+
+-- together
+abbrev pub both : Counts → Counts → Counts
+both c d v = c v + d v
+
+-- the variables that are assigned at all
+abbrev pub is_counted : Counts → VariableSet
+is_counted c v = not (nat_eq (c v) 0)
+
+abbrev pub counts_of : Later → Counts
+counts_of later = slice_index later.counts.items
+
+-- some assignments are added to those before, or are removed from those before, among which they are
+abbrev pub Changes : Change → Counts → Counts → Counts → Type 0
+Changes Add some old new = new ≡ both old some
+Changes Remove some old new = (rest : Counts) → old ≡ both rest some → new ≡ rest

@@ -1,0 +1,72 @@
+-- What a maker has written so far, and how it goes on.
+use Rattle.std.specs.Prelude.{◌≡◌, ℕ, ◌+◌, Bool, List, if◌then◌else◌}
+use Rattle.dae_ir.specs.Code.{Done, Do, If}
+use Rattle.dae_ir.specs.Form.{Form, form_of}
+use Rattle.dae_lower_maker.specs.declared.maker.Maker.{Maker}
+use Rattle.dae_lower_maker.specs.declared.maker.Spot.{Spot}
+use Rattle.dae_lower_maker.specs.declared.maker.Condition.{Condition}
+use Rattle.dae_lower_maker.specs.declared.maker.Spot.TheVariants as spot
+use Rattle.dae_base.specs.declared.LoadKind.{LoadKind}
+use Rattle.dae_base.specs.declared.Place.{Place}
+use Rattle.dae_ir.specs.declared.form.Item.TheVariants.{Load, Expect, Call}
+use Rattle.dae_ir.specs.declared.form.Check.TheVariants.{Room}
+use Rattle.dae_ir.specs.declared.form.Operand.{Operand}
+use Rattle.dae_ir.specs.declared.form.Operand.TheVariants.{Variable}
+use Rattle.dae_lower.specs.Lowering.{Made, only, one, nothing, operated, narrowed, ◌⨾◌, ◌≫◌}
+use Rattle.dae_meaning.specs.declared.Operator.{Operator}
+use Rattle.dae_lower.specs.Lowering as form
+
+-- the form so far, and the next variable
+pub record Written : Type 0 where
+  pub code : Form
+  pub next : ℕ
+
+abbrev pub so_far : Maker → Written
+so_far maker = record { code = form_of maker.statements.items; next = maker.next }
+
+-- what is made stands behind what was written
+pub record Writes {Y : Type 0} (what : Made Y) (old new : Written) (y : Y) : Type 0 where
+  pub code : new.code ≡ old.code ⨾ what.code
+  pub given : y ≡ what.given
+  pub next : new.next ≡ what.next
+
+-- a maker appends what is made from its next variable on
+abbrev pub Appends : {Y : Type 0} → (ℕ → Made Y) → Maker → Maker → Y → Type 0
+Appends made old new y = Writes (made old.next) (so_far old) (so_far new) y
+
+abbrev pub spot_of : Spot → form.Spot
+spot_of (spot.Variable v) = form.Local v
+spot_of (spot.Object checked x) = form.Placed checked x
+
+-- a load into the next variable
+abbrev pub loaded_next : Place → LoadKind → Operand → ℕ → Made Operand
+loaded_next place kind x n = only (one place (Load n kind x)) (Variable n) (n + 1)
+
+-- what an assigned place holds, where the flag says whether a variable is copied
+abbrev pub held_in : Place → LoadKind → Bool → Spot → ℕ → Made Operand
+held_in place kind flag spot = form.held place kind (λ v. flag) (spot_of spot)
+
+-- an assigned place gets an operand and a number
+abbrev pub advanced_in : Place → LoadKind → (change : ℕ) → Spot → Operand → ℕ → Made Operand
+advanced_in place kind change spot x = form.advanced place kind change (spot_of spot) x
+
+abbrev pub condition_of : Condition → form.Condition
+condition_of c = record { test = c.test; turned = c.turned }
+
+-- the branches of a condition, as the form has them
+abbrev pub forked : Place → form.Condition → (p q : Form) → Form
+forked place c p q = if c.turned then If place c.test q p Done else If place c.test p q Done
+
+-- a call into the next variable, behind its check
+abbrev pub called_with : Place → (function : ℕ) → List Operand → ℕ → Made Operand
+called_with place f xs n = only (Do place (Expect (Room f)) (one place (Call n f xs))) (Variable n) (n + 1)
+
+-- an assigned place gets the result of an operation on what it held and an operand, narrowed to its type
+abbrev pub updated_in : Place → LoadKind → Operator → Spot → (x y : Operand) → ℕ → Made Operand
+updated_in place kind operator spot x y n =
+    operated place operator x y n ≫ λ z n. narrowed place kind z n ≫ form.put_in place kind (spot_of spot)
+
+-- one more or less, where the flag says whether the old value is a copy
+abbrev pub stepped_in : Place → LoadKind → (change : ℕ) → (new flag : Bool) → Spot → ℕ → Made Operand
+stepped_in place kind change new flag spot n =
+    held_in place kind flag spot n ≫ λ x n. advanced_in place kind change spot x n ≫ λ y. nothing (if new then y else x)

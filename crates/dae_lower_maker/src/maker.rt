@@ -1,0 +1,451 @@
+// Statements so far, and single items behind them.
+
+use crate::later::one_more;
+use dae_base::{Items, LoadKind, Place};
+use dae_ir::{Check, Item, Operand, Statement, Test, Value};
+use dae_meaning::{Comparison, Operator};
+use std::alloc::{AllocError, Global};
+
+/// The statements so far, and the next variable that isn't used yet.
+#[derive(Drop)]
+pub struct Maker {
+    statements: Vec<Statement>,
+    next: u32,
+}
+
+/// What is assigned: a variable, or the object at an address, which may have to be checked.
+#[derive(Clone, Copy, PartialEq, Eq, Debug)]
+pub enum Spot {
+    Variable(u32),
+    Object(bool, Operand),
+}
+
+/// A test that decides by holding, or by not holding.
+#[derive(Clone, Copy, PartialEq, Eq, Debug)]
+pub struct Condition {
+    pub test: Test,
+    pub turned: bool,
+}
+
+fn divides(operator: Operator) -> bool
+    ensures { result ≡ divides operator }
+{
+    matches!(
+        operator,
+        Operator::DivideSigned
+            | Operator::DivideUnsigned
+            | Operator::RemainderSigned
+            | Operator::RemainderUnsigned
+    )
+}
+
+ghost use Rattle.std.specs.Prelude.{◌≡◌, ◌&&◌, IfOk};
+ghost use Rattle.dae_program.specs.Expressions.{divides};
+ghost use Rattle.dae_lower.specs.Lowering.{may_be_zero, related};
+
+fn may_be_zero(x: Operand) -> bool
+    ensures { result ≡ may_be_zero x }
+{
+    match x {
+        Operand::Variable(_) => true,
+        Operand::Number(number) => number == 0,
+    }
+}
+
+/// A comparison of two operands, or of the second with the first.
+pub fn related(comparison: Comparison, turned: bool, x: Operand, y: Operand) -> Test
+    ensures { result ≡ related comparison turned x y }
+{
+    if turned {
+        Test {
+            comparison,
+            left: y,
+            right: x,
+        }
+    } else {
+        Test {
+            comparison,
+            left: x,
+            right: y,
+        }
+    }
+}
+
+fn is_checked(operator: Operator, y: Operand) -> bool
+    ensures { result ≡ (divides operator && may_be_zero y) }
+{
+    divides(operator) && may_be_zero(y)
+}
+
+impl Maker {
+    ghost use Rattle.std.specs.Prelude.{◌+◌, ◌++◌};
+    ghost use Rattle.dae_ir.specs.Code.{Done, If, Loop};
+    ghost use Rattle.dae_ir.specs.Form.{form_of};
+    ghost use Rattle.dae_ir.specs.declared.form.Value.TheVariants.{Holds};
+    ghost use Rattle.dae_lower.specs.Lowering.{checks, emit, fetched, narrowed, one, only, operated};
+    ghost use Rattle.dae_lower.specs.Lowering.{put_in, set, variable, Placed};
+    ghost use Rattle.dae_lower_maker.specs.Making.{Appends, advanced_in, called_with, condition_of};
+    ghost use Rattle.dae_lower_maker.specs.Making.{forked, held_in, loaded_next, so_far, spot_of};
+    ghost use Rattle.dae_lower_maker.specs.Making.{stepped_in, updated_in};
+
+    /// No statements yet, of a function with so many variables.
+    pub fn new(alloc: Global, variables: u32) -> Maker
+        ensures { so_far result ≡ record { code = Done; next = variables } }
+    {
+        Maker {
+            statements: Vec::new(alloc),
+            next: variables,
+        }
+    }
+
+    /// The next variable that isn't used yet.
+    pub fn next(&self) -> u32
+        ensures { result ≡ self.now.next }
+    {
+        self.next
+    }
+
+    /// Appends an item.
+    pub fn item(&mut self, place: Place, item: Item) -> Result<(), AllocError>
+        ensures { IfOk result (Appends (only (one place item) tt) self.old self.new) }
+    {
+        self.statements.push(Statement::Simple(place, item))?;
+        Ok(())
+    }
+
+    /// Appends an item where the flag says so.
+    fn item_if(&mut self, flag: bool, place: Place, item: Item) -> Result<(), AllocError>
+        ensures { IfOk result (Appends (only (checks flag place item Done) tt) self.old self.new) }
+    {
+        if flag {
+            self.item(place, item)?;
+        }
+        Ok(())
+    }
+
+    /// Sets the next variable.
+    pub fn set(&mut self, place: Place, value: Value) -> Result<Operand, AllocError>
+        ensures { IfOk result (Appends (set place value) self.old self.new) }
+    {
+        let variable = self.next;
+        let next = one_more(variable)?;
+        self.item(place, Item::Assign(variable, value))?;
+        self.next = next;
+        Ok(Operand::Variable(variable))
+    }
+
+    /// Loads the next variable.
+    fn load(&mut self, place: Place, kind: LoadKind, x: Operand) -> Result<Operand, AllocError>
+        ensures { IfOk result (Appends (loaded_next place kind x) self.old self.new) }
+    {
+        let variable = self.next;
+        let next = one_more(variable)?;
+        self.item(place, Item::Load(variable, kind, x))?;
+        self.next = next;
+        Ok(Operand::Variable(variable))
+    }
+
+    /// An operation, behind a check where the second operand may be a zero that it divides by.
+    pub fn operated(
+        &mut self,
+        place: Place,
+        operator: Operator,
+        x: Operand,
+        y: Operand,
+    ) -> Result<Operand, AllocError>
+        ensures { IfOk result (Appends (operated place operator x y) self.old self.new) }
+    {
+        let flag = is_checked(operator, y);
+        self.item_if(flag, place, Item::Expect(Check::Zero(y)))?;
+        let z = self.set(place, Value::Binary(operator, x, y))?;
+        Ok(z)
+    }
+
+    /// The value of the object at an address, behind a check where the flag says so.
+    pub fn fetched(
+        &mut self,
+        place: Place,
+        kind: LoadKind,
+        checked: bool,
+        x: Operand,
+    ) -> Result<Operand, AllocError>
+        ensures { IfOk result (Appends (fetched place kind checked x) self.old self.new) }
+    {
+        self.item_if(checked, place, Item::Expect(Check::Place(kind.width(), x)))?;
+        let z = self.load(place, kind, x)?;
+        Ok(z)
+    }
+
+    /// A word of a narrower type.
+    pub fn narrowed(
+        &mut self,
+        place: Place,
+        kind: LoadKind,
+        x: Operand,
+    ) -> Result<Operand, AllocError>
+        ensures { IfOk result (Appends (narrowed place kind x) self.old self.new) }
+    {
+        match kind {
+            LoadKind::I32 => Ok(x),
+            LoadKind::I8 | LoadKind::U8 | LoadKind::I16 | LoadKind::U16 => {
+                let z = self.set(place, Value::Extended(kind, x))?;
+                Ok(z)
+            }
+        }
+    }
+
+    /// A variable's value, in a copy where the flag says so.
+    pub fn variable(&mut self, copied: bool, place: Place, v: u32) -> Result<Operand, AllocError>
+        ensures { IfOk result (Appends (variable copied place v) self.old self.new) }
+    {
+        if copied {
+            let x = self.set(place, Value::Same(Operand::Variable(v)))?;
+            Ok(x)
+        } else {
+            Ok(Operand::Variable(v))
+        }
+    }
+
+    /// Stores a word at an address, behind a check where the flag says so.
+    fn store(
+        &mut self,
+        place: Place,
+        kind: LoadKind,
+        checked: bool,
+        x: Operand,
+        y: Operand,
+    ) -> Result<Operand, AllocError>
+        ensures { IfOk result (Appends (put_in place kind (Placed checked x) y) self.old self.new) }
+    {
+        self.item_if(checked, place, Item::Expect(Check::Place(kind.width(), x)))?;
+        self.item(place, Item::Store(kind.width(), x, y))?;
+        Ok(y)
+    }
+
+    /// What is assigned gets a value, which is given.
+    pub fn put_in(
+        &mut self,
+        place: Place,
+        kind: LoadKind,
+        spot: Spot,
+        y: Operand,
+    ) -> Result<Operand, AllocError>
+        ensures { IfOk result (Appends (put_in place kind (spot_of spot) y) self.old self.new) }
+    {
+        match spot {
+            Spot::Variable(v) => {
+                self.item(place, Item::Assign(v, Value::Same(y)))?;
+                Ok(y)
+            }
+            Spot::Object(checked, x) => {
+                let z = self.store(place, kind, checked, x, y)?;
+                Ok(z)
+            }
+        }
+    }
+
+    /// What an assigned place holds. A variable's value is a copy where the flag says so.
+    pub fn held(
+        &mut self,
+        place: Place,
+        kind: LoadKind,
+        flag: bool,
+        spot: Spot,
+    ) -> Result<Operand, AllocError>
+        ensures { IfOk result (Appends (held_in place kind flag spot) self.old self.new) }
+    {
+        match spot {
+            Spot::Variable(v) => {
+                let x = self.variable(flag, place, v)?;
+                Ok(x)
+            }
+            Spot::Object(checked, x) => {
+                let z = self.fetched(place, kind, checked, x)?;
+                Ok(z)
+            }
+        }
+    }
+
+    /// What is assigned gets an operand and a number, narrowed to its type.
+    pub fn advanced(
+        &mut self,
+        place: Place,
+        kind: LoadKind,
+        change: u32,
+        spot: Spot,
+        x: Operand,
+    ) -> Result<Operand, AllocError>
+        ensures { IfOk result (Appends (advanced_in place kind change spot x) self.old self.new) }
+    {
+        let z = self.set(
+            place,
+            Value::Binary(Operator::Add, x, Operand::Number(change)),
+        )?;
+        let w = self.narrowed(place, kind, z)?;
+        let y = self.put_in(place, kind, spot, w)?;
+        Ok(y)
+    }
+
+    /// What is assigned gets the result of an operation on what it held and an operand, narrowed to its type.
+    pub fn updated(
+        &mut self,
+        place: Place,
+        kind: LoadKind,
+        operator: Operator,
+        spot: Spot,
+        x: Operand,
+        y: Operand,
+    ) -> Result<Operand, AllocError>
+        ensures { IfOk result
+            (Appends (updated_in place kind operator spot x y) self.old self.new) }
+    {
+        let z = self.operated(place, operator, x, y)?;
+        let w = self.narrowed(place, kind, z)?;
+        let result = self.put_in(place, kind, spot, w)?;
+        Ok(result)
+    }
+
+    /// What is assigned gets a number more, and the new value is given or the old one, which is a copy where the flag says
+    /// so.
+    pub fn stepped(
+        &mut self,
+        place: Place,
+        kind: LoadKind,
+        change: u32,
+        new: bool,
+        flag: bool,
+        spot: Spot,
+    ) -> Result<Operand, AllocError>
+        ensures { IfOk result
+            (Appends (stepped_in place kind change new flag spot) self.old self.new) }
+    {
+        let x = self.held(place, kind, flag, spot)?;
+        let y = self.advanced(place, kind, change, spot, x)?;
+        Ok(if new { y } else { x })
+    }
+
+    /// 1 where the comparison of two operands holds, and else 0. The flag says that they are compared the other way round.
+    pub fn compared(
+        &mut self,
+        place: Place,
+        comparison: Comparison,
+        turned: bool,
+        x: Operand,
+        y: Operand,
+    ) -> Result<Operand, AllocError>
+        ensures { IfOk result
+            (Appends (set place (Holds (related comparison turned x y))) self.old self.new) }
+    {
+        let z = self.set(place, Value::Holds(related(comparison, turned, x, y)))?;
+        Ok(z)
+    }
+
+    /// A call of a function, behind the check that there is room for it.
+    pub fn called(
+        &mut self,
+        place: Place,
+        function: u32,
+        arguments: Items<Operand>,
+    ) -> Result<Operand, AllocError>
+        ensures { IfOk result (Appends (called_with place function arguments) self.old self.new) }
+    {
+        let variable = self.next;
+        let next = one_more(variable)?;
+        self.item(place, Item::Expect(Check::Room(function)))?;
+        self.item(place, Item::Call(variable, function, arguments))?;
+        self.next = next;
+        Ok(Operand::Variable(variable))
+    }
+
+    /// Leaves the next variable to what comes.
+    pub fn reserve(&mut self) -> Result<u32, AllocError>
+        ensures given { IfOk result (λ v. v ≡ self.old.next) }
+        ensures after { IfOk result
+            (λ v. so_far self.new
+            ≡ record { code = form_of self.old.statements.items; next = v + 1 }) }
+    {
+        let variable = self.next;
+        self.next = one_more(variable)?;
+        Ok(variable)
+    }
+
+    /// Begins a block, and gives the statements before it.
+    pub fn begin_block(&mut self, alloc: Global) -> Vec<Statement>
+        ensures outer { form_of result.items ≡ form_of self.old.statements.items }
+        ensures after { so_far self.new ≡ record { code = Done; next = self.old.next } }
+    {
+        std::mem::replace(&mut self.statements, Vec::new(alloc))
+    }
+
+    /// Ends a block, which is given, and goes on behind the statements before it.
+    pub fn end_block(&mut self, outer: Vec<Statement>) -> Vec<Statement>
+        ensures block { form_of result.items ≡ form_of self.old.statements.items }
+        ensures after { so_far self.new
+            ≡ record { code = form_of outer.items; next = self.old.next } }
+    {
+        std::mem::replace(&mut self.statements, outer)
+    }
+
+    fn choice(
+        &mut self,
+        place: Place,
+        test: Test,
+        yes: Vec<Statement>,
+        no: Vec<Statement>,
+    ) -> Result<(), AllocError>
+        ensures { IfOk result
+            (Appends
+            (emit (If place test (form_of yes.items) (form_of no.items) Done)) self.old self.new) }
+    {
+        self.statements.push(Statement::If(place, test, yes, no))?;
+        Ok(())
+    }
+
+    /// The branches of a condition.
+    pub fn branch(
+        &mut self,
+        place: Place,
+        condition: Condition,
+        yes: Vec<Statement>,
+        no: Vec<Statement>,
+    ) -> Result<(), AllocError>
+        ensures { IfOk result
+            (Appends
+            (emit (forked place (condition_of condition) (form_of yes.items)
+            (form_of no.items))) self.old self.new) }
+    {
+        if condition.turned {
+            self.choice(place, condition.test, no, yes)?;
+            Ok(())
+        } else {
+            self.choice(place, condition.test, yes, no)?;
+            Ok(())
+        }
+    }
+
+    /// A loop of a body and a step.
+    pub fn repeat(
+        &mut self,
+        place: Place,
+        body: Vec<Statement>,
+        step: Vec<Statement>,
+    ) -> Result<(), AllocError>
+        ensures { IfOk result
+            (Appends
+            (emit (Loop place (form_of body.items) (form_of step.items) Done)) self.old self.new) }
+    {
+        self.statements.push(Statement::Loop(place, body, step))?;
+        Ok(())
+    }
+
+    /// All statements, of a maker that is done.
+    pub fn into_statements(self) -> Vec<Statement>
+        ensures { form_of result.items ≡ form_of self.statements.items }
+    {
+        let Maker {
+            statements,
+            next: _,
+        } = self;
+        statements
+    }
+}

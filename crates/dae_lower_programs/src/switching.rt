@@ -1,0 +1,269 @@
+// Where a switch begins (C90 6.6.4.2).
+
+ghost use Rattle.std.specs.Prelude.{◌≡◌, [], ◌∷◌, IfOk, None};
+ghost use Rattle.dae_ir.specs.Code.{Do, Done, If};
+ghost use Rattle.dae_ir.specs.Form.{before, form_of, Form};
+ghost use Rattle.dae_lower.specs.Lowering.{arms_continue, emit, one, search, search_labels, test_of, where_so, ◌⨾◌};
+ghost use Rattle.dae_lower_programs.specs.Made.{arms_of};
+ghost use Rattle.dae_lower_programs.specs.Parts.{label_then};
+ghost use Rattle.dae_ir.specs.declared.form.Item.TheVariants.{Assign, Break, Continue};
+ghost use Rattle.dae_ir.specs.declared.form.Operand.TheVariants.{Number, Variable};
+ghost use Rattle.dae_ir.specs.declared.form.Value.TheVariants.{Same};
+ghost use Rattle.dae_lower_expressions.specs.Lowered.{MakesWhole};
+ghost use Rattle.dae_lower_programs.specs.Switching.{arm_done, switch_begun, switch_ended};
+ghost use Rattle.dae_meaning.specs.declared.Comparison.TheVariants.{NotEqual};
+ghost use Rattle.dae_program.specs.Switches.{arm_with, count_arms, has_label};
+
+use crate::blocks::single;
+use dae_base::Place;
+use dae_ir::{Item, Operand, Statement, Test, Value};
+use dae_lower_expressions::Lowerer;
+use dae_lower_maker::{Condition, one_more};
+use dae_meaning::Comparison;
+use dae_program::Arm;
+use std::alloc::{AllocError, Global};
+
+/// Whether a label is `default`.
+fn is_default(label: &Option<u32>) -> bool
+    ensures { result ≡ has_label None (label.now ∷ []) }
+{
+    label.is_none()
+}
+
+/// Whether `default` is among some labels.
+fn has_default(labels: &[Option<u32>]) -> bool
+    ensures { result ≡ has_label None labels.now }
+{
+    for label in labels {
+        if is_default(label) {
+            return true;
+        }
+    }
+    false
+}
+
+/// The number of the arm with `default`, and where there is none of the end.
+pub fn default_arm(arms: &[Arm]) -> Result<u32, AllocError>
+    ensures { IfOk result
+        (λ k. k ≡ arm_with None 0 (arms_of arms.now) (count_arms (arms_of arms.now))) }
+{
+    let mut number = 0;
+    for arm in arms {
+        if has_default(&arm.labels) {
+            return Ok(number);
+        }
+        number = one_more(number)?;
+    }
+    Ok(number)
+}
+
+/// Where the value equals a label, the search ends, and the arm of this number is the first.
+fn label_branch(
+    alloc: Global,
+    place: Place,
+    x: Operand,
+    v: u32,
+    number: u32,
+    label: u32,
+) -> Result<Statement, AllocError>
+    ensures { IfOk result (λ s. (k : Form) → before s k ≡ label_then place x v number label k) }
+{
+    let test = Test {
+        comparison: Comparison::Equal,
+        left: x,
+        right: Operand::Number(label),
+    };
+    let value = Value::Same(Operand::Number(number));
+    let mut found = Vec::new(alloc);
+    found.push(Statement::Simple(place, Item::Assign(v, value)))?;
+    found.push(Statement::Simple(place, Item::Break))?;
+    Ok(Statement::If(place, test, found, Vec::new(alloc)))
+}
+
+/// Whether a label leads to the arm of a number is asked.
+fn search_label(
+    alloc: Global,
+    block: &mut Vec<Statement>,
+    place: Place,
+    x: Operand,
+    v: u32,
+    number: u32,
+    label: &Option<u32>,
+) -> Result<(), AllocError>
+    ensures { IfOk result
+        (λ u. (rest : Form)
+        → (form_of block.new.items ⨾ rest)
+        ≡ (form_of block.old.items ⨾ search_labels place x v number (label.now ∷ []) rest)) }
+{
+    match label {
+        Some(label) => {
+            let branch = label_branch(alloc, place, x, v, number, *label)?;
+            block.push(branch)?;
+            Ok(())
+        }
+        None => Ok(()),
+    }
+}
+
+/// Whether one of some labels leads to the arm of a number is asked.
+fn search_labels(
+    alloc: Global,
+    block: &mut Vec<Statement>,
+    place: Place,
+    x: Operand,
+    v: u32,
+    number: u32,
+    labels: &[Option<u32>],
+) -> Result<(), AllocError>
+    ensures { IfOk result
+        (λ u. (rest : Form)
+        → (form_of block.new.items ⨾ rest)
+        ≡ (form_of block.old.items ⨾ search_labels place x v number labels.now rest)) }
+{
+    for label in labels {
+        search_label(alloc, block, place, x, v, number, label)?;
+    }
+    Ok(())
+}
+
+/// The search for the first arm, whose number a variable gets.
+pub fn search(
+    alloc: Global,
+    place: Place,
+    x: Operand,
+    v: u32,
+    arms: &[Arm],
+) -> Result<Vec<Statement>, AllocError>
+    ensures { IfOk result (λ block. form_of block.items ≡ search place x v 0 (arms_of arms.now)) }
+{
+    let mut block = Vec::new(alloc);
+    let mut number = 0;
+    for arm in arms {
+        search_labels(alloc, &mut block, place, x, v, number, &arm.labels)?;
+        number = one_more(number)?;
+    }
+    block.push(Statement::Simple(place, Item::Break))?;
+    Ok(block)
+}
+
+/// Nothing has continued the loop outside yet, where the flag says that something may.
+fn clear(lowerer: &mut Lowerer, place: Place, flag: u32, goes_on: bool) -> Result<(), AllocError>
+    ensures { IfOk result
+        (MakesWhole
+        (emit (where_so goes_on
+        (one place (Assign flag (Same (Number 0)))))) lowerer.old lowerer.new) }
+{
+    if goes_on {
+        let zero = Value::Same(Operand::Number(0));
+        lowerer.maker.item(place, Item::Assign(flag, zero))?;
+    }
+    Ok(())
+}
+
+/// A switch up to its arms. What is given is the first of two variables, which has the number of the arm where the switch
+/// begins.
+pub fn begin_switch(
+    lowerer: &mut Lowerer,
+    place: Place,
+    x: Operand,
+    arms: &[Arm],
+    goes_on: bool,
+) -> Result<u32, AllocError>
+    ensures { IfOk result
+        (MakesWhole
+        (switch_begun place x (arm_with None 0 (arms_of arms.now) (count_arms (arms_of arms.now)))
+        (arms_of arms.now) goes_on) lowerer.old lowerer.new) }
+{
+    let v = lowerer.maker.reserve()?;
+    let flag = lowerer.maker.reserve()?;
+    let other = default_arm(arms)?;
+    let searching = search(lowerer.alloc, place, x, v, arms)?;
+    let nothing = Vec::new(lowerer.alloc);
+    lowerer.maker.item(place, Item::Assign(v, Value::Same(Operand::Number(other))))?;
+    lowerer.maker.repeat(place, searching, nothing)?;
+    clear(lowerer, place, flag, goes_on)?;
+    Ok(v)
+}
+
+/// An arm of a number, which is done where the switch begins at that or before.
+pub fn do_arm(
+    lowerer: &mut Lowerer,
+    place: Place,
+    v: u32,
+    number: u32,
+    body: Vec<Statement>,
+) -> Result<(), AllocError>
+    ensures { IfOk result
+        (MakesWhole (arm_done place v number (form_of body.items)) lowerer.old lowerer.new) }
+{
+    let test = Test {
+        comparison: Comparison::AtLeastUnsigned,
+        left: Operand::Number(number),
+        right: Operand::Variable(v),
+    };
+    let condition = Condition {
+        test,
+        turned: false,
+    };
+    let nothing = Vec::new(lowerer.alloc);
+    lowerer.maker.branch(place, condition, body, nothing)?;
+    Ok(())
+}
+
+/// What a continue in the arms goes to: it is noted, and the arms are left.
+fn note(alloc: Global, place: Place, flag: u32, goes_on: bool) -> Result<Vec<Statement>, AllocError>
+    ensures { IfOk result
+        (λ block. form_of block.items
+        ≡ where_so goes_on (Do place (Assign flag (Same (Number 1))) (one place Break))) }
+{
+    let mut block = Vec::new(alloc);
+    if goes_on {
+        let one = Value::Same(Operand::Number(1));
+        block.push(Statement::Simple(place, Item::Assign(flag, one)))?;
+        block.push(Statement::Simple(place, Item::Break))?;
+    }
+    Ok(block)
+}
+
+/// Where the arms continued the loop outside, so does what is behind them.
+fn go_on(lowerer: &mut Lowerer, place: Place, flag: u32, goes_on: bool) -> Result<(), AllocError>
+    ensures { IfOk result
+        (MakesWhole
+        (emit (where_so goes_on
+        (If place (test_of NotEqual (Variable flag) (Number 0))
+        (one place Continue) Done Done))) lowerer.old lowerer.new) }
+{
+    if goes_on {
+        let test = Test {
+            comparison: Comparison::NotEqual,
+            left: Operand::Variable(flag),
+            right: Operand::Number(0),
+        };
+        let condition = Condition {
+            test,
+            turned: false,
+        };
+        let again = single(lowerer.alloc, place, Item::Continue)?;
+        let nothing = Vec::new(lowerer.alloc);
+        lowerer.maker.branch(place, condition, again, nothing)?;
+    }
+    Ok(())
+}
+
+/// A switch from its arms on.
+pub fn end_switch(
+    lowerer: &mut Lowerer,
+    place: Place,
+    v: u32,
+    goes_on: bool,
+    body: Vec<Statement>,
+) -> Result<(), AllocError>
+    ensures { IfOk result
+        (MakesWhole (switch_ended place v goes_on (form_of body.items)) lowerer.old lowerer.new) }
+{
+    let flag = one_more(v)?;
+    let step = note(lowerer.alloc, place, flag, goes_on)?;
+    lowerer.maker.repeat(place, body, step)?;
+    go_on(lowerer, place, flag, goes_on)?;
+    Ok(())
+}

@@ -1,2 +1,0 @@
--- Laws for the crates above: of branches.
-pub use Rattle.dae_make_expressions.proofs.Chains.{branched}

@@ -1,9 +1,0 @@
-use Rattle.dae_make_expressions.specs.Lowered.{state_of}
-use Rattle.dae_make_programs.proofs.Rows.{nothing_whole}
-use Rattle.dae_make_programs.proofs.statements.effect_of_some.Goals as goal
-
-pub returns-in_ok-whole_effect-in-Some : goal.returns-in_ok-whole_effect-in-Some
-returns-in_ok-whole_effect-in-Some c = rw (c.in-Some.is) (c.in_ok-whole_effect-in-Some.ensures)
-
-pub returns-in-None : goal.returns-in-None
-returns-in-None c = rw (c.in-None.is) (nothing_whole (state_of c.args.lowerer.now) tt)

@@ -1,6 +1,0 @@
-use Rattle.dae_ir.specs.Form.{form_of}
-use Rattle.dae_make_programs.proofs.Searching.{Searched}
-use Rattle.dae_make_programs.proofs.switching.search.Given as goal
-
-abbrev pub invariant-loop-arm : goal.invariant-loop-arm
-invariant-loop-arm l = Searched l.place l.x l.v l.arms l.arm-index l.number (form_of l.block.items)

@@ -1,5 +1,0 @@
-use Rattle.dae_make_programs.proofs.Searching.{label_asked}
-use Rattle.dae_make_programs.proofs.switching.search_label.Goals as goal
-
-pub returns-in_ok-push-in-Some : goal.returns-in_ok-push-in-Some
-returns-in_ok-push-in-Some c = λ rest. rw (c.in-Some.is) (label_asked c.args.block.now.items c.push.new.self.items c.in_ok-branch-in-Some.branch c.args.place c.args.x c.args.v c.args.number c.in-Some.label c.in_ok-push-in-Some.ensures.items c.in_ok-branch-in-Some.ensures rest)

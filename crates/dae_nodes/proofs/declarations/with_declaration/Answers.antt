@@ -1,8 +1,0 @@
-use Rattle.dae_grammar.specs.FirstPlaces.{firsts_declaration}
-use Rattle.dae_nodes.proofs.Listing.{shows_longer}
-use Rattle.dae_tree.specs.FileViews.{view_declaration}
-use Rattle.dae_nodes.proofs.declarations.with_declaration.Goals as goal
-
-pub returns : goal.returns
-returns c = λ xs x h k.
-    shows_longer view_declaration firsts_declaration c.args.before c.args.declaration xs x c.longer.result h k c.longer.ensures

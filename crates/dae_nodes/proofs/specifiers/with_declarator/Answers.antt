@@ -1,8 +1,0 @@
-use Rattle.dae_grammar.specs.FirstPlaces.{firsts_declarator}
-use Rattle.dae_nodes.proofs.Listing.{shows_longer}
-use Rattle.dae_tree.specs.Views.{view_declarator}
-use Rattle.dae_nodes.proofs.specifiers.with_declarator.Goals as goal
-
-pub returns : goal.returns
-returns c = λ xs x h k.
-    shows_longer view_declarator firsts_declarator c.args.before c.args.declared.read xs x c.longer.result h k.read c.longer.ensures

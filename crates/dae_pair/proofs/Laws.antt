@@ -1,7 +1,0 @@
--- Laws for the crates above.
-pub use Rattle.dae_pair.proofs.Programs.{program_kept}
-pub use Rattle.dae_pair.proofs.Split.{pair_keeps}
-pub use Rattle.dae_pair.proofs.Cover.{budget_covers}
-pub use Rattle.dae_pair.proofs.SmallBudget.{budget_is_within_cap}
-pub use Rattle.dae_pair.proofs.Sizes.{streams_are_small}
-pub use Rattle.dae_pair.proofs.FlowRounds.{streams_set_first}

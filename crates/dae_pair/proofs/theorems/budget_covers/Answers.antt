@@ -1,5 +1,0 @@
-use Rattle.dae_pair.proofs.Laws.{budget_covers}
-use Rattle.dae_pair.proofs.theorems.budget_covers.Goals as goal
-
-pub returns : goal.returns
-returns c = budget_covers

@@ -1,5 +1,0 @@
-use Rattle.dae_pair.proofs.Laws.{pair_keeps}
-use Rattle.dae_pair.proofs.theorems.pair_keeps.Goals as goal
-
-pub returns : goal.returns
-returns c = pair_keeps

@@ -1,5 +1,0 @@
-use Rattle.dae_pair.proofs.Laws.{streams_are_small}
-use Rattle.dae_pair.proofs.theorems.streams_are_small.Goals as goal
-
-pub returns : goal.returns
-returns c = streams_are_small

@@ -1,5 +1,0 @@
-use Rattle.dae_pair.proofs.Laws.{streams_set_first}
-use Rattle.dae_pair.proofs.theorems.streams_set_first.Goals as goal
-
-pub returns : goal.returns
-returns c = streams_set_first

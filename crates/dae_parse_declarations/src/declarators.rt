@@ -1,0 +1,233 @@
+// Declarators (C90 6.5.4): pointers, names, groups, and the sizes and parameters behind them.
+
+ghost use Rattle.std.specs.Prelude.{◌≡◌, [], List, Some, IfOk};
+ghost use Rattle.dae_base.specs.declared.Place.{Place};
+ghost use Rattle.dae_tree.specs.declared.signs.Sign.TheVariants as signs;
+ghost use Rattle.dae_parse_states.specs.Fronts.{sign_at};
+ghost use Rattle.dae_parse_grammar.specs.Stuck.{behind};
+ghost use Rattle.dae_tree.specs.Trees.{Declarator};
+ghost use Rattle.dae_parse_grammar.specs.Frames.{Frame as PlainFrame};
+ghost use Rattle.dae_parse_grammar.specs.Machine.{declared as declared_of, nothing_declared, qualified, suffixed, sized, parameters_opened, onto, begins_parameters as parameters_begin};
+ghost use Rattle.dae_parse_nodes.specs.Parts.{ShowsDeclared};
+ghost use Rattle.dae_parse_states.specs.Frames.{manner_of};
+ghost use Rattle.dae_parse_declarations.specs.Ahead.{parameters_ahead};
+ghost use Rattle.dae_parse_states.specs.States.{Stands, Follows, outside_stack, Steps};
+
+use dae_base::Place;
+use dae_parse_nodes::{
+    Declared, absent, empty_function, named, no_parameters, no_specifiers, unsized_array,
+};
+use dae_parse_parts::CONDITIONAL;
+use dae_parse_scope::Scope;
+use dae_parse_states::{
+    DeclaratorFrame, Doing, ExpressionFrame, Frame, Machine, Manner, Open, Rest, SpecifiersFrame,
+    begins_specifiers,
+};
+use dae_tree::{Keyword, Seen, Sign};
+use std::alloc::AllocError;
+
+/// Before a declarator, of which a part must stand there or none (C90 6.5.4 and 6.5.5).
+pub fn read_declarator(
+    machine: &mut Machine<'_>,
+    manner: Manner,
+    needed: bool,
+) -> Result<Option<Doing>, AllocError>
+    ensures { Steps machine.old result machine.new (declared_of (manner_of manner) needed) }
+{
+    if let Some(star) = machine.rest.take_sign(Sign::Times) {
+        return Ok(Some(Doing::Qualifying(manner, star, Vec::new(machine.alloc))));
+    }
+    match machine.rest.sign() {
+        Some(Sign::LeftParen) => read_parenthesis(machine, manner, needed),
+        Some(Sign::LeftBracket) => Ok(read_bracket(machine, manner, needed)),
+        _ => read_name_or_nothing(machine, manner, needed),
+    }
+}
+
+/// Before a bracket: the suffix of no part, where a name may be lacking.
+#[tactic(auto, using(crate::proofs::OtherwiseDeclarators::bracket_by_name, crate::proofs::OtherwiseDeclarators::bracket_without, crate::proofs::OtherwiseDeclarators::bracket_either))]
+fn read_bracket(machine: &Machine<'_>, manner: Manner, needed: bool) -> Option<Doing>
+    ensures { (s : List PlainFrame) → sign_at machine.now.rest ≡ Some signs.LeftBracket
+        → Stands machine.now s (outside_stack s)
+        → Follows result machine.now (declared_of
+        (manner_of manner) needed s machine.now.scope.names machine.now.rest) }
+{
+    match manner {
+        Manner::ByName => None,
+        Manner::WithoutName | Manner::EitherWay => Some(Doing::Suffixing(
+            manner,
+            absent(machine.alloc),
+        )),
+    }
+}
+
+/// No part, where none must stand there and a name may be lacking.
+fn read_nothing(machine: &Machine<'_>, manner: Manner, needed: bool) -> Option<Doing>
+    ensures { (s : List PlainFrame) → Stands machine.now s (outside_stack s)
+        → Follows result machine.now (nothing_declared
+        (manner_of manner) needed s machine.now.scope.names machine.now.rest) }
+{
+    match manner {
+        Manner::ByName => None,
+        Manner::WithoutName | Manner::EitherWay => {
+            if needed {
+                None
+            } else {
+                Some(Doing::GaveDeclarator(absent(machine.alloc)))
+            }
+        }
+    }
+}
+
+/// Before what is neither a star nor a parenthesis nor a bracket: a name, or no part.
+#[tactic(auto, using(crate::proofs::OtherwiseDeclarators::declared_otherwise, crate::proofs::OtherwiseDeclarators::without_otherwise))]
+fn read_name_or_nothing(
+    machine: &mut Machine<'_>,
+    manner: Manner,
+    needed: bool,
+) -> Result<Option<Doing>, AllocError>
+    ensures { ¬ (sign_at machine.old.rest ≡ Some signs.Times)
+        → ¬ (sign_at machine.old.rest ≡ Some signs.LeftParen)
+        → ¬ (sign_at machine.old.rest ≡ Some signs.LeftBracket)
+        → Steps machine.old result machine.new (declared_of (manner_of manner) needed) }
+{
+    if manner == Manner::WithoutName {
+        return Ok(read_nothing(machine, manner, needed));
+    }
+    match machine.rest.take_name() {
+        Some(name) => Ok(Some(Doing::Suffixing(manner, named(machine.alloc, name)?))),
+        None => Ok(read_nothing(machine, manner, needed)),
+    }
+}
+
+/// Before a parenthesis: parameters of no part, where a name may be lacking, or a declarator in parentheses.
+#[tactic(auto, using(crate::proofs::OtherwiseDeclarators::parameters_declared, crate::proofs::OtherwiseDeclarators::group_declared))]
+fn read_parenthesis(
+    machine: &mut Machine<'_>,
+    manner: Manner,
+    needed: bool,
+) -> Result<Option<Doing>, AllocError>
+    ensures { sign_at machine.old.rest ≡ Some signs.LeftParen →
+        Steps machine.old result machine.new (declared_of (manner_of manner) needed) }
+{
+    if begins_parameters(machine, manner) {
+        return Ok(Some(Doing::Suffixing(manner, absent(machine.alloc))));
+    }
+    let Some(paren) = machine.rest.take_sign(Sign::LeftParen) else {
+        return Ok(None);
+    };
+    machine.push(Frame::Declarator(DeclaratorFrame::InGroup(paren, manner)))?;
+    Ok(Some(Doing::Declaring(manner, true)))
+}
+
+/// Whether parameters begin behind the next token, where a name may be lacking.
+fn begins_parameters(machine: &Machine<'_>, manner: Manner) -> bool
+    ensures { result ≡ parameters_ahead (manner_of manner) machine.now.scope.names
+        (behind machine.now.rest) }
+{
+    match manner {
+        Manner::ByName => false,
+        Manner::WithoutName | Manner::EitherWay => parameters_stand(
+            &machine.scope,
+            machine.rest.behind(),
+        ),
+    }
+}
+
+/// Whether parameters begin with the next token.
+fn parameters_stand(scope: &Scope<bool>, rest: Rest<'_>) -> bool
+    ensures { result ≡ parameters_begin scope.now.names rest.entry }
+{
+    let mut inner = rest;
+    if inner.take_sign(Sign::RightParen).is_some() {
+        return true;
+    }
+    begins_specifiers(scope, &inner)
+}
+
+/// Behind the star of a pointer (C90 6.5.4.1).
+#[tactic(auto, using(crate::proofs::OtherwiseDeclarators::qualified_otherwise))]
+pub fn read_qualifier(
+    machine: &mut Machine<'_>,
+    manner: Manner,
+    place: Place,
+    qualifiers: Vec<Place>,
+) -> Result<Option<Doing>, AllocError>
+    ensures { (qs : List Place) → qualifiers.items ≡ onto qs [] →
+        Steps machine.old result machine.new (qualified (manner_of manner) place qs) }
+{
+    let mut qualifiers = qualifiers;
+    if let Some(qualifier) = machine.rest.take_word(Keyword::Const) {
+        qualifiers.push(qualifier)?;
+        return Ok(Some(Doing::Qualifying(manner, place, qualifiers)));
+    }
+    machine.push(Frame::Declarator(DeclaratorFrame::BehindStar(place, qualifiers)))?;
+    Ok(Some(Doing::Declaring(manner, false)))
+}
+
+/// Behind a declarator that suffixes may follow (C90 6.5.4.2 and 6.5.4.3).
+#[tactic(auto, using(crate::proofs::OtherwiseDeclarators::suffixed_otherwise))]
+pub fn read_suffix(
+    machine: &mut Machine<'_>,
+    manner: Manner,
+    declared: Declared,
+) -> Result<Option<Doing>, AllocError>
+    ensures { (d : Declarator) → ShowsDeclared declared d →
+        Steps machine.old result machine.new (suffixed (manner_of manner) d) }
+{
+    if let Some(place) = machine.rest.take_sign(Sign::LeftBracket) {
+        return Ok(Some(Doing::Sizing(manner, declared, place)));
+    }
+    if let Some(place) = machine.rest.take_sign(Sign::LeftParen) {
+        return Ok(Some(Doing::Parametering(manner, declared, place)));
+    }
+    Ok(Some(Doing::GaveDeclarator(declared)))
+}
+
+/// Behind the bracket of an array (C90 6.5.4.2).
+#[tactic(auto, using(crate::proofs::OtherwiseDeclarators::sized_otherwise))]
+pub fn read_size(
+    machine: &mut Machine<'_>,
+    manner: Manner,
+    declared: Declared,
+    place: Place,
+) -> Result<Option<Doing>, AllocError>
+    ensures { (d : Declarator) → ShowsDeclared declared d →
+        Steps machine.old result machine.new (sized (manner_of manner) d place) }
+{
+    if machine.rest.take_sign(Sign::RightBracket).is_some() {
+        let whole = unsized_array(machine.alloc, declared, place)?;
+        return Ok(Some(Doing::Suffixing(manner, whole)));
+    }
+    machine.push(Frame::Expression(ExpressionFrame::InSize(declared, place, manner)))?;
+    Ok(Some(Doing::Seek(CONDITIONAL)))
+}
+
+/// Behind the parenthesis of a function, whose parameters have a scope of their own (C90 6.5.4.3 and 6.1.2.1).
+#[tactic(auto, using(crate::proofs::OtherwiseDeclarators::parameters_otherwise))]
+pub fn read_parameters(
+    machine: &mut Machine<'_>,
+    manner: Manner,
+    declared: Declared,
+    place: Place,
+) -> Result<Option<Doing>, AllocError>
+    ensures { (d : Declarator) → ShowsDeclared declared d →
+        Steps machine.old result machine.new (parameters_opened (manner_of manner) d place) }
+{
+    if machine.rest.take_sign(Sign::RightParen).is_some() {
+        let whole = empty_function(machine.alloc, declared, place)?;
+        return Ok(Some(Doing::Suffixing(manner, whole)));
+    }
+    machine.scope.open()?;
+    let none = no_parameters(machine.alloc);
+    machine.push(Frame::Specifiers(SpecifiersFrame::ForParameter(
+        Open {
+            declared,
+            place,
+            manner,
+        },
+        none,
+    )))?;
+    let before = no_specifiers(machine.alloc);
+    Ok(Some(Doing::Specifying(Seen::nothing(), before)))
+}

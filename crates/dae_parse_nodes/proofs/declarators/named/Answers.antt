@@ -1,0 +1,18 @@
+use Rattle.std.proofs.Common.{Bool, List, refl, sym, ap}
+use Rattle.dae_tree.specs.Trees as tree
+use Rattle.dae_parse_scope.specs.declared.scope.Binding.{Binding}
+use Rattle.dae_parse_grammar.specs.FirstPlaces.{firsts_declarator}
+use Rattle.dae_parse_parts.proofs.Laws.{shows_leaf}
+use Rattle.dae_parse_scope.specs.Shown.{bound_all}
+use Rattle.dae_tree.specs.Views.{view_declarator}
+use Rattle.dae_parse_nodes.proofs.declarators.named.Goals as goal
+
+pub returns : goal.returns
+returns c =
+    record {
+      read = shows_leaf view_declarator firsts_declarator c.args.name.place c.flat.result c.in_ok-read.read _ (tree.Named c.args.name) c.flat.ensures.tree c.flat.ensures.places c.in_ok-read.ensures refl refl;
+      name = refl;
+      present = refl;
+      bare = refl;
+      parameters = λ names. ap (λ (list : List (Binding Bool)). bound_all list names) (sym c.new.ensures.items);
+    }

@@ -1,0 +1,34 @@
+use Rattle.std.proofs.Common.{◌≡◌, refl, sym, ap, ◌∙◌}
+use Rattle.dae_base.specs.declared.Place.{Place}
+use Rattle.dae_tree.specs.Trees as tree
+use Rattle.dae_parse_nodes.proofs.Declaring.{place_at_first, chosen_then, chosen_else}
+use Rattle.dae_parse_nodes.proofs.declarators.parameter_function.Goals.{then-bare, else-bare}
+use Rattle.dae_parse_scope.specs.Shown.{bound_all}
+use Rattle.dae_tree.specs.Names.{is_bare}
+use Rattle.std.specs.Prelude.{true, false}
+use Rattle.dae_parse_grammar.specs.Machine.{parameters_onto}
+use Rattle.dae_tree.specs.Views.{view_declarator}
+use Rattle.dae_parse_grammar.specs.FirstPlaces.{firsts_declarator, both, over, firsts_parameters}
+use Rattle.dae_parse_nodes.proofs.Listing.{shows_parameters}
+use Rattle.dae_tree.proofs.Laws.{view_function}
+use Rattle.dae_parse_parts.proofs.Laws.{shows_over, shows_made, shows_absent, shows_pair, ap_two}
+use Rattle.dae_parse_nodes.proofs.declarators.parameter_function.Goals as goal
+use Rattle.dae_parse_nodes.proofs.declarators.parameter_function.Goals.{in-Some+in_ok-new-in-Some, in-None}
+
+pub returns : goal.returns
+returns c = λ d ps h k i.
+    let parts = shows_pair _ _ _ _ c.args.declared.read c.args.list c.in_ok-parts.parts d (parameters_onto ps tree.no_parameters) h.read (shows_parameters c.args.list ps k) c.in_ok-parts.ensures in
+    let whole = shows_over _ _ c.first_or-first.result c.in_ok-parts.parts c.in_ok-tree.field-0 (d, (parameters_onto ps tree.no_parameters)) parts c.in_ok-tree.ensures in
+    record {
+      read = elim c.match-tree.branch [
+        | in-Some+in_ok-new-in-Some w ↦ shows_made _ _ view_declarator firsts_declarator _ c.match-tree.tree (d, (parameters_onto ps tree.no_parameters)) (tree.Function d c.args.place (parameters_onto ps tree.no_parameters)) _ _ whole (ap (λ (p : Place). over p (both (firsts_declarator d) (firsts_parameters (parameters_onto ps tree.no_parameters)))) (c.first_or-first.ensures ∙ place_at_first c.args.declared.read d c.args.place h.read)) w.in-Some.is w.tree-is (λ e. view_function w.in_ok-new-in-Some.field-0 c.args.place w.in-Some.list ∙ ap_two (λ x y. tree.Function x c.args.place y) (ap view_declarator w.in_ok-new-in-Some.ensures.ok ∙ ap (λ (p : _). p.0) e) (ap (λ (p : _). p.1) e))
+        | in-None w ↦ shows_absent _ _ view_declarator firsts_declarator _ c.match-tree.tree (d, (parameters_onto ps tree.no_parameters)) (tree.Function d c.args.place (parameters_onto ps tree.no_parameters)) whole (ap (λ (p : Place). over p (both (firsts_declarator d) (firsts_parameters (parameters_onto ps tree.no_parameters)))) (c.first_or-first.ensures ∙ place_at_first c.args.declared.read d c.args.place h.read)) w.in-None.is w.tree-is
+      ];
+      name = h.name;
+      present = refl;
+      bare = refl;
+      parameters = λ names. elim c.if-bare.branch [
+        | then-bare w ↦ let b : is_bare d ≡ true = sym h.bare ∙ w.if-bare.true in chosen_then (is_bare d) _ _ _ b (i b names ∙ ap (λ (v : _). bound_all v.items names) (sym w.parameters-is))
+        | else-bare w ↦ let b : is_bare d ≡ false = sym h.bare ∙ w.if-bare.false in chosen_else (is_bare d) _ _ _ b (h.parameters names ∙ ap (λ (v : _). bound_all v.items names) (sym w.parameters-is))
+      ];
+    }

@@ -1,0 +1,57 @@
+// What is kept beside the tree of a part: of operands, specifiers, declarators, parameters and loops.
+
+use dae_base::Place;
+use dae_parse_parts::Read;
+use dae_parse_scope::Binding;
+use dae_tree::{Declarator, Expression, Parameter, Specifier};
+
+/// An expression that was read, its level, and the place of its first token.
+#[derive(Drop)]
+pub struct Operand {
+    pub read: Read<Box<Expression>>,
+    pub level: u8,
+    pub place: Place,
+}
+
+/// Specifiers that were read.
+#[derive(Drop)]
+pub struct Specified {
+    pub read: Read<Vec<Specifier>>,
+    pub typedef: bool,
+    /// The place of the first.
+    pub place: Option<Place>,
+    /// The place of `void`, where it stands alone.
+    pub void: Option<Place>,
+}
+
+/// A declarator that was read.
+#[derive(Drop)]
+pub struct Declared {
+    pub read: Read<Declarator>,
+    pub name: Option<u32>,
+    pub present: bool,
+    /// A name with nothing but parentheses round it.
+    pub bare: bool,
+    /// The parameters of the part that makes the name a function, in their order.
+    pub parameters: Vec<Binding<bool>>,
+}
+
+/// The parameters of a function while they are read.
+#[derive(Drop)]
+pub struct ParameterList {
+    pub read: Read<Vec<Parameter>>,
+    pub any: bool,
+    /// The place of `void`, where it stands alone.
+    pub void: Option<Place>,
+}
+
+/// The parts of a `for` before its step: its word, its parenthesis, and the expressions with the semicolons behind them.
+#[derive(Drop)]
+pub struct Loop {
+    pub word: Place,
+    pub paren: Place,
+    pub start: Option<Operand>,
+    pub first: Place,
+    pub test: Option<Operand>,
+    pub second: Place,
+}

@@ -1,0 +1,159 @@
+// Behind an expression that is a part of a statement: a test, a start, a step, a value.
+
+ghost use Rattle.std.specs.Prelude.{List, Option, IfOk};
+ghost use Rattle.dae_tree.specs.Trees.{Expression};
+ghost use Rattle.dae_parse_grammar.specs.Frames as plain;
+ghost use Rattle.dae_parse_grammar.specs.Frames.{Frame as PlainFrame};
+ghost use Rattle.dae_parse_grammar.specs.Machine.{expression_given};
+ghost use Rattle.dae_parse_nodes.specs.Parts.{ShowsOperand, ShowsOptional, ShowsLoop};
+ghost use Rattle.dae_parse_states.specs.Frames.{ShowsHead};
+ghost use Rattle.dae_parse_states.specs.States.{Steps};
+
+use dae_base::Place;
+use dae_parse_nodes::{Loop, Operand, evaluation, return_statement};
+use dae_parse_states::{Doing, Frame, Head, Machine, StatementFrame};
+use dae_tree::Sign;
+use std::alloc::AllocError;
+
+/// Behind the expression of a statement (C90 6.6.3).
+#[tactic(auto, using(dae_parse_states::proofs::Laws::semicolon_or_none))]
+pub fn in_evaluation(
+    machine: &mut Machine<'_>,
+    operand: Operand,
+) -> Result<Option<Doing>, AllocError>
+    ensures { (e : Expression) → ShowsOperand operand e →
+        Steps machine.old result machine.new (expression_given e plain.in_evaluation) }
+{
+    let Some(end) = machine.rest.take_sign(Sign::Semicolon) else {
+        return Ok(None);
+    };
+    let whole = evaluation(machine.alloc, operand, end)?;
+    Ok(Some(Doing::GaveStatement(whole, false)))
+}
+
+/// Behind a test (C90 6.6.4 and 6.6.5).
+#[tactic(auto, using(dae_parse_states::proofs::Laws::paren_or_none))]
+pub fn in_test(
+    machine: &mut Machine<'_>,
+    test: Operand,
+    head: Head,
+    paren: Place,
+) -> Result<Option<Doing>, AllocError>
+    ensures { (e : Expression) (h : plain.Head) → ShowsOperand test e → ShowsHead head h →
+        Steps machine.old result machine.new (expression_given e (plain.in_test h paren)) }
+{
+    if machine.rest.take_sign(Sign::RightParen).is_none() {
+        return Ok(None);
+    }
+    match head {
+        Head::If(place) => machine.push(Frame::Statement(StatementFrame::ThenBranch(
+            place, paren, test,
+        )))?,
+        Head::While(place) => machine.push(Frame::Statement(StatementFrame::WhileBody(
+            place, paren, test,
+        )))?,
+        Head::Switch(place) => machine.push(Frame::Statement(StatementFrame::SwitchBody(
+            place, paren, test,
+        )))?,
+        Head::Do(place, body, word) => {
+            return Ok(Some(Doing::Finishing(place, body, word, paren, test)));
+        }
+    }
+    Ok(Some(Doing::Stating))
+}
+
+/// Behind the first expression of a `for` (C90 6.6.5.3).
+#[tactic(auto, using(dae_parse_states::proofs::Laws::semicolon_or_none))]
+pub fn in_start(
+    machine: &mut Machine<'_>,
+    start: Operand,
+    word: Place,
+    paren: Place,
+) -> Result<Option<Doing>, AllocError>
+    ensures { (e : Expression) → ShowsOperand start e →
+        Steps machine.old result machine.new (expression_given e (plain.in_start word paren)) }
+{
+    let Some(first) = machine.rest.take_sign(Sign::Semicolon) else {
+        return Ok(None);
+    };
+    Ok(Some(Doing::Testing(word, paren, Some(start), first)))
+}
+
+/// Behind the second expression of a `for` (C90 6.6.5.3).
+#[tactic(auto, using(dae_parse_states::proofs::Laws::semicolon_or_none))]
+pub fn in_loop_test(
+    machine: &mut Machine<'_>,
+    test: Operand,
+    word: Place,
+    paren: Place,
+    start: Option<Operand>,
+    first: Place,
+) -> Result<Option<Doing>, AllocError>
+    ensures { (e : Expression) (a : Option Expression) → ShowsOperand test e → ShowsOptional start a
+        → Steps machine.old result machine.new
+        (expression_given e (plain.in_loop_test word paren a first)) }
+{
+    let Some(second) = machine.rest.take_sign(Sign::Semicolon) else {
+        return Ok(None);
+    };
+    let test = Some(test);
+    Ok(Some(Doing::Stepping(Loop {
+        word,
+        paren,
+        start,
+        first,
+        test,
+        second,
+    })))
+}
+
+/// Behind the third expression of a `for` (C90 6.6.5.3).
+#[tactic(auto, using(dae_parse_states::proofs::Laws::paren_or_none))]
+pub fn in_step(
+    machine: &mut Machine<'_>,
+    step: Operand,
+    parts: Loop,
+) -> Result<Option<Doing>, AllocError>
+    ensures { (e : Expression) (l : plain.Loop) → ShowsOperand step e → ShowsLoop parts l →
+        Steps machine.old result machine.new (expression_given e (plain.in_step l)) }
+{
+    if machine.rest.take_sign(Sign::RightParen).is_none() {
+        return Ok(None);
+    }
+    machine.push(Frame::Statement(StatementFrame::ForBody(parts, Some(step))))?;
+    Ok(Some(Doing::Stating))
+}
+
+/// Behind the value of a `return` (C90 6.6.6.4).
+#[tactic(auto, using(dae_parse_states::proofs::Laws::semicolon_or_none))]
+pub fn in_return(
+    machine: &mut Machine<'_>,
+    value: Operand,
+    place: Place,
+) -> Result<Option<Doing>, AllocError>
+    ensures { (e : Expression) → ShowsOperand value e →
+        Steps machine.old result machine.new (expression_given e (plain.in_return place)) }
+{
+    let Some(end) = machine.rest.take_sign(Sign::Semicolon) else {
+        return Ok(None);
+    };
+    let whole = return_statement(machine.alloc, place, Some(value), end)?;
+    Ok(Some(Doing::GaveStatement(whole, false)))
+}
+
+/// Behind the value of a `case` (C90 6.6.1).
+#[tactic(auto, using(dae_parse_states::proofs::Laws::colon_or_none))]
+pub fn in_case(
+    machine: &mut Machine<'_>,
+    value: Operand,
+    place: Place,
+) -> Result<Option<Doing>, AllocError>
+    ensures { (e : Expression) → ShowsOperand value e →
+        Steps machine.old result machine.new (expression_given e (plain.in_case place)) }
+{
+    if machine.rest.take_sign(Sign::Colon).is_none() {
+        return Ok(None);
+    }
+    machine.push(Frame::Statement(StatementFrame::CaseBody(place, value)))?;
+    Ok(Some(Doing::Stating))
+}

@@ -1,0 +1,191 @@
+use dae_base::Place;
+use dae_parse_nodes::{Declared, Loop, Operand, ParameterList, Specified};
+use dae_parse_parts::Read;
+use dae_tree::{
+    AssignmentOperator, BinaryOperator, Declaration, Declarator, Enumerator, Expression, External,
+    Initialiser, Item, Member, Name, PrefixOperator, Seen, Statement,
+};
+
+/// Whether a declarator has a name, has none, or may have one.
+#[derive(Clone, Copy, PartialEq, Eq)]
+pub enum Manner {
+    ByName,
+    WithoutName,
+    EitherWay,
+}
+
+/// The body of a structure or enumeration, with the specifiers before it.
+#[derive(Drop)]
+pub struct Body {
+    pub place: Place,
+    pub tag: Option<Name>,
+    pub brace: Place,
+    pub seen: Seen,
+    pub before: Specified,
+}
+
+/// What stands before parameters.
+#[derive(Drop)]
+pub struct Open {
+    pub declared: Declared,
+    pub place: Place,
+    pub manner: Manner,
+}
+
+/// A statement up to its test, with the place of its first word.
+#[derive(Drop)]
+pub enum Head {
+    If(Place),
+    While(Place),
+    Switch(Place),
+    Do(Place, Read<Box<Statement>>, Place),
+}
+
+/// A block: its brace and its declarations.
+#[derive(Drop)]
+pub struct Inside {
+    pub place: Place,
+    pub declarations: Read<Vec<Declaration>>,
+}
+
+/// What was read of a file, how many tokens it has, and the place of the first definition with too many.
+#[derive(Drop)]
+pub struct Before {
+    pub read: Read<Vec<External>>,
+    pub taken: usize,
+    pub too_long: Option<Place>,
+}
+
+/// What awaits an expression. A number is the level up to which the whole may go on.
+#[derive(Drop)]
+pub enum ExpressionFrame {
+    InParentheses(Place, u8),
+    InIndex(Operand, Place, u8),
+    InArguments(Operand, Place, Read<Vec<Expression>>, u8),
+    BehindPrefix(Place, PrefixOperator, u8),
+    BehindSizeof(Place, u8),
+    BehindCast(Place, Specified, Declared, u8),
+    BehindBinary(Operand, Place, BinaryOperator, u8),
+    BehindQuestion(Operand, Place, u8),
+    BehindColon(Operand, Place, Operand, u8),
+    BehindAssignment(Operand, Place, AssignmentOperator, u8),
+    BehindComma(Operand, u8),
+    InSize(Declared, Place, Manner),
+    InEnumerator(Body, Read<Vec<Enumerator>>, Name, Place),
+    InValue,
+    InEvaluation,
+    InTest(Head, Place),
+    InStart(Place, Place),
+    InLoopTest(Place, Place, Option<Operand>, Place),
+    InStep(Loop),
+    InReturn(Place),
+    InCase(Place),
+}
+
+/// What awaits specifiers. A number is the level up to which the whole may go on.
+#[derive(Drop)]
+pub enum SpecifiersFrame {
+    ForCast(Place, u8),
+    ForSizeof(Place, Place, u8),
+    ForParameter(Open, ParameterList),
+    ForMember(Body, Read<Vec<Member>>),
+    ForDeclaration(bool),
+}
+
+/// What awaits a declarator. A number is the level up to which the whole may go on.
+#[derive(Drop)]
+pub enum DeclaratorFrame {
+    BehindStar(Place, Vec<Place>),
+    InGroup(Place, Manner),
+    OfCast(Place, Specified, u8),
+    OfSizeof(Place, Place, Specified, u8),
+    OfParameter(Open, ParameterList, Specified),
+    OfMember(Body, Read<Vec<Member>>, Specified, Read<Vec<Declarator>>),
+    OfItem(bool, Specified, Read<Vec<Item>>),
+}
+
+/// What awaits an initialiser.
+#[derive(Drop)]
+pub enum InitialiserFrame {
+    InList(Place, Read<Vec<Initialiser>>),
+    OfValue(Specified, Read<Vec<Item>>, Declared, Place),
+}
+
+/// What awaits a declaration.
+#[derive(Drop)]
+pub enum DeclarationFrame {
+    InFile(Before),
+    InBlock(Inside),
+}
+
+/// What awaits a statement.
+#[derive(Drop)]
+pub enum StatementFrame {
+    ThenBranch(Place, Place, Operand),
+    ElseBranch(Place, Place, Operand, Read<Box<Statement>>),
+    WhileBody(Place, Place, Operand),
+    SwitchBody(Place, Place, Operand),
+    DoBody(Place),
+    ForBody(Loop, Option<Operand>),
+    CaseBody(Place, Operand),
+    DefaultBody(Place),
+    InStatements(Inside, Read<Vec<Statement>>),
+    InDefinition(Specified, Declared),
+}
+
+/// What comes behind a part that is read, by what it awaits.
+#[derive(Drop)]
+pub enum Frame {
+    Expression(ExpressionFrame),
+    Specifiers(SpecifiersFrame),
+    Declarator(DeclaratorFrame),
+    Initialiser(InitialiserFrame),
+    Declaration(DeclarationFrame),
+    Statement(StatementFrame),
+}
+
+/// What the machine does.
+#[derive(Drop)]
+pub enum Doing {
+    Seek(u8),
+    Operated(Operand, u8),
+    Gave(Operand),
+    Calling(Operand, Place, u8),
+    Measuring(Place, u8),
+    Specifying(Seen, Specified),
+    Tagging(bool, Place, Seen, Specified),
+    Tagged(bool, Place, Name, Seen, Specified),
+    Membering(Body, Read<Vec<Member>>),
+    Enumerating(Body, Read<Vec<Enumerator>>),
+    Enumerated(Body, Read<Vec<Enumerator>>, Name),
+    Entered(Body, Read<Vec<Enumerator>>),
+    Entering(Body, Read<Vec<Enumerator>>),
+    GaveSpecifiers(Specified),
+    Declaring(Manner, bool),
+    Qualifying(Manner, Place, Vec<Place>),
+    Suffixing(Manner, Declared),
+    Sizing(Manner, Declared, Place),
+    Parametering(Manner, Declared, Place),
+    GaveDeclarator(Declared),
+    Initialising,
+    Listing(Place, Read<Vec<Initialiser>>),
+    GaveInitialiser(Read<Initialiser>),
+    Itemed(Specified, Read<Vec<Item>>),
+    GaveDeclaration(Read<Declaration>),
+    Externals(Before),
+    Declarations(Inside),
+    Statements(Inside, Read<Vec<Statement>>),
+    Stating,
+    Opening(Head),
+    Finishing(Place, Read<Box<Statement>>, Place, Place, Operand),
+    Looping(Place),
+    Starting(Place, Place),
+    Testing(Place, Place, Option<Operand>, Place),
+    Stepping(Loop),
+    Returning(Place),
+    Breaking(Place),
+    Continuing(Place),
+    Defaulting(Place),
+    /// A statement, and whether it is a block.
+    GaveStatement(Read<Box<Statement>>, bool),
+}

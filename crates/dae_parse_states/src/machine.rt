@@ -1,0 +1,58 @@
+ghost use Rattle.std.specs.Prelude.{◌≡◌, ◌∷◌, List, IfOk};
+ghost use Rattle.dae_tree.specs.Names.{with_declarator};
+ghost use Rattle.dae_tree.specs.Trees.{Declarator};
+ghost use Rattle.dae_parse_nodes.specs.Parts.{number_of};
+ghost use Rattle.dae_tree.specs.Names.{declared_name};
+ghost use Rattle.dae_parse_states.specs.States.{frames_of, Popped};
+
+use crate::frames::Frame;
+use crate::rest::Rest;
+use dae_parse_scope::Scope;
+use std::alloc::{AllocError, Global};
+
+/// The machine that reads trees: the tokens that are left, the names in scope, and what comes behind the part that is read.
+#[derive(Drop)]
+pub struct Machine<'t> {
+    pub alloc: Global,
+    pub rest: Rest<'t>,
+    pub scope: Scope<bool>,
+    pub stack: Vec<Frame>,
+}
+
+impl<'t> Machine<'t> {
+    /// Puts a frame on the stack.
+    #[tactic(auto, using(crate::proofs::Stacks::reverse_more))]
+    pub fn push(&mut self, frame: Frame) -> Result<(), AllocError>
+        ensures stack { IfOk result (λ _. frames_of self.new ≡ frame ∷ frames_of self.old) }
+        ensures scope { self.new.scope ≡ self.old.scope }
+        ensures rest { self.new.rest ≡ self.old.rest }
+    {
+        self.stack.push(frame)?;
+        Ok(())
+    }
+
+    /// Takes the top frame off the stack.
+    #[tactic(auto, using(crate::proofs::Stacks::reverse_more))]
+    pub fn pop(&mut self) -> Option<Frame>
+        ensures stack { Popped result (frames_of self.old) (frames_of self.new) }
+        ensures scope { self.new.scope ≡ self.old.scope }
+        ensures rest { self.new.rest ≡ self.old.rest }
+    {
+        self.stack.pop()
+    }
+
+    /// Adds the name that a declarator declares, if it does.
+    pub fn bind(&mut self, name: Option<u32>, is_type: bool) -> Result<(), AllocError>
+        ensures names { (d : Declarator) → name ≡ number_of (declared_name d)
+            → IfOk result
+            (λ _. self.new.scope.names ≡ with_declarator is_type d self.old.scope.names) }
+        ensures outside { IfOk result (λ _. self.new.scope.outside ≡ self.old.scope.outside) }
+        ensures stack { frames_of self.new ≡ frames_of self.old }
+        ensures rest { self.new.rest ≡ self.old.rest }
+    {
+        if let Some(number) = name {
+            self.scope.bind(number, is_type)?;
+        }
+        Ok(())
+    }
+}

@@ -1,7 +1,0 @@
-use Rattle.std.proofs.Common.{◌≡◌, ◌+◌, drop}
-use Rattle.std.specs.List.{count_by}
-use Rattle.dae_typed.specs.Frames.{is_variable}
-use Rattle.dae_products.proofs.frames.count_kept.Given as goal
-
-abbrev pub invariant-loop-storage : goal.invariant-loop-storage
-invariant-loop-storage l = l.count + count_by is_variable (drop l.storage-index l.storages) ≡ l.fn.count + count_by is_variable l.storages

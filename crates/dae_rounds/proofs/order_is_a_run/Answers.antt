@@ -1,5 +1,0 @@
-use Rattle.dae_rounds.proofs.Landing.{order_run}
-use Rattle.dae_rounds.proofs.order_is_a_run.Goals as goal
-
-pub returns : goal.returns
-returns c = λ setup s t ps o. order_run o

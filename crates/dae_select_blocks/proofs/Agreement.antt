@@ -1,0 +1,145 @@
+-- What keeps the agreement with a moment: work in scratch registers, and a result that goes home.
+use Rattle.std.proofs.Common.{◌≡◌, ◌≢◌, ℕ, zero, suc, ◌+◌, ◌-◌, ◌*◌, ◌^◌, ◌<◌, ◌≤◌, Bool, true, false, List, [], ◌∷◌, refl, ap, ◌∙◌, arith}
+use Rattle.std.specs.Prelude.{nat_eq, if◌then◌else◌}
+use Rattle.std.proofs.lemmas.Bool.Decides.{nat_tests}
+use Rattle.dae_ir.specs.Classes.{VariableSet}
+use Rattle.dae_meaning.specs.Variables.{Env}
+use Rattle.dae_meaning.specs.Variables as form
+use Rattle.dae_select_walks.specs.declared.Home.{Home}
+use Rattle.dae_select_walks.specs.declared.Home.TheVariants.{Register, Slot}
+use Rattle.dae_select_walks.specs.Walks.{Setting}
+use Rattle.dae_select_walks.specs.Homes.{Contents, held, kept, is_home_register, IsHome, kept_at, slot_at, frame_words}
+use Rattle.dae_select_walks.specs.Agrees.{Plan, Moment, Waiting, depth_of, Agrees, AreWaiting}
+use Rattle.dae_select_walks.specs.Compiled.{with_env}
+use Rattle.dae_select_blocks.specs.Fits.{Fits}
+
+-- the contents agree with the moment, and are words
+pub record Ready (plan : Plan) (live : VariableSet) (m : Moment) (c : Contents) : Type 0 where
+  pub zero : c.register 0 ≡ 0
+  pub fits : (r : ℕ) → c.register r < 2 ^ 32
+  pub small : (i : ℕ) → c.word i < 2 ^ 32
+  pub agrees : Agrees plan live m c
+
+-- a home register is none that has another use
+pub home_register : (r : ℕ) → is_home_register r ≡ true → (7 < r) × (r < 28) × (r ≢ 10) × (r ≢ 17)
+home_register r h = (grind (arith, nat_tests), grind (arith, nat_tests), grind (arith, nat_tests), grind (arith, nat_tests))
+
+pub kept_small : (r : ℕ) → is_home_register r ≡ true → kept_at r < 19
+kept_small r h = grind (arith, nat_tests)
+
+-- the register has no meaning between blocks
+pub record IsScratch (plan : Plan) (r : ℕ) : Type 0 where
+  pub zero : 0 ≢ r
+  pub two : 2 ≢ r
+  pub three : 3 ≢ r
+  pub home : is_home_register r ≡ false
+  pub depth : plan.by_a ≡ true → 10 ≢ r
+  pub addresses : plan.by_a ≡ true → 4 ≢ r
+
+-- only that register may be another
+pub record Like (r : ℕ) (c c' : Contents) : Type 0 where
+  pub words : (i : ℕ) → c'.word i ≡ c.word i
+  pub registers : (j : ℕ) → j ≢ r → c'.register j ≡ c.register j
+  pub fits : (j : ℕ) → c'.register j < 2 ^ 32
+
+module _ (s : Setting) (plan : Plan) (variables : ℕ → ℕ) (fine : Fits s plan variables) where
+  -- the waiting calls are kept in the words up to the frame's first
+  pub waiting_same : (c c' : Contents) (base frame : ℕ) (ws : List Waiting) → ((i : ℕ) → i ≤ base → c'.word i ≡ c.word i) → AreWaiting plan c base frame ws → AreWaiting plan c' base frame ws
+  waiting_same c c' base frame [] same h = (h.0, h.1, same base (omega arith) ∙ h.2)
+  waiting_same c c' base frame (w ∷ ws) same h =
+      let below = h.0 in let base_is = h.1 in
+      let is = fine.words w.function in (
+        below,
+        base_is,
+        h.2,
+        h.3,
+        h.4,
+        h.5,
+        same base (omega arith) ∙ h.6,
+        (λ v l. one below v base_is is (plan.home w.function v) (fine.homes w.function v) ∙ h.7 v l),
+        waiting_same c c' below w.frame ws (λ i l. same i (omega arith)) h.8,
+      )
+    where
+      one : (below v : ℕ) → base ≡ below + plan.words w.function → plan.words w.function ≡ frame_words (variables w.function) → (home : Home) → IsHome (variables w.function) home → kept c' below home ≡ kept c below home
+      one below v at is (Register r) good = let l = kept_small r good in same (below + kept_at r) (omega arith)
+      one below v at is (Slot i) good = same (below + slot_at i) (omega arith)
+
+  pub held_like : (r base n : ℕ) (c c' : Contents) (home : Home) → IsScratch plan r → Like r c c' → IsHome n home → held c' base home ≡ held c base home
+  held_like r base n c c' (Register h) scratch like good = let e = scratch.home in like.registers h (λ same. other_bool h r good e same)
+    where
+      other_bool : (h r : ℕ) → is_home_register h ≡ true → is_home_register r ≡ false → h ≡ r → ⊥
+      other_bool h r good bad same = let e : is_home_register h ≡ is_home_register r = ap is_home_register same in cc
+  held_like r base n c c' (Slot i) scratch like good = like.words (base + slot_at i)
+
+  pub ready_like : {live : VariableSet} {m : Moment} {c c' : Contents} (r : ℕ) → IsScratch plan r → Like r c c' → Ready plan live m c → Ready plan live m c'
+  ready_like {live} {m} {c} {c'} r scratch like h =
+      let a = h.agrees in
+      record {
+        zero = like.registers 0 scratch.zero ∙ h.zero;
+        fits = like.fits;
+        small = λ i. rw (like.words i) (h.small i);
+        agrees = record {
+          base = a.base;
+          variables = λ v l. held_like r a.base (variables m.function) c c' (plan.home m.function v) scratch like (fine.homes m.function v) ∙ a.variables v l;
+          pointer = like.registers 2 scratch.two ∙ a.pointer;
+          frame = like.registers 3 scratch.three ∙ a.frame;
+          depth = λ by_a. like.registers 10 (scratch.depth by_a) ∙ a.depth by_a;
+          addresses = λ by_a. like.registers 4 (scratch.addresses by_a) ∙ a.addresses by_a;
+          waiting = waiting_same c c' a.base m.frame m.waiting (λ i l. like.words i) a.waiting;
+          room = a.room;
+          within = a.within;
+        };
+      }
+
+  -- a home has got a word, and no other home has changed
+  pub record Gets (n base : ℕ) (home : Home) (x : ℕ) (c c' : Contents) : Type 0 where
+    pub got : held c' base home ≡ x
+    pub others : (h : Home) → IsHome n h → h ≢ home → held c' base h ≡ held c base h
+    pub zero : c'.register 0 ≡ c.register 0
+    pub two : c'.register 2 ≡ c.register 2
+    pub three : c'.register 3 ≡ c.register 3
+    pub depth : plan.by_a ≡ true → c'.register 10 ≡ c.register 10
+    pub addresses : plan.by_a ≡ true → c'.register 4 ≡ c.register 4
+    pub below : (i : ℕ) → i ≤ base → c'.word i ≡ c.word i
+    pub fits : (r : ℕ) → c'.register r < 2 ^ 32
+    pub small : (i : ℕ) → c'.word i < 2 ^ 32
+
+  -- then the variable is set: what is live then was live before, in another home
+  pub ready_gets : {live live' : VariableSet} {m : Moment} {c c' : Contents} (v x : ℕ) (h : Ready plan live m c) → Gets (variables m.function) h.agrees.base (plan.home m.function v) x c c' →
+      ((u : ℕ) → live' u ≡ true → u ≢ v → (live u ≡ true) × (plan.home m.function u ≢ plan.home m.function v)) → Ready plan live' (with_env (form.put true v x m.env) m) c'
+  ready_gets {live} {live'} {m} {c} {c'} v x h g apart =
+      let a = h.agrees in
+      record {
+        zero = g.zero ∙ h.zero;
+        fits = g.fits;
+        small = g.small;
+        agrees = record {
+          base = a.base;
+          variables = λ u l. by u l (nat_eq u v) refl;
+          pointer = g.two ∙ a.pointer;
+          frame = g.three ∙ a.frame;
+          depth = λ by_a. g.depth by_a ∙ a.depth by_a;
+          addresses = λ by_a. g.addresses by_a ∙ a.addresses by_a;
+          waiting = waiting_same c c' a.base m.frame m.waiting g.below a.waiting;
+          room = a.room;
+          within = record { depth = a.within.depth; frame = a.within.frame };
+        };
+      }
+    where
+      by : (u : ℕ) → live' u ≡ true → (b : Bool) → nat_eq u v ≡ b → held c' h.agrees.base (plan.home m.function u) ≡ (if b then x else m.env u)
+      by u l true e = let same : u ≡ v = grind (arith, nat_tests) in rw same g.got
+      by u l false e =
+          let other : u ≢ v = grind (arith, nat_tests) in
+          let ok = apart u l other in
+          g.others (plan.home m.function u) (fine.homes m.function u) ok.1 ∙ h.agrees.variables u ok.0
+
+  -- a frame lies in private memory
+  pub frame_inside : {live : VariableSet} {m : Moment} {c : Contents} (h : Ready plan live m c) → h.agrees.base + plan.words m.function ≤ plan.private
+  frame_inside {m = m} h =
+      let a = h.agrees in let room = a.room in let deep = a.within.depth in let l = fine.largest m.function in
+      let once = product (plan.limit + 1 - depth_of m) plan.largest (omega arith) in
+      omega arith
+    where
+      product : (n k : ℕ) → 0 < n → k ≤ n * k
+      product zero k h = absurd (omega arith)
+      product (suc n) k h = omega arith

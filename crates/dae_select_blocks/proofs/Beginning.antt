@@ -1,0 +1,146 @@
+-- The start code leads the opened processor to where main's actions begin.
+use Rattle.std.proofs.Common.{◌≡◌, ℕ, zero, suc, ◌+◌, ◌-◌, ◌*◌, ◌^◌, ◌<◌, ◌≤◌, Bool, true, false, List, [], ◌∷◌, ◌++◌, length, refl, sym, ap, ◌∙◌, subst, arith, append-nil, length-append}
+use Rattle.std.specs.Prelude.{nat_eq, if◌then◌else◌, pos, replicate, slice_index}
+use Rattle.std.proofs.lemmas.List.{get_or-replicate}
+use Rattle.std.proofs.Math.ListN.{length-replicate}
+use Rattle.dae_base.specs.Words.{plus, word, loaded}
+use Rattle.dae_base.specs.declared.LoadKind.TheVariants.{I32}
+use Rattle.dae_encode.specs.declared.Inst.{Inst}
+use Rattle.dae_encode.specs.declared.Inst.TheVariants.{Addi}
+use Rattle.dae_encode.specs.Processor.{Processor}
+use Rattle.dae_ir.specs.Classes.{VariableSet}
+use Rattle.dae_meaning.specs.Variables.{Env}
+use Rattle.dae_ir.specs.Deeds.{Went}
+use Rattle.dae_select_walks.specs.Walks.{Setting, Comes}
+use Rattle.dae_select_walks.specs.Layout.{CodeAt}
+use Rattle.dae_select_walks.specs.Homes.{Contents}
+use Rattle.dae_select_walks.specs.Agrees.{Plan, Moment, Shows, Stands}
+use Rattle.dae_select_walks.proofs.LawsOfWalks.{comes_map, comes_then}
+use Rattle.dae_select_walks.proofs.LawsOfWalks.{put, store}
+use Rattle.dae_select_blocks.specs.Blocks.{number_code, enter_code, restore_code}
+use Rattle.dae_select_blocks.specs.Code.{registers_in, entry_code, start_code}
+use Rattle.dae_select_blocks.specs.Fits.{Fits}
+use Rattle.dae_select_blocks.specs.Laws.{opened_with, CodeBegins}
+use Rattle.dae_select_blocks.proofs.Lengths.{entry_alone, opening_short, finish_some}
+use Rattle.dae_select_blocks.specs.Wanted.{IsLinked}
+use Rattle.dae_select_blocks.proofs.Plain.{computes, stores_word}
+use Rattle.dae_select_blocks.proofs.Frames.{runs_number}
+use Rattle.dae_select_blocks.proofs.Runs.{Runs, runs_nothing, runs_quiet, code_take, code_drop}
+use Rattle.dae_select_blocks.proofs.Operands.{like_put}
+use Rattle.dae_select_blocks.proofs.Calls.{register_kept, runs_restore}
+use Rattle.dae_select_blocks.proofs.Entering.{jumps_in, among_not}
+
+abbrev pub nothing : Contents
+nothing = record { register = λ r. 0; word = λ i. 0 }
+
+zero_at : (n i : ℕ) → i < n → slice_index (replicate n 0) i ≡ 0
+zero_at n i l = get_or-replicate n i 0 0 l
+
+zero_word : (n i : ℕ) → i < n → loaded I32 (4 * i) (replicate (4 * n) 0) ≡ 0
+zero_word n i l =
+    let a = zero_at (4 * n) (4 * i) (omega arith) in let b = zero_at (4 * n) (4 * i + 1) (omega arith) in
+    let c = zero_at (4 * n) (4 * i + 1 + 1) (omega arith) in let d = zero_at (4 * n) (4 * i + 1 + 1 + 1) (omega arith) in
+    omega arith
+
+opened_shows : (private : ℕ) → Shows private nothing 0 (opened_with private)
+opened_shows private = record {
+  runs = refl;
+  counter = refl;
+  count = refl;
+  registers = λ r l. zero_at 32 r l;
+  zero = refl;
+  size = length-replicate (4 * private) 0;
+  words = λ i l. zero_word private i l;
+  fits = λ r. (omega arith);
+  holds = λ i. (omega arith);
+}
+
+-- before main is called
+record Begun (plan : Plan) (first k : ℕ) (p : Processor) : Type 0 where
+  pub contents : Contents
+  pub shows : Shows plan.private contents k p
+  pub words : (i : ℕ) → contents.word i ≡ 0
+  pub two : contents.register 2 ≡ 0
+  pub three : contents.register 3 ≡ first
+  pub four : plan.by_a ≡ true → contents.register 4 ≡ plan.memory - 16
+  pub ten : plan.by_a ≡ true → contents.register 10 ≡ 1
+
+module _ (s : Setting) (plan : Plan) (variables : ℕ → ℕ) (fine : Fits s plan variables) (entries : ℕ → VariableSet) (linked : IsLinked s plan variables entries) where
+  abbrev before_main : ℕ → List Inst
+  before_main first = number_code 3 first ++ (if plan.by_a then number_code 4 (plan.memory - 16) ++ Addi 10 0 (pos 1) ∷ [] else [])
+
+  begun : (first : ℕ) → first ≤ plan.memory → length (before_main first) < 2 ^ 29 → CodeAt s.code 0 (before_main first) → Comes s (length (before_main first)) (opened_with plan.private) (Begun plan first (0 + length (before_main first)))
+  begun first fits small at =
+      let most = fine.common in
+      let to : ℕ → Env → Processor → Type 0 = λ k env q. Begun plan first k q in
+      let run : Runs s plan.private to (before_main first) nothing (Went (λ _. 0)) = runs_number s plan.private to 3 first _ refl (omega arith) (omega arith) (omega arith) (by plan.by_a refl) in
+      run.from 0 (omega arith) at (opened_with plan.private) (opened_shows plan.private)
+    where
+      by : (b : Bool) → plan.by_a ≡ b → Runs s plan.private (λ k env q. Begun plan first k q) (if b then number_code 4 (plan.memory - 16) ++ Addi 10 0 (pos 1) ∷ [] else []) (put 3 first nothing) (Went (λ _. 0))
+      by true e =
+          let most = fine.common in
+          let to : ℕ → Env → Processor → Type 0 = λ k env q. Begun plan first k q in
+          let c : Contents = put 4 (plan.memory - 16) (put 3 first nothing) in
+          runs_number s plan.private to 4 (plan.memory - 16) (Addi 10 0 (pos 1) ∷ []) refl (omega arith) (omega arith) (omega arith) (
+          runs_quiet s plan.private to (computes s plan.private to {c = c} (Addi 10 0 (pos 1)) 10 0 0 (λ x y. plus x (word (pos 1))) refl (omega arith) (omega arith) (omega arith) (omega arith)) (
+          runs_nothing s plan.private to (λ k q shows. record { contents = put 10 1 c; shows = shows; words = (λ i. refl); two = refl; three = refl; four = (λ _. refl); ten = (λ _. refl) })))
+      by false e = runs_nothing s plan.private (λ k env q. Begun plan first k q) (λ k q shows. record { contents = put 3 first nothing; shows = shows; words = (λ i. refl); two = refl; three = refl; four = (λ t. absurd cc); ten = (λ t. absurd cc) })
+
+  -- main reads nothing at its entry
+  pub begins : (main first : ℕ) → main < plan.functions → ((u : ℕ) → entries main u ≡ false) → first ≤ plan.memory → 1 ≤ plan.limit → plan.limit * plan.largest ≤ plan.private → plan.finish ≡ length (start_code plan main first) →
+      CodeAt s.code 0 (start_code plan main first) → Comes s (length (start_code plan main first) + length (entry_code plan variables main (entries main))) (opened_with plan.private) (Stands plan (entries main) (record { function = main; env = (λ _. 0); frame = first; waiting = [] }) (plan.start main))
+  begins main first there reads fits deep room ends at =
+      let m : Moment = record { function = main; env = (λ _. 0); frame = first; waiting = [] } in
+      let most = fine.common in let low = linked.low in
+      let start = linked.start main there in let near = linked.near main there in let entry = linked.entry main there in
+      let size = length-append (before_main first) (enter_code (plan.entry main)) in
+      let one = begun first fits (omega arith) (code_take s.code 0 (before_main first) (enter_code (plan.entry main)) at) in
+      let jump = code_drop s.code 0 (before_main first) (enter_code (plan.entry main)) at in
+      let largest = fine.largest main in let long = fine.words main in let wide = fine.private in
+      let once = least plan.limit plan.largest deep in
+      let two = comes_then s one (λ q b. comes_then s (jumps_in s plan variables fine entries linked (plan.entry main) (omega arith) (omega arith) jump b.shows) (λ r j.
+      let c1 : Contents = put 1 (4 * (0 + length (before_main first) + 2)) (put 5 j.0 b.contents) in
+      let back : 0 + length (before_main first) + 2 ≡ plan.finish = omega arith in
+      let to : ℕ → Env → Processor → Type 0 = λ k env o. Stands plan (entries main) m k o in
+      let l1 = like_put 5 j.0 b.contents j.1 b.shows.fits in
+      let l2 = like_put 1 (4 * (0 + length (before_main first) + 2)) (put 5 j.0 b.contents) (omega arith) l1.fits in
+      let found : plus (c1.register 2) (word (pos 0)) ≡ 4 * 0 = rw b.two refl in
+      let c2 : Contents = store 0 (4 * (0 + length (before_main first) + 2)) c1 in
+      let rs : List ℕ = registers_in (plan.home main) (variables main) (entries main) in
+      let run : Runs s plan.private to (entry_code plan variables main (entries main)) c1 (Went (λ _. 0)) =
+      runs_quiet s plan.private to (stores_word s plan.private to 2 1 (pos 0) 0 (omega arith) (omega arith) found (omega arith)) (
+      let last : Runs s plan.private to (restore_code rs ++ []) c2 (Went (λ _. 0)) = runs_restore s plan variables fine to 0 rs [] (λ q e. register_kept (plan.home main) (variables main) q (entries main) e) b.two (omega arith) l2.fits (λ i. either (nat_eq i 0) (4 * (0 + length (before_main first) + 2)) (b.contents.word i) (omega arith) (b.shows.holds i)) (λ c3 restored.
+      runs_nothing s plan.private to (λ k o shows. record {
+        contents = c3;
+        shows = shows;
+        agrees = record {
+          base = 0;
+          variables = (λ u e. absurd (contradicts u e));
+          pointer = restored.others 2 (among_not s plan variables fine entries linked (plan.home main) (variables main) 2 (entries main) refl) ∙ b.two;
+          frame = restored.others 3 (among_not s plan variables fine entries linked (plan.home main) (variables main) 3 (entries main) refl) ∙ b.three;
+          depth = (λ e. restored.others 10 (among_not s plan variables fine entries linked (plan.home main) (variables main) 10 (entries main) refl) ∙ b.ten e);
+          addresses = (λ e. restored.others 4 (among_not s plan variables fine entries linked (plan.home main) (variables main) 4 (entries main) refl) ∙ b.four e);
+          waiting = (refl, (omega arith), restored.words 0 ∙ ap (λ n. 4 * n) back);
+          room = (let same : plan.limit + 1 - 1 ≡ plan.limit = omega arith in rw same (omega arith));
+          within = record { depth = deep; frame = fits };
+        };
+      })) in
+      rw append-nil at last) in
+      subst (λ (n : ℕ). Comes s (length (entry_code plan variables main (entries main))) r (Stands plan (entries main) m n)) (sym start) (run.from (plan.entry main) (omega arith) entry r j.2))) in
+      comes_map s (length (start_code plan main first) + length (entry_code plan variables main (entries main))) (omega arith) (λ q g. g) two
+    where
+      least : (n k : ℕ) → 0 < n → k ≤ n * k
+      least zero k h = absurd (omega arith)
+      least (suc n) k h = omega arith
+
+      either : (t : Bool) (x y : ℕ) → x < 2 ^ 32 → y < 2 ^ 32 → (if t then x else y) < 2 ^ 32
+      either true x y a b = a
+      either false x y a b = b
+
+      contradicts : (u : ℕ) → entries main u ≡ true → ⊥
+      contradicts u e = let no' = reads u in absurd cc
+
+pub code_begins : CodeBegins
+code_begins s plan variables entries main frames fine linked b =
+    let l1 = entry_alone plan variables main (entries main) b.reads in let l2 = opening_short plan main frames in let l3 = finish_some plan.by_a in
+    comes_map s 8 (omega arith) (λ q g. g) (begins s plan variables fine entries linked main frames b.there b.reads b.first b.deep b.room b.finish b.code)

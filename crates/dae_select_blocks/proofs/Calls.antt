@@ -1,0 +1,267 @@
+-- A call keeps what is live behind it, and gives its arguments; a return brings back.
+use Rattle.std.proofs.Common.{◌≡◌, ◌≢◌, ℕ, zero, suc, ◌+◌, ◌*◌, ◌^◌, ◌<◌, ◌≤◌, ◌⊎◌, inl, inr, Bool, true, false, ◌&&◌, ◌||◌, List, [], ◌∷◌, ◌++◌, refl, sym, ap, ◌∙◌, arith, append_assoc}
+use Rattle.std.specs.Prelude.{nat_eq, if◌then◌else◌}
+use Rattle.std.proofs.lemmas.Bool.Decides.{nat_tests}
+use Rattle.dae_encode.specs.declared.Inst.{Inst}
+use Rattle.dae_encode.specs.Processor.{Processor}
+use Rattle.dae_ir.specs.Classes.{VariableSet}
+use Rattle.dae_meaning.specs.Variables.{Env}
+use Rattle.dae_ir.specs.Form.{value}
+use Rattle.dae_ir.specs.Deeds.{Deed}
+use Rattle.dae_ir.specs.declared.stream.Argument.{Argument}
+use Rattle.dae_select_walks.specs.declared.Home.{Home}
+use Rattle.dae_select_walks.specs.declared.Home.TheVariants.{Register, Slot}
+use Rattle.dae_select_walks.specs.Walks.{Setting}
+use Rattle.dae_select_walks.specs.Live.{in_operand, in_arguments}
+use Rattle.dae_select_walks.specs.Homes.{Contents, held, IsHome, AreApart, is_home_register, kept_at, slot_at}
+use Rattle.dae_select_walks.specs.Agrees.{Plan, Moment}
+use Rattle.dae_select_walks.specs.Compiled.{given}
+use Rattle.dae_select_walks.proofs.LawsOfWalks.{put, store}
+use Rattle.dae_select_blocks.specs.Blocks.{source, fetch, store_code, waits_at, arguments_code, is_register, save_code, restore_code}
+use Rattle.dae_select_blocks.specs.Code.{some_below, filtered, home_registers, registers_in}
+use Rattle.dae_select_blocks.specs.Fits.{Fits}
+use Rattle.dae_select_blocks.specs.Wanted.{AreGiven, gives}
+use Rattle.dae_select_blocks.proofs.Plain.{put_same, put_other}
+use Rattle.dae_select_blocks.proofs.Frames.{runs_load, runs_store}
+use Rattle.dae_select_blocks.proofs.Runs.{Runs}
+use Rattle.dae_select_blocks.proofs.Agreement.{Ready, Like, ready_like, home_register, kept_small, waiting_same}
+use Rattle.dae_select_blocks.proofs.Operands.{like_put, runs_fetch}
+use Rattle.dae_select_blocks.proofs.Computing.{is_scratch, is_work, source_plain, source_apart}
+
+-- ---- which registers are kept
+
+abbrev pub among : ℕ → List ℕ → Bool
+among r [] = false
+among r (x ∷ xs) = nat_eq r x || among r xs
+
+among_filtered : (f : ℕ → Bool) (r : ℕ) (rs : List ℕ) → f r ≡ true → among r rs ≡ true → among r (filtered f rs) ≡ true
+among_filtered f r [] e h = h
+among_filtered f r (x ∷ xs) e h = by (f x) (nat_eq r x) refl refl h (among_filtered f r xs e)
+  where
+    by : (a b : Bool) → f x ≡ a → nat_eq r x ≡ b → (b || among r xs) ≡ true → (among r xs ≡ true → among r (filtered f xs) ≡ true) → among r (if a then x ∷ filtered f xs else filtered f xs) ≡ true
+    by true true ea eb h later = rw eb refl
+    by true false ea eb h later = rw eb (later h)
+    by false true ea eb h later = let same : r ≡ x = grind (arith, nat_tests) in let e' = ap f same in absurd cc
+    by false false ea eb h later = later h
+
+filtered_among : (f : ℕ → Bool) (r : ℕ) (rs : List ℕ) → among r (filtered f rs) ≡ true → among r rs ≡ true
+filtered_among f r [] h = h
+filtered_among f r (x ∷ xs) h = by (f x) (nat_eq r x) refl h (filtered_among f r xs)
+  where
+    by : (a b : Bool) → nat_eq r x ≡ b → among r (if a then x ∷ filtered f xs else filtered f xs) ≡ true → (among r (filtered f xs) ≡ true → among r xs ≡ true) → (b || among r xs) ≡ true
+    by a true e h later = refl
+    by true false e h later = later (rw e at h)
+    by false false e h later = later h
+
+either : (b : Bool) → (b || true) ≡ true
+either true = refl
+either false = refl
+
+some_found : (n v : ℕ) (f : ℕ → Bool) → v < n → f v ≡ true → some_below n f ≡ true
+some_found zero v f l e = absurd (omega arith)
+some_found (suc n) v f l e = by (nat_eq v n) refl (some_found n v f)
+  where
+    by : (b : Bool) → nat_eq v n ≡ b → (v < n → f v ≡ true → some_below n f ≡ true) → (f n || some_below n f) ≡ true
+    by true t later = let same : v ≡ n = grind (arith, nat_tests) in let e' : f n ≡ true = ap f (sym same) ∙ e in rw e' refl
+    by false t later = let l' : v < n = grind (arith, nat_tests) in rw (later l' e) (either (f n))
+
+all_registers : (r : ℕ) → is_home_register r ≡ true → among r home_registers ≡ true
+all_registers r h = grind (arith, nat_tests)
+
+only_registers : (r : ℕ) → among r home_registers ≡ true → is_home_register r ≡ true
+only_registers r h = grind (arith, nat_tests)
+
+pub kept_register : (home : ℕ → Home) (n v r : ℕ) (live : VariableSet) → v < n → live v ≡ true → home v ≡ Register r → is_home_register r ≡ true → among r (registers_in home n live) ≡ true
+unfolding registers_in
+kept_register home n v r live l e is good =
+    among_filtered (λ r. some_below n (λ v. live v && is_register r (home v))) r home_registers (some_found n v (λ v. live v && is_register r (home v)) l (rw (e, is) (grind (arith, nat_tests)))) (all_registers r good)
+
+pub register_kept : (home : ℕ → Home) (n r : ℕ) (live : VariableSet) → among r (registers_in home n live) ≡ true → is_home_register r ≡ true
+unfolding registers_in
+register_kept home n r live h = only_registers r (filtered_among (λ r. some_below n (λ v. live v && is_register r (home v))) r home_registers h)
+
+kept_apart : (q r : ℕ) → is_home_register q ≡ true → is_home_register r ≡ true → q ≢ r → kept_at q ≢ kept_at r
+kept_apart q r a b ne e = grind (arith, nat_tests)
+
+pub kept_low : (r : ℕ) → is_home_register r ≡ true → 0 < kept_at r
+kept_low r a = grind (arith, nat_tests)
+
+-- where an argument waits tells its home
+waits_apart : (n k : ℕ) (h g : Home) → IsHome n h → IsHome k g → h ≢ g → waits_at h ≢ waits_at g
+waits_apart n k (Register q) (Register r) a b ne e = kept_apart q r a b (λ same. ne (ap Register same)) e
+waits_apart n k (Register q) (Slot i) a b ne e = let l = kept_small q a in omega arith
+waits_apart n k (Slot i) (Register r) a b ne e = let l = kept_small r b in omega arith
+waits_apart n k (Slot i) (Slot j) a b ne e = ne (ap Slot (omega arith))
+
+waits_inside : (n : ℕ) (h : Home) → IsHome n h → waits_at h < 19 + n
+waits_inside n (Register r) a = let l = kept_small r a in omega arith
+waits_inside n (Slot i) a = omega arith
+
+-- the kept registers are in the frame, and all else is as it was
+pub record Saved (rs : List ℕ) (base : ℕ) (c c' : Contents) : Type 0 where
+  pub kept : (q : ℕ) → is_home_register q ≡ true → among q rs ≡ true → c'.word (base + kept_at q) ≡ c.register q
+  pub unkept : (q : ℕ) → is_home_register q ≡ true → among q rs ≡ false → c'.word (base + kept_at q) ≡ c.word (base + kept_at q)
+  pub others : (i : ℕ) → (i ≤ base) ⊎ (base + 19 ≤ i) → c'.word i ≡ c.word i
+  pub registers : (j : ℕ) → j ≢ 7 → c'.register j ≡ c.register j
+  pub fits : (j : ℕ) → c'.register j < 2 ^ 32
+  pub small : (i : ℕ) → c'.word i < 2 ^ 32
+
+-- the kept registers have what the frame has, and all else is as it was
+pub record Restored (rs : List ℕ) (base : ℕ) (c c' : Contents) : Type 0 where
+  pub words : (i : ℕ) → c'.word i ≡ c.word i
+  pub kept : (q : ℕ) → among q rs ≡ true → c'.register q ≡ c.word (base + kept_at q)
+  pub others : (j : ℕ) → among j rs ≡ false → c'.register j ≡ c.register j
+  pub fits : (j : ℕ) → c'.register j < 2 ^ 32
+
+-- a store into one word
+pub record Stored (w v : ℕ) (c c' : Contents) : Type 0 where
+  pub here : c'.word w ≡ v
+  pub others : (i : ℕ) → i ≢ w → c'.word i ≡ c.word i
+  pub registers : (j : ℕ) → j ≢ 7 → c'.register j ≡ c.register j
+  pub fits : (j : ℕ) → c'.register j < 2 ^ 32
+  pub small : (i : ℕ) → c'.word i < 2 ^ 32
+
+stored : (w v u : ℕ) (c : Contents) → v < 2 ^ 32 → u < 2 ^ 32 → ((j : ℕ) → c.register j < 2 ^ 32) → ((i : ℕ) → c.word i < 2 ^ 32) → Stored w v c (store w v (put 7 u c))
+stored w v u c a b fits small = record {
+  here = grind (arith, nat_tests);
+  others = λ i ne. one i ne;
+  registers = λ j ne. put_other 7 u j c ne;
+  fits = λ j. (like_put 7 u c b fits).fits j;
+  small = λ i. two i (nat_eq i w);
+}
+  where
+    one : (i : ℕ) → i ≢ w → (if nat_eq i w then v else c.word i) ≡ c.word i
+    one i ne = grind (arith, nat_tests)
+
+    two : (i : ℕ) (t : Bool) → (if t then v else c.word i) < 2 ^ 32
+    two i true = a
+    two i false = small i
+
+module _ (s : Setting) (plan : Plan) (variables : ℕ → ℕ) (fine : Fits s plan variables) (to : ℕ → Env → Processor → Type 0) where
+  pub runs_word : {c : Contents} {d : Deed} (base r i : ℕ) (is : List Inst) → c.register 2 ≡ 4 * base → r ≢ 7 → r < 28 → base + i < plan.private → ((j : ℕ) → c.register j < 2 ^ 32) → ((j : ℕ) → c.word j < 2 ^ 32) →
+      ((c' : Contents) → Stored (base + i) (c.register r) c c' → Runs s plan.private to is c' d) → Runs s plan.private to (store_code r i ++ is) c d
+  runs_word {c} base r i is pointer apart low inside fits small run =
+      runs_store s plan.private to base r i is pointer apart low inside fine.private (λ u l. run (store (base + i) (c.register r) (put 7 u c)) (stored (base + i) (c.register r) u c (fits r) l fits small)) (fits 7)
+
+  pub runs_save : {c : Contents} {d : Deed} (base : ℕ) (rs : List ℕ) (is : List Inst) → ((q : ℕ) → among q rs ≡ true → is_home_register q ≡ true) → c.register 2 ≡ 4 * base → base + 19 ≤ plan.private → ((j : ℕ) → c.register j < 2 ^ 32) → ((j : ℕ) → c.word j < 2 ^ 32) →
+      ((c' : Contents) → Saved rs base c c' → Runs s plan.private to is c' d) → Runs s plan.private to (save_code rs ++ is) c d
+  runs_save {c} base [] is good pointer inside fits small run = run c (record { kept = λ q a h. absurd cc; unkept = λ q a h. refl; others = λ i h. refl; registers = λ j ne. refl; fits = fits; small = small })
+  runs_save {c} base (r ∷ rs) is good pointer inside fits small run =
+      let home : is_home_register r ≡ true = good r (grind (arith, nat_tests)) in
+      let low = home_register r home in let l = kept_small r home in let k = kept_low r home in
+      rw append_assoc (runs_word base r (kept_at r) (save_code rs ++ is) pointer (omega arith) low.1 (omega arith) fits small (λ c1 one.
+      runs_save base rs is (λ q h. good q (rw h (either (nat_eq q r)))) (one.registers 2 (omega arith) ∙ pointer) inside one.fits one.small (λ c2 rest.
+      run c2 (record {
+        kept = λ q a h. by c1 c2 one rest home q a (nat_eq q r) (among q rs) refl refl h;
+        unkept = λ q a h. none c1 c2 one rest home q a (nat_eq q r) refl h;
+        others = λ i h. rest.others i h ∙ one.others i (outside i (kept_at r) h k l);
+        registers = λ j ne. rest.registers j ne ∙ one.registers j ne;
+        fits = rest.fits;
+        small = rest.small;
+      }))))
+    where
+      outside : (i k : ℕ) → (i ≤ base) ⊎ (base + 19 ≤ i) → 0 < k → k < 19 → i ≢ base + k
+      outside i k (inl h) a b e = omega arith
+      outside i k (inr h) a b e = omega arith
+
+      by : (c1 c2 : Contents) → Stored (base + kept_at r) (c.register r) c c1 → Saved rs base c1 c2 → is_home_register r ≡ true → (q : ℕ) → is_home_register q ≡ true → (t u : Bool) → nat_eq q r ≡ t → among q rs ≡ u → (t || u) ≡ true → c2.word (base + kept_at q) ≡ c.register q
+      by c1 c2 one rest home q a t true e f h = rest.kept q a f ∙ one.registers q (let low = home_register q a in omega arith)
+      by c1 c2 one rest home q a true false e f h = let same : q ≡ r = grind (arith, nat_tests) in rest.unkept q a f ∙ rw same one.here
+      by c1 c2 one rest home q a false false e f h = absurd cc
+
+      none : (c1 c2 : Contents) → Stored (base + kept_at r) (c.register r) c c1 → Saved rs base c1 c2 → is_home_register r ≡ true → (q : ℕ) → is_home_register q ≡ true → (t : Bool) → nat_eq q r ≡ t → (t || among q rs) ≡ false → c2.word (base + kept_at q) ≡ c.word (base + kept_at q)
+      none c1 c2 one rest home q a true e h = absurd cc
+      none c1 c2 one rest home q a false e h = let ne : q ≢ r = grind (arith, nat_tests) in let far = kept_apart q r a home ne in rest.unkept q a h ∙ one.others (base + kept_at q) (λ same. far (omega arith))
+
+  pub runs_restore : {c : Contents} {d : Deed} (base : ℕ) (rs : List ℕ) (is : List Inst) → ((q : ℕ) → among q rs ≡ true → is_home_register q ≡ true) → c.register 2 ≡ 4 * base → base + 19 ≤ plan.private → ((j : ℕ) → c.register j < 2 ^ 32) → ((j : ℕ) → c.word j < 2 ^ 32) →
+      ((c' : Contents) → Restored rs base c c' → Runs s plan.private to is c' d) → Runs s plan.private to (restore_code rs ++ is) c d
+  runs_restore {c} base [] is good pointer inside fits small run = run c (record { words = λ i. refl; kept = λ q h. absurd cc; others = λ j h. refl; fits = fits })
+  runs_restore {c} base (r ∷ rs) is good pointer inside fits small run =
+      let home : is_home_register r ≡ true = good r (grind (arith, nat_tests)) in
+      let low = home_register r home in let l = kept_small r home in
+      let v : ℕ = c.word (base + kept_at r) in
+      let c1 : Contents = put r v c in
+      let like = like_put r v c (small (base + kept_at r)) fits in
+      rw append_assoc (runs_load s plan.private to base r (kept_at r) (restore_code rs ++ is) pointer (omega arith) (omega arith) low.1 (omega arith) fine.private (
+      runs_restore {c = put r (c.word (base + kept_at r)) c} base rs is (λ q h. good q (rw h (either (nat_eq q r)))) (like.registers 2 (omega arith) ∙ pointer) inside like.fits small (λ c2 rest.
+      run c2 (record {
+        words = rest.words;
+        kept = λ q h. by c2 rest home q (nat_eq q r) (among q rs) refl refl h;
+        others = λ j h. none c2 rest j (nat_eq j r) refl h;
+        fits = rest.fits;
+      }))))
+    where
+      by : (c2 : Contents) → Restored rs base (put r (c.word (base + kept_at r)) c) c2 → is_home_register r ≡ true → (q : ℕ) (t u : Bool) → nat_eq q r ≡ t → among q rs ≡ u → (t || u) ≡ true → c2.register q ≡ c.word (base + kept_at q)
+      by c2 rest home q t true e f h = rest.kept q f
+      by c2 rest home q true false e f h =
+          let same : q ≡ r = grind (arith, nat_tests) in let low = home_register r home in
+          rest.others q f ∙ rw same (put_same r (c.word (base + kept_at r)) c (omega arith) low.1)
+      by c2 rest home q false false e f h = absurd cc
+
+      none : (c2 : Contents) → Restored rs base (put r (c.word (base + kept_at r)) c) c2 → (j : ℕ) (t : Bool) → nat_eq j r ≡ t → (t || among j rs) ≡ false → c2.register j ≡ c.register j
+      none c2 rest j true e h = absurd cc
+      none c2 rest j false e h = let ne : j ≢ r = grind (arith, nat_tests) in rest.others j h ∙ put_other r (c.word (base + kept_at r)) j c ne
+
+  -- stores behind the running function's frame leave the agreement
+  pub ready_far : {live : VariableSet} {m : Moment} {c c' : Contents} (h : Ready plan live m c) → ((i : ℕ) → i < h.agrees.base + plan.words m.function → c'.word i ≡ c.word i) → ((j : ℕ) → j ≢ 7 → c'.register j ≡ c.register j) → ((j : ℕ) → c'.register j < 2 ^ 32) → ((i : ℕ) → c'.word i < 2 ^ 32) → Ready plan live m c'
+  ready_far {live} {m} {c} {c'} h words registers fits small =
+      let a = h.agrees in let long = fine.words m.function in
+      record {
+        zero = registers 0 (omega arith) ∙ h.zero;
+        fits = fits;
+        small = small;
+        agrees = record {
+          base = a.base;
+          variables = λ v l. one a.base (variables m.function) (plan.home m.function v) (fine.homes m.function v) (λ i l. words i (omega arith)) ∙ a.variables v l;
+          pointer = registers 2 (omega arith) ∙ a.pointer;
+          frame = registers 3 (omega arith) ∙ a.frame;
+          depth = λ by_a. registers 10 (omega arith) ∙ a.depth by_a;
+          addresses = λ by_a. registers 4 (omega arith) ∙ a.addresses by_a;
+          waiting = waiting_same s plan variables fine c c' a.base m.frame m.waiting (λ i l. words i (omega arith)) a.waiting;
+          room = a.room;
+          within = a.within;
+        };
+      }
+    where
+      one : (base n : ℕ) (home : Home) → IsHome n home → ((i : ℕ) → i < base + (19 + n) → c'.word i ≡ c.word i) → held c' base home ≡ held c base home
+      one base n (Register r) good same = registers r (let low = home_register r good in omega arith)
+      one base n (Slot i) good same = same (base + slot_at i) (omega arith)
+
+  -- the private frame begins where x2 says
+  pub base_is : {live : VariableSet} {m : Moment} {c : Contents} (h : Ready plan live m c) (base : ℕ) → c.register 2 ≡ 4 * base → h.agrees.base ≡ base
+  base_is h base e = let p = h.agrees.pointer in omega arith
+
+  -- the arguments wait in the frame of the function that is called
+  pub record Gave (live : VariableSet) (m : Moment) (base g : ℕ) (xs : List Argument) (c' : Contents) : Type 0 where
+    pub ready : Ready plan live m c'
+    pub based : ready.agrees.base ≡ base
+    pub given : (u : ℕ) → gives xs u ≡ true → c'.word (base + (plan.words m.function + waits_at (plan.home g u))) ≡ given xs m.env u
+
+  pub runs_arguments : {live : VariableSet} {m : Moment} {c : Contents} {d : Deed} (g : ℕ) (xs : List Argument) (is : List Inst) (h : Ready plan live m c) → ((u : ℕ) → in_arguments xs u ≡ true → live u ≡ true) → AreGiven xs → AreApart (plan.home g) (gives xs) → h.agrees.base + plan.words m.function + plan.words g ≤ plan.private →
+      ((c' : Contents) → Gave live m h.agrees.base g xs c' → Runs s plan.private to is c' d) → Runs s plan.private to (arguments_code plan m.function g xs ++ is) c d
+  runs_arguments {live} {m} {c} g [] is h reads numbers apart inside run = run c (record { ready = h; based = refl; given = λ u e. absurd cc })
+  runs_arguments {live} {m} {c} g (x ∷ xs) is h reads numbers apart inside run =
+      let base : ℕ = h.agrees.base in
+      let w : ℕ = plan.words m.function + waits_at (plan.home g x.parameter) in
+      let long = fine.words g in let in' = waits_inside (variables g) (plan.home g x.parameter) (fine.homes g x.parameter) in
+      let r : ℕ = source (plan.home m.function) 5 x.operand in
+      rw (append_assoc, append_assoc) (runs_arguments g xs (fetch (plan.home m.function) 5 x.operand ++ (store_code r w ++ is)) h (λ u e. reads u (rw e (either (in_operand x.operand u)))) numbers.1 (λ u v a b. apart u v (rw a (either (nat_eq u x.parameter))) (rw b (either (nat_eq v x.parameter)))) inside (λ c1 gave.
+      let h1 = gave.ready in let at_base = gave.based in
+      runs_fetch s plan variables fine to 5 x.operand (store_code r w ++ is) (is_work 5 (omega arith) (omega arith)) h1 (λ u e. reads u (rw e refl)) numbers.0 (λ c2 like got.
+      let h2 = ready_like s plan variables fine 5 (is_scratch plan 5 (omega arith) (omega arith)) like h1 in
+      let pointer : c2.register 2 ≡ 4 * base = like.registers 2 (omega arith) ∙ (h1.agrees.pointer ∙ ap (λ n. 4 * n) at_base) in
+      let based = base_is h2 base pointer in
+      runs_word base r w is pointer (source_apart s plan variables fine to m.function 5 7 x.operand (omega arith) (omega arith) (omega arith)) (source_plain s plan variables fine to m.function 5 x.operand (omega arith)) (omega arith) h2.fits h2.small (λ c3 one.
+      run c3 (record {
+        ready = ready_far h2 (λ i l. one.others i (omega arith)) one.registers one.fits one.small;
+        based = base_is (ready_far h2 (λ i l. one.others i (omega arith)) one.registers one.fits one.small) base (one.registers 2 (omega arith) ∙ pointer);
+        given = λ u e. by c1 c2 c3 gave like got one u (nat_eq u x.parameter) refl e;
+      })))))
+    where
+      by : (c1 c2 c3 : Contents) → Gave live m h.agrees.base g xs c1 → Like 5 c1 c2 → c2.register (source (plan.home m.function) 5 x.operand) ≡ value x.operand m.env → Stored (h.agrees.base + (plan.words m.function + waits_at (plan.home g x.parameter))) (c2.register (source (plan.home m.function) 5 x.operand)) c2 c3 →
+          (u : ℕ) (t : Bool) → nat_eq u x.parameter ≡ t → (t || gives xs u) ≡ true → c3.word (h.agrees.base + (plan.words m.function + waits_at (plan.home g u))) ≡ (if t then value x.operand m.env else given xs m.env u)
+      by c1 c2 c3 gave like got one u true e k = let same : u ≡ x.parameter = grind (arith, nat_tests) in rw same (one.here ∙ got)
+      by c1 c2 c3 gave like got one u false e k =
+          let ne : u ≢ x.parameter = grind (arith, nat_tests) in
+          let far = waits_apart (variables g) (variables g) (plan.home g u) (plan.home g x.parameter) (fine.homes g u) (fine.homes g x.parameter) (apart u x.parameter (rw k (either (nat_eq u x.parameter))) (grind (arith, nat_tests)) ne) in
+          one.others (h.agrees.base + (plan.words m.function + waits_at (plan.home g u))) (λ same. far (omega arith)) ∙ (like.words (h.agrees.base + (plan.words m.function + waits_at (plan.home g u))) ∙ gave.given u k)

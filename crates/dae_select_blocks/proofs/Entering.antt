@@ -1,0 +1,232 @@
+-- A call's walk: from its block over the jump and the entry code to where the called function's actions begin.
+use Rattle.std.proofs.Common.{◌≡◌, ◌≢◌, ℕ, zero, suc, ◌+◌, ◌-◌, ◌*◌, ◌/◌, ◌^◌, ◌<◌, ◌≤◌, inl, inr, Bool, true, false, not, ◌&&◌, List, [], ◌++◌, Option, length, refl, sym, ap, ◌∙◌, subst, arith, append-nil}
+use Rattle.std.specs.Prelude.{nat_eq, if◌then◌else◌, pos}
+use Rattle.std.proofs.lemmas.Bool.Decides.{nat_tests}
+use Rattle.dae_base.specs.Words.{plus, word}
+use Rattle.dae_encode.specs.declared.QueueUse.TheVariants.{Nothing}
+use Rattle.dae_encode.specs.declared.Inst.TheVariants.{Lui, Jalr}
+use Rattle.dae_encode.specs.Processor.{Processor}
+use Rattle.dae_ir.specs.Classes.{VariableSet}
+use Rattle.dae_meaning.specs.Variables.{Env}
+use Rattle.dae_ir.specs.Deeds.{Went}
+use Rattle.dae_ir.specs.declared.stream.Argument.{Argument}
+use Rattle.dae_select_walks.specs.declared.Home.{Home}
+use Rattle.dae_select_walks.specs.declared.Home.TheVariants.{Register, Slot}
+use Rattle.dae_select_walks.specs.Walks.{Setting, Comes}
+use Rattle.dae_select_walks.specs.Layout.{CodeAt}
+use Rattle.dae_select_walks.specs.Live.{in_arguments, is}
+use Rattle.dae_select_walks.specs.Homes.{Contents, held, kept, IsHome, AreApart, is_home_register, kept_at, slot_at}
+use Rattle.dae_select_walks.specs.Agrees.{Plan, Moment, Waiting, Agrees, Shows, Stands, AreIn, AreWaiting, IsWithin, depth_of, top_of}
+use Rattle.dae_select_walks.specs.Compiled.{given, called, waiting_of}
+use Rattle.dae_select_walks.proofs.LawsOfWalks.{comes_here, comes_more, comes_then}
+use Rattle.dae_select_walks.proofs.LawsOfWalks.{put, store, step}
+use Rattle.dae_select_blocks.specs.Blocks.{upper, lower, waits_at, arguments_code, save_code, restore_code, deeper_code, enter_code}
+use Rattle.dae_select_blocks.specs.Code.{registers_in, entry_code}
+use Rattle.dae_select_blocks.specs.Fits.{Fits}
+use Rattle.dae_select_blocks.specs.Wanted.{AreGiven, gives, IsLinked}
+use Rattle.dae_select_blocks.proofs.Halves.{halves}
+use Rattle.dae_select_blocks.proofs.Plain.{plain_computes, stores_word}
+use Rattle.dae_select_blocks.proofs.Frames.{plus_small, upper_small}
+use Rattle.dae_select_blocks.proofs.Runs.{Runs, runs_nothing, runs_quiet}
+use Rattle.dae_select_blocks.proofs.Agreement.{Ready, kept_small, waiting_same}
+use Rattle.dae_select_blocks.proofs.Operands.{like_put}
+use Rattle.dae_select_blocks.proofs.Calls.{kept_low, among, kept_register, register_kept, Saved, runs_arguments, runs_save, runs_restore}
+use Rattle.dae_select_blocks.proofs.Deeper.{runs_deeper}
+use Rattle.dae_select_blocks.proofs.Jumps.{ready}
+
+-- the called function's frame is begun: its arguments wait, and the caller's variables are kept
+pub record Prepared (plan : Plan) (m : Moment) (w : Waiting) (base g : ℕ) (xs : List Argument) (k : ℕ) (p : Processor) : Type 0 where
+  pub contents : Contents
+  pub shows : Shows plan.private contents k p
+  pub two : contents.register 2 ≡ 4 * (base + plan.words m.function)
+  pub three : contents.register 3 ≡ top_of plan m
+  pub four : plan.by_a ≡ true → contents.register 4 ≡ plan.memory - 16
+  pub ten : plan.by_a ≡ true → contents.register 10 ≡ depth_of m + 1
+  pub given : (u : ℕ) → gives xs u ≡ true → contents.word (base + (plan.words m.function + waits_at (plan.home g u))) ≡ given xs m.env u
+  pub variables : AreIn (kept contents base) (plan.home m.function) w.live m.env
+  pub waiting : AreWaiting plan contents base m.frame m.waiting
+
+module _ (s : Setting) (plan : Plan) (variables : ℕ → ℕ) (fine : Fits s plan variables) (entries : ℕ → VariableSet) (linked : IsLinked s plan variables entries) where
+  -- within the call limit there is room for one frame more
+  room_for : {live : VariableSet} {m : Moment} {c : Contents} (h : Ready plan live m c) (g : ℕ) → depth_of m + 1 ≤ plan.limit → h.agrees.base + plan.words m.function + plan.words g ≤ plan.private
+  room_for {m = m} h g deep =
+      let a = h.agrees in let room = a.room in let l1 = fine.largest m.function in let l2 = fine.largest g in
+      let two = product (plan.limit + 1 - depth_of m) plan.largest (omega arith) in
+      omega arith
+    where
+      product : (n k : ℕ) → 1 < n → k + k ≤ n * k
+      product zero k h = absurd (omega arith)
+      product (suc zero) k h = absurd (omega arith)
+      product (suc (suc n)) k h = omega arith
+
+  -- what is kept of a variable
+  one : {live : VariableSet} {m : Moment} (base u : ℕ) (kept' : VariableSet) (c1 c2 c3 : Contents) (h1 : Ready plan live m c1) → h1.agrees.base ≡ base → Saved (registers_in (plan.home m.function) (variables m.function) kept') base c1 c2 → ((i : ℕ) → c3.word i ≡ c2.word i) → kept' u ≡ true → live u ≡ true → u < variables m.function →
+      (home : Home) → plan.home m.function u ≡ home → kept c3 base home ≡ m.env u
+  one {m = m} base u kept' c1 c2 c3 h1 based saved words k l below (Register r) e =
+      let good : is_home_register r ≡ true = (let g = fine.homes m.function u in rw e at g) in
+      let a = h1.agrees.variables u l in
+      words (base + kept_at r) ∙ (saved.kept r good (kept_register (plan.home m.function) (variables m.function) u r kept' below k e good) ∙ (rw e at a))
+  one {m = m} base u kept' c1 c2 c3 h1 based saved words k l below (Slot i) e =
+      let a = h1.agrees.variables u l in
+      let b : c1.word (h1.agrees.base + slot_at i) ≡ m.env u = rw e at a in
+      words (base + slot_at i) ∙ (saved.others (base + slot_at i) (inr (omega arith)) ∙ (rw based at b))
+
+  pub prepares : {live : VariableSet} {m : Moment} {k : ℕ} {p : Processor} (v : Option ℕ) (behind : VariableSet) (g : ℕ) (xs : List Argument) (w : Waiting) (h : Stands plan live m k p) → w.live ≡ (λ u. behind u && not (is v u)) →
+      ((u : ℕ) → in_arguments xs u ≡ true → live u ≡ true) → ((u : ℕ) → w.live u ≡ true → live u ≡ true) → ((u : ℕ) → live u ≡ true → u < variables m.function) → AreGiven xs → AreApart (plan.home g) (gives xs) → IsWithin plan (called plan g xs w m) →
+      k + length (arguments_code plan m.function g xs ++ (save_code (registers_in (plan.home m.function) (variables m.function) w.live) ++ deeper_code plan m.function)) < 2 ^ 29 →
+      CodeAt s.code k (arguments_code plan m.function g xs ++ (save_code (registers_in (plan.home m.function) (variables m.function) w.live) ++ deeper_code plan m.function)) →
+      Comes s (length (arguments_code plan m.function g xs ++ (save_code (registers_in (plan.home m.function) (variables m.function) w.live) ++ deeper_code plan m.function))) p
+      (Prepared plan m w h.agrees.base g xs (k + length (arguments_code plan m.function g xs ++ (save_code (registers_in (plan.home m.function) (variables m.function) w.live) ++ deeper_code plan m.function))))
+  prepares {live} {m} {k} {p} v behind g xs w h is_live reads keeps scope numbers apart within small at =
+      let to : ℕ → Env → Processor → Type 0 = λ j env q. Prepared plan m w h.agrees.base g xs j q in
+      let h0 = ready s plan variables fine h in
+      let base : ℕ = h.agrees.base in
+      let rs : List ℕ = registers_in (plan.home m.function) (variables m.function) w.live in
+      let deep = within.depth in let top = within.frame in let long = fine.words m.function in let wide = fine.private in let most = fine.common in let lim = fine.limit in
+      let inside = room_for h0 g (omega arith) in
+      let run : Runs s plan.private to (arguments_code plan m.function g xs ++ (save_code rs ++ deeper_code plan m.function)) h.contents (Went m.env) =
+      runs_arguments s plan variables fine to g xs (save_code rs ++ deeper_code plan m.function) h0 reads numbers apart inside (λ c1 gave.
+      let h1 = gave.ready in
+      let p1 : c1.register 2 ≡ 4 * base = h1.agrees.pointer ∙ ap (λ n. 4 * n) gave.based in
+      runs_save s plan variables fine to base rs (deeper_code plan m.function) (λ q a. register_kept (plan.home m.function) (variables m.function) q w.live a) p1 (omega arith) h1.fits h1.small (λ c2 saved.
+      let last : Runs s plan.private to (deeper_code plan m.function ++ []) c2 (Went m.env) = runs_deeper s plan to m.function base m.frame (depth_of m) [] (saved.registers 0 (omega arith) ∙ h1.zero) saved.fits (saved.registers 2 (omega arith) ∙ p1) (saved.registers 3 (omega arith) ∙ h1.agrees.frame) (λ e. saved.registers 10 (omega arith) ∙ h1.agrees.depth e) (omega arith) (omega arith) (omega arith) (λ c3 moved.
+      runs_nothing s plan.private to {env = m.env} (λ j q shows. record {
+        contents = c3;
+        shows = shows;
+        two = moved.two;
+        three = moved.three;
+        four = λ e. moved.others 4 (omega arith) (omega arith) (omega arith) (omega arith) ∙ (saved.registers 4 (omega arith) ∙ h1.agrees.addresses e);
+        ten = moved.ten;
+        given = λ u e. moved.words (base + (plan.words m.function + waits_at (plan.home g u))) ∙ (saved.others (base + (plan.words m.function + waits_at (plan.home g u))) (inr (omega arith)) ∙ gave.given u e);
+        variables = λ u e. one base u w.live c1 c2 c3 h1 gave.based saved moved.words e (keeps u e) (scope u (keeps u e)) (plan.home m.function u) refl;
+        waiting = waiting_same s plan variables fine c1 c3 base m.frame m.waiting (λ i l. moved.words i ∙ saved.others i (inl l)) (subst (λ (b : ℕ). AreWaiting plan c1 b m.frame m.waiting) gave.based h1.agrees.waiting);
+      })) in rw append-nil at last)) in
+      run.from k small at p h.shows
+
+  -- ---- the jump, and the entry code
+
+  pub among_not : (home : ℕ → Home) (n r : ℕ) (live : VariableSet) → is_home_register r ≡ false → among r (registers_in home n live) ≡ false
+  among_not home n r live h = by (among r (registers_in home n live)) refl
+    where
+      by : (b : Bool) → among r (registers_in home n live) ≡ b → b ≡ false
+      by true e = (let good = register_kept home n r live e in absurd cc)
+      by false e = refl
+
+  pub jumps_in : {c : Contents} {k : ℕ} {p : Processor} (target : ℕ) → k + 2 < 2 ^ 29 → target < 2 ^ 29 → CodeAt s.code k (enter_code target) → Shows plan.private c k p → Comes s 2 p (λ q. (u : ℕ) × (u < 2 ^ 32) × Shows plan.private (put 1 (4 * (k + 2)) (put 5 u c)) target q)
+  jumps_in {c} {k} target small near at h =
+      let u : ℕ = word (upper (4 * target)) in
+      let first = step s plan.private (Lui 5 (upper (4 * target))) 5 0 0 0 (k + 1) at.0 (λ pc x y. word (upper (4 * target))) (λ pc x y. plus pc 4) Nothing h at.1 at.2 refl (plain_computes s.copies s.side 5 0 0 (omega arith) (omega arith) (omega arith)) (upper_small (4 * target)) (omega arith) in
+      let sum : plus u (word (lower (4 * target))) ≡ 4 * target = halves (4 * target) (omega arith) in
+      let lands : plus u (word (lower (4 * target))) / 2 * 2 ≡ 4 * target = rw sum (omega arith) in
+      let second = step s plan.private (Jalr 1 5 (lower (4 * target))) 1 5 0 0 target at.3.0 (λ pc x y. plus pc 4) (λ pc x y. plus x (word (lower (4 * target))) / 2 * 2) Nothing first.holds at.3.1 at.3.2 refl (plain_computes s.copies s.side 1 5 0 (omega arith) (omega arith) (omega arith)) (plus_small (4 * (k + 1)) 4) lands in
+      let back : plus (4 * (k + 1)) 4 ≡ 4 * (k + 2) = omega arith in
+      comes_more s first.goes (comes_more s second.goes (comes_here s {n = 0} (u, upper_small (4 * target), rw back at second.holds)))
+
+  either : (t : Bool) (x y : ℕ) → x < 2 ^ 32 → y < 2 ^ 32 → (if t then x else y) < 2 ^ 32
+  either true x y a b = a
+  either false x y a b = b
+
+  step_down : (n k : ℕ) → 0 < n → n * k ≡ k + (n - 1) * k
+  step_down zero k h = absurd (omega arith)
+  step_down (suc n) k h = let one : suc n - 1 ≡ n = omega arith in rw one (omega arith)
+
+  -- the called function's frame holds the address to return to, and its registers hold its parameters
+  record Arrived (m : Moment) (w : Waiting) (base g : ℕ) (before' c : Contents) : Type 0 where
+    pub back : c.word (base + plan.words m.function) ≡ 4 * w.back
+    pub words : (i : ℕ) → i ≢ base + plan.words m.function → c.word i ≡ before'.word i
+    pub registers : (r : ℕ) → among r (registers_in (plan.home g) (variables g) (entries g)) ≡ true → c.register r ≡ before'.word (base + plan.words m.function + kept_at r)
+    pub two : c.register 2 ≡ before'.register 2
+    pub three : c.register 3 ≡ before'.register 3
+    pub four : c.register 4 ≡ before'.register 4
+    pub ten : c.register 10 ≡ before'.register 10
+
+  arrives : {live : VariableSet} {m : Moment} {k : ℕ} {p : Processor} (v : Option ℕ) (behind : VariableSet) (g : ℕ) (xs : List Argument) {c0 c : Contents} (h : Ready plan live m c0) → ((u : ℕ) → entries g u ≡ true → gives xs u ≡ true) → k + 2 < 2 ^ 29 → IsWithin plan (called plan g xs (waiting_of v behind (k + 2) m) m) →
+      (q : Prepared plan m (waiting_of v behind (k + 2) m) h.agrees.base g xs k p) → Arrived m (waiting_of v behind (k + 2) m) h.agrees.base g q.contents c → Agrees plan (entries g) (called plan g xs (waiting_of v behind (k + 2) m) m) c
+  arrives {live} {m} {k} v behind g xs {c0} {c} h wanted small within q a =
+      let b : ℕ = h.agrees.base + plan.words m.function in
+      let long = fine.words m.function in
+      let deep = within.depth in
+      let room = h.agrees.room in let wide = fine.largest m.function in
+      let once = step_down (plan.limit + 1 - depth_of m) plan.largest (omega arith) in
+      let same : plan.limit + 1 - depth_of m - 1 ≡ plan.limit + 1 - (depth_of m + 1) = omega arith in
+      let next : depth_of m + 1 ≡ depth_of (called plan g xs (waiting_of v behind (k + 2) m) m) = omega arith in
+      let room' : h.agrees.base + (plan.largest + (plan.limit + 1 - (depth_of m + 1)) * plan.largest) ≤ plan.private = (rw (once, same) at room) in
+      record {
+        base = b;
+        variables = λ u e. parameter u (wanted u e) (linked.reads g u e) e (plan.home g u) refl;
+        pointer = a.two ∙ q.two;
+        frame = a.three ∙ q.three;
+        depth = λ e. a.ten ∙ (q.ten e ∙ next);
+        addresses = λ e. a.four ∙ q.four e;
+        waiting = (
+          h.agrees.base,
+          refl,
+          refl,
+          h.agrees.within.frame,
+          room,
+          small,
+          a.back,
+          (λ u e. below u (plan.home m.function u) (fine.homes m.function u) ∙ q.variables u e),
+          waiting_same s plan variables fine q.contents c h.agrees.base m.frame m.waiting (λ i l. a.words i (omega arith)) q.waiting,
+        );
+        room = rw (← next) (omega arith);
+        within = within;
+      }
+    where
+      parameter : (u : ℕ) → gives xs u ≡ true → u < variables g → entries g u ≡ true → (home : Home) → plan.home g u ≡ home → held c (h.agrees.base + plan.words m.function) home ≡ given xs m.env u
+      parameter u e l k (Register r) is =
+          let good : is_home_register r ≡ true = (let g' = fine.homes g u in rw is at g') in
+          let there = q.given u e in
+          let one : q.contents.word (h.agrees.base + (plan.words m.function + kept_at r)) ≡ given xs m.env u = rw is at there in
+          let at' : h.agrees.base + plan.words m.function + kept_at r ≡ h.agrees.base + (plan.words m.function + kept_at r) = omega arith in
+          a.registers r (kept_register (plan.home g) (variables g) u r (entries g) l k is good) ∙ rw at' one
+      parameter u e l k (Slot i) is =
+          let there = q.given u e in
+          let one : q.contents.word (h.agrees.base + (plan.words m.function + slot_at i)) ≡ given xs m.env u = rw is at there in
+          let at' : h.agrees.base + plan.words m.function + slot_at i ≡ h.agrees.base + (plan.words m.function + slot_at i) = omega arith in
+          a.words (h.agrees.base + plan.words m.function + slot_at i) (omega arith) ∙ rw at' one
+
+      below : (u : ℕ) (home : Home) → IsHome (variables m.function) home → kept c h.agrees.base home ≡ kept q.contents h.agrees.base home
+      below u (Register r) good = let long = fine.words m.function in let l = kept_small r good in a.words (h.agrees.base + kept_at r) (omega arith)
+      below u (Slot i) good = let long = fine.words m.function in a.words (h.agrees.base + slot_at i) (omega arith)
+
+  pub enters : {live : VariableSet} {m : Moment} {k : ℕ} {p : Processor} (v : Option ℕ) (behind : VariableSet) (g : ℕ) (xs : List Argument) {c : Contents} (h : Ready plan live m c) → g < plan.functions → ((u : ℕ) → entries g u ≡ true → gives xs u ≡ true) → k + 2 < 2 ^ 29 → IsWithin plan (called plan g xs (waiting_of v behind (k + 2) m) m) →
+      CodeAt s.code k (enter_code (plan.entry g)) → Prepared plan m (waiting_of v behind (k + 2) m) h.agrees.base g xs k p →
+      Comes s (2 + length (entry_code plan variables g (entries g))) p (Stands plan (entries g) (called plan g xs (waiting_of v behind (k + 2) m) m) (plan.start g))
+  enters {live} {m} {k} {p} v behind g xs {c} h there wanted small within at q =
+      let w : Waiting = waiting_of v behind (k + 2) m in
+      let base : ℕ = h.agrees.base in
+      let b : ℕ = base + plan.words m.function in
+      let rs : List ℕ = registers_in (plan.home g) (variables g) (entries g) in
+      let long = fine.words g in let wide = fine.private in
+      let deep = within.depth in
+      let inside = room_for h g (omega arith) in
+      let entry = linked.entry g there in let start = linked.start g there in let near = linked.near g there in
+      comes_then s (jumps_in (plan.entry g) small (omega arith) at q.shows) (λ r j.
+      let c1 : Contents = put 1 (4 * (k + 2)) (put 5 j.0 q.contents) in
+      let to : ℕ → Env → Processor → Type 0 = λ word env o. Stands plan (entries g) (called plan g xs w m) word o in
+      let l1 = like_put 5 j.0 q.contents j.1 q.shows.fits in
+      let l2 = like_put 1 (4 * (k + 2)) (put 5 j.0 q.contents) (omega arith) l1.fits in
+      let found : plus (c1.register 2) (word (pos 0)) ≡ 4 * b = rw q.two (omega arith) in
+      let c2 : Contents = store b (4 * (k + 2)) c1 in
+      let words2 : (i : ℕ) → i ≢ b → c2.word i ≡ q.contents.word i = λ i ne. (grind (arith, nat_tests)) in
+      let good : (r : ℕ) → among r rs ≡ true → is_home_register r ≡ true = λ r e. register_kept (plan.home g) (variables g) r (entries g) e in
+      let run : Runs s plan.private to (entry_code plan variables g (entries g)) c1 (Went m.env) =
+      runs_quiet s plan.private to (stores_word s plan.private to 2 1 (pos 0) b (omega arith) (omega arith) found (omega arith)) (
+      let last : Runs s plan.private to (restore_code rs ++ []) c2 (Went m.env) = runs_restore s plan variables fine to b rs [] good q.two (omega arith) l2.fits (λ i. either (nat_eq i b) (4 * (k + 2)) (q.contents.word i) (omega arith) (q.shows.holds i)) (λ c3 restored.
+      runs_nothing s plan.private to {env = m.env} (λ word o shows. record {
+        contents = c3;
+        shows = shows;
+        agrees = arrives v behind g xs h wanted (omega arith) within q (record {
+          back = restored.words b ∙ (grind (arith, nat_tests));
+          words = λ i ne. restored.words i ∙ words2 i ne;
+          registers = λ r e. (let low = kept_low r (good r e) in restored.kept r e ∙ words2 (b + kept_at r) (omega arith));
+          two = restored.others 2 (among_not (plan.home g) (variables g) 2 (entries g) refl);
+          three = restored.others 3 (among_not (plan.home g) (variables g) 3 (entries g) refl);
+          four = restored.others 4 (among_not (plan.home g) (variables g) 4 (entries g) refl);
+          ten = restored.others 10 (among_not (plan.home g) (variables g) 10 (entries g) refl);
+        });
+      })) in
+      rw append-nil at last)
+      in
+      subst (λ (n : ℕ). Comes s (length (entry_code plan variables g (entries g))) r (Stands plan (entries g) (called plan g xs w m) n)) (sym start) (run.from (plan.entry g) (omega arith) entry r j.2))

@@ -1,0 +1,210 @@
+-- A return's walk: to just behind the call's jump, and from there to the end of the call's block.
+use Rattle.std.proofs.Common.{◌≡◌, ◌≢◌, ℕ, zero, suc, ◌+◌, ◌-◌, ◌*◌, ◌/◌, ◌^◌, ◌<◌, ◌≤◌, Bool, true, false, not, ◌&&◌, List, [], ◌∷◌, ◌++◌, Option, Some, None, length, refl, ap, ◌∙◌, arith, append-nil, length-append}
+use Rattle.std.specs.Prelude.{nat_eq, pos}
+use Rattle.std.proofs.lemmas.Bool.Decides.{nat_tests}
+use Rattle.dae_base.specs.Words.{plus, word}
+use Rattle.dae_encode.specs.declared.QueueUse.TheVariants.{Nothing}
+use Rattle.dae_encode.specs.declared.Inst.{Inst}
+use Rattle.dae_encode.specs.declared.Inst.TheVariants.{Jalr, Lw, Addi}
+use Rattle.dae_encode.specs.Processor.{Processor}
+use Rattle.dae_ir.specs.Classes.{VariableSet}
+use Rattle.dae_meaning.specs.Variables.{Env}
+use Rattle.dae_ir.specs.Form.{value}
+use Rattle.dae_ir.specs.Deeds.{Deed, Went}
+use Rattle.dae_ir.specs.declared.form.Operand.{Operand}
+use Rattle.dae_select_walks.specs.declared.Home.{Home}
+use Rattle.dae_select_walks.specs.declared.Home.TheVariants.{Register, Slot}
+use Rattle.dae_select_walks.specs.Walks.{Setting, Comes}
+use Rattle.dae_select_walks.specs.Layout.{CodeAt}
+use Rattle.dae_select_walks.specs.Live.{in_option, is}
+use Rattle.dae_select_walks.specs.Homes.{Contents, held, kept, is_home_register, kept_at, slot_at}
+use Rattle.dae_select_walks.specs.Agrees.{Plan, Moment, Waiting, Shows, Stands, AreIn, AreWaiting, IsWithin, depth_of}
+use Rattle.dae_select_walks.specs.Compiled.{Lands, IsAnswered, with_result, waiting_of, result_of, with_env}
+use Rattle.dae_select_walks.proofs.LawsOfWalks.{comes_here, comes_map, comes_more, comes_then}
+use Rattle.dae_select_walks.proofs.LawsOfWalks.{put, step}
+use Rattle.dae_select_blocks.specs.Blocks.{register_or, move_code, back_code, restore_code, result_code, leave_code}
+use Rattle.dae_select_blocks.specs.Code.{registers_in}
+use Rattle.dae_select_blocks.specs.Fits.{Fits}
+use Rattle.dae_select_blocks.specs.Wanted.{IsWantedResult}
+use Rattle.dae_select_blocks.proofs.Plain.{plain_computes, put_nowhere, computes, loads_word}
+use Rattle.dae_select_blocks.proofs.Frames.{plus_small}
+use Rattle.dae_select_blocks.proofs.Runs.{Runs, runs_nothing, runs_quiet, code_take, code_drop}
+use Rattle.dae_select_blocks.proofs.Agreement.{Ready, IsScratch, ready_like, frame_inside, waiting_same}
+use Rattle.dae_select_blocks.proofs.Operands.{like_put, runs_move}
+use Rattle.dae_select_blocks.proofs.Computing.{plus_zero, is_scratch, register_plain}
+use Rattle.dae_select_blocks.proofs.Actions.{To, ends, ready_stays, kept as goes_home}
+use Rattle.dae_select_blocks.proofs.Calls.{among, kept_register, register_kept, Restored, runs_restore, base_is}
+use Rattle.dae_select_blocks.proofs.Deeper.{Moved, runs_back}
+use Rattle.dae_select_blocks.proofs.Jumps.{ready}
+
+link_scratch : (plan : Plan) → IsScratch plan 1
+link_scratch plan = record { zero = (omega arith); two = (omega arith); three = (omega arith); home = refl; depth = λ by_a. (omega arith); addresses = λ by_a. (omega arith) }
+
+module _ (s : Setting) (plan : Plan) (variables : ℕ → ℕ) (fine : Fits s plan variables) where
+  -- the processor is about to go back to a word of the code, with the result in x6
+  pub record Goes' (live : VariableSet) (m : Moment) (target : ℕ) (result : Option ℕ) (k : ℕ) (p : Processor) : Type 0 where
+    pub contents : Contents
+    pub shows : Shows plan.private contents k p
+    pub ready : Ready plan live m contents
+    pub given : (x : ℕ) → result ≡ Some x → contents.register 6 ≡ x
+
+  -- the last two instructions
+  lasts : {live : VariableSet} {m : Moment} {c : Contents} {k : ℕ} {p : Processor} (target : ℕ) (result : Option ℕ) (h : Ready plan live m c) → ((x : ℕ) → result ≡ Some x → c.register 6 ≡ x) → c.word h.agrees.base ≡ 4 * target → target < 2 ^ 29 → k + 2 < 2 ^ 29 → CodeAt s.code k (Lw 1 2 (pos 0) ∷ (Jalr 0 1 (pos 0) ∷ [])) → Shows plan.private c k p → Comes s 2 p (Goes' live m target result target)
+  lasts {live} {m} {c} {k} target result h given there near small at shows =
+      let base : ℕ = h.agrees.base in
+      let inside = frame_inside s plan variables fine h in let long = fine.words m.function in
+      let found : plus (c.register 2) (word (pos 0)) ≡ 4 * base = rw h.agrees.pointer (let wide = fine.private in omega arith) in
+      let to : ℕ → Env → Processor → Type 0 = λ k env q. Unit {0} in
+      let v : ℕ = c.word base in
+      let first = loads_word s plan.private to {c = c} 1 2 (pos 0) base (omega arith) (omega arith) found (omega arith) k at.0 (omega arith) at.1 at.2 _ shows in
+      let c1 : Contents = put 1 v c in
+      let h1 = ready_like s plan variables fine 1 (link_scratch plan) (like_put 1 v c (h.small base) h.fits) h in
+      let lands : plus v (word (pos 0)) / 2 * 2 ≡ 4 * target = rw there (omega arith) in
+      let second = step s plan.private (Jalr 0 1 (pos 0)) 0 1 0 0 target at.3.0 (λ pc x y. plus pc 4) (λ pc x y. plus x (word (pos 0)) / 2 * 2) Nothing first.1.holds at.3.1 at.3.2 refl (plain_computes s.copies s.side 0 1 0 (omega arith) (omega arith) (omega arith)) (plus_small (4 * (k + 1)) 4) lands in
+      comes_more s first.1.goes (comes_more s second.goes (comes_here s {n = 0} (record { contents = c1; shows = (rw (put_nowhere 0 (plus (4 * (k + 1)) 4) c1 refl) at second.holds); ready = h1; given = given })))
+
+  -- what runs with nothing behind it
+  runs_alone : {c : Contents} {d : Deed} {to : ℕ → Env → Processor → Type 0} (is : List Inst) → Runs s plan.private to (is ++ []) c d → Runs s plan.private to is c d
+  runs_alone is run = rw append-nil at run
+
+  -- from the frame's first word, whoever waits there
+  pub leaves : {live : VariableSet} {m : Moment} {k : ℕ} {p : Processor} (y : Option Operand) (target : ℕ) (h : Stands plan live m k p) → IsWantedResult y → ((u : ℕ) → in_option y u ≡ true → live u ≡ true) → target < 2 ^ 29 → h.contents.word h.agrees.base ≡ 4 * target → k + length (leave_code (plan.home m.function) y) < 2 ^ 29 → CodeAt s.code k (leave_code (plan.home m.function) y) →
+      Comes s (length (leave_code (plan.home m.function) y)) p (Goes' live m target (result_of y m.env) target)
+  leaves None target h wanted reads near there small at = lasts target None (ready s plan variables fine h) (λ x e. absurd cc) there near (omega arith) at h.shows
+  leaves {live} {m} {k} {p} (Some x) target h wanted reads near there small at =
+      let h0 = ready s plan variables fine h in
+      let code : List Inst = move_code (plan.home m.function) 6 x in
+      let rest : List Inst = Lw 1 2 (pos 0) ∷ (Jalr 0 1 (pos 0) ∷ []) in
+      let all = length-append code rest in
+      let to : ℕ → Env → Processor → Type 0 = λ j env q. (c : Contents) × Shows plan.private c j q × (h' : Ready plan live m c) × (c.register 6 ≡ value x m.env) × (c.word h'.agrees.base ≡ 4 * target) in
+      let run : Runs s plan.private to code h.contents (Went m.env) =
+      runs_alone code (runs_move s plan variables fine to 6 x [] h0 reads wanted (λ c1 r imm like plain same small.
+      let h1 = ready_like s plan variables fine 5 (is_scratch plan 5 (omega arith) (omega arith)) like h0 in
+      let c2 : Contents = put 6 (value x m.env) c1 in
+      let l2 = like_put 6 (value x m.env) c1 small like.fits in
+      let h2 = ready_like s plan variables fine 6 (is_scratch plan 6 (omega arith) (omega arith)) l2 h1 in
+      let based : h2.agrees.base ≡ h0.agrees.base = base_is s plan variables fine to h2 h0.agrees.base (like.registers 2 (omega arith) ∙ h0.agrees.pointer) in
+      runs_quiet s plan.private to (computes s plan.private to (Addi 6 r imm) 6 r 0 (λ x y. plus x (word imm)) refl (omega arith) plain (omega arith) (plus_small (c1.register r) (word imm))) (rw same (
+      runs_nothing s plan.private to {env = m.env} (λ j q shows. (c2, shows, h2, refl, rw based (like.words h0.agrees.base ∙ there))))))) in
+      let first = run.from k (omega arith) (code_take s.code k code rest at) p h.shows in
+      comes_map s (length (leave_code (plan.home m.function) (Some x))) (omega arith) (λ q g. g) (
+      comes_then s first (λ q t. lasts target (Some (value x m.env)) t.2 (λ z e. (let same : value x m.env ≡ z = cc in t.3 ∙ same)) t.4 near (omega arith) (code_drop s.code k code rest at) t.1))
+
+  -- a return to the call that waits
+  pub return_done : {live : VariableSet} {m : Moment} {k : ℕ} {p : Processor} (y : Option Operand) (w : Waiting) (ws : List Waiting) (h : Stands plan live m k p) → m.waiting ≡ w ∷ ws → IsWantedResult y → ((u : ℕ) → in_option y u ≡ true → live u ≡ true) → k + length (leave_code (plan.home m.function) y) < 2 ^ 29 → CodeAt s.code k (leave_code (plan.home m.function) y) →
+      Comes s (length (leave_code (plan.home m.function) y)) p (Lands plan w ws (result_of y m.env))
+  return_done {live} {m} y w ws h is wanted reads small at =
+      let waits : AreWaiting plan h.contents h.agrees.base m.frame (w ∷ ws) = (let a = h.agrees.waiting in rw is at a) in
+      comes_map s (length (leave_code (plan.home m.function) y)) (omega arith) (λ q g.
+      let a = g.ready.agrees in
+      record {
+        contents = g.contents;
+        shows = g.shows;
+        base = a.base;
+        frame = m.frame;
+        pointer = a.pointer;
+        begins = a.frame;
+        low = a.within.frame;
+        depth = λ e. a.depth e ∙ (rw is (omega arith));
+        addresses = a.addresses;
+        waiting = (let z = a.waiting in rw is at z);
+        given = g.given;
+      })
+      (leaves y w.back h wanted reads waits.5 waits.6 small at)
+
+  -- ---- the rest of the call's block
+
+  among_not : (home : ℕ → Home) (n r : ℕ) (live : VariableSet) → is_home_register r ≡ false → among r (registers_in home n live) ≡ false
+  among_not home n r live h = by (among r (registers_in home n live)) refl
+    where
+      by : (b : Bool) → among r (registers_in home n live) ≡ b → b ≡ false
+      by true e = (let good = register_kept home n r live e in absurd cc)
+      by false e = refl
+
+  -- the caller's frames are back, and what it kept is in its registers
+  back_again : (m : Moment) (w : Waiting) (base below : ℕ) (c c1 c2 : Contents) → w.function ≡ m.function → w.env ≡ m.env → w.frame ≡ m.frame → IsWithin plan m → ((u : ℕ) → w.live u ≡ true → u < variables m.function) →
+      c.register 0 ≡ 0 → ((i : ℕ) → c.word i < 2 ^ 32) → AreIn (kept c below) (plan.home w.function) w.live w.env → AreWaiting plan c below w.frame m.waiting → below + (plan.limit + 1 - (length m.waiting + 1)) * plan.largest ≤ plan.private →
+      (plan.by_a ≡ true → c.register 4 ≡ plan.memory - 16) → Moved plan below m.frame (depth_of m) c c1 → Restored (registers_in (plan.home m.function) (variables m.function) w.live) below c1 c2 → Ready plan w.live m c2
+  back_again m w base below c c1 c2 is_function is_env is_frame within scope none small variables' waiting room addresses moved restored =
+      record {
+        zero = restored.others 0 (among_not (plan.home m.function) (variables m.function) 0 w.live refl) ∙ (moved.others 0 (omega arith) (omega arith) (omega arith) (omega arith) ∙ none);
+        fits = restored.fits;
+        small = λ i. rw (restored.words i, moved.words i) (small i);
+        agrees = record {
+          base = below;
+          variables = λ u e. one u e (plan.home m.function u) refl;
+          pointer = restored.others 2 (among_not (plan.home m.function) (variables m.function) 2 w.live refl) ∙ moved.two;
+          frame = restored.others 3 (among_not (plan.home m.function) (variables m.function) 3 w.live refl) ∙ moved.three;
+          depth = λ e. restored.others 10 (among_not (plan.home m.function) (variables m.function) 10 w.live refl) ∙ moved.ten e;
+          addresses = λ e. restored.others 4 (among_not (plan.home m.function) (variables m.function) 4 w.live refl) ∙ (moved.others 4 (omega arith) (omega arith) (omega arith) (omega arith) ∙ addresses e);
+          waiting = waiting_same s plan variables fine c c2 below m.frame m.waiting (λ i l. restored.words i ∙ moved.words i) (rw is_frame at waiting);
+          room = room;
+          within = within;
+        };
+      }
+    where
+      one : (u : ℕ) → w.live u ≡ true → (home : Home) → plan.home m.function u ≡ home → held c2 below home ≡ m.env u
+      one u e (Register r) is =
+          let good : is_home_register r ≡ true = (let g = fine.homes m.function u in rw is at g) in
+          let a = variables' u e in
+          let b : c.word (below + kept_at r) ≡ m.env u = rw (is_function, is, is_env) at a in
+          restored.kept r (kept_register (plan.home m.function) (variables m.function) u r w.live (scope u e) e is good) ∙ (moved.words (below + kept_at r) ∙ b)
+      one u e (Slot i) is =
+          let a = variables' u e in
+          let b : c.word (below + slot_at i) ≡ m.env u = rw (is_function, is, is_env) at a in
+          restored.words (below + slot_at i) ∙ (moved.words (below + slot_at i) ∙ b)
+
+  -- the result, if it is wanted, goes home
+  finish : (m : Moment) (behind : VariableSet) (v result : Option ℕ) → IsAnswered v result → {c : Contents} → Ready plan (λ u. behind u && not (is v u)) m c → ((u x : ℕ) → is v x ≡ true → behind u ≡ true → u ≢ x → plan.home m.function u ≢ plan.home m.function x) → ((x : ℕ) → result ≡ Some x → c.register 6 ≡ x) →
+      Runs s plan.private (To s plan variables fine (λ u. behind u && not (is v u)) behind m) (result_code (plan.home m.function) v) c (Went (with_result v result m.env))
+  finish m behind None result answered h apart given = ends s plan variables fine (λ u. behind u && not false) behind m m.env (ready_stays s plan variables fine (λ u. behind u && not false) behind m (λ u e. rw e refl) h)
+  finish m behind (Some v) None answered h apart given = absurd answered
+  finish m behind (Some v) (Some x) answered {c} h apart given =
+      let live : VariableSet = λ u. behind u && not (nat_eq u v) in
+      let to : ℕ → Env → Processor → Type 0 = To s plan variables fine live behind m in
+      let home = plan.home m.function v in let good = fine.homes m.function v in
+      let got = given x refl in
+      let small : x < 2 ^ 32 = (let a = h.fits 6 in rw got at a) in
+      let same : plus (c.register 6) (word (pos 0)) ≡ x = rw got (plus_zero x small) in
+      let plain = register_plain s plan variables fine to (variables m.function) 5 home good (omega arith) in
+      runs_quiet s plan.private to (computes s plan.private to (Addi (register_or 5 home) 6 (pos 0)) (register_or 5 home) 6 0 (λ x y. plus x (word (pos 0))) refl plain (omega arith) (omega arith) (plus_small (c.register 6) 0)) (rw same (
+      goes_home s plan variables fine live behind m v x h (λ u l ne. (rw l (grind (arith, nat_tests)), apart u v (grind (arith, nat_tests)) l ne)) small))
+
+  pub resumes : {m : Moment} {p : Processor} (v : Option ℕ) (behind : VariableSet) (back : ℕ) (result : Option ℕ) → IsWithin plan m → IsAnswered v result → ((u : ℕ) → behind u ≡ true → is v u ≡ false → u < variables m.function) →
+      ((u x : ℕ) → is v x ≡ true → behind u ≡ true → u ≢ x → plan.home m.function u ≢ plan.home m.function x) →
+      Lands plan (waiting_of v behind back m) m.waiting result p →
+      back + length (back_code plan m.function ++ (restore_code (registers_in (plan.home m.function) (variables m.function) (λ u. behind u && not (is v u))) ++ result_code (plan.home m.function) v)) < 2 ^ 29 →
+      CodeAt s.code back (back_code plan m.function ++ (restore_code (registers_in (plan.home m.function) (variables m.function) (λ u. behind u && not (is v u))) ++ result_code (plan.home m.function) v)) →
+      Comes s (length (back_code plan m.function ++ (restore_code (registers_in (plan.home m.function) (variables m.function) (λ u. behind u && not (is v u))) ++ result_code (plan.home m.function) v))) p
+      (Stands plan behind (with_env (with_result v result m.env) m) (back + length (back_code plan m.function ++ (restore_code (registers_in (plan.home m.function) (variables m.function) (λ u. behind u && not (is v u))) ++ result_code (plan.home m.function) v))))
+  resumes {m} {p} v behind back result within answered scope apart l small at =
+      let c : Contents = l.contents in
+      let waits = l.waiting in
+      let below : ℕ = waits.0 in
+      let kept_set : VariableSet = λ u. behind u && not (is v u) in
+      let to : ℕ → Env → Processor → Type 0 = To s plan variables fine kept_set behind m in
+      let rs : List ℕ = registers_in (plan.home m.function) (variables m.function) kept_set in
+      let long = fine.words m.function in let deep = within.depth in let lim = fine.limit in let most = fine.common in let wide = fine.private in let large = fine.largest m.function in
+      let two : c.register 2 ≡ 4 * (below + plan.words m.function) = l.pointer ∙ ap (λ n. 4 * n) waits.1 in
+      let three : c.register 3 ≡ m.frame + plan.frame m.function = l.begins ∙ waits.2 in
+      let room = waits.4 in let low = l.low in let begins = waits.2 in
+      let once = least (plan.limit + 1 - (length m.waiting + 1)) plan.largest (omega arith) in
+      let run : Runs s plan.private to (back_code plan m.function ++ (restore_code rs ++ result_code (plan.home m.function) v)) c (Went (with_result v result m.env)) =
+      runs_back s plan to m.function below m.frame (depth_of m) (restore_code rs ++ result_code (plan.home m.function) v) l.shows.zero l.shows.fits two three (λ e. l.depth e ∙ (omega arith)) (omega arith) (omega arith) (omega arith) (λ c1 moved.
+      runs_restore s plan variables fine to below rs (result_code (plan.home m.function) v) (λ q e. register_kept (plan.home m.function) (variables m.function) q kept_set e) moved.two (omega arith) moved.fits (λ i. rw (moved.words i) (l.shows.holds i)) (λ c2 restored.
+      let h2 = back_again m (waiting_of v behind back m) l.base below c c1 c2 refl refl refl within (λ u e. scope u (front (behind u) (is v u) e) (rear (behind u) (is v u) e)) l.shows.zero l.shows.holds waits.7 waits.8 room l.addresses moved restored in
+      finish m behind v result answered h2 apart (λ x e. restored.others 6 (among_not (plan.home m.function) (variables m.function) 6 kept_set refl) ∙ (moved.others 6 (omega arith) (omega arith) (omega arith) (omega arith) ∙ l.given x e)))) in
+      run.from back small at p l.shows
+    where
+      least : (n k : ℕ) → 0 < n → k ≤ n * k
+      least zero k h = absurd (omega arith)
+      least (suc n) k h = omega arith
+
+      front : (a b : Bool) → (a && not b) ≡ true → a ≡ true
+      front true b e = refl
+      front false b e = absurd cc
+
+      rear : (a b : Bool) → (a && not b) ≡ true → b ≡ false
+      rear true true e = absurd cc
+      rear true false e = refl
+      rear false b e = absurd cc

@@ -1,0 +1,105 @@
+-- How long the code of actions is at most.
+use Rattle.std.proofs.Common.{◌≡◌, ℕ, ◌+◌, ◌*◌, ◌≤◌, Bool, true, false, ◌||◌, List, ◌++◌, length, refl, arith, length-append}
+use Rattle.std.specs.Prelude.{Option, not, ◌&&◌, if◌then◌else◌}
+use Rattle.dae_encode.specs.declared.Inst.{Inst}
+use Rattle.dae_ir.specs.Code.{Done, Do, If, Loop}
+use Rattle.dae_ir.specs.Classes.{VariableSet}
+use Rattle.dae_ir.specs.Sizes.{action_weight}
+use Rattle.dae_ir.specs.Streams.{Actions}
+use Rattle.dae_ir.specs.declared.form.Value.{Value}
+use Rattle.dae_ir.specs.declared.stream.Argument.{Argument}
+use Rattle.dae_ir.specs.declared.stream.Action.{Action}
+use Rattle.dae_ir.specs.declared.form.Check.TheVariants.{Place}
+use Rattle.dae_ir.specs.declared.stream.Action.TheVariants.{Set as Compute, Issue, Own, Receive, Address, Datum, Offer, Accept, Emit, Probe, Tell, Hear, Stop, Break, Continue, Call, Return}
+use Rattle.dae_select_walks.specs.declared.Standing.{Standing}
+use Rattle.dae_select_walks.specs.declared.Standing.TheVariants.{Settled, Early, Late}
+use Rattle.dae_select_walks.specs.Live.{Ways, none, behind, live, is, step_ways, body_ways}
+use Rattle.dae_select_walks.specs.Multiples.{unknown, multiples_behind, is_placed}
+use Rattle.dae_select_walks.specs.Agrees.{Plan}
+use Rattle.dae_select_blocks.specs.Blocks.{arguments_code, save_code, restore_code, deeper_code, back_code, result_code, enter_code, jump_words, jump_over}
+use Rattle.dae_select_blocks.specs.Code.{registers_in, action_code, call_code, does_nothing, standing_behind, late_code, placed_code, block_code, code_of}
+use Rattle.dae_select_blocks.specs.Sizes.{one_call, most_words_in}
+use Rattle.dae_select_blocks.proofs.Simple.{IsSimple}
+use Rattle.dae_select_blocks.proofs.Pairs.{by_pairs}
+use Rattle.dae_select_blocks.proofs.Lengths.{value_short, simple_short, early_short, branch_short, over_short, back_short, past_short, placed_short, prepared_short, resumed_short, leave_short}
+
+pub append_short : (xs ys : List Inst) (m n : ℕ) → length xs ≤ m → length ys ≤ n → length (xs ++ ys) ≤ m + n
+append_short xs ys m n h k = let l = length-append xs ys in omega arith
+
+module _ (short : Bool) (plan : Plan) (variables : ℕ → ℕ) (f : ℕ) where
+  call_length : (v : Option ℕ) (g : ℕ) (xs : List Argument) (k : VariableSet) → length (call_code plan variables f v g xs k) ≤ 56 + 6 * length xs
+  call_length v g xs k =
+      let rs = registers_in (plan.home f) (variables f) k in
+      let A = arguments_code plan f g xs in let B = save_code rs in let D = deeper_code plan f in let E = enter_code (plan.entry g) in
+      let R = back_code plan f ++ (restore_code rs ++ result_code (plan.home f) v) in
+      let before' = prepared_short plan variables f g xs k in
+      let after' = resumed_short plan variables f v k in
+      let one = length-append A (B ++ (D ++ (E ++ R))) in
+      let two = length-append B (D ++ (E ++ R)) in
+      let three = length-append D (E ++ R) in
+      let four = length-append E R in
+      let five = length-append A (B ++ D) in
+      let six = length-append B D in
+      let enters : length E ≡ 2 = refl in
+      omega arith
+
+  simple : (a : Action) (k : VariableSet) (l s : ℕ) → IsSimple a → 14 ≤ 14 * action_weight a → length (action_code plan variables f a k (jump_over short l) (jump_over short s)) ≤ 14 * action_weight a + 42 * one_call a
+  simple a k l s is w = let h = simple_short plan variables f a k (jump_over short l) (jump_over short s) is in omega arith
+
+  action_length : (a : Action) (k : VariableSet) (l s : ℕ) → length (action_code plan variables f a k (jump_over short l) (jump_over short s)) ≤ 14 * action_weight a + 42 * one_call a
+  action_length (Compute v x) k l s = simple (Compute v x) k l s tt (omega arith)
+  action_length (Issue kind x) k l s = simple (Issue kind x) k l s tt (omega arith)
+  action_length (Own v kind x) k l s = simple (Own v kind x) k l s tt (omega arith)
+  action_length (Receive v) k l s = simple (Receive v) k l s tt (omega arith)
+  action_length (Address width x) k l s = simple (Address width x) k l s tt (omega arith)
+  action_length (Datum x) k l s = simple (Datum x) k l s tt (omega arith)
+  action_length (Offer v) k l s = simple (Offer v) k l s tt (omega arith)
+  action_length (Accept v) k l s = simple (Accept v) k l s tt (omega arith)
+  action_length (Emit spelling x) k l s = simple (Emit spelling x) k l s tt (omega arith)
+  action_length (Probe check) k l s = simple (Probe check) k l s tt (omega arith)
+  action_length (Tell x) k l s = simple (Tell x) k l s tt (omega arith)
+  action_length Hear k l s = simple Hear k l s tt (omega arith)
+  action_length (Stop x) k l s = simple (Stop x) k l s tt (omega arith)
+  action_length Break k l s = let h = over_short short l in omega arith
+  action_length Continue k l s = let h = over_short short s in omega arith
+  action_length (Call v g xs) k l s = let h = call_length v g xs (λ u. k u && not (is v u)) in omega arith
+  action_length (Return x) k l s = let h = leave_short (plan.home f) x in omega arith
+
+  -- a pair's block is no longer than one of its actions may be
+  abbrev BlockFits : VariableSet → Standing → Ways → ℕ → ℕ → Action → Actions → Standing → Type 0
+  BlockFits known standing x l s a k standing' = length (block_code plan variables f (is_placed known a) standing a standing' (live k x) (jump_over short l) (jump_over short s)) ≤ 14 * action_weight a + 42 * one_call a
+
+  late_length : (t : ℕ) (y : Value) (a : Action) → length (late_code (plan.home f) a y) ≤ 14 * action_weight a + 42 * one_call a
+  late_length t y (Compute d z) = action_length (Compute d y) none 0 0
+  late_length t y (Datum z) = let h = value_short (plan.home f) 30 y in omega arith
+  late_length t y a = omega arith
+
+  -- a test without that of the alignment is shorter than one with it
+  placed_length : (a : Action) → length (placed_code (plan.home f) a) ≤ 14 * action_weight a + 42 * one_call a
+  placed_length (Probe (Place width x)) = let h = placed_short (plan.home f) (Probe (Place width x)) in omega arith
+  placed_length a = omega arith
+
+  settled_length : (placed : Bool) (a : Action) (k : VariableSet) (l s : ℕ) → length (if placed then placed_code (plan.home f) a else action_code plan variables f a k (jump_over short l) (jump_over short s)) ≤ 14 * action_weight a + 42 * one_call a
+  settled_length true a k l s = placed_length a
+  settled_length false a k l s = action_length a k l s
+
+  block_length : (known : VariableSet) (standing : Standing) (x : Ways) (l s : ℕ) (a : Action) (k : Actions) → BlockFits known standing x l s a k (standing_behind a k x)
+  block_length known (Early v y) x l s a k = omega arith
+  block_length known (Late t y) x l s a k = late_length t y a
+  block_length known Settled x l s a k =
+      by_pairs (BlockFits known Settled x l s) x (λ a k. settled_length (is_placed known a) a (live k x) l s) (λ t y m b k e passes dead. omega arith)
+      (λ v m d y k e once dead. (let h = early_short (plan.home f) 30 v d y in omega arith)) (λ v m d y k e once dead. (let h = early_short (plan.home f) 28 v d y in omega arith)) a k
+
+  pub code_length : (standing : Standing) (known : VariableSet) (code : Actions) (x : Ways) (l s : ℕ) → length (code_of short plan variables f standing known code x l s) ≤ most_words_in code
+  code_length standing known Done x l s = omega arith
+  code_length standing known (Do m a k) x l s =
+      let h : length (code_of short plan variables f standing known (Do m a k) x l s) ≤ (14 * action_weight a + 42 * one_call a) + most_words_in k
+      = append_short _ _ _ _ (block_length known standing x _ _ a k) (code_length (standing_behind a k x) (multiples_behind a known) k x l s) in omega arith
+  code_length standing known (If m b y n k) x l s =
+      let h : length (code_of short plan variables f standing known (If m b y n k) x l s) ≤ 12 + (most_words_in y + (2 + (most_words_in n + most_words_in k)))
+      = append_short _ _ 12 _ (branch_short (plan.home f) short b (does_nothing y) _) (append_short _ _ _ _ (code_length Settled unknown y (behind (live k x) x) _ _)
+      (append_short _ _ 2 _ (past_short short (does_nothing y || does_nothing n) _) (append_short _ _ _ _ (code_length Settled unknown n (behind (live k x) x) _ _) (code_length Settled unknown k x l s)))) in omega arith
+  code_length standing known (Loop m body step k) x l s =
+      let h : length (code_of short plan variables f standing known (Loop m body step k) x l s) ≤ most_words_in body + (most_words_in step + (2 + most_words_in k))
+      = append_short _ _ _ _ (code_length Settled unknown body (body_ways body step (live k x)) _ _) (append_short _ _ _ _ (code_length Settled unknown step (step_ways body step (live k x)) (jump_words short) 0)
+      (append_short _ _ 2 _ (back_short short _) (code_length Settled unknown k x l s))) in omega arith

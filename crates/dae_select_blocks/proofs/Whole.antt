@@ -1,0 +1,405 @@
+-- The code of structured actions does them, wherever it stands: an induction on the actions, in which each jump is told by
+-- the lengths of what it leads over.
+use Rattle.std.proofs.Common.{◌≡◌, ℕ, ◌+◌, ◌^◌, ◌<◌, ◌≤◌, Bool, true, false, not, ◌||◌, List, [], ◌∷◌, ◌++◌, Option, length, refl, sym, ap, subst, arith, length-append}
+use Rattle.std.specs.Prelude.{nat_eq, if◌then◌else◌}
+use Rattle.std.specs.List.{AllByRecursion}
+use Rattle.dae_base.specs.declared.Queue.TheVariants.{Ld, Cq}
+use Rattle.dae_encode.specs.declared.Inst.{Inst}
+use Rattle.dae_encode.specs.Processor.{Processor}
+use Rattle.dae_ir.specs.Code.{Done, Do, If, Loop, Each}
+use Rattle.dae_ir.specs.Classes.{VariableSet}
+use Rattle.dae_meaning.specs.Worlds.{World}
+use Rattle.dae_ir.specs.Form.{Program, holds}
+use Rattle.dae_ir.specs.Streams.{Actions}
+use Rattle.dae_ir.specs.Deeds.{deed, Push, Went, told_on}
+use Rattle.dae_ir.specs.declared.stream.Argument.{Argument}
+use Rattle.dae_base.specs.declared.Width.{Width}
+use Rattle.dae_ir.specs.declared.form.Operand.{Operand}
+use Rattle.dae_ir.specs.declared.form.Check.TheVariants.{Place}
+use Rattle.dae_ir.specs.declared.form.Operand.TheVariants.{Variable}
+use Rattle.dae_ir.specs.declared.form.Value.{Value}
+use Rattle.dae_ir.specs.declared.form.Value.TheVariants.{Same}
+use Rattle.dae_ir.specs.declared.stream.Mark.{Mark}
+use Rattle.dae_ir.specs.declared.stream.Action.{Action}
+use Rattle.dae_ir.specs.declared.stream.Action.TheVariants.{Set as Compute, Issue, Own, Receive, Address, Datum, Offer, Accept, Emit, Probe, Tell, Hear, Stop, Break, Continue, Call, Return}
+use Rattle.dae_ir.specs.declared.stream.Branch.{Branch}
+use Rattle.dae_ir.specs.declared.stream.Branch.TheVariants.{Silent, Tells, Hears}
+use Rattle.dae_select_walks.specs.Walks.{Setting, Comes}
+use Rattle.dae_select_walks.specs.Does.{Does}
+use Rattle.dae_select_walks.specs.Live.{Ways, behind, reads, sets, after, before, decided, live, lives, with_all, none, turn, step_ways, body_ways}
+use Rattle.dae_select_walks.specs.Multiples.{AreMultiples, unknown, is_multiple, multiples_behind, is_placed}
+use Rattle.dae_select_walks.specs.Agrees.{Plan, Moment, Stands}
+use Rattle.dae_select_walks.specs.declared.Standing.{Standing}
+use Rattle.dae_select_walks.specs.declared.Standing.TheVariants.{Settled, Early, Late}
+use Rattle.dae_select_walks.specs.Compiled.{Exit, Exits, exit, exits, ways_of, with_env, IsWorldOf, At, Leads, Turns, ActionDone, BranchDone, CodeDone, bit}
+use Rattle.dae_select_walks.proofs.LawsOfWalks.{comes_here, nears_here, comes_map, does_map, acts_map, turn_again}
+use Rattle.dae_select_walks.specs.Layout.{CodeAt}
+use Rattle.dae_select_blocks.specs.Blocks.{value_code, jump_words, jump_over, jump_back}
+use Rattle.dae_select_blocks.specs.Code.{written_last, action_code, branch_code, does_nothing, past_code, standing_behind, early_code, placed_code, block_code, code_of}
+use Rattle.dae_select_blocks.specs.Fits.{Fits}
+use Rattle.dae_select_blocks.specs.Wanted.{IsWanted, IsWantedBranch, IsPlanOf, IsRight}
+use Rattle.dae_select_blocks.proofs.Runs.{code_take, code_drop}
+use Rattle.dae_select_blocks.proofs.Uses.{takes_load_left, takes_load_right, takes_copy_left, takes_copy_right}
+use Rattle.dae_select_blocks.proofs.Simple.{IsSimple, around, e_side, simple_done, placed_done}
+use Rattle.dae_select_blocks.proofs.Pairs.{passed_on, by_pairs, entered_at, Suits, suits_behind, AreLateNumbers, late_first, late_second, late_sent, early_first, early_second}
+use Rattle.dae_select_blocks.proofs.Jumps.{goes_if, jump_long, back_long, hears_some, leads_over, turns_over, turns_back, stands_less, silent_done, tells_done, hears_done}
+
+-- parts of a list of places
+all_left : (P : VariableSet → Type 0) (xs ys : List VariableSet) → AllByRecursion P (xs ++ ys) → AllByRecursion P xs
+all_left P [] ys h = tt
+all_left P (x ∷ xs) ys h = (h.0, all_left P xs ys h.1)
+
+all_right : (P : VariableSet → Type 0) (xs ys : List VariableSet) → AllByRecursion P (xs ++ ys) → AllByRecursion P ys
+all_right P [] ys h = h
+all_right P (x ∷ xs) ys h = all_right P xs ys h.1
+
+any : (b c : Bool) → (b || (true || c)) ≡ true
+any true c = refl
+any false c = refl
+
+last : (b c : Bool) → (b || (c || true)) ≡ true
+last true c = refl
+last false true = refl
+last false false = refl
+
+module _ (s : Setting) (plan : Plan) (variables : ℕ → ℕ) (fine : Fits s plan variables) (program : Program) (is_plan : IsPlanOf program plan) (entries : ℕ → VariableSet) (most widest : ℕ) (short : Bool) where
+  -- the block of an action, from whose end it is so many words to where a Break goes, and a Continue
+  abbrev pub block_of : ℕ → Action → VariableSet → ℕ → ℕ → List Inst
+  block_of f a live leaves skips = action_code plan variables f a live (jump_over short leaves) (jump_over short skips)
+
+  -- what every action wants of the place where it stands: its block, short enough, and homes that are apart
+  pub record Stood (f : ℕ) (a : Action) (behind : VariableSet) (x : Ways) (leaves skips k : ℕ) : Type 0 where
+    pub wanted : IsWanted plan s.copies entries a
+    pub right : IsRight (plan.home f) (variables f) (with_all (before a behind x) (sets a))
+    pub stands : CodeAt s.code k (block_of f a behind leaves skips)
+    pub small : k + length (block_of f a behind leaves skips) < 2 ^ 29
+
+  -- where a Break goes, and a Continue, the processor holds the variables of the moment
+  pub record AreSettled (x : Exits) : Type 0 where
+    pub leaves : x.leaves.standing ≡ Settled
+    pub skips : x.skips.standing ≡ Settled
+
+  abbrev pub Done' : ℕ → VariableSet → Action → VariableSet → Exits → ℕ → ℕ → ℕ → Type 0
+  Done' f known a k x leaves skips here =
+      ActionDone s plan program entries most widest f known a (exit here (before a k (ways_of x))) (exit (here + length (block_of f a k leaves skips)) k) x
+
+  module _ (blocks : (f : ℕ) (a : Action) (live : VariableSet) (leaves skips : List Inst) → IsSimple a → length (action_code plan variables f a live leaves skips) ≤ most)
+      (placed : (f : ℕ) (a : Action) → length (placed_code (plan.home f) a) ≤ most)
+      (early_short : (f q v d : ℕ) (y : Value) → length (early_code (plan.home f) q v d y) ≤ most)
+      (sent_short : (f : ℕ) (y : Value) → length (value_code (plan.home f) 30 y) ≤ most)
+      (branches : (f : ℕ) (b : Branch) (way : Bool) (n : ℕ) → length (branch_code (plan.home f) short b way n) + 2 ≤ most)
+      (calls : (f g : ℕ) (v : Option ℕ) (xs : List Argument) (k : VariableSet) (x : Exits) (leaves skips here : ℕ) → Stood f (Call v g xs) k (ways_of x) leaves skips here → Done' f unknown (Call v g xs) k x leaves skips here)
+      (returns : (f : ℕ) (y : Option Operand) (k : VariableSet) (x : Exits) (leaves skips here : ℕ) → Stood f (Return y) k (ways_of x) leaves skips here → Done' f unknown (Return y) k x leaves skips here)
+      (lo hi : ℕ) (high : hi < 2 ^ 29) (reach : short ≡ true → hi ≤ lo + 2 ^ 17) (some : 2 ≤ most) where
+    simply : (f : ℕ) (known : VariableSet) (a : Action) (k : VariableSet) (x : Exits) (leaves skips here : ℕ) → IsSimple a → ((u : ℕ) → after a k (ways_of x) u ≡ k u) → Stood f a k (ways_of x) leaves skips here →
+        (m : Moment) (w : World) (p : Processor) → At s plan program entries most widest f (exit here (before a k (ways_of x))) m p → IsWorldOf plan m w → AreMultiples known m.env →
+        Does s most (deed program plan.by_a a w m.env) (λ env. At s plan program entries most widest f (exit (here + length (block_of f a k leaves skips)) k) (with_env env m)) p
+    simply f known a k x leaves skips here simple goes_on t m w p h world facts =
+        let small = t.small in
+        simple_done s plan variables fine program is_plan entries most widest f a (before a k (ways_of x)) k (jump_over short leaves) (jump_over short skips) here simple t.wanted (around (plan.home f) a k (ways_of x) goes_on t.right.apart) t.stands (omega arith) (blocks f a k (jump_over short leaves) (jump_over short skips) simple) m w p h world
+
+    -- a jump leads over what is behind it, up to where the loop goes on
+    jumped : (f here n : ℕ) (live : VariableSet) (there : Exit) → there.standing ≡ Settled → lo ≤ here → there.word ≤ hi → CodeAt s.code here (jump_over short n) → here + jump_words short + n ≡ there.word → ((u : ℕ) → there.live u ≡ true → live u ≡ true) → Leads s plan program entries most widest f (exit here live) there
+    jumped f here n live there settled low near at lands less m p h =
+        comes_map s 2 (omega arith) (λ q g. (h.0, rw settled (stands_less s plan variables fine less (subst (λ (j : ℕ). Stands plan live m j q) lands g)))) (leads_over s plan variables fine short n (omega arith) (λ e. (let r = reach e in omega arith)) at h.1)
+
+    turned : (f here n : ℕ) (live : VariableSet) (there : Exit) → there.standing ≡ Settled → lo ≤ here → there.word ≤ hi → CodeAt s.code here (jump_over short n) → here + jump_words short + n ≡ there.word → ((u : ℕ) → there.live u ≡ true → live u ≡ true) → Turns s plan program entries most widest f (exit here live) there
+    turned f here n live there settled low near at lands less m p h =
+        let a = turns_over s plan variables fine short n (omega arith) (λ e. (let r = reach e in omega arith)) at h.1 in
+        (a.0, acts_map s (λ r c. comes_map s 1 (omega arith) (λ q g. (h.0, rw settled (stands_less s plan variables fine less (subst (λ (j : ℕ). Stands plan live m j q) lands g)))) c) a.1)
+
+    -- over a second list, which may be empty
+    passed : (f here n word : ℕ) (behind : VariableSet) (none : Bool) → (none ≡ true → n ≡ 0) → lo ≤ here → word ≤ hi → CodeAt s.code here (past_code short none n) → here + length (past_code short none n) + n ≡ word →
+        Leads s plan program entries most widest f (exit here behind) (exit word behind)
+    passed f here n word k true empty low near at there =
+        let no_words = empty refl in
+        let same : here ≡ word = omega arith in
+        λ m p h. comes_here s (subst (λ (j : ℕ). At s plan program entries most widest f (exit j k) m p) same h)
+    passed f here n word k false empty low near at there = let long = jump_long short n in jumped f here n k (exit word k) refl low near at (omega arith) (λ u e. e)
+
+    action_done : (f : ℕ) (known : VariableSet) (a : Action) (k : VariableSet) (x : Exits) (leaves skips here : ℕ) → AreSettled x → here + length (block_of f a k leaves skips) + leaves ≡ x.leaves.word → here + length (block_of f a k leaves skips) + skips ≡ x.skips.word → lo ≤ here → x.leaves.word ≤ hi → x.skips.word ≤ hi →
+        Stood f a k (ways_of x) leaves skips here → Done' f known a k x leaves skips here
+    action_done f known Break k x leaves skips here settled to_leave to_skip low near close t =
+        let long = jump_long short leaves in
+        jumped f here leaves (before Break k (ways_of x)) x.leaves settled.leaves low near t.stands (omega arith) (λ u e. rw e refl)
+    action_done f known Continue k x leaves skips here settled to_leave to_skip low near close t =
+        let long = jump_long short skips in
+        turned f here skips (before Continue k (ways_of x)) x.skips settled.skips low close t.stands (omega arith) (λ u e. rw e refl)
+    action_done f known (Call v g xs) k x leaves skips here settled to_leave to_skip low near close t = calls f g v xs k x leaves skips here t
+    action_done f known (Return y) k x leaves skips here settled to_leave to_skip low near close t = returns f y k x leaves skips here t
+    action_done f known (Stop y) k x leaves skips here settled to_leave to_skip low near close t =
+        let small = t.small in
+        λ m w p h world facts. simple_done s plan variables fine program is_plan entries most widest f (Stop y) (before (Stop y) k (ways_of x)) none (jump_over short leaves) (jump_over short skips) here tt t.wanted (around (plan.home f) (Stop y) none (ways_of x) (λ u. refl) t.right.apart) t.stands (omega arith) (blocks f (Stop y) k (jump_over short leaves) (jump_over short skips) tt) m w p h world
+    action_done f known (Compute v y) k x leaves skips here settled to_leave to_skip low near close t = simply f known (Compute v y) k x leaves skips here tt (λ u. refl) t
+    action_done f known (Issue kind y) k x leaves skips here settled to_leave to_skip low near close t = simply f known (Issue kind y) k x leaves skips here tt (λ u. refl) t
+    action_done f known (Own v kind y) k x leaves skips here settled to_leave to_skip low near close t = simply f known (Own v kind y) k x leaves skips here tt (λ u. refl) t
+    action_done f known (Receive v) k x leaves skips here settled to_leave to_skip low near close t = simply f known (Receive v) k x leaves skips here tt (λ u. refl) t
+    action_done f known (Address width y) k x leaves skips here settled to_leave to_skip low near close t = simply f known (Address width y) k x leaves skips here tt (λ u. refl) t
+    action_done f known (Datum y) k x leaves skips here settled to_leave to_skip low near close t = simply f known (Datum y) k x leaves skips here tt (λ u. refl) t
+    action_done f known (Offer v) k x leaves skips here settled to_leave to_skip low near close t = simply f known (Offer v) k x leaves skips here tt (λ u. refl) t
+    action_done f known (Accept v) k x leaves skips here settled to_leave to_skip low near close t = simply f known (Accept v) k x leaves skips here tt (λ u. refl) t
+    action_done f known (Emit spelling y) k x leaves skips here settled to_leave to_skip low near close t = simply f known (Emit spelling y) k x leaves skips here tt (λ u. refl) t
+    action_done f known (Probe check) k x leaves skips here settled to_leave to_skip low near close t = simply f known (Probe check) k x leaves skips here tt (λ u. refl) t
+    action_done f known (Tell y) k x leaves skips here settled to_leave to_skip low near close t = simply f known (Tell y) k x leaves skips here tt (λ u. refl) t
+    action_done f known Hear k x leaves skips here settled to_leave to_skip low near close t = simply f known Hear k x leaves skips here tt (λ u. refl) t
+
+    -- ---- actions in their lists, alone or in pairs
+
+    -- the block of an action, where things stand so before it and so behind it, does it
+    abbrev StepDone : ℕ → VariableSet → Bool → Standing → Mark → Exits → ℕ → ℕ → ℕ → Action → Actions → Standing → Type 0
+    StepDone f known placed standing mark x leaves skips here a k standing' =
+        Suits standing (Do mark a k) (ways_of x) → AreLateNumbers standing → AreSettled x → IsWanted plan s.copies entries a → Each (IsWanted plan s.copies entries) IsWantedBranch k →
+        IsRight (plan.home f) (variables f) (with_all (before a (live k (ways_of x)) (ways_of x)) (sets a)) → AllByRecursion (IsRight (plan.home f) (variables f)) (lives k (ways_of x)) →
+        CodeAt s.code here (block_code plan variables f placed standing a standing' (live k (ways_of x)) (jump_over short leaves) (jump_over short skips)) → lo ≤ here →
+        here + length (block_code plan variables f placed standing a standing' (live k (ways_of x)) (jump_over short leaves) (jump_over short skips)) < 2 ^ 29 →
+        here + length (block_code plan variables f placed standing a standing' (live k (ways_of x)) (jump_over short leaves) (jump_over short skips)) + leaves ≡ x.leaves.word →
+        here + length (block_code plan variables f placed standing a standing' (live k (ways_of x)) (jump_over short leaves) (jump_over short skips)) + skips ≡ x.skips.word → x.leaves.word ≤ hi → x.skips.word ≤ hi →
+        ActionDone s plan program entries most widest f known a (entered_at standing (Do mark a k) (ways_of x) here)
+        (entered_at standing' k (ways_of x) (here + length (block_code plan variables f placed standing a standing' (live k (ways_of x)) (jump_over short leaves) (jump_over short skips)))) x
+        × AreLateNumbers standing'
+
+    late_step : (f t : ℕ) (known : VariableSet) (placed : Bool) (y : Value) (d : ℕ) (mark : Mark) (k : Actions) (x : Exits) (leaves skips here : ℕ) → live k (ways_of x) t ≡ false → StepDone f known placed (Late t y) mark x leaves skips here (Compute d (Same (Variable t))) k Settled
+    late_step f t known placed y d mark k x leaves skips here dead suits numbers settled wanted more right rights at low small to_leave to_skip near close = (
+      late_second s plan variables fine program is_plan entries most widest f t d y (live k (ways_of x)) known (ways_of x) x here dead numbers right.apart at small (blocks f (Compute d y) (live k (ways_of x)) [] [] tt),
+      tt,
+    )
+
+    sent_step : (f t : ℕ) (known : VariableSet) (placed : Bool) (y : Value) (mark : Mark) (k : Actions) (x : Exits) (leaves skips here : ℕ) → live k (ways_of x) t ≡ false → written_last y ≡ true → StepDone f known placed (Late t y) mark x leaves skips here (Datum (Variable t)) k Settled
+    sent_step f t known placed y mark k x leaves skips here dead last suits numbers settled wanted more right rights at low small to_leave to_skip near close = (
+      late_sent s plan variables fine program is_plan entries most widest f t y (live k (ways_of x)) known (ways_of x) x here (e_side s plan variables fine program is_plan entries wanted.0) last dead numbers at small (sent_short f y),
+      tt,
+    )
+
+    early_step : (f v : ℕ) (known : VariableSet) (placed : Bool) (y : Value) (mark : Mark) (k : Actions) (x : Exits) (leaves skips here : ℕ) → StepDone f known placed (Early v y) mark x leaves skips here (Compute v y) k Settled
+    early_step f v known placed y mark k x leaves skips here suits numbers settled wanted more right rights at low small to_leave to_skip near close = (early_second s plan variables fine program is_plan entries most widest f v y (live k (ways_of x)) known x here, tt)
+
+    -- an action alone
+    plain_step : (f : ℕ) (known : VariableSet) (mark : Mark) (a : Action) (k : Actions) (x : Exits) (leaves skips here : ℕ) → StepDone f known false Settled mark x leaves skips here a k Settled
+    plain_step f known mark a k x leaves skips here suits numbers settled wanted more right rights at low small to_leave to_skip near close = (
+      action_done f known a (live k (ways_of x)) x leaves skips here settled to_leave to_skip low near close (record { wanted = wanted; right = right; stands = at; small = small }),
+      tt,
+    )
+
+    placed_step : (f : ℕ) (known : VariableSet) (mark : Mark) (width : Width) (y : Operand) (k : Actions) (x : Exits) (leaves skips here : ℕ) (placed : Bool) → is_multiple known y ≡ placed → StepDone f known placed Settled mark x leaves skips here (Probe (Place width y)) k Settled
+    placed_step f known mark width y k x leaves skips here false e = plain_step f known mark (Probe (Place width y)) k x leaves skips here
+    placed_step f known mark width y k x leaves skips here true e = λ suits numbers settled wanted more right rights at low small to_leave to_skip near close. (
+      placed_done s plan variables fine program is_plan entries most widest f width y (before (Probe (Place width y)) (live k (ways_of x)) (ways_of x)) (live k (ways_of x)) known here wanted (around (plan.home f) (Probe (Place width y)) (live k (ways_of x)) (ways_of x) (λ u. refl) right.apart) e at small (placed f (Probe (Place width y))),
+      tt,
+    )
+
+    alone_step : (f : ℕ) (known : VariableSet) (mark : Mark) (a : Action) (k : Actions) (x : Exits) (leaves skips here : ℕ) → StepDone f known (is_placed known a) Settled mark x leaves skips here a k Settled
+    alone_step f known mark (Probe (Place width y)) k x leaves skips here = placed_step f known mark width y k x leaves skips here (is_multiple known y) refl
+    alone_step f known mark a k x leaves skips here = plain_step f known mark a k x leaves skips here
+
+    step_done : (f : ℕ) (known : VariableSet) (standing : Standing) (mark : Mark) (a : Action) (k : Actions) (x : Exits) (leaves skips here : ℕ) → StepDone f known (is_placed known a) standing mark x leaves skips here a k (standing_behind a k (ways_of x))
+    step_done f known Settled mark a k x leaves skips here =
+        by_pairs (λ (a : Action) (k : Actions) (standing : Standing). StepDone f known (is_placed known a) Settled mark x leaves skips here a k standing) (ways_of x)
+        (λ a k. alone_step f known mark a k x leaves skips here)
+        (λ t y m b k e passes dead suits numbers settled wanted more right rights at low small to_leave to_skip near close. (
+          late_first s plan variables fine program is_plan entries most widest f t y (live (Do mark (Compute t y) (Do m b k)) (ways_of x)) known x here,
+          wanted,
+        ))
+        (λ v m d y k e once dead suits numbers settled wanted more right rights at low small to_leave to_skip near close. (
+          (λ n w p h world facts.
+              (let by_e = e_side s plan variables fine program is_plan entries wanted in
+              early_first s plan variables fine program is_plan entries most widest 30 Ld refl (λ t r a b. rw by_e (takes_load_left s.copies t r a b)) (λ t r a b. rw by_e (takes_load_right s.copies t r a b))
+              f v d y (live k (ways_of x)) (ways_of x) here once dead more.0 rights.0.apart at small (early_short f 30 v d y) n p h)),
+          tt,
+        ))
+        (λ v m d y k e once dead suits numbers settled wanted more right rights at low small to_leave to_skip near close. (
+          (λ n w p h world facts.
+              (let by_e = e_side s plan variables fine program is_plan entries wanted.0 in let copies = wanted.1 in
+              early_first s plan variables fine program is_plan entries most widest 28 Cq refl (λ t r a b. rw (by_e, copies) (takes_copy_left t r a b)) (λ t r a b. rw (by_e, copies) (takes_copy_right t r a b))
+              f v d y (live k (ways_of x)) (ways_of x) here once dead more.0 rights.0.apart at small (early_short f 28 v d y) n p h)),
+          tt,
+        ))
+        a k
+    step_done f known (Late t y) mark a k x leaves skips here = λ suits.
+        subst (λ (standing : Standing). StepDone f known (is_placed known a) (Late t y) mark x leaves skips here a k standing) (sym suits.1)
+        (passed_on (λ (b : Action). StepDone f known (is_placed known a) (Late t y) mark x leaves skips here b k Settled) t y a suits.0 (λ d. late_step f t known (is_placed known a) y d mark k x leaves skips here suits.2) (λ last. sent_step f t known (is_placed known a) y mark k x leaves skips here suits.2 last)) suits
+    step_done f known (Early v y) mark a k x leaves skips here = λ suits.
+        subst (λ (standing : Standing). StepDone f known (is_placed known a) (Early v y) mark x leaves skips here a k standing) (sym suits.1)
+        (subst (λ (b : Action). StepDone f known (is_placed known a) (Early v y) mark x leaves skips here b k Settled) (sym suits.0) (early_step f v known (is_placed known a) y mark k x leaves skips here)) suits
+
+    -- ---- branches
+
+    abbrev Chooses : ℕ → Branch → VariableSet → Exit → Exit → ℕ → Type 0
+    Chooses f b live first second here = BranchDone s plan program entries most widest f b (exit here live) first second
+
+    chosen : (f : ℕ) (m : Moment) (live : VariableSet) (first second : Exit) (way b : Bool) (end n : ℕ) (q : Processor) → m.function ≡ f → first.standing ≡ Settled → second.standing ≡ Settled → first.word ≡ (if way then end + n else end) → second.word ≡ (if way then end else end + n) →
+        ((u : ℕ) → first.live u ≡ true → live u ≡ true) → ((u : ℕ) → second.live u ≡ true → live u ≡ true) →
+        Stands plan live m (if goes_if way b then end + n else end) q → At s plan program entries most widest f (if b then first else second) m q
+    chosen f m live first second true true end n q e e1 e2 to to' yes' no' h = (e, rw e1 (stands_less s plan variables fine yes' (rw to h)))
+    chosen f m live first second true false end n q e e1 e2 to to' yes' no' h = (e, rw e2 (stands_less s plan variables fine no' (rw to' h)))
+    chosen f m live first second false true end n q e e1 e2 to to' yes' no' h = (e, rw e1 (stands_less s plan variables fine yes' (rw to h)))
+    chosen f m live first second false false end n q e e1 e2 to to' yes' no' h = (e, rw e2 (stands_less s plan variables fine no' (rw to' h)))
+
+    -- the code of a branch leads n words ahead of its end, or behind it
+    branch_done : (f : ℕ) (b : Branch) (way : Bool) (live : VariableSet) (first second : Exit) (here n : ℕ) → first.standing ≡ Settled → second.standing ≡ Settled → IsWantedBranch b → ((u : ℕ) → decided b u ≡ true → live u ≡ true) → ((u : ℕ) → first.live u ≡ true → live u ≡ true) → ((u : ℕ) → second.live u ≡ true → live u ≡ true) →
+        lo ≤ here → here + length (branch_code (plan.home f) short b way n) + n ≤ hi → CodeAt s.code here (branch_code (plan.home f) short b way n) →
+        first.word ≡ (if way then here + length (branch_code (plan.home f) short b way n) + n else here + length (branch_code (plan.home f) short b way n)) →
+        second.word ≡ (if way then here + length (branch_code (plan.home f) short b way n) else here + length (branch_code (plan.home f) short b way n) + n) → Chooses f b live first second here
+    branch_done f (Silent t) way live first second here n e1 e2 wanted reads yes' no' low near at to to' = λ m r h.
+        subst (λ (g : ℕ). here + length (branch_code (plan.home g) short (Silent t) way n) + n ≤ hi → CodeAt s.code here (branch_code (plan.home g) short (Silent t) way n) → length (branch_code (plan.home g) short (Silent t) way n) + 2 ≤ most →
+        first.word ≡ (if way then here + length (branch_code (plan.home g) short (Silent t) way n) + n else here + length (branch_code (plan.home g) short (Silent t) way n)) →
+        second.word ≡ (if way then here + length (branch_code (plan.home g) short (Silent t) way n) else here + length (branch_code (plan.home g) short (Silent t) way n) + n) →
+        Comes s most r (At s plan program entries most widest g (if holds t m.env then first else second) m)) h.0
+        (λ near at few to to'. comes_map s most few (λ o g. chosen m.function m live first second way (holds t m.env) (here + length (branch_code (plan.home m.function) short (Silent t) way n)) n o refl e1 e2 to to' yes' no' g)
+        (silent_done s plan variables fine short way t n (omega arith) (λ e. (let r = reach e in omega arith)) at reads wanted.0 wanted.1 h.1)) near at (branches f (Silent t) way n) to to'
+    branch_done f (Tells t) way live first second here n e1 e2 wanted reads yes' no' low near at to to' = λ m r h.
+        subst (λ (g : ℕ). here + length (branch_code (plan.home g) short (Tells t) way n) + n ≤ hi → CodeAt s.code here (branch_code (plan.home g) short (Tells t) way n) → length (branch_code (plan.home g) short (Tells t) way n) + 2 ≤ most →
+        first.word ≡ (if way then here + length (branch_code (plan.home g) short (Tells t) way n) + n else here + length (branch_code (plan.home g) short (Tells t) way n)) →
+        second.word ≡ (if way then here + length (branch_code (plan.home g) short (Tells t) way n) else here + length (branch_code (plan.home g) short (Tells t) way n) + n) →
+        Does s most (Push (told_on plan.by_a) (bit (holds t m.env)) (Went m.env)) (λ env. At s plan program entries most widest g (if holds t m.env then first else second) m) r) h.0
+        (λ near at few to to'.
+        let end : ℕ = here + length (branch_code (plan.home m.function) short (Tells t) way n) in
+        does_map s (λ env. Stands plan live m (if goes_if way (holds t m.env) then end + n else end)) (λ env. At s plan program entries most widest m.function (if holds t m.env then first else second) m)
+        (length (branch_code (plan.home m.function) short (Tells t) way n) + 2) most few (λ env o g. chosen m.function m live first second way (holds t m.env) end n o refl e1 e2 to to' yes' no' g)
+        (Push (told_on plan.by_a) (bit (holds t m.env)) (Went m.env)) r
+        (tells_done s plan variables fine short way t n (omega arith) (λ e. (let r = reach e in omega arith)) at reads wanted.0 wanted.1 h.1)) near at (branches f (Tells t) way n) to to'
+    branch_done f Hears way live first second here n e1 e2 wanted reads yes' no' low near at to to' = λ m r h.
+        let end : ℕ = here + length (branch_code (plan.home f) short Hears way n) in
+        let few = branches f Hears way n in let some' = hears_some short way n in
+        nears_here s 2 (omega arith) (λ x fits. (
+          0,
+          acts_map s (λ o c. comes_map s 2 (omega arith) (λ z g. chosen f m live first second way (not (nat_eq x 0)) end n z h.0 e1 e2 to to' yes' no' g) c)
+              (hears_done s plan variables fine short way n (omega arith) (λ e. (let r = reach e in omega arith)) at h.1 x),
+        ))
+
+    -- ---- structured code
+
+    -- a list that is empty leads where code goes on
+    nothing_done : (f : ℕ) (known : VariableSet) (code : Actions) (x : Exits) (here : ℕ) → does_nothing code ≡ true → Leads s plan program entries most widest f (exit here x.next.live) x.next → CodeDone s plan program entries most widest f known code (exit here (live code (ways_of x))) x
+    nothing_done f known Done x here is ends = ends
+    nothing_done f known (Do mark a k) x here is ends = absurd cc
+    nothing_done f known (If mark b p q k) x here is ends = absurd cc
+    nothing_done f known (Loop mark body step k) x here is ends = absurd cc
+
+    nothing_short : (f : ℕ) (known : VariableSet) (code : Actions) (x : Ways) (leaves skips : ℕ) → does_nothing code ≡ true → length (code_of short plan variables f Settled known code x leaves skips) ≡ 0
+    nothing_short f known Done x leaves skips is = refl
+    nothing_short f known (Do mark a k) x leaves skips is = absurd cc
+    nothing_short f known (If mark b p q k) x leaves skips is = absurd cc
+    nothing_short f known (Loop mark body step k) x leaves skips is = absurd cc
+
+    nothing_long : (f : ℕ) (p q : Actions) (x : Ways) (leaves skips n : ℕ) → does_nothing p ≡ true → length (code_of short plan variables f Settled unknown p x leaves skips) + length (past_code short (does_nothing p || does_nothing q) n) ≡ 0
+    nothing_long f p q x leaves skips n is = (let a = nothing_short f unknown p x leaves skips is in let b : length (past_code short (does_nothing p || does_nothing q) n) ≡ 0 = rw is refl in omega arith)
+
+    either_done : (f : ℕ) (known : VariableSet) (code : Actions) (x : Exits) (none : Bool) (there here : ℕ) → (none ≡ true → CodeDone s plan program entries most widest f known code (exit there (live code (ways_of x))) x) → (none ≡ false → CodeDone s plan program entries most widest f known code (exit here (live code (ways_of x))) x) → CodeDone s plan program entries most widest f known code (exit (if none then there else here) (live code (ways_of x))) x
+    either_done f known code x true there here h k = h refl
+    either_done f known code x false there here h k = k refl
+
+    -- to what stands in the middle of code leads a branch over what is before it
+    to_first : (none : Bool) (end n first past second : ℕ) → n ≡ (if none then second else first + past) → (none ≡ true → first + past ≡ 0) → (if none then end + first + past + second else end) ≡ (if none then end + n else end)
+    to_first true end n first past second is empty = let no_words = empty refl in omega arith
+    to_first false end n first past second is empty = refl
+
+    to_second : (none : Bool) (end n first past second : ℕ) → n ≡ (if none then second else first + past) → (none ≡ true → first + past ≡ 0) → end + first + past ≡ (if none then end else end + n)
+    to_second true end n first past second is empty = let no_words = empty refl in omega arith
+    to_second false end n first past second is empty = omega arith
+
+    ahead : (none : Bool) (n first past second : ℕ) → n ≡ (if none then second else first + past) → n ≤ first + past + second
+    ahead true n first past second is = omega arith
+    ahead false n first past second is = omega arith
+
+    pub code_done : (f : ℕ) (standing : Standing) (known : VariableSet) (code : Actions) (x : Exits) (leaves skips here : ℕ) → Suits standing code (ways_of x) → AreLateNumbers standing → AreSettled x → Each (IsWanted plan s.copies entries) IsWantedBranch code → AllByRecursion (IsRight (plan.home f) (variables f)) (lives code (ways_of x)) →
+        CodeAt s.code here (code_of short plan variables f standing known code (ways_of x) leaves skips) → lo ≤ here → here + length (code_of short plan variables f standing known code (ways_of x) leaves skips) ≤ hi →
+        here + length (code_of short plan variables f standing known code (ways_of x) leaves skips) + leaves ≡ x.leaves.word → here + length (code_of short plan variables f standing known code (ways_of x) leaves skips) + skips ≡ x.skips.word → x.leaves.word ≤ hi → x.skips.word ≤ hi →
+        Leads s plan program entries most widest f (exit (here + length (code_of short plan variables f standing known code (ways_of x) leaves skips)) x.next.live) x.next → CodeDone s plan program entries most widest f known code (entered_at standing code (ways_of x) here) x
+    code_done f Settled known Done x leaves skips here suits numbers settled wanted apart at low small to_leave to_skip near close ends =
+        let same : here + 0 ≡ here = omega arith in
+        subst (λ (j : ℕ). Leads s plan program entries most widest f (exit j x.next.live) x.next) same ends
+    code_done f (Early v y) known Done x leaves skips here suits numbers settled wanted apart at low small to_leave to_skip near close ends = absurd suits
+    code_done f (Late t y) known Done x leaves skips here suits numbers settled wanted apart at low small to_leave to_skip near close ends = absurd suits
+    code_done f standing known (Do mark a k) x leaves skips here suits numbers settled wanted apart at low small to_leave to_skip near close ends =
+        let standing' : Standing = standing_behind a k (ways_of x) in
+        let rest : List Inst = code_of short plan variables f standing' (multiples_behind a known) k (ways_of x) leaves skips in
+        let block : List Inst = block_code plan variables f (is_placed known a) standing a standing' (live k (ways_of x)) (jump_over short (length rest + leaves)) (jump_over short (length rest + skips)) in
+        let both = length-append block rest in
+        let place : here + length block + length rest ≡ here + length (block ++ rest) = omega arith in
+        let step = step_done f known standing mark a k x (length rest + leaves) (length rest + skips) here suits numbers settled wanted.0 wanted.1 apart.0 apart.1 (code_take s.code here block rest at) low (omega arith) (omega arith) (omega arith) near close in (
+          entered_at standing' k (ways_of x) (here + length block),
+          step.0,
+          code_done f standing' (multiples_behind a known) k x leaves skips (here + length block) (suits_behind a k (ways_of x)) step.1 settled wanted.1 apart.1 (code_drop s.code here block rest at) (omega arith) (omega arith) (omega arith) (omega arith) near close
+              (subst (λ (j : ℕ). Leads s plan program entries most widest f (exit j x.next.live) x.next) (sym place) ends),
+        )
+    code_done f Settled known (If mark b p q k) x leaves skips here suits numbers settled wanted apart at low small to_leave to_skip near close ends =
+        let ways' : Ways = behind (live k (ways_of x)) (ways_of x) in
+        let none : Bool = does_nothing p in
+        let rest : List Inst = code_of short plan variables f Settled unknown k (ways_of x) leaves skips in
+        let second : List Inst = code_of short plan variables f Settled unknown q ways' (length rest + leaves) (length rest + skips) in
+        let past : List Inst = past_code short (none || does_nothing q) (length second) in
+        let far : ℕ = length past + length second + length rest in
+        let first : List Inst = code_of short plan variables f Settled unknown p ways' (far + leaves) (far + skips) in
+        let n : ℕ = if none then length second else length first + length past in
+        let test : List Inst = branch_code (plan.home f) short b none n in
+        let l1 = length-append test (first ++ (past ++ (second ++ rest))) in
+        let l2 = length-append first (past ++ (second ++ rest)) in
+        let l3 = length-append past (second ++ rest) in
+        let l4 = length-append second rest in
+        let a1 : ℕ = here + length test in
+        let a2 : ℕ = a1 + length first + length past in
+        let a3 : ℕ = a2 + length second in
+        let d1 = code_drop s.code here test (first ++ (past ++ (second ++ rest))) at in
+        let d2 = code_drop s.code a1 first (past ++ (second ++ rest)) d1 in
+        let d3 = code_drop s.code (a1 + length first) past (second ++ rest) d2 in
+        let d4 = code_drop s.code a2 second rest d3 in
+        let empty : none ≡ true → length first + length past ≡ 0 = λ e. nothing_long f p q ways' (far + leaves) (far + skips) (length second) e in
+        let over = ahead none n (length first) (length past) (length second) refl in
+        let done : a3 + length rest ≡ here + length (test ++ (first ++ (past ++ (second ++ rest)))) = omega arith in
+        let x' : Exits = record x { next = exit a3 (live k (ways_of x)) } in
+        let behind_first = all_right (IsRight (plan.home f) (variables f)) (lives p ways') (lives q ways' ++ lives k (ways_of x)) apart.1 in (
+          exit (if none then a3 else a1) (live p ways'),
+          exit a2 (live q ways'),
+          exit a3 (live k (ways_of x)),
+          branch_done f b none (live (If mark b p q k) (ways_of x)) (exit (if none then a3 else a1) (live p ways')) (exit a2 (live q ways')) here n refl refl wanted.0 (λ u e. rw e refl) (λ u e. rw e (any (decided b u) (live q ways' u))) (λ u e. rw e (last (decided b u) (live p ways' u)))
+              low (omega arith) (code_take s.code here test (first ++ (past ++ (second ++ rest))) at) (to_first none a1 n (length first) (length past) (length second) refl empty) (to_second none a1 n (length first) (length past) (length second) refl empty),
+          either_done f unknown p x' none a3 a1 (λ e. nothing_done f unknown p x' a3 e (λ m r h. comes_here s h))
+              (λ e. code_done f Settled unknown p x' (far + leaves) (far + skips) a1 tt tt (record { leaves = settled.leaves; skips = settled.skips }) wanted.1 (all_left (IsRight (plan.home f) (variables f)) (lives p ways') (lives q ways' ++ lives k (ways_of x)) apart.1) (code_take s.code a1 first (past ++ (second ++ rest)) d1) (omega arith) (omega arith) (omega arith) (omega arith) near close
+              (let same : past_code short (none || does_nothing q) (length second) ≡ past_code short (does_nothing q) (length second) = rw e refl in
+              let past_at : CodeAt s.code (a1 + length first) (past_code short (does_nothing q) (length second)) = subst (λ (is : List Inst). CodeAt s.code (a1 + length first) is) same (code_take s.code (a1 + length first) past (second ++ rest) d2) in
+              let long = ap length same in
+              passed f (a1 + length first) (length second) a3 (live k (ways_of x)) (does_nothing q) (λ e'. nothing_short f unknown q ways' (length rest + leaves) (length rest + skips) e') (omega arith) (omega arith) past_at (omega arith))),
+          code_done f Settled unknown q x' (length rest + leaves) (length rest + skips) a2 tt tt (record { leaves = settled.leaves; skips = settled.skips }) wanted.2 (all_left (IsRight (plan.home f) (variables f)) (lives q ways') (lives k (ways_of x)) behind_first) (code_take s.code a2 second rest d3) (omega arith) (omega arith) (omega arith) (omega arith) near close
+              (λ m r h. comes_here s h),
+          code_done f Settled unknown k x leaves skips a3 tt tt settled wanted.3 (all_right (IsRight (plan.home f) (variables f)) (lives q ways') (lives k (ways_of x)) behind_first) d4 (omega arith) (omega arith) (omega arith) (omega arith) near close
+              (subst (λ (j : ℕ). Leads s plan program entries most widest f (exit j x.next.live) x.next) (sym done) ends),
+        )
+    code_done f (Early v y) known (If mark b p q k) x leaves skips here suits numbers settled wanted apart at low small to_leave to_skip near close ends = absurd suits
+    code_done f (Late t y) known (If mark b p q k) x leaves skips here suits numbers settled wanted apart at low small to_leave to_skip near close ends = absurd suits
+    code_done f Settled known (Loop mark body step k) x leaves skips here suits numbers settled wanted apart at low small to_leave to_skip near close ends =
+        let after' : VariableSet = live k (ways_of x) in
+        let rest : List Inst = code_of short plan variables f Settled unknown k (ways_of x) leaves skips in
+        let again_code : List Inst = code_of short plan variables f Settled unknown step (step_ways body step after') (jump_words short) 0 in
+        let turn_code : List Inst = code_of short plan variables f Settled unknown body (body_ways body step after') (length again_code + jump_words short) 0 in
+        let n : ℕ = length turn_code + length again_code in
+        let back : List Inst = jump_back short n in
+        let l1 = length-append turn_code (again_code ++ (back ++ rest)) in
+        let l2 = length-append again_code (back ++ rest) in
+        let l3 = length-append back rest in
+        let long = back_long short n in
+        let again : ℕ = here + length turn_code in
+        let end : ℕ = again + length again_code in
+        let next : ℕ = end + length back in
+        let d1 = code_drop s.code here turn_code (again_code ++ (back ++ rest)) at in
+        let d2 = code_drop s.code again again_code (back ++ rest) d1 in
+        let d3 = code_drop s.code end back rest d2 in
+        let done : next + length rest ≡ here + length (turn_code ++ (again_code ++ (back ++ rest))) = omega arith in
+        let lasts = all_right (IsRight (plan.home f) (variables f)) (lives body (body_ways body step after')) (lives step (step_ways body step after') ++ lives k (ways_of x)) apart.1 in (
+          exit here (turn body step after'),
+          exit again (live step (step_ways body step after')),
+          exit end (turn body step after'),
+          exit next after',
+          (λ m r h. comes_here s h),
+          subst (λ (v : VariableSet). CodeDone s plan program entries most widest f unknown body (exit here v) (exits (exit again (live step (step_ways body step after'))) (exit next after') (exit again (live step (step_ways body step after'))))) (turn_again body step after')
+              (code_done f Settled unknown body (exits (exit again (live step (step_ways body step after'))) (exit next after') (exit again (live step (step_ways body step after')))) (length again_code + jump_words short) 0 here tt tt (record { leaves = refl; skips = refl }) wanted.0 (all_left (IsRight (plan.home f) (variables f)) (lives body (body_ways body step after')) (lives step (step_ways body step after') ++ lives k (ways_of x)) apart.1) (code_take s.code here turn_code (again_code ++ (back ++ rest)) at) low (omega arith) (omega arith) (omega arith) (omega arith) (omega arith)
+              (λ m r h. comes_here s h)),
+          code_done f Settled unknown step (exits (exit end (turn body step after')) (exit next after') (exit end (turn body step after'))) (jump_words short) 0 again tt tt (record { leaves = refl; skips = refl }) wanted.1 (all_left (IsRight (plan.home f) (variables f)) (lives step (step_ways body step after')) (lives k (ways_of x)) lasts) (code_take s.code again again_code (back ++ rest) d1) (omega arith) (omega arith) (omega arith) (omega arith) (omega arith) (omega arith)
+              (λ m r h. comes_here s h),
+          (λ m r h.
+              (let a = turns_back s plan variables fine short here n (omega arith) (λ e. (let r = reach e in omega arith)) (subst (λ (j : ℕ). CodeAt s.code j back) (omega arith) (code_take s.code end back rest d2)) (subst (λ (j : ℕ). Stands plan (turn body step after') m j r) (omega arith) h.1) in
+              (a.0, acts_map s (λ r c. comes_map s 1 (omega arith) (λ q g. (h.0, g)) c) a.1))),
+          code_done f Settled unknown k x leaves skips next tt tt settled wanted.2 (all_right (IsRight (plan.home f) (variables f)) (lives step (step_ways body step after')) (lives k (ways_of x)) lasts) d3 (omega arith) (omega arith) (omega arith) (omega arith) near close
+              (subst (λ (j : ℕ). Leads s plan program entries most widest f (exit j x.next.live) x.next) (sym done) ends),
+        )
+    code_done f (Early v y) known (Loop mark body step k) x leaves skips here suits numbers settled wanted apart at low small to_leave to_skip near close ends = absurd suits
+    code_done f (Late t y) known (Loop mark body step k) x leaves skips here suits numbers settled wanted apart at low small to_leave to_skip near close ends = absurd suits

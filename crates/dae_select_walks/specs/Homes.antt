@@ -1,0 +1,65 @@
+-- Where variables are kept. A private frame has the address to return to, then a word for each of the 18 registers that
+-- variables may have, kept across a call, and then the slots.
+use Rattle.std.specs.Prelude.{◌≡◌, ◌≢◌, ℕ, ◌+◌, ◌-◌, ◌<◌, Bool, true, nat_lt, ◌||◌, ◌&&◌, if◌then◌else◌, List, nat_le, slice_get, Option, Some, None}
+use Rattle.std.specs.List.{AllByRecursion}
+use Rattle.dae_ir.specs.Classes.{VariableSet}
+use Rattle.dae_select_walks.specs.declared.Home.{Home}
+use Rattle.dae_select_walks.specs.declared.Home.TheVariants.{Register, Slot}
+
+-- ---- which homes are right
+
+-- the registers that variables may have on either side: x8, x9, x11 to x16, x18 to x27
+abbrev pub is_home_register : ℕ → Bool
+is_home_register r = (nat_le 8 r && nat_lt r 10) || ((nat_le 11 r && nat_lt r 17) || (nat_le 18 r && nat_lt r 28))
+
+-- in a function with so many variables
+abbrev pub IsHome : ℕ → Home → Type 0
+IsHome variables (Register r) = is_home_register r ≡ true
+IsHome variables (Slot i) = i < variables
+
+-- what has no home is nowhere live, and any register is right
+abbrev pub home_or : Option Home → Home
+home_or None = Register 8
+home_or (Some home) = home
+
+-- the homes of a table
+abbrev pub home_in : List Home → ℕ → Home
+home_in homes v = home_or (slice_get homes v)
+
+-- two variables that are live at one place have different homes
+abbrev pub AreApart : (ℕ → Home) → VariableSet → Type 0
+AreApart home lives = (u v : ℕ) → lives u ≡ true → lives v ≡ true → u ≢ v → home u ≢ home v
+
+pub record AreHomes (variables : ℕ) (places : List VariableSet) (home : ℕ → Home) : Type 0 where
+  pub each : (v : ℕ) → v < variables → IsHome variables (home v)
+  pub apart : AllByRecursion (AreApart home) places
+
+-- ---- private frames
+
+-- the word of a frame in which a register is kept across a call: 1 to 18
+abbrev pub kept_at : ℕ → ℕ
+kept_at r = if nat_lt r 10 then r - 7 else (if nat_lt r 17 then r - 8 else r - 9)
+
+abbrev pub slot_at : ℕ → ℕ
+slot_at i = 19 + i
+
+-- the words of a frame
+abbrev pub frame_words : ℕ → ℕ
+frame_words variables = 19 + variables
+
+-- ---- what a processor holds
+
+-- its registers, and the words of its private memory
+pub record Contents : Type 0 where
+  pub register : ℕ → ℕ
+  pub word : ℕ → ℕ
+
+-- what is in a home, where the frame begins at a word
+abbrev pub held : Contents → ℕ → Home → ℕ
+held c base (Register r) = c.register r
+held c base (Slot i) = c.word (base + slot_at i)
+
+-- what is kept there across a call
+abbrev pub kept : Contents → ℕ → Home → ℕ
+kept c base (Register r) = c.word (base + kept_at r)
+kept c base (Slot i) = c.word (base + slot_at i)

@@ -1,5 +1,0 @@
-use Rattle.std.proofs.Common.{rules}
-use Rattle.dae_statement_steps.proofs.branches.switch_body.Goals as goal
-
-pub returns : goal.returns
-returns c = λ b e h k s stands. let whole = c.in_ok-whole.ensures e b k h in search rules

@@ -1,5 +1,0 @@
-use Rattle.std.proofs.Common.{rules}
-use Rattle.dae_statement_steps.proofs.expressions.in_index.Goals as goal
-
-pub returns : goal.returns
-returns c = λ e f a b s k. let h = c.in_ok-index.ensures f e b a in search rules

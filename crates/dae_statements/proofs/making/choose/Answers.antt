@@ -1,8 +1,0 @@
-use Rattle.std.proofs.Common.{subst}
-use Rattle.dae_program.specs.Trees.{Done}
-use Rattle.dae_bodies.specs.Written.{MakesStatements}
-use Rattle.dae_statements.proofs.Made.{view_if}
-use Rattle.dae_statements.proofs.making.choose.Goals as goal
-
-pub returns : goal.returns
-returns c = subst (λ x. MakesStatements c.alone.result x) (view_if c.args.place c.args.test c.args.yes c.args.no Done) c.alone.ensures

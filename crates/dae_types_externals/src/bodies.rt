@@ -1,0 +1,162 @@
+// The bodies of functions, which are gone through twice.
+
+ghost use Rattle.std.specs.Prelude.{◌≡◌, Some};
+ghost use Rattle.dae_tree.specs.Views.{views_parameters};
+ghost use Rattle.dae_types_kinds.specs.Values.{result_of};
+ghost use Rattle.dae_types_file_plans.specs.Files.{first_time, in_body, named_at, plan_body_of, second_time, surrounding, twice};
+ghost use Rattle.dae_types_tables.specs.Seen.{tables, Follows};
+ghost use Rattle.dae_types_bodies.specs.Written.{GivesStatements};
+ghost use Rattle.dae_types_products.specs.Products.{GivesProducts};
+ghost use Rattle.dae_types_externals.specs.Parts.{plan_body_in, plan_statements_of};
+
+use crate::zeros::body_product;
+use dae_base::Place;
+use dae_types_file_plans::Surrounding;
+use dae_types_kinds::{CheckError, Rule, Shape};
+use dae_types_linkage::{is_main_name, settle_locals};
+use dae_types_products::Product;
+use dae_program::Statement;
+use dae_types_statements::block;
+use dae_types_tables::{Checker, INT_ID, broken, copy_kept, set_kept};
+use dae_tree::{Block, Name, Parameter};
+use dae_types_walk::place_of_specifiers;
+use std::alloc::Global;
+
+/// Asks that each parameter of a definition has a name (C90 6.7.1). The place is that of the declared name.
+#[tactic(auto, unfolding(dae_types_rules::specs::Plan::ask_all))]
+fn check_names(checker: &Checker, place: Place, parameters: &[Parameter]) -> Result<(), CheckError>
+    ensures { Follows checker.now result
+        (named_at place (views_parameters parameters.now)) checker.now }
+{
+    for parameter in parameters {
+        if parameter.declarator.name().is_none() {
+            let place = place_of_specifiers(&parameter.specifiers, place);
+            return Err(broken(Rule::ParameterName, place));
+        }
+    }
+    Ok(())
+}
+
+/// What a function's result has as its type.
+fn result_of(shape: Shape) -> usize
+    ensures { result ≡ result_of shape }
+{
+    match shape {
+        Shape::Function(gives, _) => gives,
+        _ => INT_ID,
+    }
+}
+
+/// What stands round the statements of a function of a type. The flag says that it is main.
+fn surrounding(checker: &Checker, is_main: bool, type_id: usize) -> Surrounding
+    ensures { result ≡ surrounding (tables checker.now) is_main (Some type_id) }
+{
+    Surrounding {
+        result: Some(result_of(checker.shape_of(type_id))),
+        is_main,
+        inside_loop: false,
+        inside_switch: false,
+    }
+}
+
+/// The statements of a body, in the scope of its parameters.
+fn body_statements(
+    alloc: Global,
+    checker: &mut Checker,
+    around: Surrounding,
+    body: &Block,
+) -> Result<Vec<Statement>, CheckError>
+    ensures { GivesStatements checker.new result
+        (in_body (plan_statements_of around body.now)) checker.old }
+{
+    let outer = checker.reopen()?;
+    let statements = block(alloc, checker, around, &body.declarations, &body.statements)?;
+    checker.close(outer)?;
+    Ok(statements)
+}
+
+/// Goes through a body for the first time, to see whose address is taken.
+fn look_at_body(
+    alloc: Global,
+    checker: &mut Checker,
+    parameters: usize,
+    around: Surrounding,
+    body: &Block,
+) -> Result<(), CheckError>
+    ensures { Follows checker.new result
+        (first_time parameters (plan_statements_of around body.now)) checker.old }
+{
+    let outer = checker.reopen()?;
+    block(alloc, checker, around, &body.declarations, &body.statements)?;
+    checker.close(outer)
+}
+
+/// Goes through a body for the second time, with each parameter and local object in its place.
+fn write_body(
+    alloc: Global,
+    checker: &mut Checker,
+    place: Place,
+    function: Option<usize>,
+    around: Surrounding,
+    body: &Block,
+) -> Result<Vec<Product>, CheckError>
+    ensures { GivesProducts checker.new result
+        (second_time place function (plan_statements_of around body.now)) checker.old }
+{
+    let statements = body_statements(alloc, checker, around, body)?;
+    match function {
+        Some(function) => body_product(alloc, checker, place, function, statements),
+        None => Ok(Vec::new(alloc)),
+    }
+}
+
+/// Goes through a body twice. Uses are noted the second time.
+fn body_twice(
+    alloc: Global,
+    checker: &mut Checker,
+    place: Place,
+    parameters: usize,
+    function: Option<usize>,
+    around: Surrounding,
+    body: &Block,
+) -> Result<Vec<Product>, CheckError>
+    ensures { GivesProducts checker.new result
+        (twice place parameters function (plan_statements_of around body.now)) checker.old }
+{
+    let kept = copy_kept(checker)?;
+    let uses = checker.copy_uses()?;
+    look_at_body(alloc, checker, parameters, around, body)?;
+    set_kept(checker, kept);
+    checker.set_uses(uses);
+    settle_locals(alloc, checker, parameters)?;
+    write_body(alloc, checker, place, function, around, body)
+}
+
+/// The body of a function of a type, by its number.
+#[tactic(auto, using(crate::proofs::Parameters::parameters_counted))]
+pub fn function_body(
+    alloc: Global,
+    checker: &mut Checker,
+    place: Place,
+    name: Option<Name>,
+    parameters: &[Parameter],
+    body: &Block,
+    type_id: usize,
+    function: Option<usize>,
+) -> Result<Vec<Product>, CheckError>
+    ensures { GivesProducts checker.new result
+        (plan_body_in place name
+        (views_parameters parameters.now) body.now type_id function) checker.old }
+{
+    check_names(checker, place, parameters)?;
+    let around = surrounding(checker, is_main_name(checker, name), type_id);
+    body_twice(
+        alloc,
+        checker,
+        place,
+        parameters.len(),
+        function,
+        around,
+        body,
+    )
+}

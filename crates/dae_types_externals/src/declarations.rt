@@ -1,0 +1,282 @@
+// Declarations at file scope: names of types, objects with what they hold, and functions (C90 6.5 and 6.7.2).
+
+ghost use Rattle.std.specs.Prelude.{◌≡◌, Some, true};
+ghost use Rattle.dae_tree.specs.FileViews.{view_declaration, view_initialiser, view_item, view_items, view_value};
+ghost use Rattle.dae_tree.specs.Views.{view_declarator, views_specifiers};
+ghost use Rattle.dae_types_file_plans.specs.Files.{plan_data, plan_declared, plan_function, plan_item_at, plan_items, plan_object, plan_typed, role_of, storage_of};
+ghost use Rattle.dae_types_file_plans.specs.Statements.{is_alone};
+ghost use Rattle.dae_types_rules.specs.Table.{is_extern};
+ghost use Rattle.dae_types_tables.specs.Seen.{Follows, FollowsBy};
+ghost use Rattle.dae_types_products.specs.Products.{GivesProducts, as_products};
+ghost use Rattle.dae_types_externals.specs.Parts.{plan_file_base, plan_object_data, plan_type_of};
+
+use dae_base::Place;
+use dae_types_file_plans::Role;
+use dae_types_kinds::{CheckError, Context};
+use dae_types_linkage::{
+    declare_function, declare_object, declare_type, is_static, set_object_type, type_of_object,
+};
+use dae_types_locals::{content, has_typedef, look_through};
+use dae_types_products::{Product, append, declares_function, declares_object};
+use dae_types_sites::base_type;
+use dae_types_tables::{Checker, is_function};
+use dae_tree::{Declaration, Declarator, Initialiser, Item, Keyword, Seen, Specifier};
+use dae_types_walk::{declarator, declared_place, place_of_specifiers, specifiers};
+use std::alloc::Global;
+
+/// The type that specifiers name at file scope. The flag says that they declare nothing else.
+pub fn base(
+    alloc: Global,
+    checker: &mut Checker,
+    alone: bool,
+    list: &[Specifier],
+) -> Result<usize, CheckError>
+    ensures { Follows checker.new result
+        (plan_file_base alone (views_specifiers list.now)) checker.old }
+{
+    let whole = specifiers(alloc, checker, Context::File, alone, list)?;
+    Ok(base_type(Seen::of_specifiers(list), whole))
+}
+
+/// The storage class among specifiers.
+pub fn storage_class(list: &[Specifier]) -> Option<Keyword>
+    ensures { result ≡ storage_of (views_specifiers list.now) }
+{
+    Seen::of_specifiers(list).storage
+}
+
+/// Whether a declaration has no declarator.
+#[tactic(auto, using(crate::proofs::Parameters::alone_where_none))]
+fn is_alone(items: &[Item]) -> bool
+    ensures { result ≡ is_alone (view_items items.now) }
+{
+    items.is_empty()
+}
+
+/// Whether the word extern stands in specifiers.
+fn is_extern(word: Option<Keyword>) -> bool
+    ensures { result ≡ is_extern word }
+{
+    match word {
+        Some(Keyword::Extern) => true,
+        _ => false,
+    }
+}
+
+/// What a declaration is for an object: it has an initialiser, it gives room, or neither (C90 6.7.2).
+fn role_of(given: bool, placing: bool) -> Role
+    ensures { result ≡ role_of given placing }
+{
+    if given {
+        Role::Definition
+    } else if placing {
+        Role::Tentative
+    } else {
+        Role::Reference
+    }
+}
+
+/// What an object of the file holds, by its number, with its type; the place is that of its name.
+fn object_data(
+    alloc: Global,
+    checker: &mut Checker,
+    place: Place,
+    initialiser: &Initialiser,
+    object: usize,
+) -> Result<Vec<Product>, CheckError>
+    ensures { GivesProducts checker.new result
+        (plan_object_data place (view_initialiser initialiser.now) object) checker.old }
+{
+    let type_id = type_of_object(checker, object);
+    let content = content(alloc, checker, place, 0, type_id, initialiser)?;
+    set_object_type(checker, object, content.type_id);
+    let mut products = Vec::new(alloc);
+    products.push(Product::Data(object, content.items))?;
+    Ok(products)
+}
+
+/// What an object of the file holds, if it is initialised; the initialiser of what is no object is looked through.
+pub fn data(
+    alloc: Global,
+    checker: &mut Checker,
+    place: Place,
+    given: &Option<(Place, Initialiser)>,
+    object: Option<usize>,
+) -> Result<Vec<Product>, CheckError>
+    ensures { GivesProducts checker.new result
+        (plan_data place (view_value given.now) object) checker.old }
+{
+    match given {
+        Some((_, initialiser)) => match object {
+            Some(object) => object_data(alloc, checker, place, initialiser, object),
+            None => {
+                look_through(alloc, checker, initialiser)?;
+                Ok(Vec::new(alloc))
+            }
+        },
+        None => Ok(Vec::new(alloc)),
+    }
+}
+
+/// A declaration of a function, which has no initialiser.
+fn function_item(
+    alloc: Global,
+    checker: &mut Checker,
+    place: Place,
+    word: Option<Keyword>,
+    item: &Item,
+    type_id: usize,
+) -> Result<Vec<Product>, CheckError>
+    ensures { GivesProducts checker.new result
+        (plan_function place word (view_item item.now) type_id) checker.old }
+{
+    let given = item.initialiser.is_some();
+    let name = item.declarator.name();
+    let function = declare_function(checker, place, is_static(word), given, name, type_id)?;
+    declares_function(alloc, place, Role::Reference, function)
+}
+
+/// A declaration of an object, perhaps with what it holds.
+fn object_item(
+    alloc: Global,
+    checker: &mut Checker,
+    place: Place,
+    word: Option<Keyword>,
+    item: &Item,
+    type_id: usize,
+) -> Result<Vec<Product>, CheckError>
+    ensures { GivesProducts checker.new result
+        (plan_object place word (view_item item.now) type_id) checker.old }
+{
+    let given = item.initialiser.is_some();
+    let name = item.declarator.name();
+    let object = declare_object(checker, place, word, given, name, type_id)?;
+    let role = role_of(given, !is_extern(word));
+    let declared = declares_object(alloc, place, role, object)?;
+    let data = data(alloc, checker, place, &item.initialiser, object)?;
+    append(declared, data)
+}
+
+/// A declaration of a function or an object, by its type.
+fn typed_item(
+    alloc: Global,
+    checker: &mut Checker,
+    place: Place,
+    word: Option<Keyword>,
+    item: &Item,
+    type_id: usize,
+) -> Result<Vec<Product>, CheckError>
+    ensures { GivesProducts checker.new result
+        (plan_typed place word (view_item item.now) (Some type_id)) checker.old }
+{
+    if is_function(checker.shape_of(type_id)) {
+        function_item(alloc, checker, place, word, item, type_id)
+    } else {
+        object_item(alloc, checker, place, word, item, type_id)
+    }
+}
+
+/// The type that a declarator gives to its name.
+#[tactic(auto, using(crate::proofs::Steps::settled_gives, crate::proofs::Steps::settled_fails))]
+fn declared_type(
+    alloc: Global,
+    checker: &mut Checker,
+    place: Place,
+    base: usize,
+    part: &Declarator,
+) -> Result<usize, CheckError>
+    ensures { FollowsBy (λ t. Some t) checker.new result
+        (plan_type_of place base (view_declarator part.now)) checker.old }
+{
+    let declared = declarator(alloc, checker, place, false, base, part)?;
+    Ok(declared.type_id)
+}
+
+/// Gives a type a name.
+fn name_type(
+    alloc: Global,
+    checker: &mut Checker,
+    place: Place,
+    word: Option<Keyword>,
+    base: usize,
+    item: &Item,
+) -> Result<Vec<Product>, CheckError>
+    ensures { GivesProducts checker.new result
+        (plan_item_at true place word base (view_item item.now)) checker.old }
+{
+    let declared = declarator(alloc, checker, place, false, base, &item.declarator)?;
+    let given = item.initialiser.is_some();
+    let name = item.declarator.name();
+    declare_type(checker, place, false, given, name, declared)?;
+    Ok(Vec::new(alloc))
+}
+
+/// Declares an item, whose name stands at this place.
+fn item(
+    alloc: Global,
+    checker: &mut Checker,
+    is_typedef: bool,
+    place: Place,
+    word: Option<Keyword>,
+    base: usize,
+    item: &Item,
+) -> Result<Vec<Product>, CheckError>
+    ensures { GivesProducts checker.new result
+        (plan_item_at is_typedef place word base (view_item item.now)) checker.old }
+{
+    if is_typedef {
+        return name_type(alloc, checker, place, word, base, item);
+    }
+    let type_id = declared_type(alloc, checker, place, base, &item.declarator)?;
+    typed_item(alloc, checker, place, word, item, type_id)
+}
+
+/// Adds what the items of a declaration come to. The place is that of its first token.
+fn add_items(
+    alloc: Global,
+    checker: &mut Checker,
+    is_typedef: bool,
+    place: Place,
+    word: Option<Keyword>,
+    base: usize,
+    mut done: Vec<Product>,
+    items: &[Item],
+) -> Result<Vec<Product>, CheckError>
+    ensures { GivesProducts checker.new result
+        (plan_items is_typedef place word base (as_products done)
+        (view_items items.now)) checker.old }
+{
+    for one in items {
+        let at = declared_place(&one.declarator, place);
+        let more = item(alloc, checker, is_typedef, at, word, base, one)?;
+        done = append(done, more)?;
+    }
+    Ok(done)
+}
+
+/// Adds what a declaration comes to.
+pub fn add_declaration(
+    alloc: Global,
+    checker: &mut Checker,
+    done: Vec<Product>,
+    declaration: &Declaration,
+) -> Result<Vec<Product>, CheckError>
+    ensures { GivesProducts checker.new result
+        (plan_declared (as_products done) (view_declaration declaration.now)) checker.old }
+{
+    let list = declaration.specifiers.as_slice();
+    let items = declaration.items.as_slice();
+    let base = base(alloc, checker, is_alone(items), list)?;
+    let place = place_of_specifiers(list, declaration.end);
+    let word = storage_class(list);
+    add_items(
+        alloc,
+        checker,
+        has_typedef(list),
+        place,
+        word,
+        base,
+        done,
+        items,
+    )
+}

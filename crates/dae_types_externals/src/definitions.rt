@@ -1,0 +1,187 @@
+// Definitions of functions (C90 6.7.1).
+
+ghost use Rattle.std.specs.Prelude.{◌≡◌, Some};
+ghost use Rattle.dae_tree.specs.Names.{function_part};
+ghost use Rattle.dae_tree.specs.FileViews.{view_declarations, views_statements};
+ghost use Rattle.dae_tree.specs.Views.{view_declarator, views_parameters, views_specifiers};
+ghost use Rattle.dae_types_file_plans.specs.Files.{is_direct, parameters_in, plan_defined, started};
+ghost use Rattle.dae_types_tables.specs.Seen.{tables, Follows, FollowsBy};
+ghost use Rattle.dae_types_products.specs.Products.{GivesProducts, as_products};
+ghost use Rattle.dae_types_externals.specs.Parts.{plan_begun, plan_defining, plan_definition, plan_entry, plan_type_of_definition};
+
+use crate::bodies::function_body;
+use crate::declarations::{base, storage_class};
+use dae_base::Place;
+use dae_types_file_plans::Role;
+use dae_types_kinds::CheckError;
+use dae_types_linkage::{declare_function, define_function, definition_type, is_static};
+use dae_types_locals::has_typedef;
+use dae_types_products::{Product, append, declares_function};
+use dae_types_tables::{Checker, Kept, set_kept};
+use dae_tree::{Block, Declarator, Keyword, Name, Parameter, Specifier};
+use dae_types_walk::{declarator, declared_place, place_of_specifiers};
+use std::alloc::Global;
+
+/// Begins a definition: nothing local is there, and no scope is kept.
+fn start(alloc: Global, checker: &mut Checker)
+    ensures { tables checker.new ≡ started (tables checker.old) }
+{
+    checker.cut_locals(0);
+    checker.set_storages(Vec::new(alloc));
+    let names = Vec::new(alloc);
+    let tags = Vec::new(alloc);
+    set_kept(checker, Kept { names, tags });
+}
+
+/// Whether a declarator itself has parameters, and not a type that it stands behind.
+fn is_direct(part: &Declarator) -> bool
+    ensures { result ≡ is_direct (view_declarator part.now) }
+{
+    part.function_part().is_some()
+}
+
+/// The parameters of a part of a declarator.
+#[tactic(auto, using(dae_tree::proofs::Laws::view_function))]
+fn parameters_of(part: &Declarator) -> &[Parameter]
+    ensures { views_parameters result.now ≡ parameters_in (Some (view_declarator part.now)) }
+{
+    match part {
+        Declarator::Function(_, _, list) => list.as_slice(),
+        Declarator::Absent => &[],
+        Declarator::Named(_) => &[],
+        Declarator::Pointer(_, _, _) => &[],
+        Declarator::Grouped(_, _) => &[],
+        Declarator::Unsized(_, _) => &[],
+        Declarator::Sized(_, _, _) => &[],
+        Declarator::Empty(_, _) => &[],
+        Declarator::Void(_, _, _) => &[],
+    }
+}
+
+/// The parameters of a definition.
+fn parameters_in(part: &Declarator) -> &[Parameter]
+    ensures { views_parameters result.now
+        ≡ parameters_in (function_part (view_declarator part.now)) }
+{
+    match part.function_part() {
+        Some(function) => parameters_of(function),
+        None => &[],
+    }
+}
+
+/// The type of a definition. The place is that of its name.
+#[tactic(auto, using(crate::proofs::Steps::definition_gives, crate::proofs::Steps::definition_fails))]
+fn type_of_definition(
+    alloc: Global,
+    checker: &mut Checker,
+    place: Place,
+    list: &[Specifier],
+    base: usize,
+    part: &Declarator,
+) -> Result<usize, CheckError>
+    ensures { FollowsBy (λ t. Some t) checker.new result
+        (plan_type_of_definition place (views_specifiers list.now) base
+        (view_declarator part.now)) checker.old }
+{
+    let declared = declarator(alloc, checker, place, false, base, part)?;
+    definition_type(checker, place, has_typedef(list), is_direct(part), declared)
+}
+
+/// Declares the function that a definition defines, and gives its number.
+fn enter_definition(
+    checker: &mut Checker,
+    place: Place,
+    word: Option<Keyword>,
+    name: Option<Name>,
+    type_id: usize,
+) -> Result<Option<usize>, CheckError>
+    ensures { Follows checker.new result (plan_entry place word name type_id) checker.old }
+{
+    let function = declare_function(checker, place, is_static(word), false, name, type_id)?;
+    define_function(checker, place, function)
+}
+
+/// What a definition comes to, by its type.
+fn definition(
+    alloc: Global,
+    checker: &mut Checker,
+    place: Place,
+    word: Option<Keyword>,
+    name: Option<Name>,
+    parameters: &[Parameter],
+    body: &Block,
+    type_id: usize,
+) -> Result<Vec<Product>, CheckError>
+    ensures { GivesProducts checker.new result
+        (plan_definition place word name
+        (views_parameters parameters.now) body.now type_id) checker.old }
+{
+    let function = enter_definition(checker, place, word, name, type_id)?;
+    let declared = declares_function(alloc, place, Role::Definition, function)?;
+    let body = function_body(
+        alloc, checker, place, name, parameters, body, type_id, function,
+    )?;
+    append(declared, body)
+}
+
+/// What a definition comes to, by its declarator and its type.
+fn definition_by(
+    alloc: Global,
+    checker: &mut Checker,
+    place: Place,
+    word: Option<Keyword>,
+    part: &Declarator,
+    body: &Block,
+    type_id: usize,
+) -> Result<Vec<Product>, CheckError>
+    ensures { GivesProducts checker.new result
+        (plan_defining place word (view_declarator part.now) body.now type_id) checker.old }
+{
+    let parameters = parameters_in(part);
+    let name = part.name();
+    definition(alloc, checker, place, word, name, parameters, body, type_id)
+}
+
+/// What a definition comes to.
+fn whole_definition(
+    alloc: Global,
+    checker: &mut Checker,
+    list: &[Specifier],
+    part: &Declarator,
+    body: &Block,
+) -> Result<Vec<Product>, CheckError>
+    ensures { GivesProducts checker.new result
+        (plan_begun (views_specifiers list.now) (view_declarator part.now) body.now) checker.old }
+{
+    let place = declared_place(part, place_of_specifiers(list, body.place));
+    start(alloc, checker);
+    let base = base(alloc, checker, false, list)?;
+    let type_id = type_of_definition(alloc, checker, place, list, base, part)?;
+    definition_by(
+        alloc,
+        checker,
+        place,
+        storage_class(list),
+        part,
+        body,
+        type_id,
+    )
+}
+
+/// Adds what a definition comes to.
+pub fn add_definition(
+    alloc: Global,
+    checker: &mut Checker,
+    done: Vec<Product>,
+    list: &[Specifier],
+    part: &Declarator,
+    body: &Block,
+) -> Result<Vec<Product>, CheckError>
+    ensures { GivesProducts checker.new result
+        (plan_defined (as_products done) (views_specifiers list.now)
+        (view_declarator part.now) body.now.place (view_declarations body.now.declarations.items)
+        (views_statements body.now.statements.items)) checker.old }
+{
+    let more = whole_definition(alloc, checker, list, part, body)?;
+    append(done, more)
+}

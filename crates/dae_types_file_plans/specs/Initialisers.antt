@@ -1,0 +1,291 @@
+-- The plans of initialisers (C90 6.5.7). Items are given to the scalars of an aggregate in their order; inner braces may be
+-- left out. What is still to be filled is a stack, its innermost part first.
+use Rattle.std.specs.Prelude.{ℕ, zero, suc, ◌+◌, ◌*◌, List, [], ◌∷◌, ◌++◌, length, filter, Option, Some, None, Bool, true, false, ◌&&◌, ◌||◌, not, nat_eq, nat_lt, if◌then◌else◌, slice_get}
+use Rattle.dae_base.specs.declared.Place.{Place}
+use Rattle.dae_base.specs.declared.LoadKind.{LoadKind}
+use Rattle.dae_base.specs.Words.{extended, width_of}
+use Rattle.dae_tree.specs.Trees as tree
+use Rattle.dae_tree.specs.Trees.{Expression, Initialiser, Initialisers}
+use Rattle.dae_tree.specs.Depth.{place_of}
+use Rattle.dae_program.specs.Trees as program
+use Rattle.dae_types_kinds.specs.declared.types.Shape.{Shape}
+use Rattle.dae_types_kinds.specs.declared.types.Shape.TheVariants as shape
+use Rattle.dae_types_kinds.specs.declared.values.Known.{Known}
+use Rattle.dae_types_kinds.specs.declared.values.Known.TheVariants as known
+use Rattle.dae_types_kinds.specs.declared.tables.Component.{Component}
+use Rattle.dae_types_kinds.specs.Tables.{Tables}
+use Rattle.dae_types_kinds.specs.Types.{int_id, shape_of, made, is_scalar, is_character, is_structure, layout_at}
+use Rattle.dae_types_kinds.specs.Values.{Typed, number, load_kind, known_as}
+use Rattle.dae_types_rules.specs.Sites.{Site, AtItem, AtScalarList, AtAggregate, AtString, AtTooMany, AtFilled}
+use Rattle.dae_types_rules.specs.Plan.{Plan, pure, node, chain, pardons}
+use Rattle.dae_types_plans.specs.Steps.{at, does, nothing, looks}
+use Rattle.dae_types_plans.specs.Expressions.{plan_value}
+
+-- ---- what is still to be filled
+
+-- one object of a type at an offset; the elements of an array from one on, up to its count if it has one; or the members of
+-- a structure from one on
+pub data Rest : Type 0 where
+  Once : (offset type_id : ℕ) → Rest
+  Elements : (offset element begun : ℕ) → (count : Option ℕ) → Rest
+  Members : (offset structure begun : ℕ) → Rest
+
+-- an object to be filled, and what is left behind it
+pub record Slot : Type 0 where
+  pub offset : ℕ
+  pub type_id : ℕ
+  pub rest : List Rest
+
+abbrev pub slot : ℕ → ℕ → List Rest → Slot
+slot o t rest = record { offset = o; type_id = t; rest = rest }
+
+abbrev pub is_of : ℕ → Component → Bool
+is_of structure f = nat_eq f.structure structure
+
+abbrev pub components_of : Tables → ℕ → List Component
+components_of s k = filter (is_of k) s.components
+
+abbrev pub is_before : ℕ → Option ℕ → Bool
+is_before n None = true
+is_before n (Some count) = nat_lt n count
+
+-- the next element or member, or else what stands behind
+abbrev pub element_slot : Tables → ℕ → ℕ → ℕ → Option ℕ → List Rest → Option Slot → Option Slot
+element_slot s o t n count rest behind = if is_before n count then Some (slot (o + (n * (layout_at s t).size)) t (Elements o t (suc n) count ∷ rest)) else behind
+
+abbrev pub member_slot : ℕ → ℕ → ℕ → Option Component → List Rest → Option Slot → Option Slot
+member_slot o k n None rest behind = behind
+member_slot o k n (Some f) rest behind = Some (slot (o + f.offset) f.type_id (Members o k (suc n) ∷ rest))
+
+abbrev pub next_slot : Tables → List Rest → Option Slot
+next_slot s [] = None
+next_slot s (Once o t ∷ rest) = Some (slot o t rest)
+next_slot s (Elements o t n count ∷ rest) = element_slot s o t n count rest (next_slot s rest)
+next_slot s (Members o k n ∷ rest) = member_slot o k n (slice_get (components_of s k) n) rest (next_slot s rest)
+
+-- the parts of an aggregate at an offset
+abbrev pub parts_of : ℕ → ℕ → Shape → Rest
+parts_of o t (shape.Array u count) = Elements o u 0 count
+parts_of o t (shape.Struct k) = Members o k 0
+parts_of o t _ = Once o t
+
+-- an array of characters (C90 6.5.7)
+abbrev pub is_text_array : Tables → Shape → Bool
+is_text_array s (shape.Array t count) = is_character (shape_of s t)
+is_text_array s _ = false
+
+-- down to the object that an item is for: a scalar, an array of characters for a literal, or a structure for a structure
+abbrev pub or_slot : Slot → Option Slot → Slot
+or_slot z None = z
+or_slot z (Some y) = y
+
+abbrev pub descend : ℕ → Tables → (literal structure : Bool) → Slot → Slot
+descend zero s literal structure z = z
+descend (suc k) s literal structure z =
+    let t = shape_of s z.type_id in
+    if is_scalar t || ((literal && is_text_array s t) || (structure && is_structure t)) then z
+    else descend k s literal structure (or_slot z (next_slot s (parts_of z.offset z.type_id t ∷ z.rest)))
+
+-- what is filled so far: the rest, the items, how many elements an array got that has its size from them, and whether no
+-- more is said of what is too many
+pub record Filling : Type 0 where
+  pub rest : List Rest
+  pub items : List program.Setting
+  pub count : ℕ
+  pub over : Bool
+
+abbrev pub over : Filling → Filling
+over f = record f { rest = []; over = true }
+
+-- ---- an expression
+
+abbrev pub literal_in : Expression → Option ℕ
+literal_in (tree.Literal p n) = Some n
+literal_in _ = None
+
+abbrev pub has_literal : Option ℕ → Bool
+has_literal None = false
+has_literal (Some n) = true
+
+-- where an item lands, and what is filled behind it
+pub record Landing : Type 0 where
+  pub filling : Filling
+  pub place : Option Slot
+
+abbrev pub landed_in : Filling → Option Slot → Landing
+landed_in f None = record { filling = over f; place = None }
+landed_in f (Some z) = record { filling = record f { rest = z.rest }; place = Some z }
+
+abbrev pub lowered : Tables → Bool → Typed → Option Slot → Option Slot
+lowered s literal x None = None
+lowered s literal x (Some z) = Some (descend (length s.shapes) s literal (is_structure (shape_of s x.type_id)) z)
+
+abbrev pub lands : Tables → Option ℕ → Typed → Filling → Landing
+lands s n x f = landed_in f (lowered s (has_literal n) x (next_slot s f.rest))
+
+-- what is too many is said once
+abbrev pub landing_sites : Place → Filling → Option Slot → List Site
+landing_sites p f None = if f.over then [] else AtTooMany p ∷ []
+landing_sites p f (Some z) = []
+
+abbrev pub landing_at : Place → Option ℕ → Filling → Typed → Plan Landing
+landing_at p n f x = node (λ s y. landing_sites p f (next_slot s f.rest)) (λ s y. (s, lands s n x f)) nothing
+
+abbrev pub size_in : Shape → Option ℕ
+size_in (shape.Array t count) = count
+size_in _ = None
+
+-- the bytes of a literal, without the zero byte at its end
+abbrev pub literal_bytes : Tables → Option ℕ → List ℕ
+literal_bytes s None = []
+literal_bytes s (Some n) = elim (slice_get s.literals n) [ None ↦ [] | Some bytes ↦ bytes ]
+
+abbrev pub item_sites_at : Place → Tables → Option ℕ → Typed → ℕ → Shape → List Site
+item_sites_at p s n x t (shape.Array u count) = AtString p (length (literal_bytes s n)) count ∷ []
+item_sites_at p s n x t (shape.Struct k) = AtAggregate p s x t ∷ []
+item_sites_at p s n x t u = AtItem p s x t ∷ []
+
+abbrev pub item_sites : Place → Tables → Option ℕ → Typed → Option Slot → List Site
+item_sites p s n x None = []
+item_sites p s n x (Some z) = item_sites_at p s n x z.type_id (shape_of s z.type_id)
+
+-- a constant as the item's value
+abbrev pub constant_tree : Known → program.Expression
+constant_tree (known.Number w) = program.Number w
+constant_tree (known.Address (Some o) k) = program.Address o k
+constant_tree (known.Address None w) = program.Number w
+constant_tree _ = program.Number 0
+
+abbrev pub setting : ℕ → Shape → program.Expression → program.Setting
+setting o t e = record { offset = o; width = width_of (load_kind t); value = e }
+
+abbrev pub byte_setting : ℕ → LoadKind → ℕ → program.Setting
+byte_setting o k b = record { offset = o; width = width_of k; value = program.Number (extended k b) }
+
+abbrev pub byte_settings : ℕ → LoadKind → List ℕ → List program.Setting
+byte_settings o k [] = []
+byte_settings o k (b ∷ bs) = byte_setting o k b ∷ byte_settings (suc o) k bs
+
+abbrev pub item_by : Tables → Option ℕ → Typed → Slot → Shape → Filling → Filling
+item_by s n x z (shape.Array u count) f = record f { items = f.items ++ byte_settings z.offset (load_kind (shape_of s u)) (literal_bytes s n); count = suc (length (literal_bytes s n)) }
+item_by s n x z (shape.Struct k) f = f
+item_by s n x z t f = record f { items = f.items ++ (setting z.offset t (constant_tree (known_as (shape_of s x.type_id) t x.known)) ∷ []) }
+
+abbrev pub item_in : Tables → Option ℕ → Typed → Option Slot → Filling → Filling
+item_in s n x None f = f
+item_in s n x (Some z) f = item_by s n x z (shape_of s z.type_id) f
+
+abbrev pub item_at : Place → Option ℕ → Typed → Landing → Plan Filling
+item_at p n x l = pardons l.filling (node (λ s y. item_sites p s n x l.place) (λ s y. (s, item_in s n x l.place l.filling)) nothing)
+
+-- the value comes first, and says where it lands; a faulty one counts as 0
+abbrev pub value_item : Place → Option ℕ → Filling → Plan Typed → Plan Filling
+value_item p n f m = chain (number 0 int_id) (pardons (number 0 int_id) m) (λ x. pardons (over f) (chain (record { filling = over f; place = None }) (landing_at p n f x) (item_at p n x)))
+
+-- ---- a list in braces
+
+abbrev pub is_one : Initialisers → Bool
+is_one (tree.initialiser_then x tree.no_initialisers) = true
+is_one _ = false
+
+abbrev pub is_literal : Initialiser → Bool
+is_literal (tree.Value e) = has_literal (literal_in e)
+is_literal (tree.Listed p js comma) = false
+
+abbrev pub is_one_literal : Initialisers → Bool
+is_one_literal (tree.initialiser_then x tree.no_initialisers) = is_literal x
+is_one_literal _ = false
+
+-- a list fills one object: what is in it, and what stands behind it
+pub record Opening : Type 0 where
+  pub inside : Filling
+  pub behind : List Rest
+
+abbrev pub open_with : Filling → List Rest → Bool → List Rest → Opening
+open_with f rest is_over behind = record { inside = record f { rest = rest; over = is_over }; behind = behind }
+
+abbrev pub opens_at : Tables → Filling → Initialisers → Slot → Shape → Opening
+opens_at s f js z t =
+    if is_scalar t || (is_text_array s t && is_one_literal js) then open_with f (Once z.offset z.type_id ∷ []) true z.rest
+    else open_with f (parts_of z.offset z.type_id t ∷ []) false z.rest
+
+abbrev pub opens : Tables → Filling → Initialisers → Option Slot → Opening
+opens s f js None = open_with f [] true []
+opens s f js (Some z) = opens_at s f js z (shape_of s z.type_id)
+
+abbrev pub list_sites : Place → Tables → Filling → Initialisers → Option Slot → List Site
+list_sites p s f js None = landing_sites p f None
+list_sites p s f js (Some z) = if is_scalar (shape_of s z.type_id) && not (is_one js) then AtScalarList p ∷ [] else []
+
+-- how many elements were begun in what the list filled
+abbrev pub begun_in : List Rest → ℕ → ℕ
+begun_in [] n = n
+begun_in (Elements o t k count ∷ []) n = k
+begun_in (r ∷ rest) n = begun_in rest n
+
+-- behind the list; the flag says whether no more is said there of what is too many
+abbrev pub list_ends : Bool → List Rest → Filling → Filling
+list_ends is_over behind g = record { rest = behind; items = g.items; count = begun_in g.rest g.count; over = is_over }
+
+abbrev pub opening_at : Place → Filling → Initialisers → Plan Opening
+opening_at p f js = node (λ s y. list_sites p s f js (next_slot s f.rest)) (λ s y. (s, opens s f js (next_slot s f.rest))) nothing
+
+abbrev pub list_at : Place → Filling → Initialisers → (Filling → Plan Filling) → Plan Filling
+list_at p f js fill =
+    pardons (over f)
+    (chain (open_with f [] true []) (opening_at p f js) (λ o. does (λ s g. (s, list_ends f.over o.behind g)) (fill o.inside)))
+
+abbrev mutual
+  pub plan_initialiser : Filling → Initialiser → Plan Filling
+  plan_initialiser f (tree.Value e) = value_item (place_of e) (literal_in e) f (plan_value e)
+  plan_initialiser f (tree.Listed p js comma) = list_at p f js (λ g. plan_initialisers g js)
+
+  pub plan_initialisers : Filling → Initialisers → Plan Filling
+  plan_initialisers f tree.no_initialisers = pure f
+  plan_initialisers f (tree.initialiser_then x xs) = chain f (plan_initialiser f x) (λ f. plan_initialisers f xs)
+
+-- ---- an object that must be filled with constants
+
+abbrev pub empty_filling : List Rest → Filling
+empty_filling rest = record { rest = rest; items = []; count = 0; over = false }
+
+-- an initialiser that nothing needs is only looked at
+abbrev pub plan_unused_initialiser : Initialiser → Plan Filling
+plan_unused_initialiser x = plan_initialiser (over (empty_filling [])) x
+
+-- an expression for an aggregate
+abbrev pub aggregate_at : Place → ℕ → Plan Typed → Plan Filling
+aggregate_at p t m = at (λ s x. AtAggregate p s x t) (λ s x. (s, empty_filling [])) m
+
+abbrev pub is_value_for : Tables → ℕ → Initialiser → Bool
+is_value_for s t (tree.Value e) = not (is_scalar (shape_of s t)) && not (is_text_array s (shape_of s t) && has_literal (literal_in e))
+is_value_for s t (tree.Listed p js comma) = false
+
+abbrev pub whole_by : (offset type_id : ℕ) → Initialiser → Bool → Plan Filling
+whole_by o t (tree.Value e) true = aggregate_at (place_of e) t (plan_value e)
+whole_by o t x _ = plan_initialiser (empty_filling (Once o t ∷ [])) x
+
+-- the type of an array of unknown size, with the size that it got
+abbrev pub filled_type : Tables → ℕ → ℕ → Shape → Tables × ℕ
+filled_type s t n (shape.Array u None) = made (shape.Array u (Some n)) s
+filled_type s t n _ = (s, t)
+
+-- what an object of a type holds, and its type
+pub record Content : Type 0 where
+  pub items : List program.Setting
+  pub type_id : ℕ
+
+abbrev pub content_of : Filling → Tables × ℕ → Tables × Content
+content_of f x = (x.0, record { items = f.items; type_id = x.1 })
+
+abbrev pub filled_at : Place → Plan Content → Plan Content
+filled_at p m = at (λ s x. AtFilled p s x.type_id) (λ s x. (s, x)) m
+
+-- what an object of this type, declared at this place, holds when it is filled
+abbrev pub content_at : Place → ℕ → Plan Filling → Plan Content
+content_at p t m = filled_at p (does (λ s f. content_of f (filled_type s t f.count (shape_of s t))) m)
+
+-- the whole initialiser of an object of this type that is declared at this place: its items have offsets from where the object
+-- stands, which is at this offset
+abbrev pub plan_content : Place → (offset type_id : ℕ) → Initialiser → Plan Content
+plan_content p o t x = content_at p t (chain false (looks (λ s. is_value_for s t x)) (whole_by o t x))

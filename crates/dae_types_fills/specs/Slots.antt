@@ -1,0 +1,32 @@
+-- Stacks of what is to be filled, in memory, as plain data. The next part of a stack in memory is its last one.
+use Rattle.std.specs.Prelude.{List, [], ◌∷◌, Option, Some, None}
+use Rattle.dae_types_file_plans.specs.Initialisers.{Rest, Once, Elements, Members, Slot, slot}
+use Rattle.dae_types_fills.specs.declared.slots.Rest.{Rest as RestInMemory}
+use Rattle.dae_types_fills.specs.declared.slots.Rest.TheVariants as rests
+use Rattle.dae_types_fills.specs.declared.slots.Slot.{Slot as SlotInMemory}
+use Rattle.dae_types_fills.specs.declared.slots.Start.{Start}
+
+abbrev pub view_rest : RestInMemory → Rest
+view_rest (rests.Once o t) = Once o t
+view_rest (rests.Elements o t n count) = Elements o t n count
+view_rest (rests.Members o k n) = Members o k n
+
+-- parts from the last one on, behind those of another stack
+abbrev pub stacked : List RestInMemory → List Rest → List Rest
+stacked [] rest = rest
+stacked (x ∷ xs) rest = stacked xs (view_rest x ∷ rest)
+
+abbrev pub view_stack : List RestInMemory → List Rest
+view_stack xs = stacked xs []
+
+abbrev pub view_slot : SlotInMemory → Slot
+view_slot z = slot z.offset z.type_id (view_stack z.rest.items)
+
+abbrev pub left_behind : Option RestInMemory → List Rest → List Rest
+left_behind None rest = rest
+left_behind (Some x) rest = view_rest x ∷ rest
+
+-- the first object of a part that stands before a stack, or else what is next in that stack
+abbrev pub slot_or : Option Start → List Rest → Option Slot → Option Slot
+slot_or None rest behind = behind
+slot_or (Some x) rest behind = Some (slot x.offset x.type_id (left_behind x.left rest))

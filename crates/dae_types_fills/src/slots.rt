@@ -1,0 +1,248 @@
+// What of an aggregate is still to be filled, as a stack, and the object that is next (C90 6.5.7).
+
+ghost use Rattle.std.specs.Prelude.{◌≡◌, List, ◌∷◌, Option, Ok, slice_get};
+ghost use Rattle.dae_types_file_plans.specs.Initialisers.{Rest as PlainRest, Slot as PlainSlot, components_of, descend, element_slot, is_before, is_text_array, member_slot, next_slot, parts_of};
+ghost use Rattle.dae_types_rules.specs.Plan.{Gives};
+ghost use Rattle.dae_types_tables.specs.Seen.{tables};
+ghost use Rattle.dae_types_fills.specs.Slots.{slot_or, view_rest, view_slot, view_stack};
+ghost use Rattle.dae_types_fills.specs.Filled.{seen};
+
+use dae_types_kinds::{CheckError, Component, Shape};
+use dae_types_tables::{Checker, is_character, is_scalar, is_structure};
+use std::alloc::Global;
+
+/// One object of a type at an offset; the elements of an array from one on, up to its count if it has one; or the members of
+/// a structure from one on. Offsets are in bytes.
+#[derive(Clone, Copy)]
+pub enum Rest {
+    Once(u32, usize),
+    Elements(u32, usize, u32, Option<u32>),
+    Members(u32, usize, usize),
+}
+
+/// An object to be filled, and what is left behind it, the next part at the end.
+#[derive(Drop)]
+pub struct Slot {
+    pub offset: u32,
+    pub type_id: usize,
+    pub rest: Vec<Rest>,
+}
+
+/// The first object of a part, and what is left of that part.
+#[derive(Clone, Copy)]
+struct Start {
+    offset: u32,
+    type_id: usize,
+    left: Option<Rest>,
+}
+
+/// The next object that is to be filled, if there is one.
+#[tactic(auto, using(crate::proofs::Stacks::stack_push))]
+pub fn next_slot(checker: &Checker, mut rest: Vec<Rest>) -> Result<Option<Slot>, CheckError>
+    ensures { Gives (seen view_slot) result
+        (Ok (next_slot (tables checker.now) (view_stack rest.items))) }
+{
+    let Some(part) = rest.pop() else {
+        return Ok(None);
+    };
+    let Some(start) = start_of(checker, part)? else {
+        return next_slot(checker, rest);
+    };
+    if let Some(left) = start.left {
+        rest.push(left)?;
+    }
+    let offset = start.offset;
+    let type_id = start.type_id;
+    Ok(Some(Slot {
+        offset,
+        type_id,
+        rest,
+    }))
+}
+
+/// The first object of a part, unless nothing of it is left.
+fn start_of(checker: &Checker, part: Rest) -> Result<Option<Start>, CheckError>
+    ensures { (rest : List PlainRest)
+        → Gives (λ r. slot_or r rest (next_slot (tables checker.now) rest)) result
+        (Ok (next_slot (tables checker.now) (view_rest part ∷ rest))) }
+{
+    match part {
+        Rest::Once(offset, type_id) => Ok(Some(Start {
+            offset,
+            type_id,
+            left: None,
+        })),
+        Rest::Elements(offset, element, begun, count) => {
+            first_element(checker, offset, element, begun, count)
+        }
+        Rest::Members(offset, structure, begun) => {
+            first_member(checker, offset, structure, begun)
+        }
+    }
+}
+
+/// The next element of an array, unless all are begun.
+fn first_element(
+    checker: &Checker,
+    offset: u32,
+    element: usize,
+    begun: u32,
+    count: Option<u32>,
+) -> Result<Option<Start>, CheckError>
+    ensures { (rest : List PlainRest) (behind : Option PlainSlot)
+        → Gives (λ r. slot_or r rest behind) result
+        (Ok (element_slot (tables checker.now) offset element begun count rest behind)) }
+{
+    if !is_before(begun, count) {
+        return Ok(None);
+    }
+    let size = checker.layout_at(element).size;
+    let (Some(bytes), Some(more)) = (begun.checked_mul(size), begun.checked_add(1)) else {
+        return Err(CheckError::Memory);
+    };
+    let Some(offset_of_it) = offset.checked_add(bytes) else {
+        return Err(CheckError::Memory);
+    };
+    let left = Rest::Elements(offset, element, more, count);
+    Ok(Some(Start {
+        offset: offset_of_it,
+        type_id: element,
+        left: Some(left),
+    }))
+}
+
+/// Whether an array has an element of this number.
+fn is_before(number: u32, count: Option<u32>) -> bool
+    ensures { result ≡ is_before number count }
+{
+    match count {
+        Some(count) => number < count,
+        None => true,
+    }
+}
+
+/// The next member of a structure, unless all are begun.
+fn first_member(
+    checker: &Checker,
+    offset: u32,
+    structure: usize,
+    begun: usize,
+) -> Result<Option<Start>, CheckError>
+    ensures { (rest : List PlainRest) (behind : Option PlainSlot)
+        → Gives (λ r. slot_or r rest behind) result
+        (Ok (member_slot offset structure begun
+        (slice_get (components_of (tables checker.now) structure) begun) rest behind)) }
+{
+    let Some(member) = component(checker, structure, begun) else {
+        return Ok(None);
+    };
+    let (Some(place), Some(more)) = (offset.checked_add(member.offset), begun.checked_add(1)) else {
+        return Err(CheckError::Memory);
+    };
+    let left = Rest::Members(offset, structure, more);
+    Ok(Some(Start {
+        offset: place,
+        type_id: member.type_id,
+        left: Some(left),
+    }))
+}
+
+/// The member of a structure by its number in it.
+fn component(checker: &Checker, structure: usize, number: usize) -> Option<Component>
+    ensures { result ≡ slice_get (components_of (tables checker.now) structure) number }
+{
+    let mut left = number;
+    for row in checker.components() {
+        if row.structure == structure {
+            if left == 0 {
+                return Some(*row);
+            }
+            left -= 1;
+        }
+    }
+    None
+}
+
+/// The parts of an aggregate at an offset.
+pub fn parts_of(offset: u32, type_id: usize, shape: Shape) -> Rest
+    ensures { view_rest result ≡ parts_of offset type_id shape }
+{
+    match shape {
+        Shape::Array(element, count) => Rest::Elements(offset, element, 0, count),
+        Shape::Struct(structure) => Rest::Members(offset, structure, 0),
+        _ => Rest::Once(offset, type_id),
+    }
+}
+
+/// Whether a type is an array of characters.
+pub fn is_text_array(checker: &Checker, shape: Shape) -> bool
+    ensures { result ≡ is_text_array (tables checker.now) shape }
+{
+    match shape {
+        Shape::Array(element, _) => is_character(checker.shape_of(element)),
+        _ => false,
+    }
+}
+
+/// Down to the object that an item is for: a scalar, an array of characters for a literal, or a structure for a structure.
+pub fn descend(
+    alloc: Global,
+    checker: &Checker,
+    literal: bool,
+    structure: bool,
+    depth: usize,
+    slot: Slot,
+) -> Result<Slot, CheckError>
+    ensures { Gives view_slot result
+        (Ok (descend depth (tables checker.now) literal structure (view_slot slot))) }
+{
+    if depth == 0 {
+        return Ok(slot);
+    }
+    let shape = checker.shape_of(slot.type_id);
+    let text = literal && is_text_array(checker, shape);
+    if is_scalar(shape) || (text || (structure && is_structure(shape))) {
+        return Ok(slot);
+    }
+    match first_part(alloc, checker, &slot, shape)? {
+        Some(inner) => descend(alloc, checker, literal, structure, depth - 1, inner),
+        None => descend(alloc, checker, literal, structure, depth - 1, slot),
+    }
+}
+
+/// The first object of an aggregate of this shape, or what is next behind it.
+fn first_part(
+    alloc: Global,
+    checker: &Checker,
+    slot: &Slot,
+    shape: Shape,
+) -> Result<Option<Slot>, CheckError>
+    ensures { Gives (seen view_slot) result
+        (Ok (next_slot (tables checker.now)
+        (parts_of slot.now.offset slot.now.type_id shape ∷ view_stack slot.now.rest.items))) }
+{
+    let part = parts_of(slot.offset, slot.type_id, shape);
+    let rest = with_part(alloc, &slot.rest, part)?;
+    next_slot(checker, rest)
+}
+
+/// A copy of a stack with a part on top.
+#[tactic(auto, using(crate::proofs::Stacks::stack_push))]
+fn with_part(alloc: Global, rest: &[Rest], part: Rest) -> Result<Vec<Rest>, CheckError>
+    ensures { Gives (λ v. view_stack v.items) result (Ok (view_rest part ∷ view_stack rest.now)) }
+{
+    let mut stack = copy_stack(alloc, rest)?;
+    stack.push(part)?;
+    Ok(stack)
+}
+
+/// A copy of a stack.
+fn copy_stack(alloc: Global, rest: &[Rest]) -> Result<Vec<Rest>, CheckError>
+    ensures { Gives (λ v. v.items) result (Ok rest.now) }
+{
+    let mut stack = Vec::new(alloc);
+    for part in rest {
+        stack.push(*part)?;
+    }
+    Ok(stack)
+}

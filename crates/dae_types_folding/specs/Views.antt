@@ -1,0 +1,38 @@
+-- Values in memory as plain data.
+use Rattle.std.specs.Prelude.{Option, Some, None, Result, Ok}
+use Rattle.dae_program.specs.Trees as program
+use Rattle.dae_program.specs.declared.expressions.Expression.{Expression}
+use Rattle.dae_types_kinds.specs.declared.rules.CheckError.{CheckError}
+use Rattle.dae_types_rules.specs.Plan.{Gives}
+use Rattle.dae_program.specs.Views.{view}
+use Rattle.dae_types_kinds.specs.Values.{Typed, typed, Deed, Operates, Compares, Combination, Words, PointerFirst, PointerSecond, Distance, Pointers}
+use Rattle.dae_types_folding.specs.declared.value.Value.{Value}
+use Rattle.dae_types_folding.specs.declared.operators.Deed.{Deed as DeedInMemory}
+use Rattle.dae_types_folding.specs.declared.operators.Deed.TheVariants as deeds
+use Rattle.dae_types_folding.specs.declared.operators.Combination.{Combination as CombinationInMemory}
+use Rattle.dae_types_folding.specs.declared.operators.Combination.TheVariants as combinations
+
+abbrev pub view_value : Value → Typed
+view_value x = typed (view x.tree) x.type_id x.category x.known
+
+abbrev pub view_deed : DeedInMemory → Deed
+view_deed (deeds.Operates o) = Operates o
+view_deed (deeds.Compares c turned) = Compares c turned
+
+abbrev pub view_combination : CombinationInMemory → Combination
+view_combination combinations.Words = Words
+view_combination (combinations.PointerFirst n) = PointerFirst n
+view_combination (combinations.PointerSecond n) = PointerSecond n
+view_combination (combinations.Distance n) = Distance n
+view_combination combinations.Pointers = Pointers
+
+abbrev pub view_combined : Option CombinationInMemory → Option Combination
+view_combined None = None
+view_combined (Some c) = Some (view_combination c)
+
+-- a function makes this tree, or this value, unless memory ran out
+abbrev pub MakesTree : Result Expression CheckError → program.Expression → Type 0
+MakesTree r e = Gives view r (Ok e)
+
+abbrev pub MakesValue : Result Value CheckError → Typed → Type 0
+MakesValue r x = Gives view_value r (Ok x)

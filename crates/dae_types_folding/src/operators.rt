@@ -1,0 +1,243 @@
+// What operators do to words (C90 6.3.5 to 6.3.14).
+
+ghost use Rattle.std.specs.Prelude.{◌≡◌};
+ghost use Rattle.dae_meaning.specs.Operations.{combined, compared};
+ghost use Rattle.dae_types_kinds.specs.Values.{deed, is_shift, is_equality, is_comparison, is_sum, is_difference, operator_of, divides, is_unsigned_for, type_for};
+ghost use Rattle.dae_types_folding.specs.Views.{view_deed};
+
+use crate::shapes::{INT, UNSIGNED};
+use dae_types_kinds::Shape;
+use dae_meaning::{Comparison, Operator};
+use dae_types_tables::is_unsigned;
+use dae_tree::{AssignmentOperator, BinaryOperator};
+
+/// An operation, or a comparison with whether its operands are turned.
+#[derive(Clone, Copy)]
+pub enum Deed {
+    Operates(Operator),
+    Compares(Comparison, bool),
+}
+
+/// How two operands go together: as words; as a pointer to a type and an index, or an index and a pointer; as two pointers to
+/// a type whose distance is asked; or as two pointers that are compared. A type is given by its number.
+#[derive(Clone, Copy)]
+pub enum Combination {
+    Words,
+    PointerFirst(usize),
+    PointerSecond(usize),
+    Distance(usize),
+    Pointers,
+}
+
+/// What an operator does, on unsigned operands or on others.
+pub fn deed_of(unsigned: bool, operator: BinaryOperator) -> Deed
+    ensures { view_deed result ≡ deed unsigned operator }
+{
+    match operator {
+        BinaryOperator::Multiply => Deed::Operates(Operator::Multiply),
+        BinaryOperator::Divide if unsigned => Deed::Operates(Operator::DivideUnsigned),
+        BinaryOperator::Divide => Deed::Operates(Operator::DivideSigned),
+        BinaryOperator::Remainder if unsigned => Deed::Operates(Operator::RemainderUnsigned),
+        BinaryOperator::Remainder => Deed::Operates(Operator::RemainderSigned),
+        BinaryOperator::Add => Deed::Operates(Operator::Add),
+        BinaryOperator::Subtract => Deed::Operates(Operator::Subtract),
+        BinaryOperator::ShiftLeft => Deed::Operates(Operator::ShiftLeft),
+        BinaryOperator::ShiftRight if unsigned => Deed::Operates(Operator::ShiftRightUnsigned),
+        BinaryOperator::ShiftRight => Deed::Operates(Operator::ShiftRightSigned),
+        BinaryOperator::Less => Deed::Compares(less(unsigned), false),
+        BinaryOperator::Greater => Deed::Compares(less(unsigned), true),
+        BinaryOperator::AtMost => Deed::Compares(at_least(unsigned), true),
+        BinaryOperator::AtLeast => Deed::Compares(at_least(unsigned), false),
+        BinaryOperator::Equal => Deed::Compares(Comparison::Equal, false),
+        BinaryOperator::NotEqual => Deed::Compares(Comparison::NotEqual, false),
+        BinaryOperator::And | BinaryOperator::AndAnd => Deed::Operates(Operator::And),
+        BinaryOperator::Xor => Deed::Operates(Operator::Xor),
+        BinaryOperator::Or | BinaryOperator::OrOr => Deed::Operates(Operator::Or),
+    }
+}
+
+ghost use Rattle.std.specs.Prelude.{if◌then◌else◌};
+ghost use Rattle.dae_meaning.specs.declared.Comparison.TheVariants as comparison;
+
+fn less(unsigned: bool) -> Comparison
+    ensures { result ≡ (if unsigned then comparison.LessUnsigned else comparison.LessSigned) }
+{
+    if unsigned {
+        Comparison::LessUnsigned
+    } else {
+        Comparison::LessSigned
+    }
+}
+
+fn at_least(unsigned: bool) -> Comparison
+    ensures { result ≡ (if unsigned then comparison.AtLeastUnsigned else comparison.AtLeastSigned) }
+{
+    if unsigned {
+        Comparison::AtLeastUnsigned
+    } else {
+        Comparison::AtLeastSigned
+    }
+}
+
+/// Whether an operator is a shift.
+pub fn is_shift(operator: BinaryOperator) -> bool
+    ensures { result ≡ is_shift operator }
+{
+    match operator {
+        BinaryOperator::ShiftLeft | BinaryOperator::ShiftRight => true,
+        _ => false,
+    }
+}
+
+/// Whether an operator asks if two values are equal.
+pub fn is_equality(operator: BinaryOperator) -> bool
+    ensures { result ≡ is_equality operator }
+{
+    match operator {
+        BinaryOperator::Equal | BinaryOperator::NotEqual => true,
+        _ => false,
+    }
+}
+
+/// Whether an operator compares.
+pub fn is_comparison(operator: BinaryOperator) -> bool
+    ensures { result ≡ is_comparison operator }
+{
+    match operator {
+        BinaryOperator::Less | BinaryOperator::Greater => true,
+        BinaryOperator::AtMost | BinaryOperator::AtLeast => true,
+        _ => is_equality(operator),
+    }
+}
+
+/// Whether an operator is a sum.
+pub fn is_sum(operator: BinaryOperator) -> bool
+    ensures { result ≡ is_sum operator }
+{
+    match operator {
+        BinaryOperator::Add => true,
+        _ => false,
+    }
+}
+
+/// Whether an operator is a difference.
+pub fn is_difference(operator: BinaryOperator) -> bool
+    ensures { result ≡ is_difference operator }
+{
+    match operator {
+        BinaryOperator::Subtract => true,
+        _ => false,
+    }
+}
+
+/// The operator of a compound assignment. `=` has none, and counts as a sum.
+pub fn operator_of(assignment: AssignmentOperator) -> BinaryOperator
+    ensures { result ≡ operator_of assignment }
+{
+    match assignment {
+        AssignmentOperator::Assign | AssignmentOperator::Add => BinaryOperator::Add,
+        AssignmentOperator::Multiply => BinaryOperator::Multiply,
+        AssignmentOperator::Divide => BinaryOperator::Divide,
+        AssignmentOperator::Remainder => BinaryOperator::Remainder,
+        AssignmentOperator::Subtract => BinaryOperator::Subtract,
+        AssignmentOperator::ShiftLeft => BinaryOperator::ShiftLeft,
+        AssignmentOperator::ShiftRight => BinaryOperator::ShiftRight,
+        AssignmentOperator::And => BinaryOperator::And,
+        AssignmentOperator::Xor => BinaryOperator::Xor,
+        AssignmentOperator::Or => BinaryOperator::Or,
+    }
+}
+
+/// Whether an operation traps by zero.
+pub fn divides(operator: Operator) -> bool
+    ensures { result ≡ divides operator }
+{
+    match operator {
+        Operator::DivideSigned | Operator::DivideUnsigned => true,
+        Operator::RemainderSigned | Operator::RemainderUnsigned => true,
+        _ => false,
+    }
+}
+
+/// Whether an operator works on unsigned words: a shift by its left operand alone.
+pub fn is_unsigned_for(operator: BinaryOperator, left: Shape, right: Shape) -> bool
+    ensures { result ≡ is_unsigned_for operator left right }
+{
+    is_unsigned(left) || (!is_shift(operator) && is_unsigned(right))
+}
+
+/// The type of an operation on words, which are unsigned or not.
+pub fn type_for(operator: BinaryOperator, unsigned: bool) -> usize
+    ensures { result ≡ type_for operator unsigned }
+{
+    if !is_comparison(operator) && unsigned {
+        UNSIGNED
+    } else {
+        INT
+    }
+}
+
+/// What an operation on two words gives.
+#[tactic(auto, unfolding(dae_meaning::specs::Operations::combined))]
+pub fn apply(operator: Operator, x: u32, y: u32) -> u32
+    ensures { result ≡ combined operator x y }
+{
+    match operator {
+        Operator::Add => x.wrapping_add(y),
+        Operator::Subtract => x.wrapping_sub(y),
+        Operator::Multiply => x.wrapping_mul(y),
+        Operator::DivideSigned => quotient(x, y),
+        Operator::DivideUnsigned => x.checked_div(y).unwrap_or(u32::MAX),
+        Operator::RemainderSigned => remainder(x, y),
+        Operator::RemainderUnsigned => x.checked_rem(y).unwrap_or(x),
+        Operator::And => x & y,
+        Operator::Or => x | y,
+        Operator::Xor => x ^ y,
+        Operator::ShiftLeft => x.wrapping_shl(y),
+        Operator::ShiftRightSigned => (x.cast_signed() >> (y % 32)).cast_unsigned(),
+        Operator::ShiftRightUnsigned => x >> (y % 32),
+    }
+}
+
+ghost use Rattle.dae_meaning.specs.declared.Operator.TheVariants as operator;
+
+#[tactic(auto, unfolding(dae_meaning::specs::Operations::combined))]
+fn quotient(x: u32, y: u32) -> u32
+    ensures { result ≡ combined operator.DivideSigned x y }
+{
+    if y == 0 {
+        u32::MAX
+    } else {
+        x.cast_signed()
+            .wrapping_div(y.cast_signed())
+            .cast_unsigned()
+    }
+}
+
+#[tactic(auto, unfolding(dae_meaning::specs::Operations::combined))]
+fn remainder(x: u32, y: u32) -> u32
+    ensures { result ≡ combined operator.RemainderSigned x y }
+{
+    if y == 0 {
+        x
+    } else {
+        x.cast_signed()
+            .wrapping_rem(y.cast_signed())
+            .cast_unsigned()
+    }
+}
+
+/// Whether a comparison of two words holds.
+#[tactic(auto, unfolding(dae_meaning::specs::Operations::compared))]
+pub fn compare(comparison: Comparison, x: u32, y: u32) -> bool
+    ensures { result ≡ compared comparison x y }
+{
+    match comparison {
+        Comparison::Equal => x == y,
+        Comparison::NotEqual => x != y,
+        Comparison::LessSigned => x.cast_signed() < y.cast_signed(),
+        Comparison::AtLeastSigned => x.cast_signed() >= y.cast_signed(),
+        Comparison::LessUnsigned => x < y,
+        Comparison::AtLeastUnsigned => x >= y,
+    }
+}

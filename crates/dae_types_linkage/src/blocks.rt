@@ -1,0 +1,88 @@
+// Names of types, and local objects (C90 6.5, 6.5.6 and 6.7.1).
+
+ghost use Rattle.std.specs.Prelude.{◌≡◌};
+ghost use Rattle.dae_types_file_plans.specs.Statements.{local_at, own_of, typedef_at};
+ghost use Rattle.dae_types_rules.specs.Plan.{pure};
+ghost use Rattle.dae_types_rules.specs.Table.{clashes_with_type};
+ghost use Rattle.dae_types_tables.specs.Seen.{tables, Follows};
+
+use dae_base::Place;
+use dae_types_kinds::{CheckError, Entity, NamedType, Rule};
+use dae_types_sites::{add_named_local, is_taken};
+use dae_types_tables::{Checker, broken, is_array, is_function, is_void};
+use dae_tree::Name;
+
+/// Declares the name of a type. The flags say that it stands in a block, and that it has an initialiser.
+#[tactic(auto, unfolding(dae_types_rules::specs::Plan::ask_all))]
+pub fn declare_type(
+    checker: &mut Checker,
+    place: Place,
+    block: bool,
+    given: bool,
+    name: Option<Name>,
+    declared: NamedType,
+) -> Result<(), CheckError>
+    ensures { Follows checker.new result
+        (typedef_at place block given name (pure declared)) checker.old }
+{
+    if given {
+        return Err(broken(Rule::TypedefMisuse, place));
+    }
+    if clashes_with_type(checker, block, declared.type_id, own_entity(checker, name)) {
+        return Err(broken(Rule::Redeclared, place));
+    }
+    let Some(name) = name else {
+        return Ok(());
+    };
+    checker.add_name(name.number, Entity::Type(declared.type_id))
+}
+
+/// Whether a type may not have a name that stands for this already.
+fn clashes_with_type(checker: &Checker, block: bool, type_id: usize, found: Option<Entity>) -> bool
+    ensures { result ≡ clashes_with_type block (tables checker.now) type_id found }
+{
+    match found {
+        None => false,
+        Some(Entity::Type(other)) => block || !checker.same(other, type_id),
+        Some(_) => true,
+    }
+}
+
+/// What a name stands for in the innermost scope.
+pub fn own_entity(checker: &Checker, name: Option<Name>) -> Option<Entity>
+    ensures { result ≡ own_of (tables checker.now) name }
+{
+    match name {
+        Some(name) => checker.own_entity(name.number),
+        None => None,
+    }
+}
+
+/// Declares a local object, and gives its number. The flag says that it has an initialiser.
+#[tactic(auto, unfolding(dae_types_rules::specs::Plan::ask_all))]
+pub fn declare_local(
+    checker: &mut Checker,
+    place: Place,
+    given: bool,
+    name: Option<Name>,
+    declared: NamedType,
+) -> Result<Option<usize>, CheckError>
+    ensures { Follows checker.new result (local_at place given name (pure declared)) checker.old }
+{
+    let shape = checker.shape_of(declared.type_id);
+    if is_function(shape) {
+        return Err(broken(Rule::BlockFunction, place));
+    }
+    if is_void(shape) {
+        return Err(broken(Rule::VoidObject, place));
+    }
+    if !checker.is_complete(declared.type_id) && !(given && is_array(shape)) {
+        return Err(broken(Rule::Incomplete, place));
+    }
+    if is_taken(checker, name) {
+        return Err(broken(Rule::Redeclared, place));
+    }
+    let number = checker.count_locals();
+    add_named_local(checker, name, declared.type_id)?;
+    Ok(Some(number))
+}

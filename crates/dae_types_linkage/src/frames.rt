@@ -1,0 +1,112 @@
+// Where the parameters and local objects of a function are kept.
+
+ghost use Rattle.std.specs.Prelude.{◌≡◌, ℕ, suc, List, ◌∷◌, Ok, nat_eq, if◌then◌else◌};
+ghost use Rattle.dae_types_file_plans.specs.Files.{in_variable, kept_from, settled_locals};
+ghost use Rattle.dae_types_kinds.specs.declared.tables.Local.{Local as PlainLocal};
+ghost use Rattle.dae_types_rules.specs.Plan.{Gives};
+ghost use Rattle.dae_types_tables.specs.Seen.{tables, Leaves};
+ghost use Rattle.dae_types_linkage.specs.Rooms.{kept_in};
+
+use dae_types_kinds::{CheckError, Local, Storage};
+use dae_types_tables::{Checker, is_scalar, round_up};
+use std::alloc::Global;
+
+/// The next variable, the next offset in the frame in bytes, and how many parameters are still to come.
+#[derive(Clone, Copy)]
+pub struct Room {
+    pub variable: u32,
+    pub offset: u32,
+    pub parameters: usize,
+}
+
+/// Settles where parameters and local objects are kept, of which the first so many are parameters, and leaves the parameters
+/// alone in their table.
+pub fn settle_locals(
+    alloc: Global,
+    checker: &mut Checker,
+    parameters: usize,
+) -> Result<(), CheckError>
+    ensures { Leaves checker.new result (settled_locals parameters (tables checker.old)) }
+{
+    let storages = storages_of(alloc, checker, parameters)?;
+    checker.cut_locals(parameters);
+    checker.set_storages(storages);
+    Ok(())
+}
+
+/// Where each parameter and local object is kept. Variable 0 holds what the function returns, the next ones its parameters.
+fn storages_of(
+    alloc: Global,
+    checker: &Checker,
+    parameters: usize,
+) -> Result<Vec<Storage>, CheckError>
+    ensures { Gives (λ v. v.items) result
+        (Ok (kept_from (tables checker.now) 1 0 parameters (tables checker.now).locals)) }
+{
+    let mut storages = Vec::new(alloc);
+    let mut room = Room {
+        variable: 1,
+        offset: 0,
+        parameters,
+    };
+    for local in checker.locals() {
+        let (storage, next) = keep(checker, room, *local)?;
+        storages.push(storage)?;
+        room = next;
+    }
+    Ok(storages)
+}
+
+/// Where a parameter or local object is kept, and the room behind it.
+fn keep(checker: &Checker, room: Room, local: Local) -> Result<(Storage, Room), CheckError>
+    ensures { (xs : List PlainLocal)
+        → Gives (λ r. r.0 ∷ kept_in (tables checker.now) r.1 xs) result
+        (Ok (kept_in (tables checker.now) room (local ∷ xs))) }
+{
+    let parameters = room.parameters.saturating_sub(1);
+    if is_in_variable(checker, local) {
+        let Some(variable) = room.variable.checked_add(1) else {
+            return Err(CheckError::Memory);
+        };
+        let offset = room.offset;
+        let next = Room {
+            variable,
+            offset,
+            parameters,
+        };
+        return Ok((Storage::Variable(room.variable), next));
+    }
+    let layout = checker.layout_at(local.type_id);
+    let start = round_up(room.offset, layout.align);
+    let Some(offset) = start.checked_add(layout.size) else {
+        return Err(CheckError::Memory);
+    };
+    let variable = variable_behind(room)?;
+    let next = Room {
+        variable,
+        offset,
+        parameters,
+    };
+    Ok((Storage::Frame(start), next))
+}
+
+/// Whether a parameter or local object is kept in a variable: a scalar whose address isn't taken.
+fn is_in_variable(checker: &Checker, local: Local) -> bool
+    ensures { result ≡ in_variable (tables checker.now) local }
+{
+    is_scalar(checker.shape_of(local.type_id)) && !local.taken
+}
+
+/// The next variable behind what is in the frame: a parameter takes one all the same.
+fn variable_behind(room: Room) -> Result<u32, CheckError>
+    ensures { Gives (λ v. v) result
+        (Ok (if nat_eq room.parameters 0 then room.variable else suc room.variable)) }
+{
+    if room.parameters == 0 {
+        return Ok(room.variable);
+    }
+    match room.variable.checked_add(1) {
+        Some(variable) => Ok(variable),
+        None => Err(CheckError::Memory),
+    }
+}

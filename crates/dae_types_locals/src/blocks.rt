@@ -1,0 +1,195 @@
+// The declarations of a block: names of types, and local objects with the statements that begin them (C90 6.5 and 6.6.2).
+
+ghost use Rattle.std.specs.Prelude.{◌≡◌, false, true};
+ghost use Rattle.dae_tree.specs.Names.{has_typedef, is_typedef_specifier, is_typedef_word};
+ghost use Rattle.dae_tree.specs.Views.{view_specifier, views_specifiers};
+ghost use Rattle.dae_tree.specs.FileViews.{view_declaration, view_declarations, view_item, view_items};
+ghost use Rattle.dae_program.specs.Trees.{Done};
+ghost use Rattle.dae_types_file_plans.specs.Statements.{is_alone, plan_declaration, plan_declarations, plan_item_at, plan_items};
+ghost use Rattle.dae_types_tables.specs.Seen.{Follows};
+ghost use Rattle.dae_types_bodies.specs.Written.{GivesStatements, as_statements};
+ghost use Rattle.dae_types_locals.specs.Plans.{plan_declared};
+
+use crate::locals::begin;
+use dae_base::Place;
+use dae_types_bodies::append;
+use dae_types_kinds::{CheckError, Context};
+use dae_types_linkage::{declare_local, declare_type};
+use dae_program::Statement;
+use dae_types_sites::base_type;
+use dae_types_tables::Checker;
+use dae_tree::{Declaration, Item, Keyword, Seen, Specifier};
+use dae_types_walk::{declarator, declared_place, place_of_specifiers, specifiers};
+use std::alloc::Global;
+
+/// Whether a word is `typedef`.
+fn is_typedef_word(word: Keyword) -> bool
+    ensures { result ≡ is_typedef_word word }
+{
+    match word {
+        Keyword::Typedef => true,
+        _ => false,
+    }
+}
+
+/// Whether a specifier is `typedef`.
+#[tactic(auto, using(dae_tree::proofs::Laws::view_structure_body, dae_tree::proofs::Laws::view_enumeration_body))]
+fn is_typedef(specifier: &Specifier) -> bool
+    ensures { result ≡ is_typedef_specifier (view_specifier specifier.now) }
+{
+    match specifier {
+        Specifier::Word(_, word) => is_typedef_word(*word),
+        Specifier::TypeName(_) => false,
+        Specifier::Structure(_, _) => false,
+        Specifier::StructureBody(_, _, _, _) => false,
+        Specifier::Enumeration(_, _) => false,
+        Specifier::EnumerationBody(_, _, _, _, _) => false,
+    }
+}
+
+/// Whether `typedef` is among specifiers.
+pub fn has_typedef(list: &[Specifier]) -> bool
+    ensures { result ≡ has_typedef (views_specifiers list.now) }
+{
+    for specifier in list {
+        if is_typedef(specifier) {
+            return true;
+        }
+    }
+    false
+}
+
+/// Gives a type a name, which stands at this place.
+fn name_type(
+    alloc: Global,
+    checker: &mut Checker,
+    place: Place,
+    base: usize,
+    item: &Item,
+) -> Result<Vec<Statement>, CheckError>
+    ensures { GivesStatements checker.new result
+        (plan_item_at true place base (view_item item.now)) checker.old }
+{
+    let declared = declarator(alloc, checker, place, false, base, &item.declarator)?;
+    let given = item.initialiser.is_some();
+    declare_type(
+        checker,
+        place,
+        true,
+        given,
+        item.declarator.name(),
+        declared,
+    )?;
+    Ok(Vec::new(alloc))
+}
+
+/// Declares a local object, whose name stands at this place, and begins it.
+fn declare(
+    alloc: Global,
+    checker: &mut Checker,
+    place: Place,
+    base: usize,
+    item: &Item,
+) -> Result<Vec<Statement>, CheckError>
+    ensures { GivesStatements checker.new result
+        (plan_item_at false place base (view_item item.now)) checker.old }
+{
+    let declared = declarator(alloc, checker, place, false, base, &item.declarator)?;
+    let given = item.initialiser.is_some();
+    let number = declare_local(checker, place, given, item.declarator.name(), declared)?;
+    begin(alloc, checker, place, &item.initialiser, number)
+}
+
+/// Declares one name over a type.
+fn declare_item(
+    alloc: Global,
+    checker: &mut Checker,
+    is_typedef: bool,
+    place: Place,
+    base: usize,
+    item: &Item,
+) -> Result<Vec<Statement>, CheckError>
+    ensures { GivesStatements checker.new result
+        (plan_item_at is_typedef place base (view_item item.now)) checker.old }
+{
+    if is_typedef {
+        name_type(alloc, checker, place, base, item)
+    } else {
+        declare(alloc, checker, place, base, item)
+    }
+}
+
+/// Declares names over a type, behind statements that are done.
+fn declare_items(
+    alloc: Global,
+    checker: &mut Checker,
+    place: Place,
+    is_typedef: bool,
+    base: usize,
+    mut done: Vec<Statement>,
+    list: &[Item],
+) -> Result<Vec<Statement>, CheckError>
+    ensures { GivesStatements checker.new result
+        (plan_items place is_typedef base (as_statements done) (view_items list.now)) checker.old }
+{
+    for one in list {
+        let at = declared_place(&one.declarator, place);
+        let statements = declare_item(alloc, checker, is_typedef, at, base, one)?;
+        done = append(done, statements)?;
+    }
+    Ok(done)
+}
+
+/// Whether specifiers stand alone: they declare no name.
+#[tactic(auto, using(crate::proofs::Lists::alone_where_empty))]
+fn is_alone(list: &[Item]) -> bool
+    ensures { result ≡ is_alone (view_items list.now) }
+{
+    list.is_empty()
+}
+
+/// The type that the specifiers of a declaration name. The flag says that they stand alone.
+fn base(
+    alloc: Global,
+    checker: &mut Checker,
+    alone: bool,
+    list: &[Specifier],
+) -> Result<usize, CheckError>
+    ensures { Follows checker.new result (plan_declared alone list.now) checker.old }
+{
+    let named = specifiers(alloc, checker, Context::Block, alone, list)?;
+    Ok(base_type(Seen::of_specifiers(list), named))
+}
+
+/// Goes through a declaration of a block, behind statements that are done.
+fn declaration(
+    alloc: Global,
+    checker: &mut Checker,
+    done: Vec<Statement>,
+    one: &Declaration,
+) -> Result<Vec<Statement>, CheckError>
+    ensures { GivesStatements checker.new result
+        (plan_declaration (as_statements done) (view_declaration one.now)) checker.old }
+{
+    let base = base(alloc, checker, is_alone(&one.items), &one.specifiers)?;
+    let place = place_of_specifiers(&one.specifiers, one.end);
+    let is_typedef = has_typedef(&one.specifiers);
+    declare_items(alloc, checker, place, is_typedef, base, done, &one.items)
+}
+
+/// Goes through the declarations of a block, in their order: gives the statements that begin its objects. An error is a rule
+/// that is broken, or want of memory.
+pub fn declarations(
+    alloc: Global,
+    checker: &mut Checker,
+    list: &[Declaration],
+) -> Result<Vec<Statement>, CheckError>
+    ensures { GivesStatements checker.new result
+        (plan_declarations Done (view_declarations list.now)) checker.old }
+{
+    let mut done = Vec::new(alloc);
+    for one in list {
+        done = declaration(alloc, checker, done, one)?;
+    }
+    Ok(done)
+}

@@ -1,0 +1,187 @@
+// Initialisers of objects that are filled with constants (C90 6.5.7).
+
+ghost use Rattle.std.specs.Prelude.{[], ◌∷◌, Ok};
+ghost use Rattle.dae_tree.specs.Trees.{Value};
+ghost use Rattle.dae_tree.specs.Views.{view};
+ghost use Rattle.dae_tree.specs.FileViews.{view_initialiser, views_initialisers};
+ghost use Rattle.dae_types_rules.specs.Plan.{Gives};
+ghost use Rattle.dae_types_file_plans.specs.Initialisers.{Once, empty_filling, plan_content, plan_initialiser, plan_initialisers, whole_by};
+ghost use Rattle.dae_types_tables.specs.Seen.{Follows, FollowsBy};
+ghost use Rattle.dae_types_fills.specs.Fillings.{view_content, view_filling};
+ghost use Rattle.dae_types_locals.specs.Plans.{looked_through, plan_list, plan_whole};
+
+use dae_base::Place;
+use dae_types_fills::{
+    Content, Filling, Rest, close_list, fill_item, finish_content, is_value_for, land, literal_in,
+    open_list, refuse_value,
+};
+use dae_types_kinds::CheckError;
+use dae_types_tables::Checker;
+use dae_tree::{Expression, Initialiser};
+use dae_types_walk::operand;
+use std::alloc::Global;
+
+/// Goes through an initialiser of what is still to be filled.
+#[cycle(fill)]
+fn fill(
+    alloc: Global,
+    checker: &mut Checker,
+    filling: Filling,
+    one: &Initialiser,
+) -> Result<Filling, CheckError>
+    ensures { FollowsBy view_filling checker.new result
+        (plan_initialiser (view_filling filling) (view_initialiser one.now)) checker.old }
+{
+    match one {
+        Initialiser::Value(e) => fill_value(alloc, checker, filling, e),
+        Initialiser::List(place, inner, _) => fill_list(alloc, checker, *place, filling, inner),
+    }
+}
+
+/// Goes through a list in braces, which fills the next object alone.
+#[cycle(fill)]
+fn fill_list(
+    alloc: Global,
+    checker: &mut Checker,
+    place: Place,
+    filling: Filling,
+    inner: &[Initialiser],
+) -> Result<Filling, CheckError>
+    ensures { FollowsBy view_filling checker.new result
+        (plan_list place (view_filling filling) (views_initialisers inner.now)) checker.old }
+{
+    let over = filling.over;
+    let opening = open_list(alloc, checker, place, filling, inner)?;
+    let behind = opening.behind;
+    let inside = fill_all(alloc, checker, opening.inside, inner)?;
+    Ok(close_list(over, behind, inside))
+}
+
+/// Goes through initialisers in their order.
+#[cycle(fill)]
+fn fill_all(
+    alloc: Global,
+    checker: &mut Checker,
+    mut filling: Filling,
+    all: &[Initialiser],
+) -> Result<Filling, CheckError>
+    ensures { FollowsBy view_filling checker.new result
+        (plan_initialisers (view_filling filling) (views_initialisers all.now)) checker.old }
+{
+    for one in all {
+        filling = fill(alloc, checker, filling, one)?;
+    }
+    Ok(filling)
+}
+
+/// Goes through an expression as an item: its value says where it lands.
+fn fill_value(
+    alloc: Global,
+    checker: &mut Checker,
+    filling: Filling,
+    e: &Expression,
+) -> Result<Filling, CheckError>
+    ensures { FollowsBy view_filling checker.new result
+        (plan_initialiser (view_filling filling) (Value (view e.now))) checker.old }
+{
+    let x = operand(alloc, checker, e)?;
+    let landing = land(alloc, checker, e.place(), literal_in(e), filling, &x)?;
+    fill_item(checker, e.place(), literal_in(e), &x, landing)
+}
+
+/// Nothing of an object of a type, which stands at an offset, is filled yet.
+fn begin_object(alloc: Global, offset: u32, type_id: usize) -> Result<Filling, CheckError>
+    ensures { Gives view_filling result (Ok (empty_filling (Once offset type_id ∷ []))) }
+{
+    let mut rest = Vec::new(alloc);
+    rest.push(Rest::Once(offset, type_id))?;
+    Ok(Filling {
+        rest,
+        items: Vec::new(alloc),
+        count: 0,
+        over: false,
+    })
+}
+
+/// Goes through an expression as the initialiser of an object of a type at an offset. The flag says that it is a value for a whole
+/// aggregate, which it can't be.
+fn fill_by_value(
+    alloc: Global,
+    checker: &mut Checker,
+    offset: u32,
+    type_id: usize,
+    whole: bool,
+    e: &Expression,
+) -> Result<Filling, CheckError>
+    ensures { FollowsBy view_filling checker.new result
+        (whole_by offset type_id (Value (view e.now)) whole) checker.old }
+{
+    if whole {
+        let x = operand(alloc, checker, e)?;
+        refuse_value(checker, e.place(), type_id, &x)
+    } else {
+        let filling = begin_object(alloc, offset, type_id)?;
+        fill_value(alloc, checker, filling, e)
+    }
+}
+
+/// Goes through the whole initialiser of an object of a type at an offset.
+fn fill_whole(
+    alloc: Global,
+    checker: &mut Checker,
+    offset: u32,
+    type_id: usize,
+    one: &Initialiser,
+) -> Result<Filling, CheckError>
+    ensures { FollowsBy view_filling checker.new result
+        (plan_whole offset type_id (view_initialiser one.now)) checker.old }
+{
+    match one {
+        Initialiser::Value(e) => {
+            let whole = is_value_for(checker, type_id, one);
+            fill_by_value(alloc, checker, offset, type_id, whole, e)
+        }
+        Initialiser::List(place, inner, _) => {
+            let filling = begin_object(alloc, offset, type_id)?;
+            fill_list(alloc, checker, *place, filling, inner)
+        }
+    }
+}
+
+/// What an object of a type, which is declared at this place, holds by its initialiser: constants, at offsets in bytes from where
+/// the object stands, which is at this offset, and the type with the size that an array of unknown size gets. An error is a rule
+/// that is broken, or want of memory.
+pub fn content(
+    alloc: Global,
+    checker: &mut Checker,
+    place: Place,
+    offset: u32,
+    type_id: usize,
+    initialiser: &Initialiser,
+) -> Result<Content, CheckError>
+    ensures { FollowsBy view_content checker.new result
+        (plan_content place offset type_id (view_initialiser initialiser.now)) checker.old }
+{
+    let filling = fill_whole(alloc, checker, offset, type_id, initialiser)?;
+    finish_content(checker, place, type_id, filling)
+}
+
+/// Looks through the initialiser of what is no object: what it names must be declared. An error is a rule that is broken, or want
+/// of memory.
+pub fn look_through(
+    alloc: Global,
+    checker: &mut Checker,
+    initialiser: &Initialiser,
+) -> Result<(), CheckError>
+    ensures { Follows checker.new result
+        (looked_through (view_initialiser initialiser.now)) checker.old }
+{
+    let nothing = Filling {
+        rest: Vec::new(alloc),
+        items: Vec::new(alloc),
+        count: 0,
+        over: true,
+    };
+    fill(alloc, checker, nothing, initialiser)?;
+    Ok(())
+}

@@ -1,0 +1,250 @@
+// Operators before and behind their operand (C90 6.3.2.4 and 6.3.3).
+
+ghost use Rattle.std.specs.Prelude.{◌≡◌};
+ghost use Rattle.dae_types_kinds.specs.Values.{addressed, complemented, inverted, negated, step_size, stepped};
+ghost use Rattle.dae_types_rules.specs.Plan.{pure};
+ghost use Rattle.dae_types_plans.specs.Steps.{address_at, marked_name, postfix_at, prefix_at, star_at, step_at};
+ghost use Rattle.dae_types_tables.specs.Seen.{tables};
+ghost use Rattle.dae_types_folding.specs.Views.{MakesValue, view_value};
+ghost use Rattle.dae_types_values.specs.Results.{GivesValue, one};
+
+use crate::objects::is_object;
+use crate::operands::lacks_size;
+use dae_base::Place;
+use dae_types_folding::{
+    Deed, INT, Value, based, known_not, load_kind, operated, pointee, promoted, target_of,
+};
+use dae_types_kinds::{Category, CheckError, Entity, Local, Rule, Shape};
+use dae_meaning::Operator;
+use dae_program::Expression;
+use dae_types_tables::{Checker, broken, is_array, is_scalar, is_void};
+use dae_tree::{Name, PostfixOperator, PrefixOperator};
+use dae_types_values::{integer, scalar, value};
+use std::alloc::Global;
+
+/// Notes that the address of a local object is taken, where a name stands for one.
+fn mark(checker: &mut Checker, name: Option<Name>)
+    ensures { tables checker.new ≡ marked_name name (tables checker.old) }
+{
+    let Some(name) = name else {
+        return;
+    };
+    let Some(Entity::Local(number)) = checker.found_name(name.number) else {
+        return;
+    };
+    if let Some(local) = checker.local(number) {
+        checker.set_local(
+            number,
+            Local {
+                type_id: local.type_id,
+                taken: true,
+                begins_zero: local.begins_zero,
+            },
+        );
+    }
+}
+
+/// `&` before an operand that is this name, perhaps.
+#[tactic(auto, unfolding(dae_types_rules::specs::Plan::ask_all))]
+fn address(
+    checker: &mut Checker,
+    place: Place,
+    name: Option<Name>,
+    x: Value,
+) -> Result<Value, CheckError>
+    ensures { GivesValue checker.new result (address_at place name (one x)) checker.old }
+{
+    if !is_object(x.category) {
+        return Err(broken(Rule::NotLvalue, place));
+    }
+    mark(checker, name);
+    let type_id = checker.make(Shape::Pointer(x.type_id))?;
+    Ok(Value {
+        tree: x.tree,
+        type_id,
+        category: Category::Plain,
+        known: x.known,
+    })
+}
+
+/// `*` before a value.
+#[tactic(auto, unfolding(dae_types_rules::specs::Plan::ask_all))]
+fn dereference(checker: &Checker, place: Place, x: Value) -> Result<Value, CheckError>
+    ensures { GivesValue checker.now result (star_at place (one x)) checker.now }
+{
+    let Shape::Pointer(to) = checker.shape_of(x.type_id) else {
+        return Err(broken(Rule::BadDeref, place));
+    };
+    if is_void(checker.shape_of(to)) {
+        return Err(broken(Rule::BadDeref, place));
+    }
+    Ok(Value {
+        tree: x.tree,
+        type_id: to,
+        category: Category::At(true),
+        known: based(x.known),
+    })
+}
+
+/// How far a step goes: the size of what a pointer points to, or 1.
+fn step_size(checker: &Checker, shape: Shape) -> u32
+    ensures { result ≡ step_size (tables checker.now) shape }
+{
+    match shape {
+        Shape::Pointer(to) => checker.layout_at(to).size,
+        _ => 1,
+    }
+}
+
+/// What a step of an object gives: its new value or the one before.
+fn stepped(
+    alloc: Global,
+    checker: &Checker,
+    place: Place,
+    down: bool,
+    new: bool,
+    x: Value,
+) -> Result<Value, CheckError>
+    ensures { MakesValue result (stepped place (tables checker.now) down new (view_value x)) }
+{
+    let type_id = x.type_id;
+    let shape = checker.shape_of(type_id);
+    let size = step_size(checker, shape);
+    let change = if down { 0u32.wrapping_sub(size) } else { size };
+    let target = target_of(alloc, x)?;
+    let tree = Expression::Step(place, load_kind(shape), target, change, new);
+    Ok(Value::plain(tree, type_id))
+}
+
+/// `++` or `--`, before or behind an object.
+#[tactic(auto, unfolding(dae_types_rules::specs::Plan::ask_all))]
+fn step(
+    alloc: Global,
+    checker: &Checker,
+    place: Place,
+    down: bool,
+    new: bool,
+    x: Value,
+) -> Result<Value, CheckError>
+    ensures { GivesValue checker.now result (step_at place down new (one x)) checker.now }
+{
+    let shape = checker.shape_of(x.type_id);
+    if !is_object(x.category) {
+        return Err(broken(Rule::NotLvalue, place));
+    }
+    if is_array(shape) {
+        return Err(broken(Rule::NotModifiable, place));
+    }
+    if !is_scalar(shape) {
+        return Err(broken(Rule::NotScalar, place));
+    }
+    if lacks_size(checker, pointee(shape)) {
+        return Err(broken(Rule::Incomplete, place));
+    }
+    stepped(alloc, checker, place, down, new, x)
+}
+
+/// A minus sign, which takes a value from 0.
+fn negated(alloc: Global, place: Place, x: Value, type_id: usize) -> Result<Value, CheckError>
+    ensures { MakesValue result (negated place (view_value x) type_id) }
+{
+    let zero = Value::number(0, INT);
+    operated(
+        alloc,
+        place,
+        Deed::Operates(Operator::Subtract),
+        type_id,
+        zero,
+        x,
+    )
+}
+
+/// `~`, which differs from the value in each bit.
+fn complemented(alloc: Global, place: Place, x: Value, type_id: usize) -> Result<Value, CheckError>
+    ensures { MakesValue result (complemented place (view_value x) type_id) }
+{
+    let ones = Value::number(u32::MAX, INT);
+    operated(
+        alloc,
+        place,
+        Deed::Operates(Operator::Xor),
+        type_id,
+        x,
+        ones,
+    )
+}
+
+/// `!`
+fn inverted(alloc: Global, place: Place, x: Value) -> Result<Value, CheckError>
+    ensures { MakesValue result (inverted place (view_value x)) }
+{
+    let known = known_not(x.known);
+    let tree = Expression::Not(place, Box::new(alloc, x.tree)?);
+    Ok(Value::of_known(tree, INT, known))
+}
+
+/// An operator before its operand, which has a place of its own and is this name, perhaps.
+pub fn prefix(
+    alloc: Global,
+    checker: &mut Checker,
+    place: Place,
+    operand: Place,
+    operator: PrefixOperator,
+    name: Option<Name>,
+    x: Value,
+) -> Result<Value, CheckError>
+    ensures { GivesValue checker.new result
+        (prefix_at place operand operator name (one x)) checker.old }
+{
+    match operator {
+        PrefixOperator::Increment => step(alloc, checker, place, false, true, x),
+        PrefixOperator::Decrement => step(alloc, checker, place, true, true, x),
+        PrefixOperator::Address => address(checker, place, name, x),
+        PrefixOperator::Indirection => {
+            let x = value(alloc, checker, operand, x)?;
+            dereference(checker, place, x)
+        }
+        PrefixOperator::Plus => {
+            let x = value(alloc, checker, operand, x)?;
+            let x = scalar(checker, place, x)?;
+            let x = integer(checker, place, x)?;
+            let type_id = promoted(checker.shape_of(x.type_id));
+            Ok(Value::of_known(x.tree, type_id, x.known))
+        }
+        PrefixOperator::Minus => {
+            let x = value(alloc, checker, operand, x)?;
+            let x = scalar(checker, place, x)?;
+            let x = integer(checker, place, x)?;
+            let type_id = promoted(checker.shape_of(x.type_id));
+            negated(alloc, place, x, type_id)
+        }
+        PrefixOperator::Complement => {
+            let x = value(alloc, checker, operand, x)?;
+            let x = scalar(checker, place, x)?;
+            let x = integer(checker, place, x)?;
+            let type_id = promoted(checker.shape_of(x.type_id));
+            complemented(alloc, place, x, type_id)
+        }
+        PrefixOperator::Not => {
+            let x = value(alloc, checker, operand, x)?;
+            let x = scalar(checker, place, x)?;
+            inverted(alloc, place, x)
+        }
+    }
+}
+
+/// An operator behind its operand.
+pub fn postfix(
+    alloc: Global,
+    checker: &Checker,
+    place: Place,
+    operator: PostfixOperator,
+    x: Value,
+) -> Result<Value, CheckError>
+    ensures { GivesValue checker.now result (postfix_at place operator (one x)) checker.now }
+{
+    match operator {
+        PostfixOperator::Increment => step(alloc, checker, place, false, false, x),
+        PostfixOperator::Decrement => step(alloc, checker, place, true, false, x),
+    }
+}

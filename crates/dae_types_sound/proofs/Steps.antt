@@ -1,0 +1,192 @@
+-- Steps of loops over statements, flags and parameters.
+use Rattle.std.proofs.Common.{◌≡◌, ℕ, zero, suc, ◌+◌, ◌-◌, ◌<◌, ◌≤◌, Bool, true, false, ◌&&◌, List, [], ◌∷◌, ◌++◌, length, drop, get_or, Option, Some, None, refl, ap, sym, ◌∙◌, arith}
+use Rattle.std.proofs.lemmas.List.{drop_all}
+use Rattle.std.specs.Prelude.{nat_eq, nat_lt, nat_le, Vec}
+use Rattle.std.proofs.lemmas.Bool.Decides.{nat_tests}
+use Rattle.dae_types_kinds.specs.declared.tables.Routine.{Routine}
+use Rattle.dae_types_typed.specs.declared.files.FileParts.{FileParts}
+use Rattle.dae_types_typed.specs.declared.files.TypedFunction.{TypedFunction}
+use Rattle.dae_types_typed.specs.Sound.{routines_in}
+use Rattle.dae_types_sound.specs.Declarations.{same_numbers}
+use Rattle.dae_types_kinds.specs.declared.types.Shape.{Shape}
+use Rattle.dae_types_kinds.specs.declared.types.Shape.TheVariants as shape
+use Rattle.dae_types_kinds.specs.Tables.{Tables}
+use Rattle.dae_types_kinds.specs.Types.{shape_of}
+use Rattle.dae_types_plans.specs.Steps.{parameters_from}
+use Rattle.dae_types_sound.specs.Names.{shorter, used_count, used_counts}
+use Rattle.std.specs.List.{list_all}
+use Rattle.std.specs.declared.alloc.Global.{Global}
+use Rattle.dae_base.proofs.Laws.{drop_at}
+use Rattle.dae_base.specs.declared.Place.{Place}
+use Rattle.dae_program.specs.declared.expressions.Expression.{Expression}
+use Rattle.dae_program.specs.declared.statements.Arm.{Arm}
+use Rattle.dae_program.specs.declared.statements.Statement.{Statement}
+use Rattle.dae_program.specs.declared.statements.Statement.TheVariants as statement
+use Rattle.dae_program.specs.Lawful.{is_byte, is_word, is_label_word}
+use Rattle.dae_program.specs.Switches.{count_arms}
+use Rattle.dae_program.specs.Trees as tree
+use Rattle.dae_program.specs.Views.{row_then, statement_then, view, view_arms, view_expressions, view_settings, view_some, view_statements}
+use Rattle.dae_types_sound.specs.Arms.{arms_of}
+use Rattle.dae_types_sound.specs.declared.extents.Extent.{Extent}
+use Rattle.dae_types_sound.specs.declared.extents.FileNames.{FileNames}
+use Rattle.dae_types_sound.specs.declared.extents.Jumps.{Jumps}
+use Rattle.dae_types_sound.specs.Fit.{is_fit, is_fit_some, is_fit_item, is_fit_aggregate, are_fit, are_fit_statements, are_fit_arms, loop_jumps, switch_jumps}
+use Rattle.dae_types_sound.specs.Reads.{Flagged, ◌⊳⊳◌, aside, both_ways, meet, flags_from, first_flags, reading, reading_some, reading_statements, reading_arms}
+use Rattle.dae_types_sound.proofs.Views.{view_if, view_loop, view_do, view_switch, and_true}
+
+-- ---- statements
+
+and_tail : (a c : Bool) → (a && c) ≡ ((a && true) && c)
+and_tail a c = ap (λ b. b && c) (sym (and_true a))
+
+fit_first : (n : FileNames) (x : Extent) (j : Jumps) (s : Statement) (k : tree.Statements) → are_fit_statements n x j (statement_then s k) ≡ (are_fit_statements n x j (statement_then s tree.Done) && are_fit_statements n x j k)
+fit_first n x j (statement.Evaluate p e) k = and_tail (is_fit n x (view e)) (are_fit_statements n x j k)
+fit_first n x j (statement.Initialise p offset size items) k = and_tail (is_fit_aggregate x offset size && list_all (is_fit_item n x) (view_settings items.items)) (are_fit_statements n x j k)
+fit_first n x j (statement.Print p xs pieces) k = and_tail (are_fit n x (view_expressions xs.items) && list_all is_byte pieces.items) (are_fit_statements n x j k)
+fit_first n x j (statement.If' p e b s c t) k = and_tail (is_fit n x (view e) && (are_fit_statements n x j (row_then s tree.Done) && are_fit_statements n x j (row_then t tree.Done))) (are_fit_statements n x j k)
+fit_first n x j (statement.Loop' p test b body step) k = and_tail (is_fit_some n x (view_some test) && (are_fit_statements n x (loop_jumps j) (row_then body tree.Done) && is_fit_some n x (view_some step))) (are_fit_statements n x j k)
+fit_first n x j (statement.Do' p b body test) k = and_tail (are_fit_statements n x (loop_jumps j) (row_then body tree.Done) && is_fit n x (view test)) (are_fit_statements n x j k)
+fit_first n x j (statement.Switch' p e b arms) k = and_tail ((is_fit n x (view e) && is_word (count_arms (view_arms arms))) && are_fit_arms n x (switch_jumps j) (view_arms arms)) (are_fit_statements n x j k)
+fit_first n x j (statement.Break p) k = and_tail (j.breaks) (are_fit_statements n x j k)
+fit_first n x j (statement.Continue p) k = and_tail (j.continues) (are_fit_statements n x j k)
+fit_first n x j (statement.Return p e) k = and_tail (j.returns && is_fit_some n x (view_some e)) (are_fit_statements n x j k)
+
+statements_at : (xs : List Statement) (i : ℕ) (x : Statement) → i < length xs → x ≡ get_or xs i x → view_statements (drop i xs) ≡ statement_then x (view_statements (drop (i + 1) xs))
+statements_at xs i x lt is = ap view_statements (drop_at xs i x lt is)
+
+arms_at : (xs : List Arm) (i : ℕ) (x : Arm) → i < length xs → x ≡ get_or xs i x → arms_of (drop i xs) ≡ tree.arm_then x.labels.items (view_statements x.statements.items) (arms_of (drop (i + 1) xs))
+arms_at xs i x lt is = ap arms_of (drop_at xs i x lt is)
+
+pub statement_fit : (n : FileNames) (x : Extent) (j : Jumps) (xs : List Statement) (i : ℕ) (s : Statement) (b : Bool) → i < length xs → s ≡ get_or xs i s → are_fit_statements n x j (view_statements (drop i xs)) ≡ are_fit_statements n x j (view_statements xs) → b ≡ are_fit_statements n x j (statement_then s tree.Done) → (b && are_fit_statements n x j (view_statements (drop (i + 1) xs))) ≡ are_fit_statements n x j (view_statements xs)
+statement_fit n x j xs i s b lt is h e =
+    ap (λ c. c && are_fit_statements n x j (view_statements (drop (i + 1) xs))) e ∙ sym (fit_first n x j s (view_statements (drop (i + 1) xs))) ∙ sym (ap (are_fit_statements n x j) (statements_at xs i s lt is)) ∙ h
+
+pub arm_fit : (n : FileNames) (x : Extent) (j : Jumps) (xs : List Arm) (i : ℕ) (arm : Arm) (t u : Bool) → i < length xs → arm ≡ get_or xs i arm → are_fit_arms n x j (arms_of (drop i xs)) ≡ are_fit_arms n x j (arms_of xs) → t ≡ list_all is_label_word arm.labels.items → u ≡ are_fit_statements n x j (view_statements arm.statements.items) → ((t && (u && true)) && are_fit_arms n x j (arms_of (drop (i + 1) xs))) ≡ are_fit_arms n x j (arms_of xs)
+arm_fit n x j xs i arm t u lt is h e g =
+    ap (λ c. (t && c) && are_fit_arms n x j (arms_of (drop (i + 1) xs))) (and_true u ∙ g) ∙ ap (λ c. (c && are_fit_statements n x j (view_statements arm.statements.items)) && are_fit_arms n x j (arms_of (drop (i + 1) xs))) e
+    ∙ sym (ap (are_fit_arms n x j) (arms_at xs i arm lt is)) ∙ h
+
+pub if_fit : (n : FileNames) (x : Extent) (j : Jumps) (p : Place) (a : Expression) (s t : Vec Statement Global) (u v w : Bool) → u ≡ is_fit n x (view a) → v ≡ are_fit_statements n x j (view_statements s.items) → w ≡ are_fit_statements n x j (view_statements t.items) → (u && (v && w)) ≡ are_fit_statements n x j (statement_then (statement.If p a s t) tree.Done)
+if_fit n x j p a s t u v w d e f =
+    ap (λ z. z && (v && w)) d ∙ ap (λ z. is_fit n x (view a) && (z && w)) e ∙ ap (λ z. is_fit n x (view a) && (are_fit_statements n x j (view_statements s.items) && z)) f
+    ∙ sym (and_true (is_fit n x (view a) && (are_fit_statements n x j (view_statements s.items) && are_fit_statements n x j (view_statements t.items)))) ∙ sym (ap (are_fit_statements n x j) (view_if p a s t tree.Done))
+
+pub loop_fit : (n : FileNames) (x : Extent) (j : Jumps) (p : Place) (test : Option Expression) (s : Vec Statement Global) (step : Option Expression) (u v w : Bool) → u ≡ is_fit_some n x (view_some test) → v ≡ are_fit_statements n x (loop_jumps j) (view_statements s.items) → w ≡ is_fit_some n x (view_some step) → (u && (v && w)) ≡ are_fit_statements n x j (statement_then (statement.Loop p test s step) tree.Done)
+loop_fit n x j p test s step u v w d e f =
+    ap (λ z. z && (v && w)) d ∙ ap (λ z. is_fit_some n x (view_some test) && (z && w)) e ∙ ap (λ z. is_fit_some n x (view_some test) && (are_fit_statements n x (loop_jumps j) (view_statements s.items) && z)) f
+    ∙ sym (and_true (is_fit_some n x (view_some test) && (are_fit_statements n x (loop_jumps j) (view_statements s.items) && is_fit_some n x (view_some step)))) ∙ sym (ap (are_fit_statements n x j) (view_loop p test s step tree.Done))
+
+pub do_fit : (n : FileNames) (x : Extent) (j : Jumps) (p : Place) (s : Vec Statement Global) (test : Expression) (u v : Bool) → u ≡ are_fit_statements n x (loop_jumps j) (view_statements s.items) → v ≡ is_fit n x (view test) → (u && (v && true)) ≡ are_fit_statements n x j (statement_then (statement.Do p s test) tree.Done)
+do_fit n x j p s test u v d e =
+    ap (λ z. u && z) (and_true v ∙ e) ∙ ap (λ z. z && is_fit n x (view test)) d
+    ∙ sym (and_true (are_fit_statements n x (loop_jumps j) (view_statements s.items) && is_fit n x (view test))) ∙ sym (ap (are_fit_statements n x j) (view_do p s test tree.Done))
+
+regroup : (u v w : Bool) → (u && (v && w)) ≡ ((u && v) && w)
+regroup true v w = refl
+regroup false v w = refl
+
+pub switch_fit : (n : FileNames) (x : Extent) (j : Jumps) (p : Place) (a : Expression) (arms : Vec Arm Global) (u v w : Bool) → u ≡ is_fit n x (view a) → v ≡ is_word (count_arms (arms_of arms.items)) → w ≡ are_fit_arms n x (switch_jumps j) (arms_of arms.items) → (u && (v && w)) ≡ are_fit_statements n x j (statement_then (statement.Switch p a arms) tree.Done)
+switch_fit n x j p a arms u v w d e f =
+    regroup u v w ∙ ap (λ z. (z && v) && w) d ∙ ap (λ z. (is_fit n x (view a) && z) && w) e ∙ ap (λ z. (is_fit n x (view a) && is_word (count_arms (arms_of arms.items))) && z) f
+    ∙ sym (and_true ((is_fit n x (view a) && is_word (count_arms (arms_of arms.items))) && are_fit_arms n x (switch_jumps j) (arms_of arms.items))) ∙ sym (ap (are_fit_statements n x j) (view_switch p a arms tree.Done))
+
+-- ---- flags
+
+meet_none : (xs : List Bool) → meet xs [] ≡ []
+meet_none [] = refl
+meet_none (x ∷ xs) = refl
+
+nothing_behind : (xs : List Bool) → xs ≡ xs ++ []
+nothing_behind [] = refl
+nothing_behind (x ∷ xs) = ap (λ k. x ∷ k) (nothing_behind xs)
+
+pub meet_ends : (one other both : List Bool) (i : ℕ) → length other ≤ i → both ++ meet (drop i one) (drop i other) ≡ meet one other → both ≡ meet one other
+meet_ends one other both i h g =
+    nothing_behind both ∙ sym (ap (λ k. both ++ k) (ap (meet (drop i one)) (drop_all i other h) ∙ meet_none (drop i one))) ∙ g
+
+behind_one : (xs : List Bool) (x : Bool) (ys : List Bool) → (xs ++ x ∷ []) ++ ys ≡ xs ++ x ∷ ys
+behind_one [] x ys = refl
+behind_one (z ∷ zs) x ys = ap (λ k. z ∷ k) (behind_one zs x ys)
+
+pub flags_more : (p v n : ℕ) (set new : List Bool) (x : Bool) → v < n → new ≡ set ++ x ∷ [] → x ≡ (nat_lt 0 v && nat_le v p) → set ++ flags_from p v (n - v) ≡ first_flags p n → new ++ flags_from p (v + 1) (n - (v + 1)) ≡ first_flags p n
+flags_more p v n set new x lt e g h =
+    let more : n - v ≡ suc (n - (v + 1)) = omega (arith, lt) in
+    let up : v + 1 ≡ suc v = omega arith in
+    ap (λ z. z ++ flags_from p (v + 1) (n - (v + 1))) e ∙ behind_one set x (flags_from p (v + 1) (n - (v + 1))) ∙ ap (λ z. set ++ z ∷ flags_from p (v + 1) (n - (v + 1))) g
+    ∙ ap (λ z. set ++ (nat_lt 0 v && nat_le v p) ∷ flags_from p z (n - (v + 1))) up ∙ sym (ap (λ z. set ++ flags_from p v z) more) ∙ h
+
+-- ---- reading
+
+pub reads_then : (r : Flagged) (e : List Bool) (k : tree.Statements) → r ≡ Some e → (r ⊳⊳ reading_statements k) ≡ reading_statements k e
+reads_then r e k h = ap (λ o. o ⊳⊳ reading_statements k) h
+
+pub reads_step : (xs : List Statement) (i : ℕ) (s : Statement) (all now new : List Bool) → i < length xs → s ≡ get_or xs i s → reading_statements (view_statements (drop i xs)) now ≡ reading_statements (view_statements xs) all → ((k : tree.Statements) → reading_statements (statement_then s k) now ≡ reading_statements k new) → reading_statements (view_statements (drop (i + 1) xs)) new ≡ reading_statements (view_statements xs) all
+reads_step xs i s all now new lt is h step = sym (step (view_statements (drop (i + 1) xs))) ∙ sym (ap (λ t. reading_statements t now) (statements_at xs i s lt is)) ∙ h
+
+pub arms_step : (xs : List Arm) (i : ℕ) (arm : Arm) (d turn : List Bool) → i < length xs → arm ≡ get_or xs i arm → reading_arms (arms_of (drop i xs)) d ≡ reading_arms (arms_of xs) d → reading_statements (view_statements arm.statements.items) d ≡ Some turn → reading_arms (arms_of (drop (i + 1) xs)) d ≡ reading_arms (arms_of xs) d
+arms_step xs i arm d turn lt is h g =
+    sym (ap (λ r. aside r d ⊳⊳ reading_arms (arms_of (drop (i + 1) xs))) g) ∙ sym (ap (λ a. reading_arms a d) (arms_at xs i arm lt is)) ∙ h
+
+pub if_reads : (p : Place) (a : Expression) (s t : Vec Statement Global) (d b y z new : List Bool) → reading (view a) d ≡ Some b → reading_statements (view_statements s.items) b ≡ Some y → reading_statements (view_statements t.items) b ≡ Some z → new ≡ meet y z → (k : tree.Statements) → reading_statements (statement_then (statement.If p a s t) k) d ≡ reading_statements k new
+if_reads p a s t d b y z new h g f e k =
+    ap (λ ss. reading_statements ss d) (view_if p a s t k)
+    ∙ ap (λ r. (r ⊳⊳ λ d. both_ways (reading_statements (view_statements s.items) d) (reading_statements (view_statements t.items) d)) ⊳⊳ reading_statements k) h
+    ∙ ap (λ r. both_ways r (reading_statements (view_statements t.items) b) ⊳⊳ reading_statements k) g
+    ∙ ap (λ r. both_ways (Some y) r ⊳⊳ reading_statements k) f ∙ ap (reading_statements k) (sym e)
+
+pub loop_reads : (p : Place) (test : Option Expression) (s : Vec Statement Global) (step : Option Expression) (d b turn after : List Bool) → reading_some (view_some test) d ≡ Some b → reading_statements (view_statements s.items) b ≡ Some turn → reading_some (view_some step) d ≡ Some after → (k : tree.Statements) → reading_statements (statement_then (statement.Loop p test s step) k) d ≡ reading_statements k d
+loop_reads p test s step d b turn after h g f k =
+    ap (λ z. reading_statements z d) (view_loop p test s step k)
+    ∙ ap (λ r. (aside (r ⊳⊳ reading_statements (view_statements s.items)) d ⊳⊳ λ d. aside (reading_some (view_some step) d) d) ⊳⊳ reading_statements k) h
+    ∙ ap (λ r. (aside r d ⊳⊳ λ d. aside (reading_some (view_some step) d) d) ⊳⊳ reading_statements k) g
+    ∙ ap (λ r. aside r d ⊳⊳ reading_statements k) f
+
+pub do_reads : (p : Place) (s : Vec Statement Global) (test : Expression) (d turn after : List Bool) → reading_statements (view_statements s.items) d ≡ Some turn → reading (view test) d ≡ Some after → (k : tree.Statements) → reading_statements (statement_then (statement.Do p s test) k) d ≡ reading_statements k d
+do_reads p s test d turn after g f k =
+    ap (λ z. reading_statements z d) (view_do p s test k)
+    ∙ ap (λ r. (aside r d ⊳⊳ λ d. aside (reading (view test) d) d) ⊳⊳ reading_statements k) g
+    ∙ ap (λ r. aside r d ⊳⊳ reading_statements k) f
+
+pub switch_reads : (p : Place) (a : Expression) (arms : Vec Arm Global) (d b new : List Bool) → reading (view a) d ≡ Some b → reading_arms (arms_of arms.items) b ≡ Some new → (k : tree.Statements) → reading_statements (statement_then (statement.Switch p a arms) k) d ≡ reading_statements k new
+switch_reads p a arms d b new h g k =
+    ap (λ z. reading_statements z d) (view_switch p a arms k)
+    ∙ ap (λ r. (r ⊳⊳ reading_arms (arms_of arms.items)) ⊳⊳ reading_statements k) h ∙ ap (λ r. r ⊳⊳ reading_statements k) g
+
+-- ---- lists of numbers
+
+pub none_left : (fs : List TypedFunction) → nat_eq (length fs) 0 ≡ same_numbers (routines_in fs) []
+none_left [] = refl
+none_left (f ∷ fs) = grind (arith, nat_tests)
+
+pub counts_on : (f : FileParts) (done : List (Option ℕ)) (xs : List Routine) (r n : ℕ) → r < length xs → used_counts f done n (drop r xs) ≡ used_counts f (done ++ used_count f n ∷ []) (n + 1) (drop (r + 1) xs)
+counts_on f done [] r n h = absurd (omega arith)
+counts_on f done (x ∷ xs) zero n h = let e : n + 1 ≡ suc n = omega arith in rw e refl
+counts_on f done (x ∷ xs) (suc r) n h = let e : suc r + 1 ≡ suc (r + 1) = omega arith in rw e (counts_on f done xs r n (omega arith))
+
+-- ---- lists of parameters
+
+length_last : (xs : List ℕ) (x : ℕ) → length (xs ++ x ∷ []) ≡ suc (length xs)
+length_last [] x = refl
+length_last (y ∷ ys) x = ap suc (length_last ys x)
+
+one_longer : (k : ℕ) (s : Tables) (x y : Shape) → shorter s x ≡ Some y → length (parameters_from (suc k) s x) ≡ suc (length (parameters_from k s y))
+one_longer k s (shape.Parameter before t) y h =
+    let e : shape_of s before ≡ y = cc in
+    length_last (parameters_from k s (shape_of s before)) t ∙ ap (λ z. suc (length (parameters_from k s z))) e
+one_longer k s x y h = absurd cc
+
+none_longer : (k : ℕ) (s : Tables) (x : Shape) → shorter s x ≡ None → length (parameters_from (suc k) s x) ≡ 0
+none_longer k s (shape.Parameter before t) h = absurd cc
+none_longer k s x h = refl
+
+pub count_more : (s : Tables) (x y : Shape) (n i total : ℕ) → i < n → shorter s x ≡ Some y → i + length (parameters_from (n - i) s x) ≡ total → (i + 1) + length (parameters_from (n - (i + 1)) s y) ≡ total
+count_more s x y n i total lt h g =
+    let more : n - i ≡ suc (n - (i + 1)) = omega (arith, lt) in
+    let here : length (parameters_from (n - i) s x) ≡ suc (length (parameters_from (n - (i + 1)) s y)) = ap (λ k. length (parameters_from k s x)) more ∙ one_longer (n - (i + 1)) s x y h in
+    omega (arith, here, g)
+
+pub count_ends : (s : Tables) (x : Shape) (n i total : ℕ) → i < n → shorter s x ≡ None → i + length (parameters_from (n - i) s x) ≡ total → i ≡ total
+count_ends s x n i total lt h g =
+    let more : n - i ≡ suc (n - (i + 1)) = omega (arith, lt) in
+    let here : length (parameters_from (n - i) s x) ≡ 0 = ap (λ k. length (parameters_from k s x)) more ∙ none_longer (n - (i + 1)) s x h in
+    omega (arith, here, g)

@@ -1,0 +1,8 @@
+use Rattle.std.proofs.Common.{◌≡◌, drop}
+use Rattle.dae_types_typed.specs.Sound.{tables_of}
+use Rattle.dae_types_sound.specs.Shapes.{are_sound_shapes}
+use Rattle.dae_types_sound.proofs.shapes.are_sound_shapes.Given as goal
+
+abbrev pub invariant-loop-number : goal.invariant-loop-number
+invariant-loop-number l =
+    are_sound_shapes (tables_of l.parts) l.number (drop l.number l.parts.shapes) ≡ are_sound_shapes (tables_of l.parts) 0 l.parts.shapes

@@ -1,0 +1,7 @@
+use Rattle.std.proofs.Common.{◌∙◌, sym}
+use Rattle.dae_types_sound.proofs.Steps.{counts_on}
+use Rattle.dae_types_sound.proofs.tables.used_counts.Goals as goal
+
+pub loop-number-preserved : goal.loop-number-preserved
+loop-number-preserved c =
+    rw (c.in_ok-push.ensures.items, c.used_count.ensures) (sym (counts_on c.args.parts.now c.loop-number.counts.items c.args.routines.now c.loop-number.number c.loop-number.number c.loop-number-test.true) ∙ c.loop-number.invariant)

@@ -1,0 +1,221 @@
+// Look-ups in the tables of a file.
+
+ghost use Rattle.std.specs.Prelude.{◌≡◌, IfOk, [], length, slice_get};
+ghost use Rattle.dae_types_kinds.specs.Types.{is_complete, layout, layout_at, layout_else, layout_of, layout_within, repeated, shape_of};
+ghost use Rattle.dae_types_plans.specs.Steps.{parameter_types, parameters_from};
+ghost use Rattle.dae_types_typed.specs.Sound.{is_use_of, is_used, same_entity, tables_of};
+ghost use Rattle.dae_types_sound.specs.Names.{names_in, parameter_list, shorter, used_count, used_counts, used_layout, used_layouts};
+
+use crate::doubts::Doubt;
+use crate::extents::FileNames;
+use dae_base::Items;
+use dae_types_kinds::{Entity, Layout, Object, Routine, Shape, Use};
+use dae_types_typed::FileParts;
+use std::alloc::Global;
+
+/// The shape of a type of a file; of a number that is no type's, void.
+#[tactic(auto, unfolding(dae_types_kinds::specs::Types::shape_of))]
+pub fn shape_of(parts: &FileParts, type_id: usize) -> Shape
+    ensures { result ≡ shape_of (tables_of parts.now) type_id }
+{
+    match parts.shapes.as_slice().get(type_id) {
+        Some(shape) => *shape,
+        None => Shape::Void,
+    }
+}
+
+pub fn layout(size: u32, align: u32) -> Layout
+    ensures { result ≡ layout size align }
+{
+    Layout { size, align }
+}
+
+/// The layout of a structure, where it is complete.
+#[tactic(auto, unfolding(dae_types_kinds::specs::Types::layout_of))]
+pub fn layout_of(parts: &FileParts, structure: usize) -> Option<Layout>
+    ensures { result ≡ layout_of (tables_of parts.now) structure }
+{
+    match parts.structures.as_slice().get(structure) {
+        Some(structure) => structure.layout,
+        None => None,
+    }
+}
+
+fn repeated(count: Option<u32>, element: Layout) -> Layout
+    ensures { result ≡ repeated count element }
+{
+    match count {
+        Some(count) => layout(element.size.saturating_mul(count), element.align),
+        None => layout(0, element.align),
+    }
+}
+
+fn layout_within(parts: &FileParts, depth: usize, type_id: usize) -> Layout
+    ensures { result ≡ layout_within depth (tables_of parts.now) type_id }
+{
+    if depth == 0 {
+        return layout(0, 1);
+    }
+    match shape_of(parts, type_id) {
+        Shape::Void => layout(0, 1),
+        Shape::Char | Shape::SignedChar | Shape::UnsignedChar => layout(1, 1),
+        Shape::Short | Shape::UnsignedShort => layout(2, 2),
+        Shape::Array(element, count) => repeated(count, layout_within(parts, depth - 1, element)),
+        Shape::Struct(structure) => match layout_of(parts, structure) {
+            Some(layout) => layout,
+            None => layout(0, 1),
+        },
+        _ => layout(4, 4),
+    }
+}
+
+/// The bytes and the alignment of a type (C90 6.5.2.1); of what has none, 0 and 1.
+#[tactic(auto, unfolding(dae_types_kinds::specs::Types::layout_at))]
+pub fn layout_at(parts: &FileParts, type_id: usize) -> Layout
+    ensures { result ≡ layout_at (tables_of parts.now) type_id }
+{
+    layout_within(parts, parts.shapes.len(), type_id)
+}
+
+/// Whether a type is complete (C90 6.1.2.5).
+pub fn is_complete(parts: &FileParts, type_id: usize) -> bool
+    ensures { result ≡ is_complete (tables_of parts.now) type_id }
+{
+    match shape_of(parts, type_id) {
+        Shape::Void => false,
+        Shape::Array(_, count) => count.is_some(),
+        Shape::Struct(structure) => layout_of(parts, structure).is_some(),
+        Shape::Function(_, _) => false,
+        _ => true,
+    }
+}
+
+// The types that are there from the start: int, and the list of no parameters.
+const INT: usize = 6;
+
+const NO_PARAMETERS: usize = 8;
+
+/// The list of the types of a function's parameters.
+fn parameter_list(parts: &FileParts, routine: usize) -> Shape
+    ensures { result ≡ parameter_list (tables_of parts.now) routine }
+{
+    let type_id = match parts.routines.as_slice().get(routine) {
+        Some(routine) => routine.type_id,
+        None => INT,
+    };
+    match shape_of(parts, type_id) {
+        Shape::Function(_, parameters) => shape_of(parts, parameters),
+        _ => shape_of(parts, NO_PARAMETERS),
+    }
+}
+
+/// The number of a function's parameters.
+#[tactic(auto, unfolding(dae_types_plans::specs::Steps::parameter_types))]
+pub fn count_parameters(parts: &FileParts, routine: usize) -> usize
+    ensures { result ≡ length (parameter_types (tables_of parts.now) routine) }
+{
+    count_from(parts, parameter_list(parts, routine))
+}
+
+/// The list before the last type of a list of the types of parameters, if it has one.
+fn shorter(parts: &FileParts, list: Shape) -> Option<Shape>
+    ensures { result ≡ shorter (tables_of parts.now) list }
+{
+    match list {
+        Shape::Parameter(before, _) => Some(shape_of(parts, before)),
+        _ => None,
+    }
+}
+
+/// The length of a list of the types of parameters.
+fn count_from(parts: &FileParts, list: Shape) -> usize
+    ensures { result
+        ≡ length (parameters_from (length parts.now.shapes) (tables_of parts.now) list) }
+{
+    let mut rest = list;
+    for count in 0..parts.shapes.len() {
+        match shorter(parts, rest) {
+            Some(before) => rest = before,
+            None => return count,
+        }
+    }
+    parts.shapes.len()
+}
+
+/// Whether two are the same object or the same function.
+pub fn same_entity(left: Entity, right: Entity) -> bool
+    ensures { result ≡ same_entity left right }
+{
+    match (left, right) {
+        (Entity::Object(left), Entity::Object(right)) => left == right,
+        (Entity::Function(left), Entity::Function(right)) => left == right,
+        _ => false,
+    }
+}
+
+/// Whether an object or a function is used.
+pub fn is_used(uses: &[Use], entity: Entity) -> bool
+    ensures { result ≡ is_used uses.now entity }
+{
+    for used in uses {
+        if same_entity(entity, used.entity) {
+            return true;
+        }
+    }
+    false
+}
+
+fn used_layout(parts: &FileParts, number: usize, object: Object) -> Option<Layout>
+    ensures { result ≡ used_layout parts.now number object }
+{
+    if is_used(parts.uses.as_slice(), Entity::Object(number)) {
+        Some(layout_at(parts, object.type_id))
+    } else {
+        None
+    }
+}
+
+fn used_layouts(alloc: Global, parts: &FileParts) -> Result<Items<Option<Layout>>, Doubt>
+    ensures { IfOk result (λ layouts. layouts ≡ used_layouts parts.now [] 0 parts.now.objects) }
+{
+    let mut layouts = Vec::new(alloc);
+    for (number, object) in parts.objects.as_slice().iter().enumerate() {
+        layouts.push(used_layout(parts, number, *object))?;
+    }
+    Ok(Items::from_vec(layouts))
+}
+
+fn used_count(parts: &FileParts, number: usize) -> Option<usize>
+    ensures { result ≡ used_count parts.now number }
+{
+    if is_used(parts.uses.as_slice(), Entity::Function(number)) {
+        Some(count_parameters(parts, number))
+    } else {
+        None
+    }
+}
+
+fn used_counts(
+    alloc: Global,
+    parts: &FileParts,
+    routines: &[Routine],
+) -> Result<Items<Option<usize>>, Doubt>
+    ensures { IfOk result (λ counts. counts ≡ used_counts parts.now [] 0 routines.now) }
+{
+    let mut counts = Vec::new(alloc);
+    for (number, _) in routines.iter().enumerate() {
+        counts.push(used_count(parts, number))?;
+    }
+    Ok(Items::from_vec(counts))
+}
+
+/// What the bodies of a file may name.
+pub fn names_in(alloc: Global, parts: &FileParts) -> Result<FileNames, Doubt>
+    ensures { IfOk result (λ names. names ≡ names_in parts.now) }
+{
+    Ok(FileNames {
+        literals: parts.literals.len(),
+        objects: used_layouts(alloc, parts)?,
+        functions: used_counts(alloc, parts, parts.routines.as_slice())?,
+    })
+}

@@ -1,0 +1,98 @@
+// Typed statements of parts that are done.
+
+ghost use Rattle.dae_program.specs.Trees.{Do, Done, If, Loop, Switch};
+ghost use Rattle.dae_program.specs.Views.{view, view_some};
+ghost use Rattle.dae_types_file_plans.specs.Statements.{arms_of, started};
+ghost use Rattle.dae_types_bodies.specs.Arms.{armed};
+ghost use Rattle.dae_types_bodies.specs.Written.{MakesStatements, as_statements};
+
+use dae_base::Place;
+use dae_types_bodies::{alone, append};
+use dae_types_kinds::CheckError;
+use dae_program::{Arm, Expression, Statement};
+use std::alloc::Global;
+
+/// A condition that is done.
+#[derive(Drop)]
+pub struct Condition {
+    pub tree: Expression,
+}
+
+/// Statements that are done.
+#[derive(Drop)]
+pub struct Written {
+    pub statements: Vec<Statement>,
+}
+
+/// `if` and `else`.
+pub fn choose(
+    alloc: Global,
+    place: Place,
+    test: Expression,
+    yes: Vec<Statement>,
+    no: Vec<Statement>,
+) -> Result<Vec<Statement>, CheckError>
+    ensures { MakesStatements result
+        (If place (view test) (as_statements yes) (as_statements no) Done) }
+{
+    alone(alloc, Statement::If(place, test, yes, no))
+}
+
+/// `while` and `for`, where nothing is done at the start.
+pub fn repeat(
+    alloc: Global,
+    place: Place,
+    test: Option<Expression>,
+    body: Vec<Statement>,
+    step: Option<Expression>,
+) -> Result<Vec<Statement>, CheckError>
+    ensures { MakesStatements result
+        (Loop place (view_some test) (as_statements body) (view_some step) Done) }
+{
+    alone(alloc, Statement::Loop(place, test, body, step))
+}
+
+/// `for`; the first place is that of the expression at its start, if there is one.
+pub fn repeat_from(
+    alloc: Global,
+    at_start: Place,
+    start: Option<Expression>,
+    place: Place,
+    test: Option<Expression>,
+    body: Vec<Statement>,
+    step: Option<Expression>,
+) -> Result<Vec<Statement>, CheckError>
+    ensures { MakesStatements result
+        (started at_start (view_some start)
+        (Loop place (view_some test) (as_statements body) (view_some step) Done)) }
+{
+    let repeated = repeat(alloc, place, test, body, step)?;
+    match start {
+        Some(e) => append(alone(alloc, Statement::Evaluate(at_start, e))?, repeated),
+        None => Ok(repeated),
+    }
+}
+
+/// `do`.
+pub fn repeat_before(
+    alloc: Global,
+    place: Place,
+    body: Vec<Statement>,
+    test: Expression,
+) -> Result<Vec<Statement>, CheckError>
+    ensures { MakesStatements result (Do place (as_statements body) (view test) Done) }
+{
+    alone(alloc, Statement::Do(place, body, test))
+}
+
+/// `switch`.
+pub fn branch(
+    alloc: Global,
+    place: Place,
+    value: Expression,
+    arms: Vec<Arm>,
+) -> Result<Vec<Statement>, CheckError>
+    ensures { MakesStatements result (Switch place (view value) (arms_of (armed arms.items)) Done) }
+{
+    alone(alloc, Statement::Switch(place, value, arms))
+}

@@ -1,0 +1,92 @@
+// Conversions, and what may be converted to what (C90 6.2, 6.3.4 and 6.3.16.1).
+
+ghost use Rattle.std.specs.Prelude.{◌≡◌};
+ghost use Rattle.dae_types_kinds.specs.Values.{converted, fits, is_null};
+ghost use Rattle.dae_types_rules.specs.Sites.{AtCast};
+ghost use Rattle.dae_types_rules.specs.Table.{bad_cast};
+ghost use Rattle.dae_types_plans.specs.Steps.{cast_at};
+ghost use Rattle.dae_types_tables.specs.Seen.{Follows, tables};
+ghost use Rattle.dae_types_folding.specs.Views.{MakesValue, view_value};
+ghost use Rattle.dae_types_values.specs.Results.{GivesValue, cast_of};
+
+use dae_base::Place;
+use dae_types_folding::{Value, changed, is_zero, known_as, load_kind};
+use dae_types_kinds::{CheckError, Rule, Shape};
+use dae_types_tables::{Checker, broken, is_integer, is_scalar, is_structure, is_void};
+use std::alloc::Global;
+
+/// Whether a value is a null pointer constant (C90 6.2.2.3).
+pub fn is_null(checker: &Checker, x: &Value) -> bool
+    ensures { result ≡ is_null (tables checker.now) (view_value x.now) }
+{
+    is_integer(checker.shape_of(x.type_id)) && is_zero(x.known)
+}
+
+/// A value as one of another type.
+#[tactic(auto, unfolding(dae_types_kinds::specs::Values::converted))]
+pub fn convert(
+    alloc: Global,
+    checker: &Checker,
+    place: Place,
+    x: Value,
+    type_id: usize,
+) -> Result<Value, CheckError>
+    ensures { MakesValue result (converted place (tables checker.now) (view_value x) type_id) }
+{
+    let from = checker.shape_of(x.type_id);
+    let to = checker.shape_of(type_id);
+    if is_void(to) {
+        return Ok(Value::plain(x.tree, type_id));
+    }
+    let known = known_as(from, to, x.known);
+    let tree = changed(alloc, place, load_kind(from), load_kind(to), x.tree)?;
+    Ok(Value::of_known(tree, type_id, known))
+}
+
+/// Whether a value may be assigned to an object of a type.
+#[tactic(auto, unfolding(dae_types_kinds::specs::Values::fits))]
+pub fn fits(checker: &Checker, x: &Value, type_id: usize) -> bool
+    ensures { result ≡ fits (tables checker.now) (view_value x.now) type_id }
+{
+    match (checker.shape_of(x.type_id), checker.shape_of(type_id)) {
+        (Shape::Pointer(one), Shape::Pointer(other)) => {
+            checker.same(x.type_id, type_id)
+                || (is_void(checker.shape_of(one)) || is_void(checker.shape_of(other)))
+        }
+        (_, Shape::Pointer(_)) => is_null(checker, x),
+        (Shape::Struct(one), Shape::Struct(other)) => one == other,
+        (from, to) => is_integer(from) && is_integer(to),
+    }
+}
+
+/// Whether a cast isn't one of the permitted ones.
+fn is_bad_cast(place: Place, from: Shape, to: Shape) -> bool
+    ensures { result ≡ bad_cast (AtCast place from to) }
+{
+    if is_void(to) {
+        is_structure(from)
+    } else {
+        !(is_scalar(from) && is_scalar(to))
+    }
+}
+
+/// A cast.
+#[tactic(auto, unfolding(dae_types_rules::specs::Plan::ask_all))]
+pub fn cast(
+    alloc: Global,
+    checker: &Checker,
+    place: Place,
+    type_id: usize,
+    x: Value,
+) -> Result<Value, CheckError>
+    ensures { GivesValue checker.now result (cast_at place (cast_of type_id x)) checker.now }
+{
+    if is_bad_cast(
+        place,
+        checker.shape_of(x.type_id),
+        checker.shape_of(type_id),
+    ) {
+        return Err(broken(Rule::BadCast, place));
+    }
+    convert(alloc, checker, place, x, type_id)
+}

@@ -1,0 +1,536 @@
+// Expressions, type names, specifiers and declarators.
+
+ghost use Rattle.std.specs.Prelude.{◌≡◌};
+ghost use Rattle.dae_tree.specs.Trees.{Prefix, SizeofExpression};
+ghost use Rattle.dae_tree.specs.Views.{view, view_declarator, view_specifier, views_declarators, views_enumerators};
+ghost use Rattle.dae_types_plans.specs.Expressions.{plan, plan_component_list, plan_declarator, plan_enumerators, plan_specifier, plan_value};
+ghost use Rattle.dae_types_tables.specs.Seen.{Follows, FollowsBy};
+ghost use Rattle.dae_types_values.specs.Results.{GivesValue, one, views as views_of_arguments};
+ghost use Rattle.dae_types_walk.specs.Plans.{plan_all, plan_alone, plan_assignment, plan_base, plan_behind, plan_binary, plan_call, plan_cast, plan_conditional, plan_enumeration, plan_function, plan_layout, plan_no_call, plan_structure, plan_type_name, plan_types, view_pair};
+
+use crate::parts::{
+    called_function, constant_value, declared_place, element_count, is_last, name_in,
+    place_of_specifiers,
+};
+use dae_base::Place;
+use dae_types_folding::Value;
+use dae_types_kinds::{CheckError, Context, Layout, NamedType, Rule};
+use dae_types_tables::{Checker, INT_ID, NO_PARAMETERS_ID, broken};
+use dae_tree::{
+    AssignmentOperator, BinaryOperator, Declarator, Enumerator, Expression, Member, MemberOperator,
+    Name, Parameter, PostfixOperator, PrefixOperator, Seen, Specifier, TypeName,
+};
+use std::alloc::Global;
+
+/// The typed tree of an expression, as an object where it is one.
+#[cycle(tree)]
+#[tactic(auto, using(crate::proofs::Steps::binary_follows, crate::proofs::Steps::binary_stops, crate::proofs::Steps::assignment_follows, crate::proofs::Steps::assignment_stops))]
+pub fn expression(alloc: Global, checker: &mut Checker, e: &Expression) -> Result<Value, CheckError>
+    ensures { GivesValue checker.new result (plan (view e.now)) checker.old }
+{
+    match e {
+        Expression::Identifier(name) => dae_types_values::name(checker, *name),
+        Expression::Constant(_, constant) => Ok(dae_types_values::constant_number(*constant)),
+        Expression::Literal(_, number) => dae_types_values::literal(checker, *number),
+        Expression::Parenthesised(_, a) => expression(alloc, checker, a),
+        Expression::Index(a, _, b) => {
+            let x = operand(alloc, checker, a)?;
+            let (x, y) = pair(alloc, checker, x, b)?;
+            dae_types_operations::index(alloc, checker, a.place(), b.place(), x, y)
+        }
+        Expression::Call(callee, _, list) => match called_function(checker, callee) {
+            Some((name, function)) => { call(alloc, checker, callee.place(), name, function, list) }
+            None => {
+                let x = operand(alloc, checker, callee)?;
+                no_call(alloc, checker, callee.place(), x, list)
+            }
+        },
+        Expression::Member(a, _, MemberOperator::Dot, name) => {
+            let x = expression(alloc, checker, a)?;
+            dae_types_operations::member(alloc, checker, a.place(), MemberOperator::Dot, *name, x)
+        }
+        Expression::Member(a, _, MemberOperator::Arrow, name) => {
+            let x = operand(alloc, checker, a)?;
+            dae_types_operations::member(alloc, checker, a.place(), MemberOperator::Arrow, *name, x)
+        }
+        Expression::Postfix(a, _, PostfixOperator::Increment) => {
+            let x = expression(alloc, checker, a)?;
+            dae_types_operations::postfix(alloc, checker, a.place(), PostfixOperator::Increment, x)
+        }
+        Expression::Postfix(a, _, PostfixOperator::Decrement) => {
+            let x = expression(alloc, checker, a)?;
+            dae_types_operations::postfix(alloc, checker, a.place(), PostfixOperator::Decrement, x)
+        }
+        Expression::Prefix(place, operator, a) => prefix(alloc, checker, *place, *operator, a),
+        Expression::SizeofExpression(place, a) => sizeof(alloc, checker, *place, a),
+        Expression::SizeofType(place, _, name) => {
+            let type_id = type_name(alloc, checker, name, *place)?;
+            dae_types_values::sizeof(checker, *place, type_id)
+        }
+        Expression::Cast(place, name, a) => {
+            let type_id = type_name(alloc, checker, name, *place)?;
+            cast(alloc, checker, *place, type_id, a)
+        }
+        Expression::Binary(a, _, operator, b) => {
+            let x = operand(alloc, checker, a)?;
+            binary(alloc, checker, a.place(), *operator, x, b)
+        }
+        Expression::Conditional(a, _, b, c) => {
+            let x = operand(alloc, checker, a)?;
+            let x = dae_types_values::scalar(checker, a.place(), x)?;
+            let (x, y) = pair(alloc, checker, x, b)?;
+            conditional(alloc, checker, a.place(), x, y, c)
+        }
+        Expression::Assignment(a, _, operator, b) => {
+            let x = expression(alloc, checker, a)?;
+            assignment(alloc, checker, a.place(), *operator, x, b)
+        }
+        Expression::Comma(a, b) => {
+            let x = operand(alloc, checker, a)?;
+            let (x, y) = pair(alloc, checker, x, b)?;
+            dae_types_operations::comma(alloc, checker, x, y)
+        }
+    }
+}
+
+/// The value of an expression.
+#[cycle(tree)]
+pub fn operand(alloc: Global, checker: &mut Checker, e: &Expression) -> Result<Value, CheckError>
+    ensures { GivesValue checker.new result (plan_value (view e.now)) checker.old }
+{
+    let x = expression(alloc, checker, e)?;
+    dae_types_values::value(alloc, checker, e.place(), x)
+}
+
+/// A value, and the value of an expression behind it.
+#[cycle(tree)]
+fn pair(
+    alloc: Global,
+    checker: &mut Checker,
+    x: Value,
+    b: &Expression,
+) -> Result<(Value, Value), CheckError>
+    ensures { FollowsBy view_pair checker.new result (plan_behind x b.now) checker.old }
+{
+    let y = operand(alloc, checker, b)?;
+    Ok((x, y))
+}
+
+/// An operator before an expression.
+#[cycle(tree)]
+#[tactic(auto, using(crate::proofs::Steps::prefix_given, crate::proofs::Steps::prefix_failed))]
+fn prefix(
+    alloc: Global,
+    checker: &mut Checker,
+    place: Place,
+    operator: PrefixOperator,
+    a: &Expression,
+) -> Result<Value, CheckError>
+    ensures { GivesValue checker.new result
+        (plan (Prefix place operator (view a.now))) checker.old }
+{
+    let x = expression(alloc, checker, a)?;
+    dae_types_operations::prefix(alloc, checker, place, a.place(), operator, name_in(a), x)
+}
+
+/// `sizeof` before an expression, which isn't used.
+#[cycle(tree)]
+fn sizeof(
+    alloc: Global,
+    checker: &mut Checker,
+    place: Place,
+    a: &Expression,
+) -> Result<Value, CheckError>
+    ensures { GivesValue checker.new result
+        (plan (SizeofExpression place (view a.now))) checker.old }
+{
+    let uses = checker.copy_uses()?;
+    let x = expression(alloc, checker, a)?;
+    checker.set_uses(uses);
+    dae_types_values::sizeof(checker, place, x.type_id)
+}
+
+/// A cast to a type.
+#[cycle(tree)]
+fn cast(
+    alloc: Global,
+    checker: &mut Checker,
+    place: Place,
+    type_id: usize,
+    a: &Expression,
+) -> Result<Value, CheckError>
+    ensures { GivesValue checker.new result (plan_cast place type_id a.now) checker.old }
+{
+    let x = operand(alloc, checker, a)?;
+    dae_types_values::cast(alloc, checker, place, type_id, x)
+}
+
+/// An operator between a value, from this place, and an expression.
+#[cycle(tree)]
+#[tactic(auto, using(crate::proofs::Steps::binary_given, crate::proofs::Steps::binary_failed))]
+fn binary(
+    alloc: Global,
+    checker: &mut Checker,
+    place: Place,
+    operator: BinaryOperator,
+    x: Value,
+    b: &Expression,
+) -> Result<Value, CheckError>
+    ensures { GivesValue checker.new result (plan_binary place operator x b.now) checker.old }
+{
+    let y = operand(alloc, checker, b)?;
+    dae_types_operations::binary(alloc, checker, place, b.place(), operator, x, y)
+}
+
+/// `?:` between a condition, from this place, a value and an expression.
+#[cycle(tree)]
+fn conditional(
+    alloc: Global,
+    checker: &mut Checker,
+    place: Place,
+    x: Value,
+    y: Value,
+    b: &Expression,
+) -> Result<Value, CheckError>
+    ensures { GivesValue checker.new result (plan_conditional place x y b.now) checker.old }
+{
+    let z = operand(alloc, checker, b)?;
+    dae_types_operations::conditional(alloc, checker, place, x, y, z)
+}
+
+/// An assignment of an expression to an object, from this place.
+#[cycle(tree)]
+#[tactic(auto, using(crate::proofs::Steps::assignment_given, crate::proofs::Steps::assignment_failed))]
+fn assignment(
+    alloc: Global,
+    checker: &mut Checker,
+    place: Place,
+    operator: AssignmentOperator,
+    x: Value,
+    b: &Expression,
+) -> Result<Value, CheckError>
+    ensures { GivesValue checker.new result (plan_assignment place operator x b.now) checker.old }
+{
+    let y = operand(alloc, checker, b)?;
+    dae_types_operations::assign(alloc, checker, place, operator, x, y)
+}
+
+/// A call of a function by its name.
+#[cycle(tree)]
+fn call(
+    alloc: Global,
+    checker: &mut Checker,
+    place: Place,
+    name: Name,
+    function: usize,
+    list: &[Expression],
+) -> Result<Value, CheckError>
+    ensures { GivesValue checker.new result (plan_call place name function list.now) checker.old }
+{
+    dae_types_values::begin_call(alloc, checker, place, name, function, list.len())?;
+    let arguments = arguments(alloc, checker, Some(function), list)?;
+    dae_types_values::call(alloc, checker, place, function, arguments)
+}
+
+/// A call of a value, which is no function.
+#[cycle(tree)]
+#[tactic(auto, unfolding(dae_types_rules::specs::Plan::ask_all))]
+fn no_call(
+    alloc: Global,
+    checker: &mut Checker,
+    place: Place,
+    x: Value,
+    list: &[Expression],
+) -> Result<Value, CheckError>
+    ensures { GivesValue checker.new result (plan_no_call place (one x) list.now) checker.old }
+{
+    arguments(alloc, checker, None, list)?;
+    Err(broken(Rule::BadCall, place))
+}
+
+/// The arguments of a function, or of what is none.
+#[cycle(tree)]
+fn arguments(
+    alloc: Global,
+    checker: &mut Checker,
+    function: Option<usize>,
+    list: &[Expression],
+) -> Result<Vec<dae_program::Expression>, CheckError>
+    ensures { FollowsBy views_of_arguments checker.new result
+        (plan_all function list.now) checker.old }
+{
+    let mut done = Vec::new(alloc);
+    let mut number = 0;
+    for e in list {
+        let x = operand(alloc, checker, e)?;
+        done = dae_types_values::add_argument(alloc, checker, e.place(), function, number, done, x)?;
+        number += 1;
+    }
+    Ok(done)
+}
+
+/// The type of a type name, before a token at this place.
+#[cycle(tree)]
+pub fn type_name(
+    alloc: Global,
+    checker: &mut Checker,
+    name: &TypeName,
+    place: Place,
+) -> Result<usize, CheckError>
+    ensures { Follows checker.new result (plan_type_name name.now place) checker.old }
+{
+    let base = base(alloc, checker, Context::TypeName, &name.specifiers)?;
+    let place = place_of_specifiers(&name.specifiers, place);
+    let declared = declarator(alloc, checker, place, false, base, &name.declarator)?;
+    Ok(declared.type_id)
+}
+
+/// The type that specifiers name.
+#[cycle(tree)]
+pub fn base(
+    alloc: Global,
+    checker: &mut Checker,
+    context: Context,
+    list: &[Specifier],
+) -> Result<usize, CheckError>
+    ensures { Follows checker.new result (plan_base context list.now) checker.old }
+{
+    let alone = specifiers(alloc, checker, context, false, list)?;
+    Ok(dae_types_sites::base_type(Seen::of_specifiers(list), alone))
+}
+
+/// The type that stands alone among specifiers, if there is one. The flag says that they declare nothing else.
+#[cycle(tree)]
+pub fn specifiers(
+    alloc: Global,
+    checker: &mut Checker,
+    context: Context,
+    alone: bool,
+    list: &[Specifier],
+) -> Result<Option<usize>, CheckError>
+    ensures { Follows checker.new result (plan_alone context alone list.now) checker.old }
+{
+    let mut base = None;
+    for one in list {
+        base = specifier(alloc, checker, context, alone, base, one)?;
+    }
+    Ok(base)
+}
+
+/// The type that stands alone among the specifiers so far and one more.
+#[cycle(tree)]
+fn specifier(
+    alloc: Global,
+    checker: &mut Checker,
+    context: Context,
+    alone: bool,
+    base: Option<usize>,
+    specifier: &Specifier,
+) -> Result<Option<usize>, CheckError>
+    ensures { Follows checker.new result
+        (plan_specifier context alone base (view_specifier specifier.now)) checker.old }
+{
+    match specifier {
+        Specifier::Word(place, word) => dae_types_sites::check_word(
+            checker, *place, context, base, *word,
+        ),
+        Specifier::TypeName(name) => dae_types_sites::type_of_name(checker, *name),
+        Specifier::Structure(_, name) => dae_types_sites::structure_by_tag(checker, alone, *name),
+        Specifier::StructureBody(place, tag, _, list) => {
+            structure(alloc, checker, *place, *tag, list)
+        }
+        Specifier::Enumeration(_, name) => dae_types_sites::enumeration_by_tag(checker, *name),
+        Specifier::EnumerationBody(_, tag, _, list, _) => enumeration(alloc, checker, *tag, list),
+    }
+}
+
+/// A structure with its members.
+#[cycle(tree)]
+fn structure(
+    alloc: Global,
+    checker: &mut Checker,
+    place: Place,
+    tag: Option<Name>,
+    list: &[Member],
+) -> Result<Option<usize>, CheckError>
+    ensures { Follows checker.new result (plan_structure place tag list.now) checker.old }
+{
+    let structure = dae_types_sites::begin_structure(checker, tag)?;
+    let layout = members(alloc, checker, structure, list)?;
+    dae_types_sites::end_structure(checker, place, tag, structure, layout)
+}
+
+/// An enumeration with its enumerators.
+#[cycle(tree)]
+fn enumeration(
+    alloc: Global,
+    checker: &mut Checker,
+    tag: Option<Name>,
+    list: &[Enumerator],
+) -> Result<Option<usize>, CheckError>
+    ensures { Follows checker.new result (plan_enumeration tag list.now) checker.old }
+{
+    dae_types_sites::declare_enumeration(checker, tag)?;
+    enumerators(alloc, checker, list)?;
+    Ok(Some(INT_ID))
+}
+
+/// The members of a structure, and its layout so far.
+#[cycle(tree)]
+pub fn members(
+    alloc: Global,
+    checker: &mut Checker,
+    structure: usize,
+    list: &[Member],
+) -> Result<Layout, CheckError>
+    ensures { Follows checker.new result (plan_layout structure list.now) checker.old }
+{
+    let mut layout = Layout { size: 0, align: 1 };
+    for member in list {
+        let base = base(alloc, checker, Context::Member, &member.specifiers)?;
+        let place = place_of_specifiers(&member.specifiers, member.end);
+        layout = components(
+            alloc,
+            checker,
+            place,
+            structure,
+            base,
+            layout,
+            &member.declarators,
+        )?;
+    }
+    Ok(layout)
+}
+
+/// The members of one declaration, behind members of this layout.
+#[cycle(tree)]
+pub fn components(
+    alloc: Global,
+    checker: &mut Checker,
+    place: Place,
+    structure: usize,
+    base: usize,
+    mut layout: Layout,
+    list: &[Declarator],
+) -> Result<Layout, CheckError>
+    ensures { Follows checker.new result
+        (plan_component_list place structure base layout (views_declarators list.now)) checker.old }
+{
+    for one in list {
+        let at = declared_place(one, place);
+        let declared = declarator(alloc, checker, at, false, base, one)?;
+        layout = dae_types_sites::add_member(checker, at, structure, layout, one.name(), declared)?;
+    }
+    Ok(layout)
+}
+
+/// Enumerators, and the value of a next one.
+#[cycle(tree)]
+pub fn enumerators(
+    alloc: Global,
+    checker: &mut Checker,
+    list: &[Enumerator],
+) -> Result<u32, CheckError>
+    ensures { Follows checker.new result
+        (plan_enumerators 0 (views_enumerators list.now)) checker.old }
+{
+    let mut word = 0;
+    for one in list {
+        match one {
+            Enumerator::Plain(name) => word = dae_types_sites::add_enumerator(checker, *name, word)?,
+            Enumerator::Valued(name, _, e) => {
+                let x = operand(alloc, checker, e)?;
+                let value = constant_value(checker, e.place(), x)?;
+                word = dae_types_sites::add_enumerator(checker, *name, value)?;
+            }
+        }
+    }
+    Ok(word)
+}
+
+/// What a declarator declares, from its outermost part.
+#[cycle(tree)]
+#[tactic(auto, using(crate::proofs::Rows::function_gives))]
+pub fn declarator(
+    alloc: Global,
+    checker: &mut Checker,
+    place: Place,
+    free: bool,
+    base: usize,
+    part: &Declarator,
+) -> Result<NamedType, CheckError>
+    ensures { Follows checker.new result
+        (plan_declarator place free base (view_declarator part.now)) checker.old }
+{
+    match part {
+        Declarator::Absent => Ok(NamedType {
+            name: None,
+            type_id: base,
+        }),
+        Declarator::Named(name) => Ok(NamedType {
+            name: Some(*name),
+            type_id: base,
+        }),
+        Declarator::Grouped(_, inner) => declarator(alloc, checker, place, free, base, inner),
+        Declarator::Pointer(_, _, inner) => {
+            let base = dae_types_sites::make_pointer(checker, place, base)?;
+            declarator(alloc, checker, place, free, base, inner)
+        }
+        Declarator::Unsized(inner, _) => {
+            let base = dae_types_sites::make_unsized_array(checker, place, base)?;
+            declarator(alloc, checker, place, free, base, inner)
+        }
+        Declarator::Sized(inner, _, size) => {
+            let x = operand(alloc, checker, size)?;
+            let count = element_count(checker, size.place(), x)?;
+            let base = dae_types_sites::make_array(checker, place, free && is_last(inner), base, count)?;
+            declarator(alloc, checker, place, free, base, inner)
+        }
+        Declarator::Empty(inner, _) | Declarator::Void(inner, _, _) => {
+            let base = dae_types_sites::make_function(checker, place, base, NO_PARAMETERS_ID)?;
+            declarator(alloc, checker, place, free, base, inner)
+        }
+        Declarator::Function(inner, q, list) => {
+            let base = function(alloc, checker, place, base, *q, list)?;
+            declarator(alloc, checker, place, free, base, inner)
+        }
+    }
+}
+
+/// A function of parameters, which have a scope of their own.
+#[cycle(tree)]
+fn function(
+    alloc: Global,
+    checker: &mut Checker,
+    place: Place,
+    base: usize,
+    q: Place,
+    list: &[Parameter],
+) -> Result<usize, CheckError>
+    ensures { Follows checker.new result (plan_function place base q list.now) checker.old }
+{
+    let outer = checker.open();
+    let types = parameters(alloc, checker, q, list)?;
+    checker.close(outer)?;
+    dae_types_sites::make_function(checker, place, base, types)
+}
+
+/// The types of parameters.
+#[cycle(tree)]
+pub fn parameters(
+    alloc: Global,
+    checker: &mut Checker,
+    place: Place,
+    list: &[Parameter],
+) -> Result<usize, CheckError>
+    ensures { Follows checker.new result (plan_types place list.now) checker.old }
+{
+    let mut types = NO_PARAMETERS_ID;
+    for one in list {
+        let at = declared_place(&one.declarator, place_of_specifiers(&one.specifiers, place));
+        let base = base(alloc, checker, Context::Parameter, &one.specifiers)?;
+        let declared = declarator(alloc, checker, at, true, base, &one.declarator)?;
+        types = dae_types_sites::add_parameter(checker, at, types, one.declarator.name(), declared)?;
+    }
+    Ok(types)
+}

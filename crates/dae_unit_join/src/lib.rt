@@ -1,0 +1,20 @@
+// Several typed files joined to one program that is lawful (C90 5.1.1.1, 6.1.2.2 and 6.7).
+#![tactic(auto)]
+
+pub use joining::join;
+
+mod joining;
+
+ghost use Rattle.dae_unit_join.specs.Promise.{JoinedHaveParameters, JoinedIsLawful};
+
+/// What files without a broken rule join to is lawful.
+pub fn joined_is_lawful()
+    ensures { JoinedIsLawful }
+{}
+
+/// In files without a broken rule that join, each function has the parameters of its type.
+pub fn joined_have_parameters()
+    ensures { JoinedHaveParameters }
+{
+    dae_file_sizes::sound_have_parameters();
+}

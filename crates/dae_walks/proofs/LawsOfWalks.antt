@@ -1,6 +1,0 @@
--- The laws of this crate that proofs of other crates use: of contents, single instructions, walks, liveness and multiples.
-pub use Rattle.dae_walks.proofs.Composed.{acts_does, acts_map, comes_does, comes_here, comes_map, comes_more, comes_nears, comes_then, does_map, nears_here, nears_map}
-pub use Rattle.dae_walks.proofs.Steps.{put, read, step, step_address, step_ends, step_load, step_prints, step_shared, step_stops, step_store, store}
-pub use Rattle.dae_walks.proofs.Lives.{turn_again}
-pub use Rattle.dae_walks.proofs.SetBefore.{live_set}
-pub use Rattle.dae_walks.proofs.Multiples.{is_one, deed_multiples}
