@@ -9,14 +9,14 @@ ghost use Rattle.dae_accept.specs.Checked.{Checks};
 ghost use Rattle.dae_accept.specs.Origins.{IsOfFiles};
 
 use crate::error::CompileError;
-use dae_file_sizes::starts_keep_literals;
-use dae_unit_join::join;
-use dae_types_kinds::CheckError;
-use dae_program::Program;
 use dae_accept_sources::read_files;
+use dae_file_sizes::starts_keep_literals;
+use dae_program::Program;
 use dae_tree::File;
-use dae_types_typed::TypedFile;
 use dae_types::check;
+use dae_types_kinds::CheckError;
+use dae_types_typed::TypedFile;
+use dae_unit_join::join;
 use std::alloc::Global;
 
 // Each file is one of the grammar.

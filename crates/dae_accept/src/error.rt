@@ -4,10 +4,10 @@ ghost use Rattle.std.specs.Prelude.{◌≡◌};
 ghost use Rattle.dae_accept.specs.declared.error.CompileError.TheVariants.{Memory};
 ghost use Rattle.dae_accept.specs.Refusals.{from_checking, from_joining, from_reading};
 
-use dae_types_kinds::{Breach, CheckError};
+use dae_accept_sources::FileError;
 use dae_lex::LexError;
 use dae_parse::ParseError;
-use dae_accept_sources::FileError;
+use dae_types_kinds::{Breach, CheckError};
 use dae_unit::JoinError;
 use std::alloc::{AllocError, AllocFailed};
 

@@ -2,12 +2,12 @@
 // laid out.
 
 use dae_base::Place;
-use dae_types_kinds::{CheckError, Rule};
 use dae_lex::tokens;
 use dae_parse::parse;
 use dae_tree::Room;
-use dae_types_typed::TypedFile;
 use dae_types::{align_of, check, member, size_of};
+use dae_types_kinds::{CheckError, Rule};
+use dae_types_typed::TypedFile;
 use std::alloc::Global;
 use std::process::Abort;
 

@@ -12,8 +12,8 @@ ghost use Rattle.dae_cli_command.specs.Sources.{DueOfFiles};
 ghost use Rattle.dae_cli_jobs.specs.Words.{AreFiles};
 
 use crate::sources::image_of_files;
-use dae_compile::Options;
 use dae_cli_drive::{Stop, budget_line, noted};
+use dae_compile::Options;
 use dae_image::{Image, write};
 use dae_io::{Shelf, Sink};
 use std::alloc::{AllocError, Global};

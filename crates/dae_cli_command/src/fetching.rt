@@ -8,8 +8,8 @@ ghost use Rattle.dae_cli_command.specs.Fetching.{AreFetched, IsFirstNotFetched, 
 ghost use Rattle.dae_cli_command.specs.Shelves.{IsTold, shelf_seen};
 
 use dae_cli_drive::{Stop, fetched};
-use dae_io::Shelf;
 use dae_cli_refusals::too_long_line;
+use dae_io::Shelf;
 use std::alloc::Global;
 
 /// How many bytes the sources of a job may have.

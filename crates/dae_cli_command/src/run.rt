@@ -8,8 +8,8 @@ ghost use Rattle.dae_cli_command.specs.Sources.{DueOfFiles};
 ghost use Rattle.dae_cli_jobs.specs.Words.{AreFiles};
 
 use crate::sources::image_of_files;
-use dae_compile::Options;
 use dae_cli_drive::{RunOptions, run_image};
+use dae_compile::Options;
 use dae_io::{Shelf, Sink};
 use std::alloc::Global;
 

@@ -12,11 +12,11 @@ ghost use Rattle.dae_cli_jobs.specs.Words.{AreFiles};
 
 use crate::fetching::fetch_all;
 use dae_base::{Items, Text};
-use dae_compile::{CompileError, Options, compile};
 use dae_cli_drive::Stop;
+use dae_cli_refusals::refusal_line;
+use dae_compile::{CompileError, Options, compile};
 use dae_image::Image;
 use dae_io::Shelf;
-use dae_cli_refusals::refusal_line;
 use std::alloc::{AllocError, Global};
 
 /// The image of source files.

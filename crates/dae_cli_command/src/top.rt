@@ -10,8 +10,8 @@ use crate::compile::compile_files;
 use crate::exec::exec;
 use crate::run::run;
 use dae_cli_drive::noted;
-use dae_io::{CalmShelf, CalmSink, Shelf, Sink};
 use dae_cli_jobs::{Job, spelled_job};
+use dae_io::{CalmShelf, CalmSink, Shelf, Sink};
 use std::alloc::Global;
 
 /// Does the job that the words after the program's name spell, and answers with the program's status. Texts come from

@@ -5,8 +5,8 @@ ghost use Rattle.dae_cli_jobs.specs.Words.{AreDashed, AreFiles, IsPlain, SpellsJ
 
 use crate::names::{begins_with_dash, is_file_name};
 use crate::options::{chosen_beside, exec_options, run_options, to_named};
-use dae_compile::Options;
 use dae_cli_drive::RunOptions;
+use dae_compile::Options;
 
 /// How many files a job may have.
 const MOST_FILES: usize = 1024;

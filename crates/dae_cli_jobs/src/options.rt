@@ -13,8 +13,8 @@ ghost use Rattle.dae_cli_jobs.specs.Options.{ChosenBy, FindsIfAny, HasBoth, HasP
 
 use crate::names::is_file_name;
 use dae_base::{Depths, Queue};
-use dae_compile::Options;
 use dae_cli_drive::{OptionValues, RunOptions, Shown};
+use dae_compile::Options;
 use dae_machine::Schedule;
 use itoa::Buffer;
 

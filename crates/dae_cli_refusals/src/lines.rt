@@ -4,9 +4,9 @@ ghost use Rattle.dae_cli_refusals.specs.Refusals.{construct_name, join_line, lex
 
 use dae_base::Place;
 use dae_compile::CompileError;
-use dae_types_kinds::Rule;
 use dae_parse::ParseError;
 use dae_tree::{Construct, LexError};
+use dae_types_kinds::Rule;
 use dae_unit::JoinError;
 use std::alloc::{AllocError, Global};
 

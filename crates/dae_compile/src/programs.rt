@@ -10,11 +10,11 @@ ghost use Rattle.dae_compile.specs.Compiled.{IsCompiledFrom, HasTooMuchPrivate, 
 
 use dae_base::{Items, Text};
 use dae_compile_generate::generate;
+use dae_compile_promise::image_keeps_meaning;
 use dae_image::Image;
+use dae_link_sides::CodeError;
 use dae_lower_forms::lower;
 use dae_program::Program;
-use dae_compile_promise::image_keeps_meaning;
-use dae_link_sides::CodeError;
 use std::alloc::Global;
 
 // A byte is below 256.

@@ -9,11 +9,11 @@ ghost use Rattle.dae_link_sides.specs.declared.error.CodeError.TheVariants as er
 ghost use Rattle.dae_compile_generate.specs.Generated.{FitsMachine, HasFramesWithin, IsShort, NeedsTooMuch, words_of_form};
 
 use dae_base::{Items, Text};
-use dae_split_pair::decouple;
 use dae_image::Image;
 use dae_ir::Ir;
 use dae_link::link;
 use dae_link_sides::CodeError;
+use dae_split_pair::decouple;
 use std::alloc::Global;
 
 /// The image of a form with these data and file names, where a group holds at most `cap` loads for E and as many copies, from

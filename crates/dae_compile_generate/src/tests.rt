@@ -7,13 +7,13 @@ ghost use Rattle.dae_core.specs.Held.{CanHold};
 
 use crate::forms;
 use dae_base::{Depths, Items, Side, Text};
-use dae_split_pair::{decouple, is_scoped};
 use dae_image::{Image, LineMark};
 use dae_ir::Ir;
 use dae_link::link;
 use dae_machine::{End, Machine, Rest, Schedule, Turn, Words};
 use dae_regalloc::allocate;
 use dae_select_walks::Home;
+use dae_split_pair::{decouple, is_scoped};
 use std::alloc::{AllocError, Global};
 use std::test::Fail;
 

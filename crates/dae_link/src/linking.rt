@@ -6,9 +6,9 @@ ghost use Rattle.dae_link.specs.Linked.{CanLink, HasExactBudget, HasGiven, HasMa
 
 use crate::marks::{MarkRoom, marks_of};
 use dae_base::{Depths, Items, Text};
-use dae_link_faithful::made_does_form;
 use dae_image::Image;
 use dae_ir::Pair;
+use dae_link_faithful::made_does_form;
 use dae_link_sides::{CodeError, side_code};
 use dae_link_uses::pair_uses;
 use std::alloc::Global;

@@ -14,8 +14,8 @@ ghost use Rattle.dae_lower_forms.specs.Functions.{IsFormWith, slot_stored};
 use dae_base::{Items, Place, Text};
 use dae_ir::{Check, Function as FormFunction, Item, Operand, Statement, Value};
 use dae_lower_expressions::Lowerer;
-use dae_lower_programs::make_statements;
 use dae_lower_maker::one_more;
+use dae_lower_programs::make_statements;
 use dae_program::{Function, Links, Program, Slot};
 use std::alloc::{AllocError, Global};
 

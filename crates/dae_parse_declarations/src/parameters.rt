@@ -13,7 +13,9 @@ ghost use Rattle.dae_parse_states.specs.Frames.{ShowsOpen};
 ghost use Rattle.dae_parse_states.specs.States.{Stands, Follows, outside_stack};
 
 use dae_parse_grammar::parameters_add_names;
-use dae_parse_nodes::{Declared, ParameterList, Specified, function, no_specifiers, with_parameter};
+use dae_parse_nodes::{
+    Declared, ParameterList, Specified, function, no_specifiers, with_parameter,
+};
 use dae_parse_states::{Doing, Frame, Machine, Open, SpecifiersFrame};
 use dae_tree::{Seen, Sign};
 use std::alloc::AllocError;

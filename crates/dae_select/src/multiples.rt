@@ -6,8 +6,8 @@ ghost use Rattle.dae_select_live.specs.Members.{member};
 ghost use Rattle.dae_select.specs.Placed.{multiples_after, is_placed_step, placed_flags};
 
 use dae_ir::{Action, Check, Operand, Step, Value};
-use dae_select_live::LiveSet;
 use dae_meaning::Operator;
+use dae_select_live::LiveSet;
 use std::alloc::{AllocError, Global};
 
 fn is_multiple(known: &LiveSet, operand: Operand) -> bool

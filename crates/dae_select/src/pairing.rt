@@ -18,8 +18,8 @@ use crate::fetching::{fetch, home_of, keep, register_or, source};
 use crate::numbers::{compare_number, exchanged, immediate, takes_number};
 use dae_encode::Inst;
 use dae_ir::{Action, Operand, Step, Test, Value};
-use dae_select_live::LiveSet;
 use dae_meaning::Operator;
+use dae_select_live::LiveSet;
 use dae_select_walks::{Home, Standing};
 use std::alloc::AllocError;
 

@@ -2,8 +2,8 @@
 
 use crate::forms::{Sample, build};
 use dae_base::Depths;
-use dae_split_pair::{decouple, is_scoped};
 use dae_ir::{Class, Step};
+use dae_split_pair::{decouple, is_scoped};
 use std::alloc::{AllocError, Global};
 use std::process::Abort;
 

@@ -7,13 +7,13 @@ ghost use Rattle.dae_types.specs.Answers.{Answers, start_in};
 
 use crate::assembling::assemble;
 use crate::names::{copy_all, numbers_in};
+use dae_tree::{File, Header};
 use dae_types_externals::file_products;
 use dae_types_file_plans::files_are_checked;
 use dae_types_kinds::CheckError;
 use dae_types_linkage::{begin_file, declare_stdio, declare_stdlib};
 use dae_types_sound::is_sound;
 use dae_types_tables::Checker;
-use dae_tree::{File, Header};
 use dae_types_typed::{FileParts, TypedFile};
 use std::alloc::Global;
 

@@ -10,10 +10,10 @@ ghost use Rattle.dae_types_bodies.specs.Written.{GivesStatements, MakesStatement
 
 use crate::sequences::alone;
 use dae_base::Place;
+use dae_program::{Expression, Statement};
 use dae_types_file_plans::Surrounding;
 use dae_types_folding::Value;
 use dae_types_kinds::{CheckError, Rule};
-use dae_program::{Expression, Statement};
 use dae_types_tables::{Checker, broken, is_structure, is_void};
 use dae_types_values::{convert, fits, scalar, value};
 use std::alloc::Global;

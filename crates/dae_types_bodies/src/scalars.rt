@@ -13,10 +13,10 @@ ghost use Rattle.dae_types_bodies.specs.Written.{GivesStatements, MakesStatement
 
 use crate::naming::names_variable;
 use dae_base::Place;
+use dae_program::{Expression, Statement, Target};
 use dae_types_fills::Content;
 use dae_types_folding::{Value, load_kind};
 use dae_types_kinds::{CheckError, Local, Rule, Storage};
-use dae_program::{Expression, Statement, Target};
 use dae_types_tables::{Checker, INT_ID, broken, is_scalar, is_structure};
 use dae_types_values::{convert, fits};
 use std::alloc::Global;

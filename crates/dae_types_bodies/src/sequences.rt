@@ -5,8 +5,8 @@ ghost use Rattle.dae_program.specs.Views.{statement_then};
 ghost use Rattle.dae_types_file_plans.specs.Statements.{behind_all};
 ghost use Rattle.dae_types_bodies.specs.Written.{MakesStatements, as_statements};
 
-use dae_types_kinds::CheckError;
 use dae_program::Statement;
+use dae_types_kinds::CheckError;
 use std::alloc::Global;
 
 /// One statement.

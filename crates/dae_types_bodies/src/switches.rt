@@ -8,8 +8,8 @@ ghost use Rattle.dae_types_bodies.specs.Written.{as_statements};
 ghost use Rattle.dae_types_bodies.specs.Arms.{arm_of, armed, view_armed, view_arming};
 
 use dae_base::Place;
-use dae_types_kinds::{CheckError, Rule};
 use dae_program::{Arm, Statement};
+use dae_types_kinds::{CheckError, Rule};
 use dae_types_tables::{Checker, broken};
 use std::alloc::Global;
 

@@ -11,14 +11,14 @@ ghost use Rattle.dae_types_externals.specs.Parts.{plan_body_in, plan_statements_
 
 use crate::zeros::body_product;
 use dae_base::Place;
+use dae_program::Statement;
+use dae_tree::{Block, Name, Parameter};
 use dae_types_file_plans::Surrounding;
 use dae_types_kinds::{CheckError, Rule, Shape};
 use dae_types_linkage::{is_main_name, settle_locals};
 use dae_types_products::Product;
-use dae_program::Statement;
 use dae_types_statements::block;
 use dae_types_tables::{Checker, INT_ID, broken, copy_kept, set_kept};
-use dae_tree::{Block, Name, Parameter};
 use dae_types_walk::place_of_specifiers;
 use std::alloc::Global;
 

@@ -11,6 +11,7 @@ ghost use Rattle.dae_types_products.specs.Products.{GivesProducts, as_products};
 ghost use Rattle.dae_types_externals.specs.Parts.{plan_file_base, plan_object_data, plan_type_of};
 
 use dae_base::Place;
+use dae_tree::{Declaration, Declarator, Initialiser, Item, Keyword, Seen, Specifier};
 use dae_types_file_plans::Role;
 use dae_types_kinds::{CheckError, Context};
 use dae_types_linkage::{
@@ -20,7 +21,6 @@ use dae_types_locals::{content, has_typedef, look_through};
 use dae_types_products::{Product, append, declares_function, declares_object};
 use dae_types_sites::base_type;
 use dae_types_tables::{Checker, is_function};
-use dae_tree::{Declaration, Declarator, Initialiser, Item, Keyword, Seen, Specifier};
 use dae_types_walk::{declarator, declared_place, place_of_specifiers, specifiers};
 use std::alloc::Global;
 

@@ -12,13 +12,13 @@ ghost use Rattle.dae_types_externals.specs.Parts.{plan_begun, plan_defining, pla
 use crate::bodies::function_body;
 use crate::declarations::{base, storage_class};
 use dae_base::Place;
+use dae_tree::{Block, Declarator, Keyword, Name, Parameter, Specifier};
 use dae_types_file_plans::Role;
 use dae_types_kinds::CheckError;
 use dae_types_linkage::{declare_function, define_function, definition_type, is_static};
 use dae_types_locals::has_typedef;
 use dae_types_products::{Product, append, declares_function};
 use dae_types_tables::{Checker, Kept, set_kept};
-use dae_tree::{Block, Declarator, Keyword, Name, Parameter, Specifier};
 use dae_types_walk::{declarator, declared_place, place_of_specifiers};
 use std::alloc::Global;
 

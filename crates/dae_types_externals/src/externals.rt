@@ -9,10 +9,10 @@ ghost use Rattle.dae_types_externals.specs.Parts.{plan_end};
 
 use crate::declarations::add_declaration;
 use crate::definitions::add_definition;
+use dae_tree::External;
 use dae_types_kinds::{CheckError, Rule};
 use dae_types_products::Product;
 use dae_types_tables::{Checker, broken, objects};
-use dae_tree::External;
 use std::alloc::Global;
 
 /// Adds what a declaration or definition comes to.

@@ -13,10 +13,10 @@ ghost use Rattle.dae_types_products.specs.Products.{MakesProducts};
 ghost use Rattle.dae_types_externals.specs.Parts.{before, zero_of};
 
 use dae_base::Place;
+use dae_program::{Expression, Statement, Target};
 use dae_types_folding::load_kind;
 use dae_types_kinds::{CheckError, Local, Storage};
 use dae_types_products::{Body, Product, next_storage};
-use dae_program::{Expression, Statement, Target};
 use dae_types_tables::{Checker, storages};
 use std::alloc::Global;
 

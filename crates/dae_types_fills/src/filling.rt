@@ -8,9 +8,9 @@ ghost use Rattle.dae_types_fills.specs.Fillings.{view_filling, view_landing};
 
 use crate::slots::{Rest, descend, next_slot};
 use dae_base::Place;
+use dae_program::Setting;
 use dae_types_folding::Value;
 use dae_types_kinds::{CheckError, Rule};
-use dae_program::Setting;
 use dae_types_tables::{Checker, broken, is_structure};
 use std::alloc::Global;
 

@@ -5,9 +5,9 @@ ghost use Rattle.dae_types_file_plans.specs.Formats.{InText, converted_with, let
 ghost use Rattle.dae_types_rules.specs.Plan.{Gives};
 ghost use Rattle.dae_types_fills.specs.Filled.{pieces_at, read_on, seen};
 
-use dae_types_kinds::CheckError;
 use dae_meaning::Spelling;
 use dae_program::Piece;
+use dae_types_kinds::CheckError;
 use std::alloc::Global;
 
 /// Where in a conversion a byte stands.

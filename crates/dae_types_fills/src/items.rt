@@ -12,9 +12,9 @@ ghost use Rattle.dae_types_fills.specs.Fillings.{scalar_item, structure_item, te
 
 use crate::filling::{Destination, Filling, Landing};
 use dae_base::{LoadKind, Place, extend};
+use dae_program::{Expression, Setting};
 use dae_types_folding::{Value, known_as, load_kind};
 use dae_types_kinds::{CheckError, Known, Rule, Shape};
-use dae_program::{Expression, Setting};
 use dae_types_tables::{Checker, broken, is_structure};
 use dae_types_values::fits;
 

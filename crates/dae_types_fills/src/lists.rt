@@ -16,11 +16,11 @@ use crate::filling::{Filling, has_literal};
 use crate::printing::literal_in;
 use crate::slots::{Rest, is_text_array, next_slot, parts_of};
 use dae_base::Place;
+use dae_program::Setting;
+use dae_tree::{Expression, Initialiser};
 use dae_types_folding::Value;
 use dae_types_kinds::{CheckError, Rule, Shape};
-use dae_program::Setting;
 use dae_types_tables::{Checker, MOST_BYTES, broken, is_scalar, is_structure};
-use dae_tree::{Expression, Initialiser};
 use std::alloc::Global;
 
 /// What a list fills, and what stands behind it, the next part at the end.

@@ -14,11 +14,11 @@ ghost use Rattle.dae_types_fills.specs.Filled.{seen};
 
 use crate::formats::{format_pieces, kinds_of_arguments};
 use dae_base::Place;
+use dae_program::{Expression, Piece};
+use dae_tree::Expression as Tree;
 use dae_types_folding::{Value, pointee};
 use dae_types_kinds::{CheckError, Rule};
-use dae_program::{Expression, Piece};
 use dae_types_tables::{Checker, broken, is_character, is_integer};
-use dae_tree::Expression as Tree;
 use std::alloc::Global;
 
 /// The literal that an expression is, by its number.

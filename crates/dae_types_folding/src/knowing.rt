@@ -8,8 +8,8 @@ ghost use Rattle.dae_types_folding.specs.Views.{view_deed};
 use crate::operators::{Deed, apply, compare, divides};
 use crate::shapes::load_kind;
 use dae_base::{LoadKind, extend};
-use dae_types_kinds::{Known, Shape};
 use dae_meaning::Operator;
+use dae_types_kinds::{Known, Shape};
 use dae_types_tables::{is_integer, is_pointer, is_void};
 
 /// Whether this is an integer constant expression with the value 0.

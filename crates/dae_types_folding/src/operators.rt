@@ -6,10 +6,10 @@ ghost use Rattle.dae_types_kinds.specs.Values.{deed, is_shift, is_equality, is_c
 ghost use Rattle.dae_types_folding.specs.Views.{view_deed};
 
 use crate::shapes::{INT, UNSIGNED};
-use dae_types_kinds::Shape;
 use dae_meaning::{Comparison, Operator};
-use dae_types_tables::is_unsigned;
 use dae_tree::{AssignmentOperator, BinaryOperator};
+use dae_types_kinds::Shape;
+use dae_types_tables::is_unsigned;
 
 /// An operation, or a comparison with whether its operands are turned.
 #[derive(Clone, Copy)]

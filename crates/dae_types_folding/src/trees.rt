@@ -10,9 +10,9 @@ use crate::knowing::known_by;
 use crate::operators::Deed;
 use crate::value::Value;
 use dae_base::{LoadKind, Place};
-use dae_types_kinds::{Category, CheckError, Known};
 use dae_meaning::Operator;
 use dae_program::{Expression, Target};
+use dae_types_kinds::{Category, CheckError, Known};
 use std::alloc::Global;
 
 /// Whether a conversion from one kind to the other may change a word.

@@ -5,8 +5,8 @@ ghost use Rattle.dae_program.specs.Views.{view};
 ghost use Rattle.dae_types_kinds.specs.Values.{number, plain, valued_by};
 ghost use Rattle.dae_types_folding.specs.Views.{view_value};
 
-use dae_types_kinds::{Category, Known};
 use dae_program::Expression;
+use dae_types_kinds::{Category, Known};
 
 /// A typed expression: its tree, its type by its number, whether the tree gives a value or where an object is, and what is
 /// known of its value before the program runs.

@@ -7,10 +7,10 @@ ghost use Rattle.dae_types_rules.specs.Table.{clashes_with_type};
 ghost use Rattle.dae_types_tables.specs.Seen.{tables, Follows};
 
 use dae_base::Place;
+use dae_tree::Name;
 use dae_types_kinds::{CheckError, Entity, NamedType, Rule};
 use dae_types_sites::{add_named_local, is_taken};
 use dae_types_tables::{Checker, broken, is_array, is_function, is_void};
-use dae_tree::Name;
 
 /// Declares the name of a type. The flags say that it stands in a block, and that it has an initialiser.
 #[tactic(auto, unfolding(dae_types_rules::specs::Plan::ask_all))]

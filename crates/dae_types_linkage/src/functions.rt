@@ -9,9 +9,9 @@ ghost use Rattle.dae_types_tables.specs.Seen.{tables, Follows, LeavesAnd};
 
 use crate::blocks::own_entity;
 use dae_base::Place;
+use dae_tree::Name;
 use dae_types_kinds::{CheckError, Entity, LibraryFunction, NamedType, Routine, Rule, Shape};
 use dae_types_tables::{Checker, INT_ID, NO_PARAMETERS_ID, broken, is_function};
-use dae_tree::Name;
 
 /// Declares a function, and gives its number. The flags say that the word static stands there, and that it has an
 /// initialiser.

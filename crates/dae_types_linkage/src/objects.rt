@@ -9,9 +9,9 @@ ghost use Rattle.dae_types_tables.specs.Seen.{tables, Follows, LeavesAnd};
 use crate::blocks::own_entity;
 use crate::functions::name_number;
 use dae_base::Place;
+use dae_tree::{Keyword, Name};
 use dae_types_kinds::{CheckError, Entity, Object, Rule};
 use dae_types_tables::{Checker, INT_ID, broken, is_array, is_void};
-use dae_tree::{Keyword, Name};
 
 /// Declares an object, and gives its number. The word is its storage class, and the flag says that it has an initialiser.
 #[tactic(auto, unfolding(dae_types_rules::specs::Plan::ask_all))]

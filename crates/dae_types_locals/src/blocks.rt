@@ -12,13 +12,13 @@ ghost use Rattle.dae_types_locals.specs.Plans.{plan_declared};
 
 use crate::locals::begin;
 use dae_base::Place;
+use dae_program::Statement;
+use dae_tree::{Declaration, Item, Keyword, Seen, Specifier};
 use dae_types_bodies::append;
 use dae_types_kinds::{CheckError, Context};
 use dae_types_linkage::{declare_local, declare_type};
-use dae_program::Statement;
 use dae_types_sites::base_type;
 use dae_types_tables::Checker;
-use dae_tree::{Declaration, Item, Keyword, Seen, Specifier};
 use dae_types_walk::{declarator, declared_place, place_of_specifiers, specifiers};
 use std::alloc::Global;
 

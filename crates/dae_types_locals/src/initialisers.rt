@@ -11,13 +11,13 @@ ghost use Rattle.dae_types_fills.specs.Fillings.{view_content, view_filling};
 ghost use Rattle.dae_types_locals.specs.Plans.{looked_through, plan_list, plan_whole};
 
 use dae_base::Place;
+use dae_tree::{Expression, Initialiser};
 use dae_types_fills::{
     Content, Filling, Rest, close_list, fill_item, finish_content, is_value_for, land, literal_in,
     open_list, refuse_value,
 };
 use dae_types_kinds::CheckError;
 use dae_types_tables::Checker;
-use dae_tree::{Expression, Initialiser};
 use dae_types_walk::operand;
 use std::alloc::Global;
 

@@ -9,14 +9,14 @@ ghost use Rattle.dae_types_locals.specs.Plans.{plan_initialised, plan_scalar_lis
 
 use crate::initialisers::{content, look_through};
 use dae_base::Place;
+use dae_program::Statement;
+use dae_tree::{Expression, Initialiser};
 use dae_types_bodies::{
     begin_local, initialise_aggregate, initialise_scalar, offset_of_local, type_of_local,
 };
 use dae_types_fills::check_scalar_list;
 use dae_types_kinds::CheckError;
-use dae_program::Statement;
 use dae_types_tables::{Checker, is_scalar};
-use dae_tree::{Expression, Initialiser};
 use dae_types_walk::operand;
 use std::alloc::Global;
 

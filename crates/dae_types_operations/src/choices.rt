@@ -10,9 +10,9 @@ ghost use Rattle.dae_types_folding.specs.Views.{view_value};
 ghost use Rattle.dae_types_values.specs.Results.{Joins, joined_pointers, three, GivesValue, two};
 
 use dae_base::Place;
+use dae_program::Expression;
 use dae_types_folding::{INT, VOID, Value, common, known_and, known_branch, known_or};
 use dae_types_kinds::{Category, CheckError, Known, Rule, Shape};
-use dae_program::Expression;
 use dae_types_tables::{Checker, broken, is_integer, is_scalar, is_void};
 use dae_types_values::is_null;
 use std::alloc::Global;

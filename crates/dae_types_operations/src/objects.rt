@@ -12,15 +12,15 @@ ghost use Rattle.dae_types_values.specs.Results.{GivesValue, one, two};
 
 use crate::operands::{combination_of, lacks_size, scaled_by};
 use dae_base::Place;
+use dae_meaning::Operator;
+use dae_program::Expression;
+use dae_tree::{AssignmentOperator, BinaryOperator, MemberOperator, Name};
 use dae_types_folding::{
     Combination, Deed, Value, based, deed_of, further, is_unsigned_for, known_further, load_kind,
     operator_of, scaled, target_of,
 };
 use dae_types_kinds::{Category, CheckError, Component, Known, Rule, Shape};
-use dae_meaning::Operator;
-use dae_program::Expression;
 use dae_types_tables::{Checker, broken, is_array, is_structure};
-use dae_tree::{AssignmentOperator, BinaryOperator, MemberOperator, Name};
 use dae_types_values::{convert, fits};
 use std::alloc::Global;
 

@@ -13,16 +13,16 @@ ghost use Rattle.dae_types_values.specs.Results.{GivesValue, two};
 
 use crate::choices::{and, or};
 use dae_base::Place;
+use dae_meaning::Operator;
+use dae_program::Expression;
+use dae_tree::BinaryOperator;
 use dae_types_folding::{
     Combination, INT, Value, based, deed_of, difference_of, is_comparison, is_difference,
     is_equality, is_sum, is_unsigned_for, moved_back, moved_on, operated, scaled, scaled_known,
     sum_of, tree_by, type_for,
 };
 use dae_types_kinds::{Category, CheckError, Rule, Shape};
-use dae_meaning::Operator;
-use dae_program::Expression;
 use dae_types_tables::{Checker, broken, is_integer, is_pointer, is_void};
-use dae_tree::BinaryOperator;
 use dae_types_values::is_null;
 use std::alloc::Global;
 

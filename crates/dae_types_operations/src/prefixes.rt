@@ -11,14 +11,14 @@ ghost use Rattle.dae_types_values.specs.Results.{GivesValue, one};
 use crate::objects::is_object;
 use crate::operands::lacks_size;
 use dae_base::Place;
+use dae_meaning::Operator;
+use dae_program::Expression;
+use dae_tree::{Name, PostfixOperator, PrefixOperator};
 use dae_types_folding::{
     Deed, INT, Value, based, known_not, load_kind, operated, pointee, promoted, target_of,
 };
 use dae_types_kinds::{Category, CheckError, Entity, Local, Rule, Shape};
-use dae_meaning::Operator;
-use dae_program::Expression;
 use dae_types_tables::{Checker, broken, is_array, is_scalar, is_void};
-use dae_tree::{Name, PostfixOperator, PrefixOperator};
 use dae_types_values::{integer, scalar, value};
 use std::alloc::Global;
 

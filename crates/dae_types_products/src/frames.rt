@@ -6,9 +6,9 @@ ghost use Rattle.dae_types_rules.specs.Plan.{Gives};
 ghost use Rattle.dae_types_tables.specs.Seen.{tables};
 ghost use Rattle.dae_types_typed.specs.Frames.{end_of, frame_of, is_variable, last_end, slot_of, slots_of, variables_of};
 
+use dae_program::Slot;
 use dae_types_folding::load_kind;
 use dae_types_kinds::{CheckError, Local, Storage};
-use dae_program::Slot;
 use dae_types_tables::Checker;
 use std::alloc::Global;
 

@@ -5,9 +5,9 @@ ghost use Rattle.dae_types_file_plans.specs.Files.{declares_function, declares_o
 ghost use Rattle.dae_types_products.specs.Products.{MakesProducts, as_products};
 
 use dae_base::Place;
+use dae_program::{Setting, Statement};
 use dae_types_file_plans::{FileDeclaration, Role};
 use dae_types_kinds::{CheckError, Entity, Local, Storage};
-use dae_program::{Setting, Statement};
 use std::alloc::Global;
 
 /// A function with its body, by its number: its parameters and local objects, where each is kept, and its statements.

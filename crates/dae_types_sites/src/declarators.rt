@@ -11,11 +11,11 @@ ghost use Rattle.dae_types_rules.specs.Table.{is_size};
 ghost use Rattle.dae_types_tables.specs.Seen.{tables, Follows, Leaves};
 
 use dae_base::Place;
+use dae_tree::Name;
 use dae_types_kinds::{CheckError, Entity, Known, Local, NamedType, Rule, Shape};
 use dae_types_tables::{
     Checker, broken, is_array, is_function, is_integer, is_structure, is_unsigned, is_void,
 };
-use dae_tree::Name;
 
 /// A pointer to a type.
 #[tactic(auto, unfolding(dae_types_rules::specs::Plan::ask_all))]

@@ -9,9 +9,9 @@ ghost use Rattle.dae_types_rules.specs.Plan.{pure};
 ghost use Rattle.dae_types_tables.specs.Seen.{Follows};
 
 use dae_base::Place;
+use dae_tree::Name;
 use dae_types_kinds::{CheckError, Entity, Known, Rule, Tagged};
 use dae_types_tables::{Checker, INT_ID, broken, is_integer};
-use dae_tree::Name;
 
 /// `enum` and a tag without enumerators.
 #[tactic(auto, unfolding(dae_types_rules::specs::Plan::ask_all))]

@@ -7,11 +7,11 @@ ghost use Rattle.dae_types_rules.specs.Table.{has_begun};
 ghost use Rattle.dae_types_tables.specs.Seen.{tables, Follows, LeavesAnd};
 
 use dae_base::Place;
+use dae_tree::Name;
 use dae_types_kinds::{CheckError, Component, Layout, NamedType, Rule, Shape, Structure, Tagged};
 use dae_types_tables::{
     Checker, MOST_BYTES, broken, finish_layout, is_function, is_void, place_member, round_up,
 };
-use dae_tree::Name;
 
 /// `struct` and a tag: the type of the structure of that tag, or of a new one that has no members yet. Where the
 /// declaration declares nothing else, the tag is one of the innermost scope.

@@ -6,12 +6,12 @@ ghost use Rattle.dae_types_rules.specs.Table.{is_block_storage, is_storage, is_s
 ghost use Rattle.dae_types_tables.specs.Seen.{Follows};
 
 use dae_base::Place;
+use dae_tree::{Arithmetic, Keyword, Name, Seen};
 use dae_types_kinds::{CheckError, Context, Entity, Rule};
 use dae_types_tables::{
     CHAR_ID, Checker, INT_ID, SHORT_ID, SIGNED_CHAR_ID, UNSIGNED_CHAR_ID, UNSIGNED_ID,
     UNSIGNED_SHORT_ID, VOID_ID, broken,
 };
-use dae_tree::{Arithmetic, Keyword, Name, Seen};
 
 /// A word of specifiers. It leaves the type that stands alone among them, if there is one so far.
 #[tactic(auto, unfolding(dae_types_rules::specs::Plan::ask_all))]

@@ -7,9 +7,9 @@ ghost use Rattle.dae_types_sound.specs.Fit.{has_bytes, is_in_object, names_bytes
 
 use crate::extents::{Extent, FileNames};
 use dae_base::Width;
-use dae_types_kinds::Layout;
 use dae_meaning::Operator;
 use dae_program::{Expression, Target};
+use dae_types_kinds::Layout;
 
 /// Each number in memory is a word.
 pub fn is_word(k: u32) -> bool

@@ -10,12 +10,12 @@ ghost use Rattle.dae_types_bodies.specs.Written.{GivesStatements};
 ghost use Rattle.dae_types_statements.specs.Plans.{plan_arguments_printed, plan_format_printed, plan_plain};
 
 use dae_base::Place;
+use dae_program::{Expression, Statement};
+use dae_tree::{Expression as Tree, Name};
 use dae_types_bodies::alone;
 use dae_types_fills::{add_printed, kinds_of_arguments, literal_in, read_format};
 use dae_types_kinds::{CheckError, LibraryFunction, Rule};
-use dae_program::{Expression, Statement};
 use dae_types_tables::{Checker, broken};
-use dae_tree::{Expression as Tree, Name};
 use dae_types_values::routine_of;
 use dae_types_walk::{name_in, operand};
 use std::alloc::Global;

@@ -7,9 +7,9 @@ ghost use Rattle.dae_types_bodies.specs.Arms.{armed};
 ghost use Rattle.dae_types_bodies.specs.Written.{MakesStatements, as_statements};
 
 use dae_base::Place;
+use dae_program::{Arm, Expression, Statement};
 use dae_types_bodies::{alone, append};
 use dae_types_kinds::CheckError;
-use dae_program::{Arm, Expression, Statement};
 use std::alloc::Global;
 
 /// A condition that is done.

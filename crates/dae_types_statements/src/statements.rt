@@ -18,14 +18,14 @@ use crate::values::{
     condition, give_back, label, optional_condition, optional_value, selector, starting_place,
 };
 use dae_base::Place;
+use dae_program::{Arm, Expression, Statement};
+use dae_tree::{Block, Declaration, Expression as Tree, Statement as TreeStatement};
 use dae_types_bodies::{Arming, add_case, add_default, add_statements, append, break_out, go_on};
 use dae_types_file_plans::Surrounding;
 use dae_types_folding::Value;
 use dae_types_kinds::{CheckError, Rule};
 use dae_types_locals::declarations;
-use dae_program::{Arm, Expression, Statement};
 use dae_types_tables::{Checker, broken};
-use dae_tree::{Block, Declaration, Expression as Tree, Statement as TreeStatement};
 use dae_types_walk::place_of_specifiers;
 use std::alloc::Global;
 

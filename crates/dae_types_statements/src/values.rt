@@ -10,13 +10,13 @@ ghost use Rattle.dae_types_bodies.specs.Written.{GivesStatements};
 ghost use Rattle.dae_types_statements.specs.Plans.{plan_selected};
 
 use dae_base::Place;
+use dae_program::{Expression, Statement};
+use dae_tree::Expression as Tree;
 use dae_types_bodies::{return_nothing, return_value, test};
 use dae_types_file_plans::Surrounding;
 use dae_types_folding::Value;
 use dae_types_kinds::CheckError;
-use dae_program::{Expression, Statement};
 use dae_types_tables::Checker;
-use dae_tree::Expression as Tree;
 use dae_types_values::integer;
 use dae_types_walk::{constant_value, expression, operand};
 use std::alloc::Global;

@@ -1,9 +1,9 @@
 // `int n; int main(void) { return n; }`, and near misses.
 
 use dae_base::{Items, LoadKind, Place, Text};
+use dae_program::{Expression, Statement};
 use dae_types_file_plans::{FileDeclaration, Role};
 use dae_types_kinds::{Entity, Object, Routine, Shape, Use};
-use dae_program::{Expression, Statement};
 use dae_types_sound::is_sound;
 use dae_types_typed::{FileParts, TypedFunction};
 use std::alloc::{AllocError, Global};

@@ -4,9 +4,9 @@ ghost use Rattle.std.specs.Prelude.{◌≡◌};
 ghost use Rattle.dae_types_typed.specs.Sound.{IsSound};
 
 use dae_base::{Items, Place, Text};
+use dae_program::{Setting, Slot, Statement};
 use dae_types_file_plans::FileDeclaration;
 use dae_types_kinds::{Component, Object, Routine, Shape, Structure, Use};
-use dae_program::{Setting, Slot, Statement};
 use std::marker::Model;
 
 /// The content of an initialised object with static storage, by the object's number: what is set, in the order of the text.

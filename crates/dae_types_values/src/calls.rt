@@ -15,11 +15,11 @@ ghost use Rattle.dae_types_values.specs.Results.{differs_in_number, one, views};
 
 use crate::converting::{convert, fits};
 use dae_base::Place;
+use dae_program::Expression;
+use dae_tree::Name;
 use dae_types_folding::{INT, NO_PARAMETERS, Value};
 use dae_types_kinds::{CheckError, Entity, LibraryFunction, Routine, Rule, Shape};
-use dae_program::Expression;
 use dae_types_tables::{Checker, broken, is_structure};
-use dae_tree::Name;
 use std::alloc::Global;
 
 /// The function that a name stands for.

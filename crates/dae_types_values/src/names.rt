@@ -10,11 +10,11 @@ ghost use Rattle.dae_types_folding.specs.Views.{MakesValue, view_value};
 ghost use Rattle.dae_types_values.specs.Results.{GivesValue};
 
 use dae_base::Place;
+use dae_program::Expression;
+use dae_tree::{Constant, Name};
 use dae_types_folding::{CHAR, INT, UNSIGNED, Value};
 use dae_types_kinds::{Category, CheckError, Entity, Known, Rule, Shape, Storage};
-use dae_program::Expression;
 use dae_types_tables::{Checker, broken};
-use dae_tree::{Constant, Name};
 
 /// An integer constant.
 pub fn constant_number(constant: Constant) -> Value

@@ -10,9 +10,9 @@ ghost use Rattle.dae_types_folding.specs.Views.{view_value};
 ghost use Rattle.dae_types_values.specs.Results.{GivesValue, one};
 
 use dae_base::Place;
+use dae_program::Expression;
 use dae_types_folding::{UNSIGNED, Value, load_kind};
 use dae_types_kinds::{Category, CheckError, Known, Rule, Shape};
-use dae_program::Expression;
 use dae_types_tables::{Checker, broken, is_integer, is_scalar, is_structure};
 use std::alloc::Global;
 

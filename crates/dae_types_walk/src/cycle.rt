@@ -13,13 +13,13 @@ use crate::parts::{
     place_of_specifiers,
 };
 use dae_base::Place;
-use dae_types_folding::Value;
-use dae_types_kinds::{CheckError, Context, Layout, NamedType, Rule};
-use dae_types_tables::{Checker, INT_ID, NO_PARAMETERS_ID, broken};
 use dae_tree::{
     AssignmentOperator, BinaryOperator, Declarator, Enumerator, Expression, Member, MemberOperator,
     Name, Parameter, PostfixOperator, PrefixOperator, Seen, Specifier, TypeName,
 };
+use dae_types_folding::Value;
+use dae_types_kinds::{CheckError, Context, Layout, NamedType, Rule};
+use dae_types_tables::{Checker, INT_ID, NO_PARAMETERS_ID, broken};
 use std::alloc::Global;
 
 /// The typed tree of an expression, as an object where it is one.
@@ -263,7 +263,15 @@ fn arguments(
     let mut number = 0;
     for e in list {
         let x = operand(alloc, checker, e)?;
-        done = dae_types_values::add_argument(alloc, checker, e.place(), function, number, done, x)?;
+        done = dae_types_values::add_argument(
+            alloc,
+            checker,
+            e.place(),
+            function,
+            number,
+            done,
+            x,
+        )?;
         number += 1;
     }
     Ok(done)
@@ -437,7 +445,9 @@ pub fn enumerators(
     let mut word = 0;
     for one in list {
         match one {
-            Enumerator::Plain(name) => word = dae_types_sites::add_enumerator(checker, *name, word)?,
+            Enumerator::Plain(name) => word = dae_types_sites::add_enumerator(
+                checker, *name, word,
+            )?,
             Enumerator::Valued(name, _, e) => {
                 let x = operand(alloc, checker, e)?;
                 let value = constant_value(checker, e.place(), x)?;
@@ -483,7 +493,13 @@ pub fn declarator(
         Declarator::Sized(inner, _, size) => {
             let x = operand(alloc, checker, size)?;
             let count = element_count(checker, size.place(), x)?;
-            let base = dae_types_sites::make_array(checker, place, free && is_last(inner), base, count)?;
+            let base = dae_types_sites::make_array(
+                checker,
+                place,
+                free && is_last(inner),
+                base,
+                count,
+            )?;
             declarator(alloc, checker, place, free, base, inner)
         }
         Declarator::Empty(inner, _) | Declarator::Void(inner, _, _) => {
@@ -530,7 +546,13 @@ pub fn parameters(
         let at = declared_place(&one.declarator, place_of_specifiers(&one.specifiers, place));
         let base = base(alloc, checker, Context::Parameter, &one.specifiers)?;
         let declared = declarator(alloc, checker, at, true, base, &one.declarator)?;
-        types = dae_types_sites::add_parameter(checker, at, types, one.declarator.name(), declared)?;
+        types = dae_types_sites::add_parameter(
+            checker,
+            at,
+            types,
+            one.declarator.name(),
+            declared,
+        )?;
     }
     Ok(types)
 }

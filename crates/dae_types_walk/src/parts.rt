@@ -9,10 +9,10 @@ ghost use Rattle.dae_types_values.specs.Results.{one};
 ghost use Rattle.dae_types_walk.specs.Plans.{function_named};
 
 use dae_base::Place;
+use dae_tree::{Declarator, Expression, Name, Specifier};
 use dae_types_folding::Value;
 use dae_types_kinds::CheckError;
 use dae_types_tables::Checker;
-use dae_tree::{Declarator, Expression, Name, Specifier};
 
 /// The name that is an expression, perhaps in parentheses.
 #[tactic(auto, using(dae_tree::proofs::Laws::view_call, dae_tree::proofs::Laws::view_sizeof_type, dae_tree::proofs::Laws::view_cast))]

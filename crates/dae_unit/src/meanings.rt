@@ -11,9 +11,9 @@ use crate::linkage::{external_name, same_name};
 use crate::numbers::{NumberedRows, number_of};
 use crate::rows::FileRow;
 use dae_base::Items;
+use dae_program::{Function, Links};
 use dae_types_file_plans::{FileDeclaration, Role};
 use dae_types_kinds::{Entity, Object, Routine};
-use dae_program::{Function, Links};
 use dae_types_typed::{FileParts, TypedFile, TypedFunction};
 use std::alloc::{AllocError, Global};
 
