@@ -42,14 +42,6 @@ loop_counted kind t new s m p q x y is px qy n k =
 abbrev pub IsCounted : Counted → List Step → ℕ → Tally → Type 0
 IsCounted kind steps i t = total kind t (actions_of (drop i steps)) ≡ most kind 0 0 (actions_of steps)
 
-pub counted_next : (kind : Counted) (steps : List Step) (i : ℕ) (s : Step) (old new : Tally) → i < length steps → s ≡ get_or steps i s
-    → ((k : Actions) → total kind new k ≡ total kind old (step_onto s k)) → IsCounted kind steps i old → IsCounted kind steps (i + 1) new
-counted_next kind steps i s old new lt is h so_far =
-    h (actions_of (drop (i + 1) steps)) ∙ (ap (λ (l : List Step). total kind old (actions_of l)) (sym (drop_at steps i s lt is)) ∙ so_far)
-
-pub counted_last : (kind : Counted) (steps : List Step) (i : ℕ) (t : Tally) → length steps ≤ i → IsCounted kind steps i t → max t.largest t.count ≡ most kind 0 0 (actions_of steps)
-counted_last kind steps i t le so_far = ap (λ (l : List Step). total kind t (actions_of l)) (sym (drop_all i steps le)) ∙ so_far
-
 -- ---- whether there is an action or a branch
 
 module _ (f : Action → Bool) (h : Branch → Bool) where
@@ -103,6 +95,3 @@ module _ (f : Action → Bool) (h : Branch → Bool) where
 
   pub left_next : (steps : List Step) (i : ℕ) (s : Step) → i < length steps → s ≡ get_or steps i s → false ≡ some f h (step_onto s Done) → Left steps i → Left steps (i + 1)
   left_next steps i s lt is no' so_far = (rw (← no') at (split steps i s lt is so_far))
-
-  pub left_last : (steps : List Step) (i : ℕ) → length steps ≤ i → Left steps i → false ≡ some f h (actions_of steps)
-  left_last steps i le so_far = ap (λ (l : List Step). some f h (actions_of l)) (sym (drop_all i steps le)) ∙ so_far

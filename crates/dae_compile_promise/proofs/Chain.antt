@@ -1,6 +1,6 @@
 -- From a program's meaning over its form to every run of an image that does the form.
 use Rattle.std.proofs.Common.{◌≡◌, ℕ, zero, suc, ◌+◌, ◌*◌, ◌≤◌, true, false, List, [], ◌∷◌, ◌++◌, length, Some, None, refl, sym, ap, ◌∙◌, subst, arith, append_assoc}
-use Rattle.std.specs.Prelude.{replicate, ◌-◌, slice_get}
+use Rattle.std.specs.Prelude.{replicate, ◌-◌, ◌/◌, slice_get}
 use Rattle.std.specs.List.{AllByRecursion}
 use Rattle.dae_base.specs.declared.Depths.{Depths}
 use Rattle.dae_base.specs.Budgets.{Reaches}
@@ -94,7 +94,7 @@ module _ (p : Program) (depth : ℕ) (ir : Ir) (image : Image) (lowered : IsLowe
 
   -- ---- where the program is over
 
-  short : (steps items work : ℕ) → steps ≤ 14 * (8 * items + 14) → items ≤ 11 * work → steps ≤ 1365 * (work + 1)
+  short : (steps items work : ℕ) → steps ≤ 14 * (8 * items + 14) → items ≤ 9 * work → steps ≤ 4096 * (work / 4 + 1)
   short steps items work h k = omega (arith, h, k)
 
   ends_at : (halt : Halt) (end : End) → ((m : ℕ) (w : World) → form_meaning m ≡ Over end w → Ends image 14 halt w) → IsOver end
@@ -110,7 +110,7 @@ module _ (p : Program) (depth : ℕ) (ir : Ir) (image : Image) (lowered : IsLowe
       record {
         end = x.state;
         picks = x.picks;
-        short = short (length x.picks) _ _ x.short (subst (λ (w : World). w.items ≤ 11 * (let v = last_world (program_meaning n) in v.items)) world k.items);
+        short = short (length x.picks) _ _ x.short (subst (λ (w : World). w.items ≤ 9 * (let v = last_world (program_meaning n) in v.items)) world k.items);
         halts = x.halt';
         memory = x.memory ∙ ap (λ (w : World). w.memory) (sym world) ∙ k.memory;
         printed = x.printed ∙ ap (λ (w : World). w.printed) (sym world) ∙ k.printed;

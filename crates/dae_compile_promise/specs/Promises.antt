@@ -1,6 +1,6 @@
 -- What an image promises of a typed program: in every order of steps, and at all depths that reach the image's budget, it
 -- does what the program means.
-use Rattle.std.specs.Prelude.{◌≡◌, ℕ, suc, ◌+◌, ◌*◌, ◌≤◌, List, length, Some}
+use Rattle.std.specs.Prelude.{◌≡◌, ℕ, suc, ◌+◌, ◌*◌, ◌/◌, ◌≤◌, List, length, Some}
 use Rattle.dae_base.specs.declared.Depths.{Depths}
 use Rattle.dae_base.specs.Budgets.{Reaches}
 use Rattle.dae_encode.specs.declared.Halt.{Halt}
@@ -26,7 +26,7 @@ use Rattle.dae_machine_runs.specs.Promises.{DoesForm}
 pub record OnlyEnds (image : Image) (halt : Halt) (w : World) : Type 0 where
   pub end : State
   pub picks : List Pick
-  pub short : length picks ≤ 1365 * (w.items + 1)
+  pub short : length picks ≤ 4096 * (w.items / 4 + 1)
   pub halts : end.e.halt ≡ Some halt
   pub memory : end.memory ≡ w.memory
   pub printed : end.printed ≡ w.printed

@@ -191,7 +191,7 @@ pub decode_encoded : (i : Inst) → InRange i → decode (encoded i) ≡ Some i
 decode_encoded i h = decode_is (encoded i) (encoded_below i h) ∙ fields_encoded i h
 
 -- a word that decodes is that of an instruction whose fields are in range
-encoded_decode : (w : ℕ) (i : Inst) → w < 2 ^ 32 → decode w ≡ Some i → InRange i × (encoded i ≡ w)
+pub encoded_decode : (w : ℕ) (i : Inst) → w < 2 ^ 32 → decode w ≡ Some i → InRange i × (encoded i ≡ w)
 encoded_decode w i h e = encoded_fields w i h (sym (decode_is w h) ∙ e)
 
 -- a word that does not decode is that of no instruction whose fields are in range

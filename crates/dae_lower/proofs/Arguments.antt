@@ -101,18 +101,18 @@ module _ (m n : ℕ) (s : Setup) (l : Links) (p : Program) (calls : Calls) where
 
     pub more_operands : (a : Expression) (xs : Expressions) → (Faithful m n s l p calls) (assigned a) (ways l a) (value s a) → AllFaithful xs → AllFaithful (tree.expression_then a xs)
     more_operands a xs h i later k j =
-        chain m n p calls (λ y n. operands l xs later n ≫ λ ys. nothing (y ∷ ys)) (λ x env w. values s xs env w ⟫ λ words. Gives (x.1 ∷ words)) 0 13 (suc (amount xs)) k k k (assigned a) (assigned_all xs) (omega arith)
+        chain m n p calls (λ y n. operands l xs later n ≫ λ ys. nothing (y ∷ ys)) (λ x env w. values s xs env w ⟫ λ words. Gives (x.1 ∷ words)) 0 11 (suc (amount xs)) k k k (assigned a) (assigned_all xs) (omega arith)
         (paid m n p calls 0 2 k (h.value (or later (assigned_all xs)) k j)) (λ x e o u t. tt)
         (λ o r z.
-        weaker m n p calls 13 (amount xs + 13) o 13 (suc (amount xs)) k (assigned_all xs) (omega arith) (omega arith) (omega arith) (λ v z. (or_nowhere m n s l p calls) (assigned_all xs v) z)
-        (chain m n p calls (λ ys. nothing (((ways l a).value (or later (assigned_all xs)) k).given ∷ ys)) (λ x. Gives (x.0.1 ∷ x.1)) 13 (amount xs + 13) (amount xs + 13) o o k (assigned_all xs) nowhere r
-        (knowing m n p calls 13 (amount xs + 13) o (λ x. tt) (λ x o u. tt) (spared m n p calls 13 0 (amount xs) o (i later o (omega (arith, j, r)))))
+        weaker m n p calls 11 (amount xs + 11) o 11 (suc (amount xs)) k (assigned_all xs) (omega arith) (omega arith) (omega arith) (λ v z. (or_nowhere m n s l p calls) (assigned_all xs v) z)
+        (chain m n p calls (λ ys. nothing (((ways l a).value (or later (assigned_all xs)) k).given ∷ ys)) (λ x. Gives (x.0.1 ∷ x.1)) 11 (amount xs + 11) (amount xs + 11) o o k (assigned_all xs) nowhere r
+        (knowing m n p calls 11 (amount xs + 11) o (λ x. tt) (λ x o u. tt) (spared m n p calls 11 0 (amount xs) o (i later o (omega (arith, j, r)))))
         (λ x e o' u t. (tt, still m k o later (assigned_all xs) _ e o' j r z t ∙ u.1))
-        (λ q y v. weaker m n p calls (0 + (amount xs + 13)) (0 + (amount xs + 13)) q (amount xs + 13) (amount xs + 13) k nowhere (omega arith) (omega arith) (omega arith) (λ v z. z) (spared m n p calls (amount xs + 13) 0 0 q (nothing_follows m n p calls later q k nowhere _ (λ x env. x.0.1 ∷ x.1) (lasts_on m later (assigned_all xs) k o k q _ (omega arith) y z, all_wider later o q k q _ r (omega arith) v) (λ x env o d u. both_same _ _ _ _ u.0.1 u.1))))))
+        (λ q y v. weaker m n p calls (0 + (amount xs + 11)) (0 + (amount xs + 11)) q (amount xs + 11) (amount xs + 11) k nowhere (omega arith) (omega arith) (omega arith) (λ v z. z) (spared m n p calls (amount xs + 11) 0 0 q (nothing_follows m n p calls later q k nowhere _ (λ x env. x.0.1 ∷ x.1) (lasts_on m later (assigned_all xs) k o k q _ (omega arith) y z, all_wider later o q k q _ r (omega arith) v) (λ x env o d u. both_same _ _ _ _ u.0.1 u.1))))))
 
     -- a call behind its test for room does what the program's call does, in variable v
     abbrev pub Called : Type 0
-    Called = (place : Place) (f : ℕ) (ys : List Operand) (env other : Env) (w : World) (i t v k : ℕ) → m ≤ v → k ≤ v → Agree m env other → i + (t + (length ys + 4)) ≤ 11 * w.items →
+    Called = (place : Place) (f : ℕ) (ys : List Operand) (env other : Env) (w : World) (i t v k : ℕ) → m ≤ v → k ≤ v → Agree m env other → i + (t + (length ys + 4)) ≤ 9 * w.items →
         Alike m k nowhere (Holding (Variable v)) t other (returned env (s.calls f (all_held ys other) w))
         (run m n p calls (Do place (Expect (Room (l.callee f))) (one place (Call v (l.callee f) ys))) other (at i w))
 
@@ -120,7 +120,7 @@ module _ (m n : ℕ) (s : Setup) (l : Links) (p : Program) (calls : Calls) where
       pub call_value : (place : Place) (f : ℕ) (xs : Expressions) → AllFaithful xs → (AsValue m n s l p calls) (assigned_all xs) (ways l (tree.Call place f xs)).value (value s (tree.Call place f xs))
       call_value place f xs h later k j =
           weaker m n p calls 0 2 k 0 2 k (assigned_all xs) (omega arith) (omega arith) (omega arith) (λ v z. (or_nowhere m n s l p calls) (assigned_all xs v) z)
-          (chain m n p calls (λ ys n. only (Do place (Expect (Room (l.callee f))) (one place (Call n (l.callee f) ys))) (Variable n) (n + 1)) (λ x env w. returned env (s.calls f x.1 w)) 0 (amount xs + 11) 2 k k k (assigned_all xs) nowhere (omega arith)
+          (chain m n p calls (λ ys n. only (Do place (Expect (Room (l.callee f))) (one place (Call n (l.callee f) ys))) (Variable n) (n + 1)) (λ x env w. returned env (s.calls f x.1 w)) 0 (amount xs + 9) 2 k k k (assigned_all xs) nowhere (omega arith)
           (paid m n p calls 0 (amount xs) k (h later k j)) (λ x e o u t. tt)
           (λ o r z. record {
             grows = omega arith;

@@ -83,17 +83,17 @@ module _ (m n : ℕ) (s : Setup) (l : Links) (p : Program) (calls : Calls) where
 
     pub assign_value : (place : Place) (kind : LoadKind) (t : Target) (a : Expression) → TargetFaithful t → (Faithful m n s l p calls) (assigned a) (ways l a) (value s a) → (AsValue m n s l p calls) (assigned (tree.Assign place kind t a)) (ways l (tree.Assign place kind t a)).value (value s (tree.Assign place kind t a))
     assign_value place kind t a h i later k j =
-        (pair m n s l p calls) _ (value s a) (put_in place kind) (λ x o. write kind o) later 0 11 k k (assigned_in t) (assigned a) (assigned_target t) (omega arith) j (omega arith)
+        (pair m n s l p calls) _ (value s a) (put_in place kind) (λ x o. write kind o) later 0 9 k k (assigned_in t) (assigned a) (assigned_target t) (omega arith) j (omega arith)
         (paid m n p calls 0 0 k (h (or later (assigned a)) k j)) (λ x e o u v. tt) i.value
         (λ o r z x y e f u v d. (tt, still_standing (assigned_target t) (assigned a) later k o _ y e f j r z d v))
-        (λ o q y r v z d. (cheaper m n s l p calls) 2 8 q (omega arith) (put_follows m n p calls later q k k (assigned_target t) place kind _ y (λ x. x.0.1) (λ x. x.1) (spot_in (assigned_target t) later k q _ (spot_on (assigned_target t) (assigned a) later k o q _ v z)) d (λ x o u. u.0.1) (λ x o u. u.1)))
+        (λ o q y r v z d. (cheaper m n s l p calls) 2 6 q (omega arith) (put_follows m n p calls later q k k (assigned_target t) place kind _ y (λ x. x.0.1) (λ x. x.1) (spot_in (assigned_target t) later k q _ (spot_on (assigned_target t) (assigned a) later k o q _ v z)) d (λ x o u. u.0.1) (λ x o u. u.1)))
 
     -- what an update computes and writes, once the target is read and the right side evaluated
     pub updated : {W : Type 0} {Was : W → Env → Type 0} (place : Place) (kind : LoadKind) (operator : Operator) (c later : VariableSet) (k q : ℕ) (t : Spot) (b : W → Object) (y z : Operand) (u v : W → ℕ) → m ≤ k → k ≤ q → SpotLasts c later k q t →
         ((x : W) (o : Env) → Was x o → Standing t (b x) o) → ((x : W) (o : Env) → Was x o → Holding y (u x) o) → ((x : W) (o : Env) → Was x o → Holding z (v x) o) →
-        Follows m n p calls 8 0 q k c (Lasts m later k) Was Holding (operated place operator y z q ≫ λ z q. narrowed place kind z q ≫ put_in place kind t) (λ x env w. operates operator (u x) (v x) env w ⟫ λ z. write kind (b x) (extended kind z))
+        Follows m n p calls 6 0 q k c (Lasts m later k) Was Holding (operated place operator y z q ≫ λ z q. narrowed place kind z q ≫ put_in place kind t) (λ x env w. operates operator (u x) (v x) env w ⟫ λ z. write kind (b x) (extended kind z))
     updated {W} {Was} place kind operator c later k q t b y z u v j i f hb hy hz =
-        weaker m n p calls 5 0 q 8 0 k c (omega arith) (omega arith) (omega arith) (λ v z. z)
+        weaker m n p calls 5 0 q 6 0 k c (omega arith) (omega arith) (omega arith) (λ v z. z)
         (chain_to m n p calls (λ x. Standing t (b x)) (λ z q. narrowed place kind z q ≫ put_in place kind t) (λ x env w. Gives (extended kind x.1) env w ⟫ write kind (b x.0)) 5 3 0 q q k nowhere c i
         (spared m n p calls 3 2 0 q (operated_follows m n p calls later q q place operator y z u v (omega (arith, j, i)) (omega arith) hy hz))
         (λ x e o w r. standing_alone c later k q t (b x) e o j i f r (hb x e w))
@@ -107,12 +107,12 @@ module _ (m n : ℕ) (s : Setup) (l : Links) (p : Program) (calls : Calls) where
     update_value place kind t operator a h i later k j =
         weaker m n p calls 0 2 k 0 2 k (assigned (tree.Update place kind t operator a)) (omega arith) (omega arith) (omega arith) (λ v z. z)
         (chain m n p calls (λ o n. held_in place kind (or later (assigned a)) o n ≫ λ x n. (ways l a).value later n ≫ λ y n. operated place operator x y n ≫ λ z n. narrowed place kind z n ≫ put_in place kind o) (λ x env w. read kind x.1 env w ⟫ λ y env w. value s a env w ⟫ λ z env w. operates operator y z env w ⟫ λ z. write kind x.1 (extended kind z))
-        0 11 2 k k k (assigned_in t) (or (assigned a) (assigned_target t)) (omega arith)
+        0 9 2 k k k (assigned_in t) (or (assigned a) (assigned_target t)) (omega arith)
         (paid m n p calls 0 0 k (h (or later (assigned a)) k j)) (λ x e o u v. tt)
         (λ o r z.
-        weaker m n p calls 11 2 o 11 2 k (or (assigned a) (assigned_target t)) (omega arith) (omega arith) (omega arith) (λ v z. z)
-        ((pair m n s l p calls) _ (value s a) (λ x y n. operated place operator x y n ≫ λ z n. narrowed place kind z n ≫ put_in place kind (spot l t (or later (assigned a)) k).given) (λ x y z env w. operates operator y z env w ⟫ λ z. write kind x.1 (extended kind z)) later 11 9 o k nowhere (assigned a) (assigned_target t) (omega arith) j r
-        (spared m n p calls 9 2 0 o (held_follows m n p calls (or later (assigned a)) o o place kind (or later (assigned a)) _ (λ x. x.1) (omega (arith, j, r)) (omega arith) (λ v e. e) (spot_among (assigned_target t) (or later (assigned a)) k o _ z) (λ x o u. u.1)))
+        weaker m n p calls 9 2 o 9 2 k (or (assigned a) (assigned_target t)) (omega arith) (omega arith) (omega arith) (λ v z. z)
+        ((pair m n s l p calls) _ (value s a) (λ x y n. operated place operator x y n ≫ λ z n. narrowed place kind z n ≫ put_in place kind (spot l t (or later (assigned a)) k).given) (λ x y z env w. operates operator y z env w ⟫ λ z. write kind x.1 (extended kind z)) later 9 7 o k nowhere (assigned a) (assigned_target t) (omega arith) j r
+        (spared m n p calls 7 2 0 o (held_follows m n p calls (or later (assigned a)) o o place kind (or later (assigned a)) _ (λ x. x.1) (omega (arith, j, r)) (omega arith) (λ v e. e) (spot_among (assigned_target t) (or later (assigned a)) k o _ z) (λ x o u. u.1)))
         (λ x e o' u v. (tt, standing_alone (assigned_target t) (or later (assigned a)) k o _ x.1 e o' j r z v u.1))
         i.value
         (λ g y d x c e f u v b. ((tt, still_standing (assigned_target t) (assigned a) later k g _ x.1 e f j (omega (arith, r, y)) (spot_wider (assigned_target t) (or later (assigned a)) k o g _ y z) b u.1), still m o g later (assigned a) _ e f (omega (arith, j, r)) y d b ∙ v))
@@ -141,30 +141,30 @@ module _ (m n : ℕ) (s : Setup) (l : Links) (p : Program) (calls : Calls) where
     step_value place kind t change new h later k j =
         weaker m n p calls 0 2 k 0 2 k (assigned (tree.Step place kind t change new)) (omega arith) (omega arith) (omega arith) (λ v z. z)
         (chain m n p calls (λ o n. held_in place kind copied o n ≫ λ x n. advanced place kind change o x n ≫ λ y. nothing (if new then y else x)) (λ x env w. read kind x.1 env w ⟫ λ y env w. write kind x.1 (extended kind (plus y change)) env w ⟫ λ z. Gives (if new then z else y))
-        0 11 2 k k k (assigned_in t) (assigned_target t) (omega arith)
+        0 9 2 k k k (assigned_in t) (assigned_target t) (omega arith)
         (paid m n p calls 0 0 k (h later k j)) (λ x e o u v. tt)
         (λ o r z.
-        weaker m n p calls 11 2 o 11 2 k (assigned_target t) (omega arith) (omega arith) (omega arith) (λ v z. z)
-        (chain m n p calls (λ x n. advanced place kind change (spot l t later k).given x n ≫ λ y. nothing (if new then y else x)) (λ x env w. write kind x.0.1 (extended kind (plus x.1 change)) env w ⟫ λ z. Gives (if new then z else x.1)) 11 9 2 o o k nowhere (assigned_target t) r
-        (spared m n p calls 9 2 0 o (held_follows m n p calls copied o o place kind copied _ (λ x. x.1) (omega (arith, j, r)) (omega arith) (λ v e. e) (spot_among (assigned_target t) later k o _ z) (λ x o u. u.1)))
+        weaker m n p calls 9 2 o 9 2 k (assigned_target t) (omega arith) (omega arith) (omega arith) (λ v z. z)
+        (chain m n p calls (λ x n. advanced place kind change (spot l t later k).given x n ≫ λ y. nothing (if new then y else x)) (λ x env w. write kind x.0.1 (extended kind (plus x.1 change)) env w ⟫ λ z. Gives (if new then z else x.1)) 9 7 2 o o k nowhere (assigned_target t) r
+        (spared m n p calls 7 2 0 o (held_follows m n p calls copied o o place kind copied _ (λ x. x.1) (omega (arith, j, r)) (omega arith) (λ v e. e) (spot_among (assigned_target t) later k o _ z) (λ x o u. u.1)))
         (λ x e o' u v. (tt, standing_alone (assigned_target t) later k o _ x.1 e o' j r z v u.1))
-        (λ g y d. weaker m n p calls 9 4 g 9 2 k (assigned_target t) (omega arith) (omega arith) (omega arith) (λ v z. (or_nowhere m n s l p calls) (assigned_target t v) z)
+        (λ g y d. weaker m n p calls 7 2 g 7 2 k (assigned_target t) (omega arith) (omega arith) (omega arith) (λ v z. (or_nowhere m n s l p calls) (assigned_target t v) z)
         (gives_one new g (held_in place kind copied (spot l t later k).given o).given o r y z d))))) where
           copied : VariableSet
           copied = if new then later else or later (assigned_target t)
 
           gives_one : (new : Bool) (g : ℕ) (y : Operand) (o : ℕ) → k ≤ o → o ≤ g → SpotLasts (assigned_target t) later k o (spot l t later k).given → Lasts m (if new then later else or later (assigned_target t)) o g y →
-              Follows m n p calls 9 4 g k (or (assigned_target t) nowhere) (Lasts m later k) (λ x o. (Unit {0} × Standing (spot l t later k).given x.0.1 o) × Holding y x.1 o) Holding (advanced place kind change (spot l t later k).given y g ≫ λ z. nothing (if new then z else y)) (λ (x : ((Start m n s l p calls) × Object) × ℕ) env w. write kind x.0.1 (extended kind (plus x.1 change)) env w ⟫ λ z. Gives (if new then z else x.1))
+              Follows m n p calls 7 2 g k (or (assigned_target t) nowhere) (Lasts m later k) (λ x o. (Unit {0} × Standing (spot l t later k).given x.0.1 o) × Holding y x.1 o) Holding (advanced place kind change (spot l t later k).given y g ≫ λ z. nothing (if new then z else y)) (λ (x : ((Start m n s l p calls) × Object) × ℕ) env w. write kind x.0.1 (extended kind (plus x.1 change)) env w ⟫ λ z. Gives (if new then z else x.1))
           gives_one true g y o r i z d =
-              chain_to m n p calls Anything (λ z. nothing z) (λ x. Gives x.1) 9 4 4 g g k (assigned_target t) nowhere (omega (arith, r, i))
-              (spared m n p calls 4 5 0 g (stepping place kind change (assigned_target t) later k g g _ (λ x. x.0.1) y (λ x. x.1) j (omega (arith, r, i)) (omega arith) (spot_wider (assigned_target t) later k o g _ i z) (λ x o u. u.0.1) (λ x o u. u.1)))
+              chain_to m n p calls Anything (λ z. nothing z) (λ x. Gives x.1) 7 2 2 g g k (assigned_target t) nowhere (omega (arith, r, i))
+              (spared m n p calls 2 5 0 g (stepping place kind change (assigned_target t) later k g g _ (λ x. x.0.1) y (λ x. x.1) j (omega (arith, r, i)) (omega arith) (spot_wider (assigned_target t) later k o g _ i z) (λ x o u. u.0.1) (λ x o u. u.1)))
               (λ x e o' u v. tt)
-              (λ q v w. spared m n p calls 4 0 0 q (nothing_follows m n p calls later q k nowhere _ (λ x env. x.1) w (λ x env o d u. u.1)))
+              (λ q v w. spared m n p calls 2 0 0 q (nothing_follows m n p calls later q k nowhere _ (λ x env. x.1) w (λ x env o d u. u.1)))
           gives_one false g y o r i z d =
-              chain_to m n p calls (λ x. Holding y x.1) (λ z. nothing y) (λ x. Gives x.0.1) 9 4 4 g g k (assigned_target t) nowhere (omega (arith, r, i))
-              (spared m n p calls 4 5 0 g (stepping place kind change (assigned_target t) later k g g _ (λ x. x.0.1) y (λ x. x.1) j (omega (arith, r, i)) (omega arith) (spot_wider (assigned_target t) later k o g _ i z) (λ x o u. u.0.1) (λ x o u. u.1)))
+              chain_to m n p calls (λ x. Holding y x.1) (λ z. nothing y) (λ x. Gives x.0.1) 7 2 2 g g k (assigned_target t) nowhere (omega (arith, r, i))
+              (spared m n p calls 2 5 0 g (stepping place kind change (assigned_target t) later k g g _ (λ x. x.0.1) y (λ x. x.1) j (omega (arith, r, i)) (omega arith) (spot_wider (assigned_target t) later k o g _ i z) (λ x o u. u.0.1) (λ x o u. u.1)))
               (λ x e o' u v. still m o g later (assigned_target t) y e o' (omega (arith, j, r)) i d v ∙ u.1)
-              (λ q v w. spared m n p calls 4 0 0 q (nothing_follows m n p calls later q k nowhere y (λ x env. x.0.1) (lasts_on m later (assigned_target t) o g k q y r v d) (λ x env o d u. u.0)))
+              (λ q v w. spared m n p calls 2 0 0 q (nothing_follows m n p calls later q k nowhere y (λ x env. x.0.1) (lasts_on m later (assigned_target t) o g k q y r v d) (λ x env o d u. u.0)))
 
     abbrev pub forgot : {Y : Type 0} → Outcome Y → Outcome (Unit {0})
     forgot (Gives x env w) = Gives tt env w

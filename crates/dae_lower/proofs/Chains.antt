@@ -32,15 +32,15 @@ module _ (m n : ℕ) (p : Program) (calls : Calls) where
   pub record Follows {X Y Z : Type 0} (a b q k : ℕ) (c : VariableSet) (Lasting : ℕ → Z → Type 0) (Was : X → Env → Type 0) (Is : Z → Y → Env → Type 0) (made : Made Z) (f : X → Env → World → Outcome Y) : Type 0 where
     pub grows : q ≤ made.next
     pub lasts : Lasting made.next made.given
-    pub runs : (x : X) (env other : Env) (w : World) (i s : ℕ) → Agree m env other → Was x other → i + (s + a) ≤ 11 * w.items → Alike m k c (Is made.given) (s + b) other (f x env w) (run made.code other (at i w))
+    pub runs : (x : X) (env other : Env) (w : World) (i s : ℕ) → Agree m env other → Was x other → i + (s + a) ≤ 9 * w.items → Alike m k c (Is made.given) (s + b) other (f x env w) (run made.code other (at i w))
 
   module _ {X Y Z : Type 0} {k : ℕ} {c : VariableSet} {Lasting : ℕ → Z → Type 0} {Was : X → Env → Type 0} {Is : Z → Y → Env → Type 0} {f : X → Env → World → Outcome Y} {made : Made Z} where
     -- one unit of work comes first
-    pub paid : (a b q : ℕ) → Follows a b q k c Lasting Was Is made f → Follows a (b + 11) q k c Lasting Was Is made (λ x env w. f x env (ticked w))
+    pub paid : (a b q : ℕ) → Follows a b q k c Lasting Was Is made f → Follows a (b + 9) q k c Lasting Was Is made (λ x env w. f x env (ticked w))
     paid a b q h = record {
       grows = h.grows;
       lasts = h.lasts;
-      runs = λ x env other w i s g u o. subst (λ t. Alike m k c (Is made.given) t other (f x env (ticked w)) (run made.code other (at i w))) (omega arith) (h.runs x env other (ticked w) i (s + 11) g u (omega (arith, o)));
+      runs = λ x env other w i s g u o. subst (λ t. Alike m k c (Is made.given) t other (f x env (ticked w)) (run made.code other (at i w))) (omega arith) (h.runs x env other (ticked w) i (s + 9) g u (omega (arith, o)));
     }
 
     -- more is paid, and stays
@@ -63,7 +63,7 @@ module _ (m n : ℕ) (p : Program) (calls : Calls) where
       by v (inr h) = inr (z v h)
 
     -- one unit of work pays for it
-    pub bought : (q : ℕ) → Follows 9 0 q k c Lasting Was Is made f → Follows 0 2 q k c Lasting Was Is made (λ x env w. f x env (ticked w))
+    pub bought : (q : ℕ) → Follows 7 0 q k c Lasting Was Is made f → Follows 0 2 q k c Lasting Was Is made (λ x env w. f x env (ticked w))
     bought q h = record {
       grows = h.grows;
       lasts = h.lasts;
@@ -121,7 +121,3 @@ module _ (m n : ℕ) (p : Program) (calls : Calls) where
 pub given_on : {X : Type 0} (r : Outcome X) → (r ⟫ Gives) ≡ r
 given_on (Gives x env w) = refl
 given_on (Ends end w) = refl
-
-pub bound_on : {X Y Z : Type 0} (r : Outcome X) (f : X → Env → World → Outcome Y) (g : Y → Env → World → Outcome Z) → ((r ⟫ f) ⟫ g) ≡ (r ⟫ λ x env w. f x env w ⟫ g)
-bound_on (Gives x env w) f g = refl
-bound_on (Ends end w) f g = refl

@@ -46,20 +46,20 @@ module _ (m n : ℕ) (s : Setup) (l : Links) (p : Program) (calls : Calls) where
     and_value place a b h i later k r =
         in_variable (or (assigned a) (assigned b)) _ (value s (tree.And place a b)) later k r
         (weaker m n p calls 0 3 (k + 1) 0 2 k (or (assigned a) (assigned b)) (omega arith) (omega arith) (omega arith) (λ v z. z)
-        (branches_follow m n p calls place _ _ (λ x env w. value s b env w ⟫ decided) (λ x. Gives 0) 0 12 3 (k + 1) (k + 1) k (assigned a) (assigned b) (omega arith)
+        (branches_follow m n p calls place _ _ (λ x env w. value s b env w ⟫ decided) (λ x. Gives 0) 0 10 3 (k + 1) (k + 1) k (assigned a) (assigned b) (omega arith)
         (paid m n p calls 0 2 (k + 1) (h.condition (or later (assigned b)) (k + 1) (omega (arith, r)))) (λ x e o u t. tt)
-        (λ o j. weaker m n p calls 12 12 o 12 3 k (assigned b) (omega arith) (omega arith) (omega arith) (λ v z. z) (spared m n p calls 12 0 0 o
+        (λ o j. weaker m n p calls 10 10 o 10 3 k (assigned b) (omega arith) (omega arith) (omega arith) (λ v z. z) (spared m n p calls 10 0 0 o
         (decided_in place (assigned b) ((ways l b).condition later) (value s b) o k r (omega (arith, j)) (i.condition later o (omega (arith, r, j))) (λ x e o u t. tt))))
-        (λ o j. weaker m n p calls 4 3 o 12 3 k (assigned b) (omega arith) (omega arith) (omega arith) (λ v z. z) (spared m n p calls 3 1 0 o (number_given o k k place 0 (assigned b) r (omega arith))))))
+        (λ o j. weaker m n p calls 4 3 o 10 3 k (assigned b) (omega arith) (omega arith) (omega arith) (λ v z. z) (spared m n p calls 3 1 0 o (number_given o k k place 0 (assigned b) r (omega arith))))))
 
     pub or_value : (place : Place) (a b : Expression) → (Faithful m n s l p calls) (assigned a) (ways l a) (value s a) → (Faithful m n s l p calls) (assigned b) (ways l b) (value s b) → (AsValue m n s l p calls) (or (assigned a) (assigned b)) (ways l (tree.Or place a b)).value (value s (tree.Or place a b))
     or_value place a b h i later k r =
         in_variable (or (assigned a) (assigned b)) _ (value s (tree.Or place a b)) later k r
         (weaker m n p calls 0 3 (k + 1) 0 2 k (or (assigned a) (assigned b)) (omega arith) (omega arith) (omega arith) (λ v z. z)
-        (branches_follow m n p calls place _ _ (λ x. Gives 1) (λ x env w. value s b env w ⟫ decided) 0 12 3 (k + 1) (k + 1) k (assigned a) (assigned b) (omega arith)
+        (branches_follow m n p calls place _ _ (λ x. Gives 1) (λ x env w. value s b env w ⟫ decided) 0 10 3 (k + 1) (k + 1) k (assigned a) (assigned b) (omega arith)
         (paid m n p calls 0 2 (k + 1) (h.condition (or later (assigned b)) (k + 1) (omega (arith, r)))) (λ x e o u t. tt)
-        (λ o j. weaker m n p calls 4 3 o 12 3 k (assigned b) (omega arith) (omega arith) (omega arith) (λ v z. z) (spared m n p calls 3 1 0 o (number_given o k k place 1 (assigned b) r (omega arith))))
-        (λ o j. weaker m n p calls 12 12 o 12 3 k (assigned b) (omega arith) (omega arith) (omega arith) (λ v z. z) (spared m n p calls 12 0 0 o
+        (λ o j. weaker m n p calls 4 3 o 10 3 k (assigned b) (omega arith) (omega arith) (omega arith) (λ v z. z) (spared m n p calls 3 1 0 o (number_given o k k place 1 (assigned b) r (omega arith))))
+        (λ o j. weaker m n p calls 10 10 o 10 3 k (assigned b) (omega arith) (omega arith) (omega arith) (λ v z. z) (spared m n p calls 10 0 0 o
         (decided_in place (assigned b) ((ways l b).condition later) (value s b) o k r (omega (arith, j)) (i.condition later o (omega (arith, r, j))) (λ x e o u t. tt))))))
 
     -- a value in variable v
@@ -74,20 +74,20 @@ module _ (m n : ℕ) (s : Setup) (l : Links) (p : Program) (calls : Calls) where
     pub conditional_value : (place : Place) (a b c : Expression) → (Faithful m n s l p calls) (assigned a) (ways l a) (value s a) → (Faithful m n s l p calls) (assigned b) (ways l b) (value s b) → (Faithful m n s l p calls) (assigned c) (ways l c) (value s c) → (AsValue m n s l p calls) (or (assigned a) (or (assigned b) (assigned c))) (ways l (tree.Conditional place a b c)).value (value s (tree.Conditional place a b c))
     conditional_value place a b c h i j later k low =
         in_variable (or (assigned a) (or (assigned b) (assigned c))) _ (value s (tree.Conditional place a b c)) later k low
-        (weaker m n p calls 0 13 (k + 1) 0 2 k (or (assigned a) (or (assigned b) (assigned c))) (omega arith) (omega arith) (omega arith) (λ v z. z)
-        (branches_follow m n p calls place _ _ (λ x. value s b) (λ x. value s c) 0 12 13 (k + 1) (k + 1) k (assigned a) (or (assigned b) (assigned c)) (omega arith)
+        (weaker m n p calls 0 11 (k + 1) 0 2 k (or (assigned a) (or (assigned b) (assigned c))) (omega arith) (omega arith) (omega arith) (λ v z. z)
+        (branches_follow m n p calls place _ _ (λ x. value s b) (λ x. value s c) 0 10 11 (k + 1) (k + 1) k (assigned a) (or (assigned b) (assigned c)) (omega arith)
         (paid m n p calls 0 2 (k + 1) (h.condition (or later (or (assigned b) (assigned c))) (k + 1) (omega (arith, low)))) (λ x e o u t. tt)
-        (λ o r. weaker m n p calls 12 13 o 12 13 k (or (assigned b) (assigned c)) (omega arith) (omega arith) (omega arith) (λ v z. (or_false (assigned b v) (assigned c v) z).0) (spared m n p calls 12 0 1 o
+        (λ o r. weaker m n p calls 10 11 o 10 11 k (or (assigned b) (assigned c)) (omega arith) (omega arith) (omega arith) (λ v z. (or_false (assigned b v) (assigned c v) z).0) (spared m n p calls 10 0 1 o
         (value_in place (assigned b) _ (value s b) later o k low (omega (arith, r)) i.value (λ x e o u t. tt))))
-        (λ o r. weaker m n p calls 12 13 o 12 13 k (or (assigned b) (assigned c)) (omega arith) (omega arith) (omega arith) (λ v z. (or_false (assigned b v) (assigned c v) z).1) (spared m n p calls 12 0 1 o
+        (λ o r. weaker m n p calls 10 11 o 10 11 k (or (assigned b) (assigned c)) (omega arith) (omega arith) (omega arith) (λ v z. (or_false (assigned b v) (assigned c v) z).1) (spared m n p calls 10 0 1 o
         (value_in place (assigned c) _ (value s c) later o k low (omega (arith, r)) j.value (λ x e o u t. tt))))))
 
     pub conditional_effect : (place : Place) (a b c : Expression) → (Faithful m n s l p calls) (assigned a) (ways l a) (value s a) → (Faithful m n s l p calls) (assigned b) (ways l b) (value s b) → (Faithful m n s l p calls) (assigned c) (ways l c) (value s c) → (AsEffect m n s l p calls) (or (assigned a) (or (assigned b) (assigned c))) (ways l (tree.Conditional place a b c)).effect (value s (tree.Conditional place a b c))
     conditional_effect place a b c h i j later k low =
-        weaker m n p calls 0 14 k 0 2 k (or (assigned a) (or (assigned b) (assigned c))) (omega arith) (omega arith) (omega arith) (λ v z. z)
-        (branches_follow m n p calls place _ _ (λ x. value s b) (λ x. value s c) 0 12 14 k k k (assigned a) (or (assigned b) (assigned c)) (omega arith)
+        weaker m n p calls 0 12 k 0 2 k (or (assigned a) (or (assigned b) (assigned c))) (omega arith) (omega arith) (omega arith) (λ v z. z)
+        (branches_follow m n p calls place _ _ (λ x. value s b) (λ x. value s c) 0 10 12 k k k (assigned a) (or (assigned b) (assigned c)) (omega arith)
         (paid m n p calls 0 2 k (h.condition (or later (or (assigned b) (assigned c))) k low)) (λ x e o u t. tt)
-        (λ o r. weaker m n p calls 12 14 o 12 14 k (or (assigned b) (assigned c)) (omega arith) (omega arith) (omega arith) (λ v z. (or_false (assigned b v) (assigned c v) z).0) (spared m n p calls 12 0 2 o
+        (λ o r. weaker m n p calls 10 12 o 10 12 k (or (assigned b) (assigned c)) (omega arith) (omega arith) (omega arith) (λ v z. (or_false (assigned b v) (assigned c v) z).0) (spared m n p calls 10 0 2 o
         ((lower_base m n s l p calls places) k o r (i.effect later o (omega (arith, low, r))))))
-        (λ o r. weaker m n p calls 12 14 o 12 14 k (or (assigned b) (assigned c)) (omega arith) (omega arith) (omega arith) (λ v z. (or_false (assigned b v) (assigned c v) z).1) (spared m n p calls 12 0 2 o
+        (λ o r. weaker m n p calls 10 12 o 10 12 k (or (assigned b) (assigned c)) (omega arith) (omega arith) (omega arith) (λ v z. (or_false (assigned b v) (assigned c v) z).1) (spared m n p calls 10 0 2 o
         ((lower_base m n s l p calls places) k o r (j.effect later o (omega (arith, low, r)))))))

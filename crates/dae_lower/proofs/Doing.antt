@@ -22,24 +22,21 @@ everything v = true
 
 -- Both go the same way, or end alike. Of the form's variables below k, none changes but the program's of c.
 pub data Same (m k : ℕ) (c : VariableSet) (spare : ℕ) (e : Env) : Result Env → Result Env → Type 0 where
-  Goes : (way : Way) (env other : Env) (w : World) (i : ℕ) → Agree m env other → Kept m k c e other → i + spare ≤ 11 * w.items → Same m k c spare e (At way env w) (At way other (at i w))
-  Halts : (end : End) (w : World) (i : ℕ) → i ≤ 11 * w.items → Same m k c spare e (Over end w) (Over end (at i w))
+  Goes : (way : Way) (env other : Env) (w : World) (i : ℕ) → Agree m env other → Kept m k c e other → i + spare ≤ 9 * w.items → Same m k c spare e (At way env w) (At way other (at i w))
+  Halts : (end : End) (w : World) (i : ℕ) → i ≤ 9 * w.items → Same m k c spare e (Over end w) (Over end (at i w))
 
 pub kept_everything : (m k : ℕ) (c : VariableSet) (e o : Env) → Kept m k c e o → Kept m k everything e o
 kept_everything m k c e o h v l (inl f) = h v l (inl f)
 kept_everything m k c e o h v l (inr f) = cc
 
-pub kept_both : (m k j : ℕ) (e f g : Env) → k ≤ j → Kept m k everything e f → Kept m j everything f g → Kept m k everything e g
-kept_both m k j e f g l a b v i h = b v (omega (arith, i, l)) h ∙ a v i h
-
 module _ {m k s t : ℕ} {c : VariableSet} {e : Env} where
   -- a value, and then statements
-  pub after_value : {X : Type 0} {d : VariableSet} {Is : X → Env → Type 0} {j : ℕ} (r : Outcome X) (q : Result Env) (f : X → Run Env) (g : Run Env) → Alike m j d Is s e r q → ((x : X) (env other : Env) (w : World) (i : ℕ) → Agree m env other → Kept m j d e other → Is x other → i + s ≤ 11 * w.items → Same m k c t e (f x env w) (g other (at i w))) → Same m k c t e (r ⊳ f) (q ▷ g)
+  pub after_value : {X : Type 0} {d : VariableSet} {Is : X → Env → Type 0} {j : ℕ} (r : Outcome X) (q : Result Env) (f : X → Run Env) (g : Run Env) → Alike m j d Is s e r q → ((x : X) (env other : Env) (w : World) (i : ℕ) → Agree m env other → Kept m j d e other → Is x other → i + s ≤ 9 * w.items → Same m k c t e (f x env w) (g other (at i w))) → Same m k c t e (r ⊳ f) (q ▷ g)
   after_value r q f g (Both x env other w i a b h l) go = go x env other w i a b h l
   after_value r q f g (Stop end w i l) go = Halts end w i l
 
   -- statements, and then others
-  pub after_statements : (r q : Result Env) (f g : Run Env) → t ≤ s → Same m k c s e r q → ((env other : Env) (w : World) (i : ℕ) → Agree m env other → Kept m k c e other → i + s ≤ 11 * w.items → Same m k c t e (f env w) (g other (at i w))) → Same m k c t e (r ▷ f) (q ▷ g)
+  pub after_statements : (r q : Result Env) (f g : Run Env) → t ≤ s → Same m k c s e r q → ((env other : Env) (w : World) (i : ℕ) → Agree m env other → Kept m k c e other → i + s ≤ 9 * w.items → Same m k c t e (f env w) (g other (at i w))) → Same m k c t e (r ▷ f) (q ▷ g)
   after_statements r q f g d (Goes Next env other w i a b l) go = go env other w i a b l
   after_statements r q f g d (Goes Leaves env other w i a b l) go = Goes Leaves env other w i a b (omega (arith, d, l))
   after_statements r q f g d (Goes Skips env other w i a b l) go = Goes Skips env other w i a b (omega (arith, d, l))
@@ -47,7 +44,7 @@ module _ {m k s t : ℕ} {c : VariableSet} {e : Env} where
   after_statements r q f g d (Halts end w i l) go = Halts end w i l
 
   -- a body, and then what follows in the loop
-  pub after_body : (r q : Result Env) (f g : Run Env) → t ≤ s → Same m k c s e r q → ((env other : Env) (w : World) (i : ℕ) → Agree m env other → Kept m k c e other → i + s ≤ 11 * w.items → Same m k c t e (f env w) (g other (at i w))) → Same m k c t e (r ↻ f) (q ↻ g)
+  pub after_body : (r q : Result Env) (f g : Run Env) → t ≤ s → Same m k c s e r q → ((env other : Env) (w : World) (i : ℕ) → Agree m env other → Kept m k c e other → i + s ≤ 9 * w.items → Same m k c t e (f env w) (g other (at i w))) → Same m k c t e (r ↻ f) (q ↻ g)
   after_body r q f g d (Goes Next env other w i a b l) go = go env other w i a b l
   after_body r q f g d (Goes Leaves env other w i a b l) go = Goes Next env other w i a b (omega (arith, d, l))
   after_body r q f g d (Goes Skips env other w i a b l) go = go env other w i a b l
@@ -62,7 +59,7 @@ same_from m k j c s t e f l d h r q (Halts end w i o) = Halts end w i o
 module _ (m n : ℕ) (p : Program) (calls : Calls) where
   -- two runs do the same, at a cost of a, of which b is left
   abbrev pub DoSame : ℕ → ℕ → ℕ → Run Env → Run Env → Type 0
-  DoSame a b k r q = (env other : Env) (w : World) (i s : ℕ) → Agree m env other → i + (s + a) ≤ 11 * w.items → Same m k everything (s + b) other (r env w) (q other (at i w))
+  DoSame a b k r q = (env other : Env) (w : World) (i s : ℕ) → Agree m env other → i + (s + a) ≤ 9 * w.items → Same m k everything (s + b) other (r env w) (q other (at i w))
 
   pub record Does (a b q k : ℕ) (made : Made (Unit {0})) (r : Run Env) : Type 0 where
     pub grows : q ≤ made.next
@@ -78,13 +75,6 @@ module _ (m n : ℕ) (p : Program) (calls : Calls) where
   spared_does d a b q k made r h = record {
     grows = h.grows;
     runs = λ env other w i s g o. subst (λ t. Same m k everything t other (r env w) (run m n p calls made.code other (at i w))) (omega arith) (h.runs env other w i (s + d) g (omega (arith, o)));
-  }
-
-  -- a unit of work pays
-  pub paid_does : (a b q k : ℕ) (made : Made (Unit {0})) (r : Run Env) → Does a b q k made r → Does a (b + 11) q k made (λ env w. r env (ticked w))
-  paid_does a b q k made r h = record {
-    grows = h.grows;
-    runs = λ env other w i s g o. subst (λ t. Same m k everything t other (r env (ticked w)) (run m n p calls made.code other (at i w))) (omega arith) (h.runs env other (ticked w) i (s + 11) g (omega (arith, o)));
   }
 
   -- nothing is done
@@ -103,7 +93,7 @@ module _ (m n : ℕ) (p : Program) (calls : Calls) where
     second = go made.next h.grows
 
   -- a value, and then statements that know it
-  pub value_does : {Y Z : Type 0} {c : VariableSet} {Lasting : ℕ → Z → Type 0} {Is : Z → Y → Env → Type 0} {made : Made Z} (a b t q k j : ℕ) (next : Z → ℕ → Made (Unit {0})) (g : Env → World → Outcome Y) (f : Y → Run Env) → j ≤ k → Follows m n p calls a b q k c Lasting (Anything {X = Unit {0}}) Is made (λ x. g) → ((o : ℕ) → q ≤ o → Lasting o made.given → (o ≤ (next made.given o).next) × ((y : Y) (env other : Env) (w : World) (i s : ℕ) → Agree m env other → Is made.given y other → i + (s + b) ≤ 11 * w.items → Same m j everything (s + t) other (f y env w) (run m n p calls (next made.given o).code other (at i w)))) → Does a t q j (made ≫ next) (λ env w. g env w ⊳ f)
+  pub value_does : {Y Z : Type 0} {c : VariableSet} {Lasting : ℕ → Z → Type 0} {Is : Z → Y → Env → Type 0} {made : Made Z} (a b t q k j : ℕ) (next : Z → ℕ → Made (Unit {0})) (g : Env → World → Outcome Y) (f : Y → Run Env) → j ≤ k → Follows m n p calls a b q k c Lasting (Anything {X = Unit {0}}) Is made (λ x. g) → ((o : ℕ) → q ≤ o → Lasting o made.given → (o ≤ (next made.given o).next) × ((y : Y) (env other : Env) (w : World) (i s : ℕ) → Agree m env other → Is made.given y other → i + (s + b) ≤ 9 * w.items → Same m j everything (s + t) other (f y env w) (run m n p calls (next made.given o).code other (at i w)))) → Does a t q j (made ≫ next) (λ env w. g env w ⊳ f)
   value_does {Y} {Z} {c} {Lasting} {Is} {made} a b t q k j next g f l h go = record {
     grows = omega (arith, h.grows, (go made.next h.grows h.lasts).0);
     runs = λ env other w i s d o.
@@ -147,7 +137,7 @@ module _ (m n : ℕ) (p : Program) (calls : Calls) where
   -- ---- loops
 
   -- at most t turns, each of which is paid for by its own unit of work
-  pub turns_same : (k : ℕ) (test body step b c : Run Env) → DoSame 10 0 k (λ env w. test env w ▷ body) b → DoSame 0 0 k step c → (t : ℕ) → DoSame 0 0 k (looped false test body step t) (turns b c t)
+  pub turns_same : (k : ℕ) (test body step b c : Run Env) → DoSame 8 0 k (λ env w. test env w ▷ body) b → DoSame 0 0 k step c → (t : ℕ) → DoSame 0 0 k (looped false test body step t) (turns b c t)
   turns_same k test body step b c hb hc zero env other w i s g o = Halts Going w i (omega (arith, o))
   turns_same k test body step b c hb hc (suc t) env other w i s g o =
       after_body _ _ _ _ (omega arith) (hb env other (ticked w) (i + 1) s g (omega (arith, o))) (λ env1 other1 w1 i1 g1 k1 o1.
@@ -155,7 +145,7 @@ module _ (m n : ℕ) (p : Program) (calls : Calls) where
       (after_body _ _ _ _ (omega arith) (hc env1 other1 w1 i1 s g1 o1) (λ env2 other2 w2 i2 g2 k2 o2.
       same_from m k k everything (s + 0) (s + 0) other1 other2 (omega arith) (omega arith) k2 _ _ (turns_same k test body step b c hb hc t env2 other2 w2 i2 s g2 o2))))
 
-  pub loop_does : (q k : ℕ) (place : Place) (made : Made (Unit {0})) (next : ℕ → Made (Unit {0})) (test body step : Run Env) → Does 10 0 q k made (λ env w. test env w ▷ body) → ((o : ℕ) → q ≤ o → Does 0 0 o k (next o) step) → Does 0 0 q k (loop place made next) (looped false test body step n)
+  pub loop_does : (q k : ℕ) (place : Place) (made : Made (Unit {0})) (next : ℕ → Made (Unit {0})) (test body step : Run Env) → Does 8 0 q k made (λ env w. test env w ▷ body) → ((o : ℕ) → q ≤ o → Does 0 0 o k (next o) step) → Does 0 0 q k (loop place made next) (looped false test body step n)
   loop_does q k place made next test body step h go = record {
     grows = omega (arith, h.grows, (go made.next h.grows).grows);
     runs = λ env other w i s g o. subst (λ (u : Result Env). Same m k everything (s + 0) other (looped false test body step n env w) u) (sym (then_done (turns (run m n p calls made.code) (run m n p calls (next made.next).code) n other (at i w))))

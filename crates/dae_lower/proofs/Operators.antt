@@ -47,7 +47,7 @@ module _ (m n : ℕ) (s : Setup) (l : Links) (p : Program) (calls : Calls) where
     pub binary_value : (place : Place) (operator : Operator) (a b : Expression) → (Faithful m n s l p calls) (assigned a) (ways l a) (value s a) → (Faithful m n s l p calls) (assigned b) (ways l b) (value s b) → (AsValue m n s l p calls) (or (assigned a) (assigned b)) (ways l (tree.Binary place operator a b)).value (value s (tree.Binary place operator a b))
     binary_value place operator a b h i later k low =
         (binary m n s l p calls) (assigned a) (assigned b) _ _ (value s a) (value s b) (operated place operator) (operates operator) later k low h.value i.value
-        (λ o y z r u v. (cheaper m n s l p calls) 2 8 o (omega arith) (operated_follows m n p calls later o k place operator y z (λ x. x.0.1) (λ x. x.1) (omega (arith, low, r)) r (λ x o t. t.0.1) (λ x o t. t.1)))
+        (λ o y z r u v. (cheaper m n s l p calls) 2 6 o (omega arith) (operated_follows m n p calls later o k place operator y z (λ x. x.0.1) (λ x. x.1) (omega (arith, low, r)) r (λ x o t. t.0.1) (λ x o t. t.1)))
 
     pub not_value : (place : Place) (a : Expression) → (Faithful m n s l p calls) (assigned a) (ways l a) (value s a) → (AsValue m n s l p calls) (assigned a) (ways l (tree.Not place a)).value (value s (tree.Not place a))
     unfolding compared
@@ -77,9 +77,9 @@ module _ (m n : ℕ) (s : Setup) (l : Links) (p : Program) (calls : Calls) where
     -- one for its effects, and then another
     pub then_effect : {Y Z : Type 0} {Lasting : ℕ → Z → Type 0} {Is : Z → Y → Env → Type 0} (c d : VariableSet) (f : Made (Unit {0})) (g : ℕ → Made Z) (u : Env → World → Outcome ℕ) (v : ℕ → Env → World → Outcome Y) (k : ℕ) → Follows m n p calls 0 2 k k c Always (Anything {X = (Start m n s l p calls)}) Nothing f (λ x. u) → ((o : ℕ) → k ≤ o → Follows m n p calls 0 2 o k d Lasting (Anything {X = (Start m n s l p calls) × ℕ}) Is (g o) (λ x. v x.1)) → Follows m n p calls 0 2 k k (or c d) Lasting (Anything {X = (Start m n s l p calls)}) Is (f ≫ λ x. g) (λ x env w. u env (ticked w) ⟫ v)
     then_effect c d f g u v k h i =
-        weaker m n p calls 0 15 k 0 2 k (or c d) (omega arith) (omega arith) (omega arith) (λ v z. z)
-        (chain m n p calls (λ x. g) (λ x. v x.1) 0 13 15 k k k c d (omega arith) (paid m n p calls 0 2 k h) (λ x e o u t. tt)
-        (λ o r z. knowing m n p calls 13 15 o (λ x. x) (λ x o u. tt) (spared m n p calls 13 0 2 o (i o r))))
+        weaker m n p calls 0 13 k 0 2 k (or c d) (omega arith) (omega arith) (omega arith) (λ v z. z)
+        (chain m n p calls (λ x. g) (λ x. v x.1) 0 11 13 k k k c d (omega arith) (paid m n p calls 0 2 k h) (λ x e o u t. tt)
+        (λ o r z. knowing m n p calls 11 13 o (λ x. x) (λ x o u. tt) (spared m n p calls 11 0 2 o (i o r))))
 
     pub forget : {Y Z : Type 0} {Lasting : ℕ → Z → Type 0} {Is : Z → Y → Env → Type 0} {c : VariableSet} {made : Made Z} {g : Env → World → Outcome Y} (k o : ℕ) → Follows m n p calls 0 2 o k c Lasting (Anything {X = (Start m n s l p calls)}) Is made (λ x. g) → Follows m n p calls 0 2 o k c Lasting (Anything {X = (Start m n s l p calls) × ℕ}) Is made (λ x. g)
     forget k o h = knowing m n p calls 0 2 o (λ x. tt) (λ x o u. tt) h
@@ -107,13 +107,13 @@ module _ (m n : ℕ) (s : Setup) (l : Links) (p : Program) (calls : Calls) where
     compare_faithful place comparison turned a b h i = record {
       value = λ later k low.
           (binary m n s l p calls) (assigned a) (assigned b) _ _ (value s a) (value s b) (λ y z. set place (Holds (related comparison turned y z))) (λ x y. Gives (bit (if turned then compared comparison y x else compared comparison x y))) later k low h.value i.value
-          (λ o y z r u v. (cheaper m n s l p calls) 1 8 o (omega arith) (set_follows m n p calls later o k place (Holds (related comparison turned y z)) (λ x env w. bit (if turned then compared comparison x.1 x.0.1 else compared comparison x.0.1 x.1)) (omega (arith, low, r)) r (λ x env o w a t. ap bit (related_holds comparison turned y z o x.0.1 x.1 t.0.1 t.1))));
+          (λ o y z r u v. (cheaper m n s l p calls) 1 6 o (omega arith) (set_follows m n p calls later o k place (Holds (related comparison turned y z)) (λ x env w. bit (if turned then compared comparison x.1 x.0.1 else compared comparison x.0.1 x.1)) (omega (arith, low, r)) r (λ x env o w a t. ap bit (related_holds comparison turned y z o x.0.1 x.1 t.0.1 t.1))));
       effect = λ later k low.
           then_effect (assigned a) (assigned b) _ _ (value s a) (λ x env w. value s b env w ⟫ λ y. Gives (bit (if turned then compared comparison y x else compared comparison x y))) k (h.effect (or later (assigned b)) k low)
           (λ o r. (mapped m n s l p calls) o k (λ x. value s b) (λ x y. bit (if turned then compared comparison y x.1 else compared comparison x.1 y)) (forget k o (lower_base k o r (i.effect later o (omega (arith, low, r))))));
       condition = λ later k low.
           (binary m n s l p calls) (assigned a) (assigned b) _ _ (value s a) (value s b) (λ y z. nothing (record { test = related comparison turned y z; turned = false })) (λ x y. Gives (bit (if turned then compared comparison y x else compared comparison x y))) later k low h.value i.value
-          (λ o y z r u v. (cheaper m n s l p calls) 0 8 o (omega arith) (nothing_follows m n p calls later o k nowhere (record { test = related comparison turned y z; turned = false }) (λ x env. bit (if turned then compared comparison x.1 x.0.1 else compared comparison x.0.1 x.1)) tt (λ x env o a t. related_holds comparison turned y z o x.0.1 x.1 t.0.1 t.1 ∙ bit_is _)));
+          (λ o y z r u v. (cheaper m n s l p calls) 0 6 o (omega arith) (nothing_follows m n p calls later o k nowhere (record { test = related comparison turned y z; turned = false }) (λ x env. bit (if turned then compared comparison x.1 x.0.1 else compared comparison x.0.1 x.1)) tt (λ x env o a t. related_holds comparison turned y z o x.0.1 x.1 t.0.1 t.1 ∙ bit_is _)));
     } where
       bit_is : (b : Bool) → b ≡ not (nat_eq (bit b) 0)
       bit_is true = refl

@@ -112,21 +112,16 @@ put_other v x u e h = by (nat_eq u v) refl where
 -- An evaluation and what is made of it: the value is in what `Is` says, and so many items are still paid for. Both may end
 -- instead, and alike.
 pub data Alike {X : Type 0} (m k : ℕ) (c : VariableSet) (Is : X → Env → Type 0) (spare : ℕ) (e : Env) : Outcome X → Result Env → Type 0 where
-  Both : (x : X) (env other : Env) (w : World) (i : ℕ) → Agree m env other → Kept m k c e other → Is x other → i + spare ≤ 11 * w.items → Alike m k c Is spare e (Gives x env w) (At Next other (at i w))
-  Stop : (end : End) (w : World) (i : ℕ) → i ≤ 11 * w.items → Alike m k c Is spare e (Ends end w) (Over end (at i w))
+  Both : (x : X) (env other : Env) (w : World) (i : ℕ) → Agree m env other → Kept m k c e other → Is x other → i + spare ≤ 9 * w.items → Alike m k c Is spare e (Gives x env w) (At Next other (at i w))
+  Stop : (end : End) (w : World) (i : ℕ) → i ≤ 9 * w.items → Alike m k c Is spare e (Ends end w) (Over end (at i w))
 
 module _ {X Y : Type 0} {m k j : ℕ} {c d : VariableSet} {Is : X → Env → Type 0} {Are : Y → Env → Type 0} {s t : ℕ} {e : Env} where
   -- one after the other
-  pub after : (r : Outcome X) (q : Result Env) (f : X → Env → World → Outcome Y) (g : Run Env) → Alike m k c Is s e r q → ((x : X) (env other : Env) (w : World) (i : ℕ) → Agree m env other → Kept m k c e other → Is x other → i + s ≤ 11 * w.items → Alike m j d Are t e (f x env w) (g other (at i w))) → Alike m j d Are t e (r ⟫ f) (q ▷ g)
+  pub after : (r : Outcome X) (q : Result Env) (f : X → Env → World → Outcome Y) (g : Run Env) → Alike m k c Is s e r q → ((x : X) (env other : Env) (w : World) (i : ℕ) → Agree m env other → Kept m k c e other → Is x other → i + s ≤ 9 * w.items → Alike m j d Are t e (f x env w) (g other (at i w))) → Alike m j d Are t e (r ⟫ f) (q ▷ g)
   after r q f g (Both x env other w i a b h l) go = go x env other w i a b h l
   after r q f g (Stop end w i l) go = Stop end w i l
 
 module _ {X : Type 0} {m : ℕ} {Is : X → Env → Type 0} where
-  -- seen from before
-  pub seen_from : (k n : ℕ) (c d : VariableSet) (s : ℕ) (e f : Env) → k ≤ n → Kept m k c e f → (r : Outcome X) (q : Result Env) → Alike m n d Is s f r q → Alike m k (or c d) Is s e r q
-  seen_from k n c d s e f l h r q (Both x env other w i a b y o) = Both x env other w i a (kept_on m k n c d e f other l h b) y o
-  seen_from k n c d s e f l h r q (Stop end w i o) = Stop end w i o
-
   -- less is paid for, more may have changed
   pub fewer : (k : ℕ) (c d : VariableSet) (s t : ℕ) (e : Env) → t ≤ s → ((v : ℕ) → Fixed m d v → Fixed m c v) → (r : Outcome X) (q : Result Env) → Alike m k c Is s e r q → Alike m k d Is t e r q
   fewer k c d s t e l o r q (Both x env other w i a b y h) = Both x env other w i a (λ v u z. b v u (o v z)) y (omega (arith, l, h))

@@ -40,10 +40,6 @@ module _ (m n : ℕ) (s : Setup) (l : Links) (p : Program) (calls : Calls) (plac
     runs = λ env other w i s g o. subst (λ (u : Result Env). Same m k everything (s + b) other u (run m n p calls made.code other (at i w))) (h env w) (d.runs env other w i s g o);
   }
 
-  bound_does : {X : Type 0} (r : Outcome X) (f : X → Run Env) (g : Run Env) → (r ⊳ λ x env w. f x env w ▷ g) ≡ ((r ⊳ f) ▷ g)
-  bound_does (Gives x env w) f g = refl
-  bound_does (Ends end w) f g = refl
-
   -- ---- parts of statements
 
   effect_does : (e : Expression) → IsIn m e → (q : ℕ) → m ≤ q → DoesIt 0 2 q q ((ways l e).effect nowhere q) (λ env w. value s e env w ⊳ λ x. At Next)
@@ -58,7 +54,7 @@ module _ (m n : ℕ) (s : Setup) (l : Links) (p : Program) (calls : Calls) (plac
   break_does : (q k : ℕ) (place : Place) → DoesIt 1 0 q k (emit (one place Break) q) (At Leaves)
   break_does q k place = record { grows = omega arith; runs = λ env other w i t g o. Goes Leaves env other w (i + 1) g (λ v z x. refl) (omega (arith, o)) }
 
-  continue_does : (q : ℕ) (place : Place) → DoesIt 9 0 q q (emit (one place Continue) q) (At Skips)
+  continue_does : (q : ℕ) (place : Place) → DoesIt 7 0 q q (emit (one place Continue) q) (At Skips)
   continue_does q place = record { grows = omega arith; runs = λ env other w i t g o. Goes Skips env other w (i + 1) g (λ v z x. refl) (omega (arith, o)) }
 
   leave_does : (place : Place) (e : Expression) → IsIn m e → (q : ℕ) → m ≤ q → DoesIt 0 0 q q (leave_unless l place e q) (tested s (Some e))
@@ -83,7 +79,7 @@ module _ (m n : ℕ) (s : Setup) (l : Links) (p : Program) (calls : Calls) (plac
   rest b q o t r j h = cheaper_does m n p calls 0 0 o o b 0 q _ (does s false n t) (omega arith) (omega arith) r (h o (omega (arith, j, r)))
 
   -- one statement, which a unit of work pays, and then those behind it
-  then_rest : (q : ℕ) (made : Made (Unit {0})) (r : Run Env) (k : Statements) → m ≤ q → DoesIt 9 0 q q made r → Claim k → DoesIt 0 0 q q (made ≫ λ x. statements l k) (λ env w. r env (ticked w) ▷ does s false n k)
+  then_rest : (q : ℕ) (made : Made (Unit {0})) (r : Run Env) (k : Statements) → m ≤ q → DoesIt 7 0 q q made r → Claim k → DoesIt 0 0 q q (made ≫ λ x. statements l k) (λ env w. r env (ticked w) ▷ does s false n k)
   then_rest q made r k j h hk =
       then_does m n p calls 0 2 0 q q made (statements l k) (λ env w. r env (ticked w)) (does s false n k) (omega arith)
       (record { grows = h.grows; runs = λ env other w i t g o. same_from m q q everything (t + 2 + 0) (t + 2) other other (omega arith) (omega arith) (λ v z x. refl) _ _ (h.runs env other (ticked w) i (t + 2) g (omega (arith, o))) })
@@ -93,7 +89,7 @@ module _ (m n : ℕ) (s : Setup) (l : Links) (p : Program) (calls : Calls) (plac
   kept_zero x q o v z (inl h) = put_other 0 x v o (λ e. omega (arith, h, e, some))
   kept_zero x q o v z (inr h) = cc
 
-  return_does : (q : ℕ) (place : Place) → DoesIt 9 0 q q (emit (one place (Return (Number 0))) q) (λ env. At Returns (put true 0 0 env))
+  return_does : (q : ℕ) (place : Place) → DoesIt 7 0 q q (emit (one place (Return (Number 0))) q) (λ env. At Returns (put true 0 0 env))
   return_does q place = record {
     grows = omega arith;
     runs = λ env other w i t g o. Goes Returns (put true 0 0 env) (put true 0 0 other) w (i + 1) (agree_both m n p calls nowhere 0 0 env other g) (kept_zero 0 q other) (omega (arith, o));
@@ -103,12 +99,12 @@ module _ (m n : ℕ) (s : Setup) (l : Links) (p : Program) (calls : Calls) (plac
 
   -- the pieces of a format
   abbrev pub PrintsDo : Type 0
-  PrintsDo = (place : Place) (xs : Expressions) (ps : List Piece) → AreIn m xs → (q : ℕ) → m ≤ q → DoesIt 9 0 q q (operands l xs nowhere q ≫ prints place ps) (λ env w. values s xs env w ⊳ shown ps)
+  PrintsDo = (place : Place) (xs : Expressions) (ps : List Piece) → AreIn m xs → (q : ℕ) → m ≤ q → DoesIt 7 0 q q (operands l xs nowhere q ≫ prints place ps) (λ env w. values s xs env w ⊳ shown ps)
 
   -- zeros, and then items
   abbrev pub InitialisesDo : Type 0
   InitialisesDo = (place : Place) (offset size : ℕ) (items : List Setting) → size < 4294967296 → AreSettingsIn m items → (q : ℕ) → m ≤ q →
-      DoesIt 9 0 q q (emit (zeros place offset size q) (q + 3) ≫ λ x. settings l place q items) (λ env w. cleared size (plus w.frame offset) env w ▷ settled s items)
+      DoesIt 7 0 q q (emit (zeros place offset size q) (q + 3) ≫ λ x. settings l place q items) (λ env w. cleared size (plus w.frame offset) env w ▷ settled s items)
 
   -- where arm j stands in a switch that begins at arm number first, with so many arms still to pass
   abbrev pub Stands : ℕ → ℕ → ℕ → Type 0
@@ -116,7 +112,7 @@ module _ (m n : ℕ) (s : Setup) (l : Links) (p : Program) (calls : Calls) (plac
 
   -- the arms from number j on, where variable v says which is the first
   abbrev pub ArmsDo : Arms → Type 0
-  ArmsDo arms = (place : Place) (v j k q : ℕ) → m ≤ v → v < k → k ≤ q → (q ≤ (arms_from l place v j arms q).next) × ((first before : ℕ) → Stands first j before → (env other : Env) (w : World) (i t : ℕ) → Agree m env other → other v ≡ first → i + (t + count_arms arms) ≤ 11 * w.items → Same m k everything t other (does_from s false n before arms env w) (run m n p calls (arms_from l place v j arms q).code other (at i w)))
+  ArmsDo arms = (place : Place) (v j k q : ℕ) → m ≤ v → v < k → k ≤ q → (q ≤ (arms_from l place v j arms q).next) × ((first before : ℕ) → Stands first j before → (env other : Env) (w : World) (i t : ℕ) → Agree m env other → other v ≡ first → i + (t + count_arms arms) ≤ 9 * w.items → Same m k everything t other (does_from s false n before arms env w) (run m n p calls (arms_from l place v j arms q).code other (at i w)))
 
   below_not : (j first : ℕ) → first ≤ j → nat_lt j first ≡ false
   below_not j first h = by (nat_lt j first) refl where
@@ -136,14 +132,14 @@ module _ (m n : ℕ) (s : Setup) (l : Links) (p : Program) (calls : Calls) (plac
     first_grows : q ≤ (statements l t q).next
     first_grows = let c = ht q (omega (arith, lv, vk, kq)) in c.grows
 
-    second : ((statements l t q).next ≤ (arms_from l place v (suc j) more (statements l t q).next).next) × ((first before : ℕ) → Stands first (suc j) before → (env other : Env) (w : World) (i t' : ℕ) → Agree m env other → other v ≡ first → i + (t' + count_arms more) ≤ 11 * w.items → Same m k everything t' other (does_from s false n before more env w) (run m n p calls (arms_from l place v (suc j) more (statements l t q).next).code other (at i w)))
+    second : ((statements l t q).next ≤ (arms_from l place v (suc j) more (statements l t q).next).next) × ((first before : ℕ) → Stands first (suc j) before → (env other : Env) (w : World) (i t' : ℕ) → Agree m env other → other v ≡ first → i + (t' + count_arms more) ≤ 9 * w.items → Same m k everything t' other (does_from s false n before more env w) (run m n p calls (arms_from l place v (suc j) more (statements l t q).next).code other (at i w)))
     second = hr place v (suc j) k (statements l t q).next lv vk (omega (arith, kq, first_grows))
 
     -- which way the test goes
     goes : (h : Bool) (other : Env) (u : World) → Result Env
     goes h other u = (if h then run m n p calls (statements l t q).code other (ticked u) else At Next other (ticked u)) ▷ run m n p calls (arms_from l place v (suc j) more (statements l t q).next).code
 
-    runs : (first before : ℕ) → Stands first j before → (env other : Env) (w : World) (i t' : ℕ) → Agree m env other → other v ≡ first → i + (t' + suc (count_arms more)) ≤ 11 * w.items → Same m k everything t' other (does_from s false n before (tree.arm_then labels t more) env w) (run m n p calls (arms_from l place v j (tree.arm_then labels t more) q).code other (at i w))
+    runs : (first before : ℕ) → Stands first j before → (env other : Env) (w : World) (i t' : ℕ) → Agree m env other → other v ≡ first → i + (t' + suc (count_arms more)) ≤ 9 * w.items → Same m k everything t' other (does_from s false n before (tree.arm_then labels t more) env w) (run m n p calls (arms_from l place v j (tree.arm_then labels t more) q).code other (at i w))
     runs first zero st env other w i t' g u o =
         subst (λ (h : Bool). Same m k everything t' other (does s false n t env w ▷ does_from s false n zero more) ((if h then run m n p calls (statements l t q).code other (ticked (at i w)) else At Next other (ticked (at i w))) ▷ run m n p calls (arms_from l place v (suc j) more (statements l t q).next).code)) (sym (ap not (below_not j (other v) (low st))))
         (after_statements _ _ _ _ (omega arith) (same_from m q k everything (t' + count_arms more + 0) (t' + count_arms more) other other kq (omega arith) (λ x z d. refl) _ _ (let c = ht q (omega (arith, lv, vk, kq)) in c.runs env other w (i + 1) (t' + count_arms more) g (omega (arith, o))))
@@ -169,7 +165,7 @@ module _ (m n : ℕ) (s : Setup) (l : Links) (p : Program) (calls : Calls) (plac
   module _ (prints_do : PrintsDo) (initialises_do : InitialisesDo) (switches_do : SwitchesDo) where
     value_then : (place : Place) (e : Expression) (k : Statements) → IsIn m e → Claim k → (q : ℕ) → m ≤ q → DoesIt 0 0 q q (statements l (tree.Return place (Some e) k) q) (does s false n (tree.Return place (Some e) k))
     value_then place e k h hk q j =
-        value_does m n p calls 0 13 0 q q q (λ x n. emit (one place (Return x)) n ≫ λ x. statements l k) (λ env w. value s e env (ticked w)) (λ x env w. At Returns (put true 0 x env) w) (omega arith)
+        value_does m n p calls 0 11 0 q q q (λ x n. emit (one place (Return x)) n ≫ λ x. statements l k) (λ env w. value s e env (ticked w)) (λ x env w. At Returns (put true 0 x env) w) (omega arith)
         (paid m n p calls 0 2 q (let f = faithful m n s l p calls places called e h in f.value nowhere q j))
         (λ o r z. (
           (let c = hk o (omega (arith, j, r)) in c.grows),
@@ -182,34 +178,34 @@ module _ (m n : ℕ) (s : Setup) (l : Links) (p : Program) (calls : Calls) (plac
       pub statements_do : (t : Statements) → AreStatementsIn m t → Claim t
       statements_do tree.Done h q j = skip_does m n p calls q q
       statements_do (tree.Evaluate place e k) h q j =
-          then_rest q _ (λ env w. value s e env w ⊳ λ x. At Next) k j (cheaper_does m n p calls 0 2 q q 9 0 q _ (λ env w. value s e env w ⊳ λ x. At Next) (omega arith) (omega arith) (omega arith) (effect_does e h.0 q j)) (statements_do k h.1)
+          then_rest q _ (λ env w. value s e env w ⊳ λ x. At Next) k j (cheaper_does m n p calls 0 2 q q 7 0 q _ (λ env w. value s e env w ⊳ λ x. At Next) (omega arith) (omega arith) (omega arith) (effect_does e h.0 q j)) (statements_do k h.1)
       statements_do (tree.Initialise place offset size items k) h q j =
           then_rest q _ (λ env w. cleared size (plus w.frame offset) env w ▷ settled s items) k j (initialises_do place offset size items h.1 h.2 q j) (statements_do k h.3)
       statements_do (tree.Print place xs ps k) h q j =
           then_rest q _ (λ env w. values s xs env w ⊳ shown ps) k j (prints_do place xs ps h.0 q j) (statements_do k h.1)
       statements_do (tree.If place e t u k) h q j =
           then_rest q _ (λ env w. value s e env w ⊳ λ x env w. if nat_eq x 0 then does s false n u env w else does s false n t env w) k j
-          (branches_do m n p calls place (statements l t) (statements l u) (does s false n t) (does s false n u) (value s e) 9 10 0 q q q (omega arith)
-          (spared m n p calls 9 0 2 q (let f = faithful m n s l p calls places called e h.0 in f.condition nowhere q j))
-          (λ o r. rest 10 q o t r j (statements_do t h.1)) (λ o r. rest 10 q o u r j (statements_do u h.2))) (statements_do k h.3)
+          (branches_do m n p calls place (statements l t) (statements l u) (does s false n t) (does s false n u) (value s e) 7 8 0 q q q (omega arith)
+          (spared m n p calls 7 0 2 q (let f = faithful m n s l p calls places called e h.0 in f.condition nowhere q j))
+          (λ o r. rest 8 q o t r j (statements_do t h.1)) (λ o r. rest 8 q o u r j (statements_do u h.2))) (statements_do k h.3)
       statements_do (tree.Loop place test body step k) h q j =
           then_rest q _ (λ env w. looped false (tested s test) (does s false n body) (evaluated s step) n env w) k j
-          (cheaper_does m n p calls 0 0 q q 9 0 q _ (looped false (tested s test) (does s false n body) (evaluated s step) n) (omega arith) (omega arith) (omega arith)
+          (cheaper_does m n p calls 0 0 q q 7 0 q _ (looped false (tested s test) (does s false n body) (evaluated s step) n) (omega arith) (omega arith) (omega arith)
           (loop_does m n p calls q q place _ (effect_of_some l step) (tested s test) (does s false n body) (evaluated s step)
-          (then_does m n p calls 10 10 0 q q _ (statements l body) (tested s test) (does s false n body) (omega arith) (spared_does m n p calls 10 0 0 q q _ (tested s test) (leave_some place test h.0 q j)) (λ o r. rest 10 q o body r j (statements_do body h.1)))
+          (then_does m n p calls 8 8 0 q q _ (statements l body) (tested s test) (does s false n body) (omega arith) (spared_does m n p calls 8 0 0 q q _ (tested s test) (leave_some place test h.0 q j)) (λ o r. rest 8 q o body r j (statements_do body h.1)))
           (λ o r. cheaper_does m n p calls 0 0 o o 0 0 q _ (evaluated s step) (omega arith) (omega arith) r (effect_some step h.2 o (omega (arith, j, r)))))) (statements_do k h.3)
       statements_do (tree.Do place body test k) h q j =
           then_rest q _ (λ env w. looped false (At Next) (does s false n body) (tested s (Some test)) n env w) k j
-          (cheaper_does m n p calls 0 0 q q 9 0 q _ (looped false (At Next) (does s false n body) (tested s (Some test)) n) (omega arith) (omega arith) (omega arith)
+          (cheaper_does m n p calls 0 0 q q 7 0 q _ (looped false (At Next) (does s false n body) (tested s (Some test)) n) (omega arith) (omega arith) (omega arith)
           (loop_does m n p calls q q place _ (leave_unless l place test) (At Next) (does s false n body) (tested s (Some test))
-          (rest 10 q q body (omega arith) j (statements_do body h.0))
+          (rest 8 q q body (omega arith) j (statements_do body h.0))
           (λ o r. cheaper_does m n p calls 0 0 o o 0 0 q _ (tested s (Some test)) (omega arith) (omega arith) r (leave_does place test h.1 o (omega (arith, j, r)))))) (statements_do k h.2)
       statements_do (tree.Switch place e arms k) h q j =
           then_does m n p calls 0 0 0 q q _ (statements l k) (λ env w. left (value s e env (with_work (suc (count_labels arms)) w) ⊳ λ x. does_from s false n (first_arm x arms) arms)) (does s false n k) (omega arith)
           (switches_do place e arms h.0 (arms_do arms h.2) q j) (λ o r. rest 0 q o k r j (statements_do k h.3))
       statements_do (tree.Break place k) h q j =
           told (λ env w. At Leaves env (ticked w) ▷ does s false n k) (λ env w. At Leaves env (ticked w)) (λ env w. refl)
-          (then_rest q _ (At Leaves) k j (cheaper_does m n p calls 1 0 q q 9 0 q _ (At Leaves) (omega arith) (omega arith) (omega arith) (break_does q q place)) (statements_do k h))
+          (then_rest q _ (At Leaves) k j (cheaper_does m n p calls 1 0 q q 7 0 q _ (At Leaves) (omega arith) (omega arith) (omega arith) (break_does q q place)) (statements_do k h))
       statements_do (tree.Continue place k) h q j =
           told (λ env w. At Skips env (ticked w) ▷ does s false n k) (λ env w. At Skips env (ticked w)) (λ env w. refl)
           (then_rest q _ (At Skips) k j (continue_does q place) (statements_do k h))

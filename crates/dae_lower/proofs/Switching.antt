@@ -76,12 +76,12 @@ module _ (m n : ℕ) (p : Program) (calls : Calls) where
     kept_lower e k u l f = k u (omega (arith, l, qv)) f
 
     -- the flag is still 0
-    unflagged : (t : ℕ) (env e : Env) (w : World) (i : ℕ) → start (v + 1) ≡ 0 → Agree m env e → Kept m (v + 2) everything start e → i + (t + 4) ≤ 11 * w.items → Same m q everything t start (At Next env w) (((if not (nat_eq (e (v + 1)) 0) then At Skips e (at (i + 1 + 1) w) else At Next e (at (i + 1) w)) ▷ At Next))
+    unflagged : (t : ℕ) (env e : Env) (w : World) (i : ℕ) → start (v + 1) ≡ 0 → Agree m env e → Kept m (v + 2) everything start e → i + (t + 4) ≤ 9 * w.items → Same m q everything t start (At Next env w) (((if not (nat_eq (e (v + 1)) 0) then At Skips e (at (i + 1 + 1) w) else At Next e (at (i + 1) w)) ▷ At Next))
     unflagged t env e w i z a k o =
         subst (λ (x : ℕ). Same m q everything t start (At Next env w) ((if not (nat_eq x 0) then At Skips e (at (i + 1 + 1) w) else At Next e (at (i + 1) w)) ▷ At Next)) (sym (k (v + 1) (omega arith) (inl (omega (arith, mq, qv))) ∙ z))
         (Goes Next env e w (i + 1) a (kept_lower e k) (omega (arith, o)))
 
-    ends_flagged : (t : ℕ) (more : Run Env) → start (v + 1) ≡ 0 → (c r : Result Env) → Same m (v + 2) everything (t + 8) start c r → Same m q everything t start (left c) (ends place v true more r)
+    ends_flagged : (t : ℕ) (more : Run Env) → start (v + 1) ≡ 0 → (c r : Result Env) → Same m (v + 2) everything (t + 6) start c r → Same m q everything t start (left c) (ends place v true more r)
     unfolding compared
     ends_flagged t more z c r (Goes Next env e w i a k o) = unflagged t env e w (i + 1) z a k (omega (arith, o))
     ends_flagged t more z c r (Goes Leaves env e w i a k o) = unflagged t env e w i z a k (omega (arith, o))
@@ -91,7 +91,7 @@ module _ (m n : ℕ) (p : Program) (calls : Calls) where
         subst (λ (x : ℕ). Same m q everything t start (At Skips env w) ((if not (nat_eq x 0) then At Skips (put true (v + 1) 1 e) (at (i + 1 + 1 + 1 + 1) w) else At Next (put true (v + 1) 1 e) (at (i + 1 + 1 + 1) w)) ▷ At Next)) (sym (put_same (v + 1) 1 e))
         (Goes Skips env (put true (v + 1) 1 e) w (i + 1 + 1 + 1 + 1) (agree_put m n p calls nowhere (v + 1) 1 env e (omega (arith, mq, qv)) a) (λ u l f. put_other (v + 1) 1 u e (λ g. omega (arith, g, l, qv)) ∙ kept_lower e k u l f) (omega (arith, o)))
 
-    ends_unflagged : (t : ℕ) (more : Run Env) (c r : Result Env) → NotSkips c → Same m (v + 2) everything (t + 8) start c r → Same m q everything t start (left c) (ends place v false more r)
+    ends_unflagged : (t : ℕ) (more : Run Env) (c r : Result Env) → NotSkips c → Same m (v + 2) everything (t + 6) start c r → Same m q everything t start (left c) (ends place v false more r)
     ends_unflagged t more c r h (Goes Next env e w i a k o) = Goes Next env e w (i + 1) a (kept_lower e k) (omega (arith, o))
     ends_unflagged t more c r h (Goes Leaves env e w i a k o) = Goes Next env e w i a (kept_lower e k) (omega (arith, o))
     ends_unflagged t more c r h (Goes Returns env e w i a k o) = Goes Returns env e w i a (kept_lower e k) (omega (arith, o))
@@ -108,34 +108,34 @@ left_on (Ends end w) f = refl
 
 module _ (m n : ℕ) (s : Setup) (l : Links) (p : Program) (calls : Calls) (places : (k : ℕ) → s.address k ≡ l.address k) (called : Called m n s l p calls places) (some : 0 < m) (many : 1 ≤ n) where
   -- behind the search, in variables that it left
-  arms_then : (place : Place) (arms : Arms) → ArmsDo m n s l p calls places called some arms → (q v first : ℕ) → m ≤ q → q ≤ v → (goes : Bool) → arms_continue arms ≡ goes → (env e : Env) (w : World) (j t : ℕ) → Agree m env e → e v ≡ first → j + (t + count_arms arms + 10) ≤ 11 * w.items →
+  arms_then : (place : Place) (arms : Arms) → ArmsDo m n s l p calls places called some arms → (q v first : ℕ) → m ≤ q → q ≤ v → (goes : Bool) → arms_continue arms ≡ goes → (env e : Env) (w : World) (j t : ℕ) → Agree m env e → e v ≡ first → j + (t + count_arms arms + 8) ≤ 9 * w.items →
       Same m q everything t e (left (does_from s false n first arms env w)) (run m n p calls (where_so goes (one place (Assign (v + 1) (Copy (Number 0)))) ⨾ Loop place ((arms_from l place v 0 arms (v + 2)).code ⨾ one place Break) (where_so goes (Do place (Assign (v + 1) (Copy (Number 1))) (one place Break))) (where_so goes (If place (test_of NotEqual (Variable (v + 1)) (Number 0)) (one place Continue) Done Done))) e (at j w))
   arms_then place arms h q v first mq qv true g env e w j t a f o =
       once m n p calls (λ r. Same m q everything t e (left (does_from s false n first arms env w)) (r ▷ run m n p calls (If place (test_of NotEqual (Variable (v + 1)) (Number 0)) (one place Continue) Done Done))) (run m n p calls ((arms_from l place v 0 arms (v + 2)).code ⨾ one place Break)) (run m n p calls (Do place (Assign (v + 1) (Copy (Number 1))) (one place Break))) (put true (v + 1) 0 e) (at (j + 1) w)
       (λ more. subst (λ (r : Result Env). Same m q everything t e (left (does_from s false n first arms env w)) ((r ↻ λ e u. run m n p calls (Do place (Assign (v + 1) (Copy (Number 1))) (one place Break)) e u ↻ more) ▷ run m n p calls (If place (test_of NotEqual (Variable (v + 1)) (Number 0)) (one place Continue) Done Done))) (sym (exec_then (meaning p (λ v. true) calls) n (arms_from l place v 0 arms (v + 2)).code (one place Break) (put true (v + 1) 0 e) (at (j + 1 + 1) w)))
       (same_from m q q everything t t e (put true (v + 1) 0 e) (omega arith) (omega arith) (λ u i x. put_other (v + 1) 0 u e (λ z. omega (arith, z, i, qv))) _ _
       (ends_flagged m n p calls place v q mq qv (put true (v + 1) 0 e) t more (put_same (v + 1) 0 e) _ _
-      (let d = h place v 0 (v + 2) (v + 2) (omega (arith, mq, qv)) (omega arith) (omega arith) in d.1 first first (inl (none first)) env (put true (v + 1) 0 e) w (j + 1 + 1) (t + 8) (agree_put m n p calls nowhere (v + 1) 0 env e (omega (arith, mq, qv)) a) (put_other (v + 1) 0 v e (λ z. omega (arith, z)) ∙ f) (omega (arith, o)))))) n many where
+      (let d = h place v 0 (v + 2) (v + 2) (omega (arith, mq, qv)) (omega arith) (omega arith) in d.1 first first (inl (none first)) env (put true (v + 1) 0 e) w (j + 1 + 1) (t + 6) (agree_put m n p calls nowhere (v + 1) 0 env e (omega (arith, mq, qv)) a) (put_other (v + 1) 0 v e (λ z. omega (arith, z)) ∙ f) (omega (arith, o)))))) n many where
         none : (x : ℕ) → x + 0 ≡ x
         none x = omega arith
   arms_then place arms h q v first mq qv false g env e w j t a f o =
       once m n p calls (λ r. Same m q everything t e (left (does_from s false n first arms env w)) (r ▷ At Next)) (run m n p calls ((arms_from l place v 0 arms (v + 2)).code ⨾ one place Break)) (At Next) e (at j w)
       (λ more. subst (λ (r : Result Env). Same m q everything t e (left (does_from s false n first arms env w)) ((r ↻ λ e u. At Next e u ↻ more) ▷ At Next)) (sym (exec_then (meaning p (λ v. true) calls) n (arms_from l place v 0 arms (v + 2)).code (one place Break) e (at (j + 1) w)))
       (ends_unflagged m n p calls place v q mq qv e t more _ _ (arms_stay s n arms g first env w)
-      (let d = h place v 0 (v + 2) (v + 2) (omega (arith, mq, qv)) (omega arith) (omega arith) in d.1 first first (inl (none first)) env e w (j + 1) (t + 8) a f (omega (arith, o))))) n many where
+      (let d = h place v 0 (v + 2) (v + 2) (omega (arith, mq, qv)) (omega arith) (omega arith) in d.1 first first (inl (none first)) env e w (j + 1) (t + 6) a f (omega (arith, o))))) n many where
         none : (x : ℕ) → x + 0 ≡ x
         none x = omega arith
 
   -- so many units of work come first
-  worked : {Z : Type 0} {c : VariableSet} {Lasting : ℕ → Z → Type 0} {Is : Z → ℕ → Env → Type 0} {made : Made Z} {g : Env → World → Outcome ℕ} (k count : ℕ) → Follows m n p calls 0 2 k k c Lasting (Anything {X = Unit {0}}) Is made (λ x. g) → Follows m n p calls 0 (2 + 11 * count) k k c Lasting (Anything {X = Unit {0}}) Is made (λ x env w. g env (with_work count w))
+  worked : {Z : Type 0} {c : VariableSet} {Lasting : ℕ → Z → Type 0} {Is : Z → ℕ → Env → Type 0} {made : Made Z} {g : Env → World → Outcome ℕ} (k count : ℕ) → Follows m n p calls 0 2 k k c Lasting (Anything {X = Unit {0}}) Is made (λ x. g) → Follows m n p calls 0 (2 + 9 * count) k k c Lasting (Anything {X = Unit {0}}) Is made (λ x env w. g env (with_work count w))
   worked {Z} {c} {Lasting} {Is} {made} {g} k count h = record {
     grows = h.grows;
     lasts = h.lasts;
-    runs = λ x env other w i s a u o. subst (λ t. Alike m k c (Is made.given) t other (g env (with_work count w)) (run m n p calls made.code other (at i w))) (omega arith) (h.runs x env other (with_work count w) i (s + 11 * count) a u (omega (arith, o)));
+    runs = λ x env other w i s a u o. subst (λ t. Alike m k c (Is made.given) t other (g env (with_work count w)) (run m n p calls made.code other (at i w))) (omega arith) (h.runs x env other (with_work count w) i (s + 9 * count) a u (omega (arith, o)));
   }
 
   -- a switch on an operand
-  searched : (place : Place) (arms : Arms) → ArmsDo m n s l p calls places called some arms → (x : Operand) (q v : ℕ) → m ≤ q → q ≤ v → Lasts m nowhere q v x → (y : ℕ) (env other : Env) (w : World) (i t : ℕ) → Agree m env other → held x other ≡ y → i + (t + (2 + 11 * suc (count_labels arms))) ≤ 11 * w.items →
+  searched : (place : Place) (arms : Arms) → ArmsDo m n s l p calls places called some arms → (x : Operand) (q v : ℕ) → m ≤ q → q ≤ v → Lasts m nowhere q v x → (y : ℕ) (env other : Env) (w : World) (i t : ℕ) → Agree m env other → held x other ≡ y → i + (t + (2 + 9 * suc (count_labels arms))) ≤ 9 * w.items →
       Same m q everything (t + 0) other (left (does_from s false n (first_arm y arms) arms env w)) (run m n p calls (switch place x v (arm_with None 0 arms (count_arms arms)) (search place x v 0 arms) (arms_continue arms) (arms_from l place v 0 arms (v + 2))).code other (at i w))
   searched place arms h x q v mq qv lasts y env other w i t a is o =
       once m n p calls (λ r. Same m q everything (t + 0) other (left (does_from s false n (first_arm y arms) arms env w)) (r ▷ run m n p calls (where_so (arms_continue arms) (one place (Assign (v + 1) (Copy (Number 0)))) ⨾ Loop place ((arms_from l place v 0 arms (v + 2)).code ⨾ one place Break) (where_so (arms_continue arms) (Do place (Assign (v + 1) (Copy (Number 1))) (one place Break))) (where_so (arms_continue arms) (If place (test_of NotEqual (Variable (v + 1)) (Number 0)) (one place Continue) Done Done))))) (run m n p calls (search place x v 0 arms)) (At Next) (put true v (arm_with None 0 arms (count_arms arms)) other) (at (i + 1) w)
@@ -146,7 +146,7 @@ module _ (m n : ℕ) (s : Setup) (l : Links) (p : Program) (calls : Calls) (plac
         found = ap (λ z. arm_with (Some z) 0 arms (put true v (arm_with None 0 arms (count_arms arms)) other v)) (still_alone m q v nowhere x other (put true v (arm_with None 0 arms (count_arms arms)) other) mq qv lasts (kept_put m n p calls nowhere v v (arm_with None 0 arms (count_arms arms)) other (omega arith)) ∙ is) ∙ ap (λ z. arm_with (Some y) 0 arms z) (put_same v (arm_with None 0 arms (count_arms arms)) other)
 
   pub switches_do : SwitchesDo m n s l p calls places called some
-  switches_do place e arms h harms q j = told place e arms q (value_does m n p calls 0 (2 + 11 * suc (count_labels arms)) 0 q q q (λ x n. switch place x n (arm_with None 0 arms (count_arms arms)) (search place x n 0 arms) (arms_continue arms) (arms_from l place n 0 arms (n + 2))) (λ env w. value s e env (with_work (suc (count_labels arms)) w)) (λ x env w. left (does_from s false n (first_arm x arms) arms env w)) (omega arith)
+  switches_do place e arms h harms q j = told place e arms q (value_does m n p calls 0 (2 + 9 * suc (count_labels arms)) 0 q q q (λ x n. switch place x n (arm_with None 0 arms (count_arms arms)) (search place x n 0 arms) (arms_continue arms) (arms_from l place n 0 arms (n + 2))) (λ env w. value s e env (with_work (suc (count_labels arms)) w)) (λ x env w. left (does_from s false n (first_arm x arms) arms env w)) (omega arith)
       (worked q (suc (count_labels arms)) (let f = faithful m n s l p calls places called e h in f.value nowhere q j))
       (λ o r z. ((let c = harms place o 0 (o + 2) (o + 2) (omega (arith, j, r)) (omega arith) (omega arith) in omega (arith, c.0)), searched place arms harms _ q o j r z))) where
         told : (place : Place) (e : Expression) (arms : Arms) (q : ℕ) → Does m n p calls 0 0 q q ((ways l e).value nowhere q ≫ λ x n. switch place x n (arm_with None 0 arms (count_arms arms)) (search place x n 0 arms) (arms_continue arms) (arms_from l place n 0 arms (n + 2))) (λ env w. value s e env (with_work (suc (count_labels arms)) w) ⊳ λ x env w. left (does_from s false n (first_arm x arms) arms env w)) → Does m n p calls 0 0 q q ((ways l e).value nowhere q ≫ λ x n. switch place x n (arm_with None 0 arms (count_arms arms)) (search place x n 0 arms) (arms_continue arms) (arms_from l place n 0 arms (n + 2))) (λ env w. left (value s e env (with_work (suc (count_labels arms)) w) ⊳ λ x. does_from s false n (first_arm x arms) arms))

@@ -80,21 +80,21 @@ module _ (m n : ℕ) (s : Setup) (l : Links) (p : Program) (calls : Calls) where
 
   -- one operand
   pub unary : {Y Z : Type 0} {Lasting : ℕ → Z → Type 0} {Is : Z → Y → Env → Type 0} (c : VariableSet) (f : VariableSet → ℕ → Made Operand) (g : Env → World → Outcome ℕ) (leaf : Operand → ℕ → Made Z) (go : ℕ → Env → World → Outcome Y) (later : VariableSet) (k : ℕ) → m ≤ k → AsValue c f g →
-      ((o : ℕ) (y : Operand) → k ≤ o → Lasts m later k o y → Follows m n p calls 9 0 o k nowhere Lasting (λ (x : Unit {0} × ℕ) o. Unit {0} × Holding y x.1 o) Is (leaf y o) (λ x. go x.1)) →
+      ((o : ℕ) (y : Operand) → k ≤ o → Lasts m later k o y → Follows m n p calls 7 0 o k nowhere Lasting (λ (x : Unit {0} × ℕ) o. Unit {0} × Holding y x.1 o) Is (leaf y o) (λ x. go x.1)) →
       Follows m n p calls 0 2 k k c Lasting (Anything {X = Unit {0}}) Is (f later k ≫ leaf) (λ x env w. g env (ticked w) ⟫ go)
   unary c f g leaf go later k low h next =
       weaker m n p calls 0 2 k 0 2 k c (omega arith) (omega arith) (omega arith) (λ v z. or_nowhere (c v) z)
-      (chain m n p calls leaf (λ x. go x.1) 0 13 2 k k k c nowhere (omega arith) (paid m n p calls 0 2 k (h later k low)) (λ x e o u t. tt)
-      (λ o i z. weaker m n p calls 11 2 o 13 2 k nowhere (omega arith) (omega arith) (omega arith) (λ v z. z) (spared m n p calls 2 9 0 o (next o _ i z))))
+      (chain m n p calls leaf (λ x. go x.1) 0 11 2 k k k c nowhere (omega arith) (paid m n p calls 0 2 k (h later k low)) (λ x e o u t. tt)
+      (λ o i z. weaker m n p calls 9 2 o 11 2 k nowhere (omega arith) (omega arith) (omega arith) (λ v z. z) (spared m n p calls 2 7 0 o (next o _ i z))))
 
   -- something, then an operand, then what is made of both
   pub pair : {X Y Z Y' Z' : Type 0} {Was : X → Env → Type 0} {Lasted : ℕ → Z → Type 0} {Lasting : ℕ → Z' → Type 0} {Is : Z → Y → Env → Type 0} {Is' : Z' → Y' → Env → Type 0} {made : Made Z} {f : X → Env → World → Outcome Y}
-      (fb : VariableSet → ℕ → Made Operand) (gb : Env → World → Outcome ℕ) (leaf : Z → Operand → ℕ → Made Z') (go : X → Y → ℕ → Env → World → Outcome Y') (later : VariableSet) (a b q k : ℕ) (ca cb cd : VariableSet) → 8 ≤ b → m ≤ k → k ≤ q →
+      (fb : VariableSet → ℕ → Made Operand) (gb : Env → World → Outcome ℕ) (leaf : Z → Operand → ℕ → Made Z') (go : X → Y → ℕ → Env → World → Outcome Y') (later : VariableSet) (a b q k : ℕ) (ca cb cd : VariableSet) → 6 ≤ b → m ≤ k → k ≤ q →
       Follows m n p calls a b q q ca Lasted Was Is made f →
       ((x : X) (e o : Env) → Was x e → Kept m q ca e o → Was x o) →
       AsValue cb fb gb →
       ((o : ℕ) → q ≤ o → Lasted o made.given → (x : X) (y : Y) (e o' : Env) → Was x e → Is made.given y e → Kept m o cb e o' → Was x o' × Is made.given y o') →
-      ((o j : ℕ) (z : Operand) → q ≤ o → o ≤ j → Lasted o made.given → Lasts m later k j z → Follows m n p calls 8 0 j k cd Lasting (λ (x : (X × Y) × ℕ) o. (Was x.0.0 o × Is made.given x.0.1 o) × Holding z x.1 o) Is' (leaf made.given z j) (λ x. go x.0.0 x.0.1 x.1)) →
+      ((o j : ℕ) (z : Operand) → q ≤ o → o ≤ j → Lasted o made.given → Lasts m later k j z → Follows m n p calls 6 0 j k cd Lasting (λ (x : (X × Y) × ℕ) o. (Was x.0.0 o × Is made.given x.0.1 o) × Holding z x.1 o) Is' (leaf made.given z j) (λ x. go x.0.0 x.0.1 x.1)) →
       Follows m n p calls a 2 q k (or ca (or cb cd)) Lasting Was Is' (made ≫ λ x n. fb later n ≫ leaf x) (λ x env w. f x env w ⟫ λ y env w. gb env w ⟫ go x y)
   pair {X} {Y} {Z} {Y'} {Z'} {Was} {Lasted} {Lasting} {Is} {Is'} {made} {f} fb gb leaf go later a b q k ca cb cd g low j h stays hb alive next =
       chain m n p calls (λ x n. fb later n ≫ leaf x) (λ x env w. gb env w ⟫ go x.0 x.1) a b 2 q q k ca (or cb cd) j h stays
@@ -102,15 +102,15 @@ module _ (m n : ℕ) (s : Setup) (l : Links) (p : Program) (calls : Calls) where
       chain m n p calls (leaf made.given) (λ x. go x.0.0 x.0.1 x.1) b (2 + b) 2 o o k cb cd (omega (arith, i, j))
       (knowing m n p calls b (2 + b) o (λ x. tt) (λ x o u. tt) (weaker m n p calls (0 + b) (2 + b) o b (2 + b) o cb (omega arith) (omega arith) (omega arith) (λ v z. z) (spared m n p calls b 0 2 o (hb later o (omega (arith, low, i, j))))))
       (λ x e o' u t. alive o i z x.0 x.1 e o' u.0 u.1 t)
-      (λ r v y. weaker m n p calls 10 2 r (2 + b) 2 k cd (omega (arith, g)) (omega arith) (omega arith) (λ v z. z) (spared m n p calls 2 8 0 r (next o r _ i v z (lasts_wider m later o r k r _ (omega (arith, i, j)) (omega arith) y)))))
+      (λ r v y. weaker m n p calls 8 2 r (2 + b) 2 k cd (omega (arith, g)) (omega arith) (omega arith) (λ v z. z) (spared m n p calls 2 6 0 r (next o r _ i v z (lasts_wider m later o r k r _ (omega (arith, i, j)) (omega arith) y)))))
 
   -- two operands
   pub binary : {Y Z : Type 0} {Lasting : ℕ → Z → Type 0} {Is : Z → Y → Env → Type 0} (c d : VariableSet) (f g : VariableSet → ℕ → Made Operand) (u v : Env → World → Outcome ℕ) (leaf : Operand → Operand → ℕ → Made Z) (go : ℕ → ℕ → Env → World → Outcome Y) (later : VariableSet) (k : ℕ) → m ≤ k → AsValue c f u → AsValue d g v →
-      ((o : ℕ) (y z : Operand) → k ≤ o → Lasts m later k o y → Lasts m later k o z → Follows m n p calls 8 0 o k nowhere Lasting (λ (x : (Unit {0} × ℕ) × ℕ) o. (Unit {0} × Holding y x.0.1 o) × Holding z x.1 o) Is (leaf y z o) (λ x. go x.0.1 x.1)) →
+      ((o : ℕ) (y z : Operand) → k ≤ o → Lasts m later k o y → Lasts m later k o z → Follows m n p calls 6 0 o k nowhere Lasting (λ (x : (Unit {0} × ℕ) × ℕ) o. (Unit {0} × Holding y x.0.1 o) × Holding z x.1 o) Is (leaf y z o) (λ x. go x.0.1 x.1)) →
       Follows m n p calls 0 2 k k (or c d) Lasting (Anything {X = Unit {0}}) Is (f (or later d) k ≫ λ x n. g later n ≫ leaf x) (λ x env w. u env (ticked w) ⟫ λ x env w. v env w ⟫ go x)
   binary c d f g u v leaf go later k low hf hg next =
       weaker m n p calls 0 2 k 0 2 k (or c d) (omega arith) (omega arith) (omega arith) (λ v z. by (c v) (d v) z)
-      (pair g v leaf (λ x. go) later 0 13 k k c d nowhere (omega arith) low (omega arith) (paid m n p calls 0 2 k (hf (or later d) k low)) (λ x e o u t. tt) hg
+      (pair g v leaf (λ x. go) later 0 11 k k c d nowhere (omega arith) low (omega arith) (paid m n p calls 0 2 k (hf (or later d) k low)) (λ x e o u t. tt) hg
       (λ o i z x y e o' u t r. (tt, still m k o later d _ e o' low i z r ∙ t))
       (λ o j z i r y t. next j _ z (omega (arith, i, r)) (lasts_on m later d k o k j _ (omega arith) r y) t)) where
         by : (a b : Bool) → (a || b) ≡ false → (a || (b || false)) ≡ false
@@ -123,8 +123,8 @@ module _ (m n : ℕ) (s : Setup) (l : Links) (p : Program) (calls : Calls) where
   abbrev pub Start : Type 0
   Start = Unit {0}
 
-  pub cheap : {X Y Z : Type 0} {k : ℕ} {c : VariableSet} {Lasting : ℕ → Z → Type 0} {Was : X → Env → Type 0} {Is : Z → Y → Env → Type 0} {f : X → Env → World → Outcome Y} {made : Made Z} (a q : ℕ) → a ≤ 9 → Follows m n p calls a 0 q k c Lasting Was Is made f → Follows m n p calls 9 0 q k c Lasting Was Is made f
-  cheap {X} {Y} {Z} {k} {c} a q low h = weaker m n p calls a 0 q 9 0 k c low (omega arith) (omega arith) (λ v z. z) h
+  pub cheap : {X Y Z : Type 0} {k : ℕ} {c : VariableSet} {Lasting : ℕ → Z → Type 0} {Was : X → Env → Type 0} {Is : Z → Y → Env → Type 0} {f : X → Env → World → Outcome Y} {made : Made Z} (a q : ℕ) → a ≤ 7 → Follows m n p calls a 0 q k c Lasting Was Is made f → Follows m n p calls 7 0 q k c Lasting Was Is made f
+  cheap {X} {Y} {Z} {k} {c} a q low h = weaker m n p calls a 0 q 7 0 k c low (omega arith) (omega arith) (λ v z. z) h
 
   pub cheaper : {X Y Z : Type 0} {k : ℕ} {c : VariableSet} {Lasting : ℕ → Z → Type 0} {Was : X → Env → Type 0} {Is : Z → Y → Env → Type 0} {f : X → Env → World → Outcome Y} {made : Made Z} (a b q : ℕ) → a ≤ b → Follows m n p calls a 0 q k c Lasting Was Is made f → Follows m n p calls b 0 q k c Lasting Was Is made f
   cheaper {X} {Y} {Z} {k} {c} a b q low h = weaker m n p calls a 0 q b 0 k c low (omega arith) (omega arith) (λ v z. z) h
@@ -161,4 +161,4 @@ module _ (m n : ℕ) (s : Setup) (l : Links) (p : Program) (calls : Calls) where
 
   -- the same with a unit of work before
   pub dearer : {Y Z : Type 0} {c : VariableSet} {k : ℕ} {Lasting : ℕ → Z → Type 0} {Is : Z → Y → Env → Type 0} {made : Made Z} {g : Env → World → Outcome Y} → Follows m n p calls 0 2 k k c Lasting (Anything {X = Start}) Is made (λ x. g) → Follows m n p calls 0 2 k k c Lasting (Anything {X = Start}) Is made (λ x env w. g env (ticked w))
-  dearer {Y} {Z} {c} {k} h = weaker m n p calls 0 13 k 0 2 k c (omega arith) (omega arith) (omega arith) (λ v z. z) (paid m n p calls 0 2 k h)
+  dearer {Y} {Z} {c} {k} h = weaker m n p calls 0 11 k 0 2 k c (omega arith) (omega arith) (omega arith) (λ v z. z) (paid m n p calls 0 2 k h)

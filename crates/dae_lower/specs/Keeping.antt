@@ -28,7 +28,7 @@ pub record IsKept (r : Outcome ℕ) (q : Result Env) : Type 0 where
   pub printed : (world_of q).printed ≡ (last_world r).printed
   pub loads : (world_of q).loads ≡ (last_world r).loads
   pub stores : (world_of q).stores ≡ (last_world r).stores
-  pub items : (world_of q).items ≤ 11 * (last_world r).items
+  pub items : (world_of q).items ≤ 9 * (last_world r).items
 
 -- with no item executed
 abbrev pub with_no_items : World → World

@@ -73,12 +73,6 @@ less_true v q h = grind (arith, nat_tests, h)
 less_false : (v q : ℕ) → q ≤ v → nat_lt v q ≡ false
 less_false v q h = grind (arith, nat_tests, h)
 
-same_true : (n : ℕ) → nat_eq n n ≡ true
-same_true n = grind (arith, nat_tests)
-
-other_false : (v n : ℕ) → suc n ≤ v → nat_eq v n ≡ false
-other_false v n h = grind (arith, nat_tests, h)
-
 -- ---- marks
 
 -- one set of marks before a number, and another from there on

@@ -1,10 +1,10 @@
 -- The laws of this crate that proofs of other crates use, beside the contracts of its law functions.
 pub use Rattle.dae_machine.proofs.Confluence.{run-on, run-step}
 pub use Rattle.dae_machine.proofs.Deeper.{runs_deeper}
-pub use Rattle.dae_machine.proofs.Ends.{can_only_end, goes_on, prefix_refl, run_prints}
+pub use Rattle.dae_machine.proofs.Ends.{can_only_end, goes_on, meet_runs, prefix_refl, run_prints}
 pub use Rattle.dae_machine.proofs.Opening.{memory_length, data_fit}
 pub use Rattle.dae_machine.proofs.Diamond.{counted_step}
-pub use Rattle.dae_machine.proofs.Grants.{ready_for}
+pub use Rattle.dae_machine.proofs.Grants.{ready_for, ready_where}
 pub use Rattle.dae_machine.proofs.Kept.{unplain_after}
 pub use Rattle.dae_machine.proofs.Printing.{step_behind, pick_behind, quiet_behind, final_behind, stuck_behind}
 pub use Rattle.dae_machine.proofs.Scheduled.{is_turned}

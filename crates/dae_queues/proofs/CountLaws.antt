@@ -19,9 +19,6 @@ pub counts_more : (low : ℕ) (ns : List ℕ) (high : ℕ) → Counts low ns hig
 counts_more low [] high h = (sym h, ap (λ n. n + 1) h)
 counts_more low (n ∷ ns) high h = (h.0, counts_more (low + 1) ns high h.1)
 
-pub counts_rest : (low : ℕ) (ns : List ℕ) (n high : ℕ) → Counts low (n ∷ ns) high → Counts (low + 1) ns high
-counts_rest low ns n high h = h.1
-
 -- what waits has a number below the next one
 pub counts_find : (low n high : ℕ) (ss : List Slot) (s : Slot) → Counts low (map (λ (slot : Slot). slot.number) ss) high → waiting n ss ≡ Some s → n < high
 counts_find low n high [] s h f = cc

@@ -33,11 +33,6 @@ filled_more zero ss ts h = tt
 filled_more (suc n) [] ts h = absurd h
 filled_more (suc n) (s ∷ ss) ts h = (h.0, filled_more n ss ts h.1)
 
-pub filled_rest : (n : ℕ) (ss : List Slot) → AreFilled n ss → AreFilled (n - 1) (rest ss)
-filled_rest zero ss h = tt
-filled_rest (suc n) [] h = absurd h
-filled_rest (suc n) (s ∷ ss) h = let e : suc n - 1 ≡ n = omega arith in rw e h.1
-
 pub filled_set : (n : ℕ) (ss : List Slot) (i : ℕ) (z : Slot) → is_some z.value ≡ true → AreFilled n ss → AreFilled n (slice_set ss i z)
 filled_set zero ss i z v h = tt
 filled_set (suc n) [] i z v h = absurd h

@@ -18,10 +18,6 @@ none_below n low high (s ∷ ss) c l =
     let no : is_waiting n s ≡ false = grind (arith, nat_tests) in
     rw (no, none_below n (low + 1) high ss c.1 (omega arith))
 
-here : (b : Bool) (s : Slot) (o : Option Slot) → (b ≡ false → o ≡ None) → cond b (Some s) o ≡ cond b (Some s) None
-here true s o k = refl
-here false s o k = k refl
-
 pub waiting_at : (low high k : ℕ) (ss : List Slot) → Numbered low ss high → waiting (low + k) ss ≡ option_and_then unfilled (slice_get ss k)
 waiting_at low high k [] c = refl
 waiting_at low high zero (s ∷ ss) c =

@@ -3,5 +3,7 @@
 #![tactic(auto)]
 
 pub use files::{Datum, FileParts, TypedFile, TypedFunction};
+pub use lookups::{is_function, is_object, same_entity};
 
 mod files;
+mod lookups;
