@@ -3,7 +3,7 @@
 #![tactic(auto)]
 
 pub use theorems::{
-    budget_covers, budget_is_within_cap, pair_keeps, program_kept, streams_are_small, words_are_bounded,
+    budget_covers, budget_is_within_cap, pair_keeps, program_kept, streams_are_small,
     streams_set_first,
 };
 

@@ -2,4 +2,3 @@ pub mod Bytes
 pub mod Formed
 pub mod Order
 pub mod Sizes
-pub mod Code
