@@ -9,8 +9,4 @@ pub use laws::{accepted_have_no_fault, one_cause_is_told, read_are_within};
 
 mod accepting;
 mod error;
-#[cfg(test)]
-mod joining_tests;
 mod laws;
-#[cfg(test)]
-mod tests;

@@ -12,8 +12,6 @@ pub use pieces::{Piece, ShortText, byte_piece, decimal_piece, hex_piece};
 
 mod items;
 mod pieces;
-#[cfg(test)]
-mod tests;
 
 /// A place in the files of a job: the number of the file from 0, and the line and column of a byte, both from 1.
 /// Columns count bytes.

@@ -4,8 +4,4 @@
 
 pub use generating::generate;
 
-#[cfg(test)]
-mod forms;
 mod generating;
-#[cfg(test)]
-mod tests;

@@ -5,5 +5,3 @@ pub use programs::lower;
 
 mod functions;
 mod programs;
-#[cfg(test)]
-mod tests;

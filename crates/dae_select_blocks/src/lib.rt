@@ -6,5 +6,3 @@
 pub use laws::{code_begins, code_does, code_is_in_range};
 
 mod laws;
-#[cfg(test)]
-mod tests;

@@ -1,6 +1,6 @@
 // Files that join, with the data that they join to, and files that don't, with the cause and its places.
 
-use crate::{CompileError, accept};
+use dae_accept::{CompileError, accept};
 use dae_base::Place;
 use dae_program::Program;
 use dae_unit::JoinError;

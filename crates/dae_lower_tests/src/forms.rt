@@ -1,8 +1,8 @@
 // A small program is lowered, and takes no more than memory.
 
-use crate::lower;
 use dae_base::{Items, Place, Text};
 use dae_ir::{Item, Operand, Statement as FormStatement};
+use dae_lower_forms::lower;
 use dae_meaning::Spelling;
 use dae_program::{Expression, Function, Program, Statement};
 use std::alloc::{AllocError, Global};

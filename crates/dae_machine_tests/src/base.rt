@@ -1,4 +1,6 @@
-use super::*;
+// Pieces of words, extension at the edges, and the first queue that is below a budget.
+
+use dae_base::{Depths, LoadKind, Piece, Queue, byte_piece, decimal_piece, extend, hex_piece};
 
 #[test]
 fn pieces_of_words(rt: HostRuntime) {
