@@ -1,8 +1,8 @@
 """planted.py COPY [NAME..]
 
 Plants wrong changes into the definitions of what programs mean, one at a time, and says which examples each breaks. COPY is
-a copy of the repository that may be written to. For each change `rt check` is run in COPY/crates/dae_program; it prints the
-first examples that are refused, and ends with 1 where some change breaks none. An old text has to stand once in its file."""
+a copy of the repository that may be written to. For each change `rt check` is run in COPY/crates/dae_program_tests, which
+checks the crates below too; it prints the first examples that are refused, and ends with 1 where some change breaks none. An old text has to stand once in its file."""
 
 import os
 import re
@@ -84,7 +84,7 @@ def plant(name, file, old, new):
         return "BAD: the old text stands %d times" % text.count(old)
     try:
         open(path, "w").write(text.replace(old, new))
-        run = subprocess.run(["rt", "check"], cwd=os.path.join(COPY, "crates/dae_program"), capture_output=True, text=True)
+        run = subprocess.run(["rt", "check"], cwd=os.path.join(COPY, "crates/dae_program_tests"), capture_output=True, text=True)
     finally:
         open(path, "w").write(text)
     lines = (run.stdout + run.stderr).split("\n")
