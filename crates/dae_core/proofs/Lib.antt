@@ -3,3 +3,4 @@ pub mod Laws
 mod Fetches
 mod Commits
 mod Fillings
+mod Answers

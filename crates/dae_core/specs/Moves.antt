@@ -1,6 +1,6 @@
 -- One step of a processor over the queues that it is given, and what it answers (Smith, "Decoupled Access/Execute Computer
 -- Architectures": a processor waits at an empty or a full queue).
-use Rattle.std.specs.Prelude.{◌≡◌, ℕ, Bool, if◌then◌else◌, [], Option, Some, None, option_map, unwrap_or}
+use Rattle.std.specs.Prelude.{◌≡◌, ℕ, Bool, if◌then◌else◌, List, [], Option, Some, None, option_map, unwrap_or}
 use Rattle.dae_base.specs.declared.Side.{Side}
 use Rattle.dae_base.specs.declared.Queue.{Queue}
 use Rattle.dae_base.specs.declared.Queue.TheVariants.{Sa}
@@ -61,3 +61,8 @@ Tells (Did piece) move p q p' q' = move ≡ Some ((p', piece), q')
 Tells (Waits k) move p q p' q' = (move ≡ None) × (p' ≡ p) × (q' ≡ q)
 Tells IsHalted move p q p' q' = (move ≡ None) × (p' ≡ p) × (q' ≡ q)
 Tells (Faulted fault) move p q p' q' = (move ≡ None) × (p' ≡ p) × (q' ≡ q)
+
+-- what a try came to: the step was done and printed this piece, or there is no step and nothing changed
+abbrev pub Came : {Q : Type 0} → Option (List ℕ) → Option (After × Q) → Processor → Q → Processor → Q → Type 0
+Came (Some piece) move p q p' q' = move ≡ Some ((p', piece), q')
+Came None move p q p' q' = (move ≡ None) × (p' ≡ p) × (q' ≡ q)

@@ -26,6 +26,12 @@ pub trait Ports {
     ghost take_uses_no_word: { (q : Self) (queue : Queue) (v w : ℕ) → after q (Take queue) v
         ≡ after q (Take queue) w };
 
+    /// No access is always ready.
+    ghost nothing_is_ready: { (q : Self) → is_ready q Nothing ≡ true };
+
+    /// No access leaves the queues as they are.
+    ghost nothing_changes: { (q : Self) (w : ℕ) → after q Nothing w ≡ q };
+
     /// The word that this access would give now, 0 where it takes none, or None exactly where it can't be made now. An
     /// instruction that makes none is never held up.
     fn offer(&self, access: QueueUse) -> Option<u32>

@@ -4,9 +4,10 @@ ghost use Rattle.dae_encode.specs.Instructions.{form};
 ghost use Rattle.dae_encode.specs.Processor.{held, operand, address, is_good_private, is_shared, goes_on, bad_address, early_fault, put_word, decoded, with_result, called, finish, halts, prints, request};
 ghost use Rattle.dae_core.specs.Codes.{asked, legal_word};
 ghost use Rattle.dae_core.specs.Held.{IsSame, came_to, fresh, said_nothing};
-ghost use Rattle.dae_encode.specs.declared.Form.TheVariants.{Calls};
+ghost use Rattle.dae_encode.specs.declared.Form.TheVariants.{Calls, Computes};
+ghost use Rattle.dae_encode.specs.declared.QueueUse.TheVariants.{Nothing};
 ghost use Rattle.dae_encode.specs.declared.Request.TheVariants.{Faulty};
-ghost use Rattle.dae_core.specs.Moves.{answered_by, granted_by, unprinted, Tells};
+ghost use Rattle.dae_core.specs.Moves.{answered_by, granted_by, unprinted, Came, Tells};
 
 use crate::code::{Legal, legal_words};
 use crate::memory::{load, store};
@@ -290,6 +291,24 @@ impl Core {
         }
     }
 
+    /// Does an instruction that computes, where its access gives this word, and tells the word that it computes.
+    #[tactic(auto, unfolding(dae_encode::specs::Processor::finish, dae_encode::specs::Processor::put_word))]
+    #[inline(always)]
+    fn compute(&mut self, inst: &Inst, rd: u8, x: u8, y: u8, given: u32) -> u32
+        ensures held { IsSame self.old self.new }
+        ensures came { finish self.old.side self.old.processor Nothing inst.now (Computes rd x y) given
+            ≡ Some (self.new.processor, []) }
+        ensures word { given ≡ 0
+            → result ≡ put_word self.old.processor Nothing inst.now (Computes rd x y) }
+    {
+        let (first, second) = (self.read(given, x), self.read(given, y));
+        let counter = self.counter;
+        let result = value(inst, counter, first, second);
+        let after = next(inst, counter, first, second);
+        self.go_on(rd, result, after);
+        result
+    }
+
     /// Does an instruction that is no call, where its access gives this word, and tells the word that goes into the queue
     /// where the access gives 0, or None where a private address is bad, and then nothing changes.
     #[tactic(auto, unfolding(dae_encode::specs::Processor::finish, dae_encode::specs::Processor::put_word))]
@@ -303,14 +322,7 @@ impl Core {
         ensures none { result ≡ None → self.new ≡ self.old }
     {
         match *form {
-            Form::Computes(rd, x, y) => {
-                let (first, second) = (self.read(given, x), self.read(given, y));
-                let counter = self.counter;
-                let result = value(inst, counter, first, second);
-                let after = next(inst, counter, first, second);
-                self.go_on(rd, result, after);
-                Some(result)
-            }
+            Form::Computes(rd, x, y) => Some(self.compute(inst, rd, x, y, given)),
             Form::Loads(kind, rd, base, offset) => {
                 let addr = self.address(given, base, offset);
                 self.finish_load(access, kind, rd, addr)
@@ -410,47 +422,70 @@ impl Core {
             (request self.old.copies self.old.side self.old.code memory self.old.processor))
             self.old.processor ports.old self.new.processor ports.new }
     {
-        if self.is_halted() {
-            return CoreAnswer::Halted;
-        }
-        match self.fetch() {
-            Err(fault) => CoreAnswer::Faulted(fault),
-            Ok(legal) => self.step_legal(memory, &legal, ports),
+        match self.try_step(memory, ports) {
+            Some(piece) => CoreAnswer::Did(piece),
+            None => self.look(memory, ports),
         }
     }
 
-    #[tactic(auto, unfolding(dae_encode::specs::Processor::finish, dae_encode::specs::Processor::put_word), using(crate::proofs::Commits::commits_alike))]
-    fn step_legal<P: Ports>(&mut self, memory: u32, legal: &Legal, ports: &mut P) -> CoreAnswer
+    /// Does the next instruction, where it has a step, and tells what it prints, or None, and then nothing changes.
+    pub fn try_step<P: Ports>(&mut self, memory: u32, ports: &mut P) -> Option<Piece>
+        requires { P.can_count ports.old }
+        ensures held { IsSame self.old self.new }
+        ensures came { Came result
+            (granted_by P.is_ready P.front P.after self.old.side self.old.processor ports.old
+            (request self.old.copies self.old.side self.old.code memory self.old.processor))
+            self.old.processor ports.old self.new.processor ports.new }
+    {
+        if self.is_halted() {
+            return None;
+        }
+        match self.fetch() {
+            Err(_) => None,
+            Ok(legal) => self.try_legal(memory, &legal, ports),
+        }
+    }
+
+    // An instruction that only computes is done at once: no fault and no queue keeps it.
+    fn try_legal<P: Ports>(&mut self, memory: u32, legal: &Legal, ports: &mut P) -> Option<Piece>
         requires count { P.can_count ports.old }
         requires form { legal.now.form ≡ form legal.now.inst }
         ensures held { IsSame self.old self.new }
-        ensures answer { result
-            ≡ answered_by P.is_ready P.front self.old.side self.old.processor ports.old
-            (asked self.old.side memory self.old.processor legal.now) }
-        ensures told { Tells result
+        ensures came { Came result
+            (granted_by P.is_ready P.front P.after self.old.side self.old.processor ports.old
+            (asked self.old.side memory self.old.processor legal.now)) self.old.processor ports.old
+            self.new.processor ports.new }
+    {
+        if let (QueueUse::Nothing, Form::Computes(rd, x, y)) = (legal.access, legal.form) {
+            let _ = self.compute(&legal.inst, rd, x, y, 0);
+            return Some(Piece::empty());
+        }
+        self.try_access(memory, legal, ports)
+    }
+
+    #[tactic(auto, unfolding(dae_encode::specs::Processor::finish, dae_encode::specs::Processor::put_word), using(crate::proofs::Commits::commits_alike))]
+    fn try_access<P: Ports>(&mut self, memory: u32, legal: &Legal, ports: &mut P) -> Option<Piece>
+        requires count { P.can_count ports.old }
+        requires form { legal.now.form ≡ form legal.now.inst }
+        ensures held { IsSame self.old self.new }
+        ensures came { Came result
             (granted_by P.is_ready P.front P.after self.old.side self.old.processor ports.old
             (asked self.old.side memory self.old.processor legal.now)) self.old.processor ports.old
             self.new.processor ports.new }
     {
         let access = legal.access;
-        if let Some(fault) = self.early_fault(memory, access, &legal.form) {
-            return CoreAnswer::Faulted(fault);
+        if self.early_fault(memory, access, &legal.form).is_some() {
+            return None;
         }
-        let Some(given) = ports.offer(access) else {
-            return waits(access);
-        };
+        let given = ports.offer(access)?;
         if let Form::Calls = legal.form {
             let piece = self.call();
             ports.commit(access, 0);
-            return CoreAnswer::Did(piece);
+            return Some(piece);
         }
-        match self.finish(access, &legal.inst, &legal.form, given) {
-            Some(word) => {
-                ports.commit(access, word);
-                CoreAnswer::Did(Piece::empty())
-            }
-            None => CoreAnswer::Faulted(Fault::Private),
-        }
+        let word = self.finish(access, &legal.inst, &legal.form, given)?;
+        ports.commit(access, word);
+        Some(Piece::empty())
     }
 
     /// What a step would answer now, with an empty piece in place of what it would print.

@@ -2,7 +2,7 @@ ghost use Rattle.std.specs.Prelude.{◌≡◌, IsSome, true, nat_lt, IfOk, filte
 ghost use Rattle.dae_base.specs.Budgets.{depth};
 ghost use Rattle.dae_core.specs.Held.{CanCount, CanHold, HeldQueues};
 ghost use Rattle.dae_core.specs.Queues.{Queues, commit, count, empty_queues, front, loads_of, pushed_to, ready, reserved_in, taken_from, with_loads_of, words_of};
-ghost use Rattle.dae_queues.specs.Lists.{can_be_filled, draining_of, filling_of, next_store, with_address, with_value, without_store};
+ghost use Rattle.dae_queues.specs.Lists.{can_be_filled, draining_of, filling_of, first_unfilled, next_store, with_address, with_value, without_store};
 
 use crate::Ports;
 use crate::memory::load;
@@ -174,6 +174,10 @@ impl Ports for Queues {
 
     ghost take_uses_no_word = { λ q queue v w. refl };
 
+    ghost nothing_is_ready = { λ q. refl };
+
+    ghost nothing_changes = { λ q w. refl };
+
     fn offer(&self, access: QueueUse) -> Option<u32> {
         match access {
             QueueUse::Take(queue) => self.front_of(queue),
@@ -244,6 +248,14 @@ impl Queues {
             Side::A => self.al.fill(number, word),
             Side::E => self.ld.fill(number, word),
         };
+    }
+
+    /// The place of the first slot for a side that waits for its value, counted from the front, or their number where
+    /// none waits.
+    pub fn first_unfilled(&self, side: Side) -> u16
+        ensures { result ≡ first_unfilled (loads_of side self.now.queues).slots }
+    {
+        self.loads(side).first_unfilled()
     }
 
     /// How many slots may be filled for a side.

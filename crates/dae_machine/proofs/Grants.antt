@@ -1,10 +1,10 @@
 -- What a granted move was: its request, whose access belongs to its side, and what it did.
-use Rattle.std.proofs.Common.{◌≡◌, ℕ, Bool, true, false, ◌||◌, refl}
+use Rattle.std.proofs.Common.{◌≡◌, ℕ, true, ◌||◌, refl}
 use Rattle.std.specs.Prelude.{Some, option_map}
 use Rattle.dae_base.specs.declared.Side.{Side}
 use Rattle.dae_base.specs.declared.Side.TheVariants.{A, E}
 use Rattle.dae_base.specs.declared.Depths.{Depths}
-use Rattle.dae_base.proofs.Laws.{and_true, if_some_is, map_some_is}
+use Rattle.dae_base.proofs.Laws.{and_true, if_some_is, map_some_is, or_true}
 use Rattle.dae_encode.specs.declared.Inst.{Inst}
 use Rattle.dae_encode.specs.declared.QueueUse.{QueueUse}
 use Rattle.dae_encode.specs.declared.Request.{Request}
@@ -16,10 +16,6 @@ use Rattle.dae_encode.proofs.Laws.{asks_own}
 use Rattle.dae_core.specs.Queues.{Queues, possible, ready, peek, commit}
 use Rattle.dae_machine.specs.Machine.{Setup, code, granted, move}
 use Rattle.dae_machine.specs.Walks.{may_use}
-
-or_true : (b : Bool) → (b || true) ≡ true
-or_true true = refl
-or_true false = refl
 
 -- an access of a side is one of A's or of E's
 of_a_side : (side : Side) (u : QueueUse) → belongs side u ≡ true → (belongs A u || belongs E u) ≡ true

@@ -125,10 +125,6 @@ unprinted_done (Waits k) = refl
 unprinted_done IsHalted = refl
 unprinted_done (Faulted fault) = refl
 
-finished_done : (o : Option After) → is_done (finished o) ≡ is_some o
-finished_done None = refl
-finished_done (Some r) = refl
-
 waits_done : (d : Depths) (u : QueueUse) (q : Queues) → ready d u q ≡ false → is_done (waits u) ≡ false
 waits_done d Nothing q h = cc
 waits_done d (Take k) q h = refl

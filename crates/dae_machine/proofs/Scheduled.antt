@@ -1,16 +1,13 @@
 -- The turns of a schedule are a run.
 use Rattle.std.proofs.Common.{◌≡◌, ℕ, zero, suc, ◌+◌, ◌⊎◌, inl, inr, [], ◌∷◌, length, refl, ap}
-use Rattle.std.specs.Prelude.{Option, Some, None, is_some, true}
+use Rattle.std.specs.Prelude.{Option, Some, None}
+use Rattle.dae_base.proofs.Laws.{some_of}
 use Rattle.dae_machine.specs.declared.Pick.{Pick}
 use Rattle.dae_machine.specs.Machine.{Setup, State, step, Runs, IsCounted, IsQuiet}
 use Rattle.dae_machine.specs.Schedules.{and_then_on, scheduled, turned}
 use Rattle.dae_machine.specs.Turns.{pick_of}
 use Rattle.dae_machine.proofs.Diamond.{counted_step}
 use Rattle.dae_machine.proofs.Turns.{picked_goes, quiet_where_none}
-
-found_is : {X : Type 0} (o : Option X) → is_some o ≡ true → (x : X) × (o ≡ Some x)
-found_is None h = cc
-found_is (Some x) h = (x, refl)
 
 -- a run of so many turns, or a shorter one that came to rest
 abbrev pub IsTurned : Setup → State → (ℕ → ℕ) → ℕ → Type 0
@@ -33,7 +30,7 @@ module _ (setup : Setup) (s : State) (words : ℕ → ℕ) (k : ℕ) (c : IsCoun
       let list : scheduled setup s words (suc k) ≡ [] = ap (λ (o : Option (Pick × State)). and_then_on o (λ t. scheduled setup t (λ i. words (i + 1)) k)) none in
       (s, rw list, inr (quiet_where_none setup s (words 0) picks))
   turn_by (Some p) picks =
-      let found = found_is (step setup s p) (picked_goes setup s c (words 0) p picks) in goes_on p found.0 picks found.1
+      let found = some_of (step setup s p) (picked_goes setup s c (words 0) p picks) in goes_on p found.0 picks found.1
 
 pub is_turned : (setup : Setup) (s : State) (words : ℕ → ℕ) (k : ℕ) → IsCounted s → IsTurned setup s words k
 is_turned setup s words zero c = (s, refl, inl refl)

@@ -3,11 +3,12 @@ use Rattle.std.proofs.Common.{◌≡◌, ℕ, ◌+◌, Bool, List, [], length, t
 use Rattle.std.specs.Prelude.{Option, Some, None, IsSome, is_some, option_map}
 use Rattle.dae_base.specs.declared.Side.{Side}
 use Rattle.dae_base.specs.declared.Side.TheVariants.{A, E}
+use Rattle.dae_base.proofs.Laws.{some_of, none_of}
 use Rattle.dae_encode.specs.Processor.{Processor, request}
 use Rattle.dae_core.specs.declared.CoreAnswer.{CoreAnswer}
-use Rattle.dae_core.specs.declared.CoreAnswer.TheVariants.{Did}
+use Rattle.dae_core.specs.declared.CoreAnswer.TheVariants.{Did, Halted as IsHalted}
 use Rattle.dae_core.specs.Held.{HeldCore, HeldQueues, IsSame}
-use Rattle.dae_core.specs.Moves.{answered_by, granted_by, unprinted, Tells}
+use Rattle.dae_core.specs.Moves.{answered_by, granted_by, unprinted, Came, Tells}
 use Rattle.dae_machine.specs.declared.Pick.{Pick}
 use Rattle.dae_machine.specs.declared.Pick.TheVariants.{A as MoveA, E as MoveE, Fill}
 use Rattle.dae_core.specs.Queues.{loads_of, with_loads_of}
@@ -18,14 +19,6 @@ use Rattle.dae_machine.specs.Memory.{fill, filling}
 use Rattle.dae_machine.specs.Held.{Counted, HeldMachine, IsSound, is_plain, seen}
 use Rattle.dae_machine.proofs.Moves.{opens, fronts, afters, answer_is, a_moved, a_told, e_moved, e_told, tells_same, ToldBy}
 use Rattle.dae_machine.proofs.Kept.{counted_after, counted_filled, unplain_after}
-
-some_of : {X : Type 0} (o : Option X) → is_some o ≡ true → (x : X) × (o ≡ Some x)
-some_of None h = cc
-some_of (Some x) h = (x, refl)
-
-none_of : {X : Type 0} (o : Option X) → is_some o ≡ false → o ≡ None
-none_of None h = refl
-none_of (Some x) h = cc
 
 -- a processor that is the same but for its state, which didn't change either
 same_core : (c c' : HeldCore) → IsSame c c' → c'.processor ≡ c.processor → c' ≡ c
@@ -45,6 +38,23 @@ pub record Moved (m : HeldMachine) (pick : Pick) (piece : List ℕ) (a e : HeldC
 abbrev pub ToldOf : ℕ → HeldCore → HeldQueues → CoreAnswer → HeldCore → HeldQueues → Type 0
 ToldOf size c q answer c' q' =
     Tells answer (granted_by opens fronts afters c.side c.processor q (request c.copies c.side c.code size c.processor)) c.processor q c'.processor q'
+
+-- what a try of a core came to, as an answer
+abbrev pub CameTo : ℕ → HeldCore → HeldQueues → Option (List ℕ) → HeldCore → HeldQueues → Type 0
+CameTo size c q tried c' q' =
+    Came tried (granted_by opens fronts afters c.side c.processor q (request c.copies c.side c.code size c.processor)) c.processor q c'.processor q'
+
+abbrev pub answer_of : Option (List ℕ) → CoreAnswer
+answer_of None = IsHalted
+answer_of (Some piece) = Did piece
+
+pub told_by : (size : ℕ) (c c' : HeldCore) (q q' : HeldQueues) (tried : Option (List ℕ)) → CameTo size c q tried c' q' → ToldOf size c q (answer_of tried) c' q'
+told_by size c c' q q' None t = t
+told_by size c c' q q' (Some piece) t = t
+
+pub done_by : (tried : Option (List ℕ)) → is_done (answer_of tried) ≡ is_some tried
+done_by None = refl
+done_by (Some piece) = refl
 
 module _ (a e : HeldCore) (q : HeldQueues) (memory : List ℕ) (taken : ℕ) (sound : IsSound a e q memory taken) where
   -- the machine that has these parts

@@ -1,12 +1,13 @@
 -- A word selects an enabled pick, exactly where there is one.
-use Rattle.std.proofs.Common.{◌≡◌, ℕ, zero, suc, ◌+◌, ◌-◌, ◌%◌, ◌/◌, ◌<◌, ◌≤◌, Bool, true, false, cond, not, ◌&&◌, List, [], ◌∷◌, ◌++◌, length, map, refl, ap, sym, ◌∙◌, subst, arith}
+use Rattle.std.proofs.Common.{◌≡◌, ℕ, zero, suc, ◌+◌, ◌-◌, ◌%◌, ◌/◌, ◌<◌, ◌≤◌, Bool, true, false, cond, not, List, [], ◌∷◌, ◌++◌, length, map, refl, ap, sym, ◌∙◌, subst, arith}
 use Rattle.std.specs.Prelude.{Option, Some, None, IfSome, IsSome, is_some, is_none, nat_eq, ◌==◌, if◌then◌else◌, filter, slice_get}
 use Rattle.std.specs.List.{AllByRecursion, list_any}
 use Rattle.std.proofs.lemmas.Nat.{mod_below}
 use Rattle.std.proofs.lemmas.Option.{slice_get-get_or}
 use Rattle.std.proofs.lemmas.Bool.Decides.{nat_tests}
 use Rattle.std.proofs.lemmas.List.{length-append}
-use Rattle.dae_base.proofs.Laws.{some_map}
+use Rattle.std.proofs.lemmas.Bool.{and_parts, not-true}
+use Rattle.dae_base.proofs.Laws.{some_map, all_at}
 use Rattle.dae_base.specs.declared.Side.{Side}
 use Rattle.dae_base.specs.declared.Side.TheVariants.{A, E}
 use Rattle.dae_queues.specs.declared.Slot.{Slot}
@@ -42,26 +43,13 @@ pub chosen_none : (n : ℕ) (ps : List Pick) → chosen n ps ≡ None → ps ≡
 chosen_none n [] h = refl
 chosen_none n (p ∷ ps) h = let some = chosen_some n p ps in absurd (cc (h, some.1))
 
-pub chosen_here : (n : ℕ) (ps qs : List Pick) (p : Pick) → chosen n ps ≡ Some p → chosen n (or_next ps qs) ≡ Some p
-chosen_here n [] qs p h = cc
-chosen_here n (q ∷ ps) qs p h = h
-
-pub chosen_next : (n : ℕ) (ps qs : List Pick) → chosen n ps ≡ None → chosen n (or_next ps qs) ≡ chosen n qs
-chosen_next n ps qs h = ap (λ (z : List Pick). chosen n (or_next z qs)) (chosen_none n ps h)
-
 pub chosen_alone : (n : ℕ) (b : Bool) (p : Pick) → chosen n (if b then p ∷ [] else []) ≡ (if b then Some p else None)
 chosen_alone n false p = refl
 chosen_alone n true p = let z : n % 1 ≡ 0 = omega arith in ap (slice_get (p ∷ [])) z
 
--- an item of a list, counted from 0
-pub all_get : {X : Type 0} (P : X → Type 0) (xs : List X) (i : ℕ) (x : X) → AllByRecursion P xs → slice_get xs i ≡ Some x → P x
-all_get P [] i x h g = cc
-all_get P (z ∷ xs) zero x h g = let e : z ≡ x = cc in subst P e h.0
-all_get P (z ∷ xs) (suc i) x h g = all_get P xs i x h.1 g
-
 all_chosen : (P : Pick → Type 0) (n : ℕ) (ps : List Pick) (p : Pick) → AllByRecursion P ps → chosen n ps ≡ Some p → P p
 all_chosen P n [] p h g = cc
-all_chosen P n (q ∷ ps) p h g = all_get P (q ∷ ps) (n % length (q ∷ ps)) p h g
+all_chosen P n (q ∷ ps) p h g = all_at P (q ∷ ps) (n % length (q ∷ ps)) p h g
 
 all_or : (P : Pick → Type 0) (ps qs : List Pick) → AllByRecursion P ps → AllByRecursion P qs → AllByRecursion P (or_next ps qs)
 all_or P [] qs h k = k
@@ -83,14 +71,6 @@ get_right (x ∷ xs) ys i (suc j) h = get_right xs ys i j (omega arith)
 
 -- ---- the slots that may be filled
 
-both : (x y : Bool) → (x && y) ≡ true → (x ≡ true) × (y ≡ true)
-both true y h = (refl, h)
-both false y h = cc
-
-not_not : (b : Bool) → not b ≡ true → b ≡ false
-not_not true h = cc
-not_not false h = refl
-
 abbrev fillable : List StoreAt → List Slot → List ℕ → Slot → Type 0
 fillable sa ss memory slot = is_some (filling_of sa slot.number ss memory) ≡ true
 
@@ -106,9 +86,9 @@ waits_here z h = grind (arith, nat_tests)
 all_fillable_by : (sa : List StoreAt) (whole ss : List Slot) (memory : List ℕ) (z : Slot) → waiting z.number whole ≡ waiting z.number (z ∷ ss) → AllByRecursion (fillable sa whole memory) (filter (can_be_filled sa) ss) → (b : Bool) → can_be_filled sa z ≡ b → AllByRecursion (fillable sa whole memory) (cond b (z ∷ filter (can_be_filled sa) ss) (filter (can_be_filled sa) ss))
 all_fillable_by sa whole ss memory z same later false h = later
 all_fillable_by sa whole ss memory z same later true h =
-    let parts = both (is_none z.value) (not (list_any (bars z) sa)) h in
+    let parts = and_parts (is_none z.value) (not (list_any (bars z) sa)) h in
     let found : waiting z.number whole ≡ Some z = same ∙ rw (waits_here z parts.0) in
-    (fill_found sa whole memory z found (not_not (list_any (bars z) sa) parts.1), later)
+    (fill_found sa whole memory z found (not-true (list_any (bars z) sa) parts.1), later)
 
 all_fillable : (sa : List StoreAt) (whole ss : List Slot) (memory : List ℕ) (low high : ℕ) → Counts low (map (λ (s : Slot). s.number) ss) high → ((n : ℕ) → low ≤ n → waiting n whole ≡ waiting n ss) → AllByRecursion (fillable sa whole memory) (filter (can_be_filled sa) ss)
 all_fillable sa whole [] memory low high c same = tt
@@ -120,7 +100,7 @@ all_fillable sa whole (z ∷ ss) memory low high c same =
 none_fillable_by : (sa : List StoreAt) (ss : List Slot) (memory : List ℕ) (n : ℕ) (z : Slot) (w b : Bool) → is_waiting n z ≡ w → can_be_filled sa z ≡ b → cond b (z ∷ filter (can_be_filled sa) ss) (filter (can_be_filled sa) ss) ≡ [] → (filter (can_be_filled sa) ss ≡ [] → filling_of sa n ss memory ≡ None) → filling_of sa n (z ∷ ss) memory ≡ None
 none_fillable_by sa ss memory n z w true f e h later = cc
 none_fillable_by sa ss memory n z true false f e h later =
-    let waits : is_none z.value ≡ true = (both (nat_eq z.number n) (is_none z.value) f).1 in
+    let waits : is_none z.value ≡ true = (and_parts (nat_eq z.number n) (is_none z.value) f).1 in
     let barred : not (list_any (bars z) sa) ≡ false = rw waits at e in
     rw (f, barred)
 none_fillable_by sa ss memory n z false false f e h later = rw f (later h)

@@ -134,6 +134,7 @@ impl Machine {
     }
 
     /// One instruction of A, where it has a step now, or false, and then nothing changes.
+    #[inline(never)]
     fn try_a(&mut self) -> bool
         requires few { self.old.state.steps < 1000000000000 }
         ensures done { result ≡ true → Stepped Pick.A [] self.old self.new }
@@ -141,8 +142,8 @@ impl Machine {
             → (step self.old.setup self.old.state Pick.A ≡ None) × (self.new ≡ self.old) }
     {
         let memory = self.memory.len() as u32;
-        let answer = self.a.step(memory, &mut self.queues);
-        let done = is_done(&answer);
+        let piece = self.a.try_step(memory, &mut self.queues);
+        let done = piece.is_some();
         if done {
             self.taken += 1;
         }
@@ -150,6 +151,7 @@ impl Machine {
     }
 
     /// One instruction of E and what it prints, where it has a step now, or None, and then nothing changes.
+    #[inline(never)]
     fn try_e(&mut self) -> Option<Piece>
         requires few { self.old.state.steps < 1000000000000 }
         ensures done { IfSome result (λ piece. Stepped Pick.E piece self.old self.new) }
@@ -157,12 +159,12 @@ impl Machine {
             → (step self.old.setup self.old.state Pick.E ≡ None) × (self.new ≡ self.old) }
     {
         let memory = self.memory.len() as u32;
-        match self.e.step(memory, &mut self.queues) {
-            CoreAnswer::Did(piece) => {
+        match self.e.try_step(memory, &mut self.queues) {
+            Some(piece) => {
                 self.taken += 1;
                 Some(piece)
             }
-            CoreAnswer::Waits(_) | CoreAnswer::Halted | CoreAnswer::Faulted(_) => None,
+            None => None,
         }
     }
 
@@ -181,6 +183,7 @@ impl Machine {
     }
 
     /// The drain of the next store, where that is enabled, or false, and then nothing changes.
+    #[inline(never)]
     fn try_drain(&mut self) -> bool
         requires few { self.old.state.steps < 1000000000000 }
         ensures done { result ≡ true → Stepped Pick.Drain [] self.old self.new }

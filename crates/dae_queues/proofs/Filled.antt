@@ -1,10 +1,10 @@
 -- The slots at the front that have their value.
-use Rattle.std.proofs.Common.{◌≡◌, ℕ, zero, suc, ◌+◌, ◌-◌, ◌≤◌, true, false, ◌||◌, filter, List, [], ◌∷◌, ◌++◌, drop, length, refl, add-one, arith}
+use Rattle.std.proofs.Common.{◌≡◌, ℕ, zero, suc, ◌+◌, ◌-◌, ◌≤◌, true, false, ◌||◌, filter, List, [], ◌∷◌, ◌++◌, drop, length, refl, ap, add-one, arith}
 use Rattle.std.specs.Prelude.{Option, Some, None, is_some, is_none, slice_get, slice_set}
 use Rattle.std.specs.List.{list_any}
 use Rattle.dae_queues.specs.declared.Slot.{Slot}
 use Rattle.dae_queues.specs.declared.StoreAt.{StoreAt}
-use Rattle.dae_queues.specs.Lists.{can_be_filled, holds, rest}
+use Rattle.dae_queues.specs.Lists.{can_be_filled, first_unfilled, holds, rest}
 use Rattle.dae_queues.specs.Rings.{has_value, is_held, AreFilled}
 
 pub within : (n : ℕ) (ss : List Slot) → AreFilled n ss → n ≤ length ss
@@ -44,6 +44,23 @@ one_more zero [] h v = cc
 one_more zero (z ∷ ss) h v = (v, tt)
 one_more (suc n) [] h v = absurd h
 one_more (suc n) (z ∷ ss) h v = let e : suc n + 1 ≡ suc (n + 1) = omega arith in rw e (h.0, one_more n ss h.1 v)
+
+-- behind them the first slot without a value is the first one that waits
+is_none_of : (v : Option ℕ) → is_some v ≡ false → is_none v ≡ true
+is_none_of None h = refl
+is_none_of (Some x) h = cc
+
+pub first_here : (n : ℕ) (ss : List Slot) → AreFilled n ss → has_value (slice_get ss n) ≡ false → first_unfilled ss ≡ n
+first_here zero [] h v = refl
+first_here zero (s ∷ ss) h v = rw (is_none_of s.value v) refl
+first_here (suc n) [] h v = absurd h
+first_here (suc n) (s ∷ ss) h v = rw (not_none s.value h.0) (ap suc (first_here n ss h.1 v))
+
+pub first_past : (n : ℕ) (ss : List Slot) → AreFilled n ss → length ss ≤ n → first_unfilled ss ≡ length ss
+first_past zero [] h l = refl
+first_past zero (s ∷ ss) h l = absurd (omega (arith, l))
+first_past (suc n) [] h l = absurd h
+first_past (suc n) (s ∷ ss) h l = rw (not_none s.value h.0) (ap suc (first_past n ss h.1 (omega (arith, l))))
 
 -- whether a slot holds a store, from a place on
 held_by : (a : StoreAt) (ss : List Slot) (i : ℕ) → list_any (holds a) (drop i ss) ≡ (is_held a (slice_get ss i) || list_any (holds a) (drop (suc i) ss))

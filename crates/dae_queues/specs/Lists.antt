@@ -1,7 +1,7 @@
 -- The queues as plain lists: what may be put in and taken out, and what memory may fill and drain. They are those of
 -- Smith, "Decoupled Access/Execute Computer Architectures", architecture overview: operands wait in queues between the
 -- processors, a store address waits for its datum, and a load is compared with the store addresses that wait.
-use Rattle.std.specs.Prelude.{ℕ, ◌+◌, Bool, not, ◌&&◌, nat_eq, nat_lt, nat_le, if◌then◌else◌, List, [], ◌∷◌, ◌++◌, map, Option, Some, None, is_none, option_and_then}
+use Rattle.std.specs.Prelude.{ℕ, suc, ◌+◌, Bool, not, ◌&&◌, nat_eq, nat_lt, nat_le, if◌then◌else◌, List, [], ◌∷◌, ◌++◌, map, Option, Some, None, is_none, option_and_then}
 use Rattle.std.specs.List.{list_any, find}
 use Rattle.std.specs.Bool.{then_some}
 use Rattle.dae_base.specs.Words.{width_of, overlap, loaded}
@@ -43,6 +43,11 @@ rest (x ∷ xs) = xs
 abbrev pub first_value : List Slot → Option ℕ
 first_value [] = None
 first_value (s ∷ ss) = s.value
+
+-- the place of the first slot that waits for its value, or past the last where none waits
+abbrev pub first_unfilled : List Slot → ℕ
+first_unfilled [] = 0
+first_unfilled (s ∷ ss) = if is_none s.value then 0 else suc (first_unfilled ss)
 
 abbrev pub without_front : Slots → Slots
 without_front s = record { taken = s.taken + 1; reserved = s.reserved; slots = rest s.slots }

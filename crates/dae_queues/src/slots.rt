@@ -1,7 +1,7 @@
 ghost use Rattle.std.specs.Prelude.{◌≡◌, ◌<◌, ◌^◌, drop, filter, length, nat_lt, is_some, if◌then◌else◌, IfOk, slice_get, slice_set, Some};
 ghost use Rattle.std.specs.List.{list_any};
 ghost use Rattle.circular_buffer.specs.Buffer.{buffer};
-ghost use Rattle.dae_queues.specs.Lists.{first_value, with_slot, without_front, waiting, with_value, no_slots, can_be_filled, holds};
+ghost use Rattle.dae_queues.specs.Lists.{first_unfilled, first_value, with_slot, without_front, waiting, with_value, no_slots, can_be_filled, holds};
 ghost use Rattle.dae_queues.specs.Rings.{at_place, fillable_at, has_value, is_held, AreFilled};
 
 use crate::{Slot, StoreAt, StoreQueue, overlap};
@@ -170,6 +170,20 @@ impl SlotQueue {
                 true
             }
         }
+    }
+
+    /// The place of the first slot that waits for its value, counted from the front, or the number of slots where none
+    /// waits.
+    #[tactic(auto, using(crate::proofs::Filled::one_more, crate::proofs::Filled::first_here, crate::proofs::Filled::first_past))]
+    pub fn first_unfilled(&self) -> u16
+        ensures { result ≡ first_unfilled self.now.held.slots }
+    {
+        for place in self.filled..self.len() {
+            if !has_value(&self.ring, place) {
+                return place;
+            }
+        }
+        self.len()
     }
 
     /// How many slots may be filled while these stores wait.

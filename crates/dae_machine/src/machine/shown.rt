@@ -1,6 +1,7 @@
 ghost use Rattle.std.specs.Prelude.{◌≡◌, ◌<◌, slice_get};
 ghost use Rattle.dae_encode.specs.Processor.{held};
-ghost use Rattle.dae_core.specs.Queues.{count};
+ghost use Rattle.dae_core.specs.Queues.{count, loads_of};
+ghost use Rattle.dae_queues.specs.Lists.{first_unfilled};
 ghost use Rattle.dae_machine.specs.Answers.{answer, processor};
 ghost use Rattle.dae_machine.specs.Entries.{entries, slot_entry, store_entry, word_entry};
 
@@ -64,6 +65,14 @@ impl Machine {
         ensures { result ≡ count queue self.now.state.queues }
     {
         self.queues.len(queue)
+    }
+
+    /// The place of the first slot of a side's load queue that waits for its value, counted from the front, or their
+    /// number where none waits: no fill of a slot before it is enabled.
+    pub fn first_unfilled(&self, side: Side) -> u16
+        ensures { result ≡ first_unfilled (loads_of side self.now.state.queues).slots }
+    {
+        self.queues.first_unfilled(side)
     }
 
     /// The item at a place from the front of a queue, counted from 0, or None past the last.

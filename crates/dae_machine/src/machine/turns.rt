@@ -1,4 +1,4 @@
-ghost use Rattle.std.specs.Prelude.{◌≡◌, ◌<◌, ◌++◌, Some, None, is_some, if◌then◌else◌, length, slice_get, Option, IfSome, IsSome, IsTrue, ◌↔◌, []};
+ghost use Rattle.std.specs.Prelude.{◌≡◌, ◌<◌, ◌%◌, ◌++◌, Some, None, is_some, if◌then◌else◌, length, slice_get, Option, IfSome, IsSome, IsTrue, ◌↔◌, []};
 ghost use Rattle.dae_base.specs.declared.Side.TheVariants.{A, E};
 ghost use Rattle.dae_machine.specs.Machine.{step, IsQuiet};
 ghost use Rattle.dae_machine.specs.Rests.{Rests, TurnedTo};
@@ -143,6 +143,7 @@ impl Machine {
 
     /// One turn: the step of the pick that this word selects, or no step where no pick is enabled.
     #[tactic(auto, using(crate::proofs::Turns::quiet_where_none))]
+    #[inline(always)]
     pub fn turn(&mut self, word: u32) -> Turn
         requires few { self.old.state.steps < 1000000000000 }
         ensures setup { self.new.setup ≡ self.old.setup }
@@ -158,11 +159,28 @@ impl Machine {
     }
 
     /// The step of the pick that a word selects and what it prints, where some pick is enabled. Else nothing changes.
+    #[inline(always)]
     fn try_pick(&mut self, word: u32) -> Option<(Pick, Piece)>
         requires few { self.old.state.steps < 1000000000000 }
         ensures { Tried result (pick_of self.old.setup self.old.state word) self.old self.new }
     {
-        let (choice, place) = (word / 4, word % 4);
+        match word % 4 {
+            0 => self.try_from(word, 0),
+            1 => self.try_from(word, 1),
+            2 => self.try_from(word, 2),
+            _ => self.try_from(word, 3),
+        }
+    }
+
+    /// The same from this place of the cycle on. Each call has a place of its own, so that the order of the four kinds
+    /// stands in the code.
+    #[inline(always)]
+    fn try_from(&mut self, word: u32, place: u32) -> Option<(Pick, Piece)>
+        requires few { self.old.state.steps < 1000000000000 }
+        requires place { word % 4 ≡ place }
+        ensures { Tried result (pick_of self.old.setup self.old.state word) self.old self.new }
+    {
+        let choice = word / 4;
         if let Some(done) = self.try_kind(choice, place) {
             return Some(done);
         }
@@ -177,6 +195,7 @@ impl Machine {
 
     /// The step of the pick that is chosen of a kind, and what it prints, where one is enabled. Else nothing changes.
     #[tactic(auto, using(crate::proofs::Turns::chosen_alone))]
+    #[inline(always)]
     fn try_kind(&mut self, choice: u32, place: u32) -> Option<(Pick, Piece)>
         requires few { self.old.state.steps < 1000000000000 }
         ensures { Tried result
@@ -190,6 +209,7 @@ impl Machine {
         }
     }
 
+    #[inline(always)]
     fn try_alone_a(&mut self) -> Option<(Pick, Piece)>
         requires few { self.old.state.steps < 1000000000000 }
         ensures { Tried result
@@ -203,6 +223,7 @@ impl Machine {
         }
     }
 
+    #[inline(always)]
     fn try_alone_e(&mut self) -> Option<(Pick, Piece)>
         requires few { self.old.state.steps < 1000000000000 }
         ensures { Tried result
@@ -213,6 +234,7 @@ impl Machine {
         Some((Pick::E, piece))
     }
 
+    #[inline(never)]
     fn try_fills(&mut self, choice: u32) -> Option<(Pick, Piece)>
         requires few { self.old.state.steps < 1000000000000 }
         ensures { Tried result
@@ -233,6 +255,7 @@ impl Machine {
         self.pick_of_fills(choice)
     }
 
+    #[inline(always)]
     fn try_alone_drain(&mut self) -> Option<(Pick, Piece)>
         requires few { self.old.state.steps < 1000000000000 }
         ensures { Tried result
