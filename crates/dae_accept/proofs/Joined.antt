@@ -1,6 +1,6 @@
 -- Files that are alike come to typed files of one outline, and so have one first cause not to join.
-use Rattle.std.proofs.Common.{◌≡◌, ℕ, List, [], ◌∷◌, map, Option, Some, None, ap, sym, subst, refl, ◌∙◌}
-use Rattle.std.specs.Option.{unwrap_or}
+use Rattle.std.proofs.Common.{◌≡◌, ℕ, List, [], ◌∷◌, map, Some, None, ap, sym, subst, refl, ◌∙◌}
+use Rattle.std.proofs.lemmas.Option.{same_Some}
 use Rattle.dae_tree.specs.Files.{Contents}
 use Rattle.dae_tree.specs.Trees.{External}
 use Rattle.dae_types_kinds.specs.Tables.{Tables}
@@ -18,9 +18,6 @@ use Rattle.dae_unit.specs.Outlines.{outline, OutlinesTellCauses}
 use Rattle.dae_accept.specs.Accepted.{AreTyped, IsAccepted, IsJoinRefusal}
 use Rattle.dae_accept.proofs.Faults.{one_start}
 
-one_inside : {A : Type 0} (x y : A) → Some x ≡ Some y → x ≡ y
-one_inside {A} x y e = ap (λ (o : Option A). unwrap_or o x) e
-
 typed_alike : (f g : Contents) (s : Tables) (products : List Product) → IsLike f g → IsTyped (plan_in g) (start_in g) (s, products) → IsTyped (plan_in f) (start_in f) (s, products)
 typed_alike f g s products l h =
     subst (λ (start : Tables). IsTyped (plan_in f) start (s, products)) (one_start f g l)
@@ -30,7 +27,7 @@ one_outline : (f g : Contents) (t u : FileParts) → IsLike f g → IsTypedFile 
 one_outline f g t u l h k =
     let other = typed_alike f g k.tables k.products l k.checked.0 in
     let tables : h.tables ≡ k.tables = sym h.checked.0.0 ∙ other.0 in
-    let products : h.products ≡ k.products = one_inside h.products k.products (sym h.checked.0.1 ∙ other.1) in
+    let products : h.products ≡ k.products = same_Some h.products k.products (sym h.checked.0.1 ∙ other.1) in
     let a = h.reads in
     let b = k.reads in
     λ i. record {

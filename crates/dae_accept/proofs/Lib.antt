@@ -4,4 +4,5 @@ mod Files
 mod Joined
 mod Origins
 mod Stages
+mod Starts
 mod Within

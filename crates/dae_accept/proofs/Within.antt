@@ -1,9 +1,9 @@
 -- Files that are read have no more tokens and bytes of literals than there is room for.
 use Rattle.std.proofs.Common.{◌≡◌, ℕ, zero, suc, ◌+◌, ◌-◌, ◌≤◌, Bool, true, false, if◌then◌else◌, nat_le, List, [], ◌∷◌, ◌++◌, length, Option, Some, None, Result, Ok, Err, refl, sym, ap, ◌∙◌, subst, arith}
-use Rattle.std.proofs.lemmas.Bool.Decides.{nat_tests}
 use Rattle.std.proofs.lemmas.List.{length-append}
 use Rattle.std.proofs.lemmas.List.Sums.{sum_by-append}
 use Rattle.std.specs.List.{sum_by}
+use Rattle.std.proofs.lemmas.Bool.{leb-true}
 use Rattle.dae_tree.specs.declared.faults.LexError.{LexError}
 use Rattle.dae_tree.specs.declared.faults.LexError.TheVariants.{Refused}
 use Rattle.dae_tree.specs.declared.faults.Construct.TheVariants.{LiteralsTooLong}
@@ -19,7 +19,7 @@ use Rattle.dae_tree.specs.Directives.{replaced_lines}
 use Rattle.dae_tree.specs.Tokens as tree
 use Rattle.dae_tree.specs.Tokens.{literal_of, before, before_by, joined, names_with, literals_with, literals_after, numbered, room_after, reading_of, lines_in, tested_of, reads_of, with_room}
 use Rattle.dae_parse.specs.Parsed.{IsFileOf}
-use Rattle.dae_small.specs.Sources.{tokens_in, bytes_of, bytes_in}
+use Rattle.dae_sizes.specs.Sources.{tokens_in, bytes_of, bytes_in}
 use Rattle.dae_accept_sources.specs.Read.{AreFilesOf, AreRead, readings_from, whole_room, with_first}
 use Rattle.dae_accept.specs.Origins.{ReadAreWithin}
 
@@ -42,9 +42,6 @@ one_more : (t : Read) (n l : ℕ) → literal_length t.meaning ≤ l → (x : Re
 one_more t n l le (Ok ts) h = (let a = h.0 in omega (arith, a), let b = h.1 in omega (arith, b, le))
 one_more t n l le (Err e) h = tt
 
-at_most : (m n : ℕ) → nat_le m n ≡ true → m ≤ n
-at_most m n h = grind (arith, nat_tests)
-
 are_within : (l : ℕ) (xs : List Tested) → AreWithin (tokens_tested xs) l (outcome (within_literals l xs))
 are_within l [] = (omega arith, omega arith)
 are_within l (failed e ∷ xs) = tt
@@ -52,7 +49,7 @@ are_within l (token t ∷ xs) = by (are_within (l - literal_length t.meaning) xs
   where
     by : AreWithin (tokens_tested xs) (l - literal_length t.meaning) (outcome (within_literals (l - literal_length t.meaning) xs)) → (b : Bool) → nat_le (literal_length t.meaning) l ≡ b
         → AreWithin (suc (tokens_tested xs)) l (outcome (if b then token t ∷ within_literals (l - literal_length t.meaning) xs else failed (Refused LiteralsTooLong t.place) ∷ within_literals l xs))
-    by later true e = one_more t (tokens_tested xs) l (at_most (literal_length t.meaning) l e) (outcome (within_literals (l - literal_length t.meaning) xs)) later
+    by later true e = one_more t (tokens_tested xs) l (leb-true (literal_length t.meaning) l e) (outcome (within_literals (l - literal_length t.meaning) xs)) later
     by later false e = tt
 
 one_tested : (x : Tested) (xs : List Tested) (n : ℕ) → tokens_tested xs ≤ n → tokens_tested (x ∷ xs) ≤ suc n

@@ -10,7 +10,6 @@ ghost use Rattle.dae_accept.specs.Origins.{IsOfFiles};
 
 use crate::error::CompileError;
 use dae_accept_sources::read_files;
-use dae_file_sizes::starts_keep_literals;
 use dae_program::Program;
 use dae_tree::File;
 use dae_types::check;
@@ -58,7 +57,6 @@ pub fn accept(alloc: Global, texts: &[Vec<u8>], memory: u32) -> Result<Program, 
     ensures files { IfOk result (IsOfFiles (texts_in texts.now)) }
     ensures refused { IfErr result (IsRefusedFor (texts_in texts.now) memory) }
 {
-    starts_keep_literals();
     let files = read_files(alloc, texts)?;
     see_files(files.as_slice());
     let typed = check_files(alloc, files.as_slice())?;

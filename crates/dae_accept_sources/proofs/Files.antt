@@ -1,24 +1,18 @@
 -- The files of several readings, in order, and the first refusal.
-use Rattle.std.proofs.Common.{◌≡◌, inl, inr, ℕ, ◌+◌, ◌<◌, ◌≤◌, List, [], ◌∷◌, ◌++◌, length, drop, get_or, ap, sym, ◌∙◌, subst, append-nil, append_assoc}
+use Rattle.std.proofs.Common.{◌≡◌, inr, ℕ, ◌+◌, ◌<◌, ◌≤◌, List, [], ◌∷◌, ◌++◌, length, drop, get_or, ap, sym, ◌∙◌, subst, append-nil, append_assoc}
 use Rattle.std.proofs.lemmas.List.{drop_all}
 use Rattle.dae_base.proofs.Laws.{drop_at}
 use Rattle.dae_tree.specs.Reading.{Reading}
 use Rattle.dae_tree.specs.Files.{Contents}
 use Rattle.dae_tree.specs.FileViews.{view_externals}
 use Rattle.dae_parse.specs.declared.error.ParseError.{ParseError}
-use Rattle.dae_parse.specs.Parsed.{IsCause, IsFileOf, IsRefused}
+use Rattle.dae_parse.specs.Parsed.{IsFileOf}
 use Rattle.dae_accept_sources.specs.Read.{AreFilesOf, IsFirstRefused}
 
 -- so far there are these, and with those of the readings from an index on they are all; the first refusal of those is that of all
 pub record Starts (rs : List Reading) (i : ℕ) (files : List Contents) : Type 0 where
   pub ends : (rest : List Contents) → AreFilesOf (drop i rs) rest → AreFilesOf rs (files ++ rest)
   pub stops : (e : ParseError) → IsFirstRefused (drop i rs) e → IsFirstRefused rs e
-
-pub first_files : (rs : List Reading) (files : List Contents) → files ≡ [] → Starts rs 0 files
-first_files rs files e = record {
-  ends = λ rest h. subst (λ (fs : List Contents). AreFilesOf rs (fs ++ rest)) (sym e) h;
-  stops = λ e h. h;
-}
 
 pub next_files : (rs : List Reading) (i : ℕ) (r : Reading) (f : Contents) (files new : List Contents) → i < length rs → r ≡ get_or rs i r
     → Starts rs i files → IsFileOf r f → new ≡ files ++ f ∷ [] → Starts rs (i + 1) new
@@ -34,7 +28,3 @@ pub last_files : (rs : List Reading) (i : ℕ) (files : List Contents) → lengt
 last_files rs i files le h =
     subst (λ (fs : List Contents). AreFilesOf rs fs) (append-nil files)
     (h.ends [] (subst (λ (xs : List Reading). AreFilesOf xs []) (sym (drop_all i rs le)) tt))
-
-pub stops_at : (rs : List Reading) (i : ℕ) (r : Reading) (files : List Contents) (e : ParseError) → i < length rs → r ≡ get_or rs i r
-    → Starts rs i files → IsCause e → IsRefused r e → IsFirstRefused rs e
-stops_at rs i r files e lt is h cause k = h.stops e (subst (λ (xs : List Reading). IsFirstRefused xs e) (sym (drop_at rs i r lt is)) (inl (cause, k)))

@@ -1,5 +1,4 @@
-// The worked rows of the checker of types and of joining: texts that break a rule and texts beside them, and files that
-// join or don't.
+// Tests of dae_types and dae_accept: texts that break a rule of types and texts beside them, and files that join or don't.
 #![tactic(auto)]
 
 #[cfg(test)]

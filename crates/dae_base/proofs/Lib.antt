@@ -3,4 +3,5 @@ mod Spellings
 mod Options
 mod Lists
 mod Budgets
+mod Tests
 pub mod Laws

@@ -10,6 +10,4 @@ mod depths;
 mod kinds;
 mod laws;
 mod tally;
-#[cfg(test)]
-mod tests;
 mod uses;

@@ -1,5 +1,5 @@
 -- What is due for an image that is to be kept.
-use Rattle.std.proofs.Common.{◌≡◌, ◌⊎◌, inl, inr, ℕ, ◌≤◌, List, [], ◌∷◌, refl, ap, ◌∙◌, subst, arith}
+use Rattle.std.proofs.Common.{◌≡◌, ◌⊎◌, inl, inr, ℕ, ◌≤◌, List, [], ◌∷◌, ◌++◌, refl, ap, ◌∙◌, subst, arith}
 use Rattle.std.specs.Prelude.{Option}
 use Rattle.dae_image.specs.declared.Image.{Image}
 use Rattle.dae_image.specs.Images.{contents}
@@ -8,21 +8,22 @@ use Rattle.dae_io.specs.Faults.{ShelfFault}
 use Rattle.dae_io.specs.Told.{TellsSame}
 use Rattle.dae_io.specs.Sinks.{IsPut, IsPutFailed, SinkState}
 use Rattle.dae_cli_drive.specs.Notes.{budget_line}
-use Rattle.dae_cli_drive.specs.Puts.{Answer, Note, GivesDue, gives_whole, sinks}
+use Rattle.dae_cli_drive.specs.Puts.{Answer, AreNoted, Gives, GivesDue, GivesNotes, Note, Put, Sinks, gives_part, gives_whole, sinks, told}
 use Rattle.dae_cli_drive.proofs.Laws.{gives_failed, gives_next}
-use Rattle.dae_cli_command.specs.Keeping.{DueOfKeeping, due_kept, due_not_kept, due_memory_to_keep, KeepsOrEnds, KeptOrNot, Leaves, TellsBut, kept_line}
+use Rattle.dae_cli_command.specs.Keeping.{DueOfKeeping, due_kept, due_not_kept, due_memory_to_keep, KeepsAtMostOnce, keeps_nothing, keeps_once, KeepsOrEnds, KeptOrNot, Leaves, TellsBut, kept_line}
 use Rattle.dae_compile.specs.declared.options.Options.{Options}
 use Rattle.dae_cli_jobs.specs.Words.{SpellsCompile}
-use Rattle.dae_cli_command.specs.Shelves.{Keeps, ShelfSeen, shelf_seen}
+use Rattle.dae_cli_command.specs.Shelves.{Keeps, KeepsNothing, KeepsOnce, ShelfSeen}
+use Rattle.dae_cli_command.proofs.OnWay.{seen_by}
 
 -- ---- the shelf as it was before the files were fetched
 
-module _ (told before after : List ℕ → Option (List ℕ)) (first count last_count : ℕ) (last : Option ShelfFault) (same : TellsSame told before) (fewer : first ≤ count) where
+module _ (told before after : List ℕ → Option (List ℕ)) (first count last_count : ℕ) (last : Option ShelfFault) (old given new : List (List ℕ)) (same : TellsSame told before) (fewer : first ≤ count) where
   abbrev here : ShelfSeen
-  here = shelf_seen before after count last_count last
+  here = seen_by before after count last_count last given new
 
   abbrev there : ShelfSeen
-  there = shelf_seen told after first last_count last
+  there = seen_by told after first last_count last old new
 
   ends_before : (status : ℕ) (to bytes : List ℕ) → KeepsOrEnds here status to bytes → KeepsOrEnds there status to bytes
   ends_before status to bytes (inl k) = inl k
@@ -32,6 +33,14 @@ module _ (told before after : List ℕ → Option (List ℕ)) (first count last_
   keeping_before {status} {to} {image} a (due_kept k) = due_kept (ends_before status to (spelling_2 (contents image)) k)
   keeping_before a (due_not_kept f) = due_not_kept (record { rose = omega (arith, f.rose); last = f.last })
   keeping_before a due_memory_to_keep = due_memory_to_keep
+
+  comes_before : {to bytes : List ℕ} {status : ℕ} {note note_now : SinkState} → KeptOrNot here to bytes status note note_now → KeptOrNot there to bytes status note note_now
+  comes_before (inl k) = inl k
+  comes_before (inr f) = inr (record { rose = (let r = f.0.rose in omega (arith, r)); last = f.0.last }, f.1, f.2)
+
+  pub once_before : {lines : List Put} {to bytes : List ℕ} {status : ℕ} {note note_now : SinkState} → given ≡ old → KeepsAtMostOnce lines here to bytes status note note_now → KeepsAtMostOnce lines there to bytes status note note_now
+  once_before e (keeps_nothing k) = keeps_nothing (record { given = k.given ∙ e; told = λ name. k.told name ∙ same name })
+  once_before {bytes = bytes} e (keeps_once between noted once comes) = keeps_once between noted (once ∙ ap (λ (gs : List (List ℕ)). gs ++ bytes ∷ []) e) (comes_before comes)
 
 -- ---- what is left of the texts
 
@@ -44,7 +53,27 @@ pub leaves : {words : List (List ℕ)} {before after : List ℕ → Option (List
 leaves c to files spells (inl same) = inl same
 leaves c to files spells (inr but) = inr (to, record { options = c; files = files; spells = spells }, but)
 
+-- where a job keeps nothing
+pub none_kept : {s : ShelfSeen} {to bytes : List ℕ} {lines : List Put} {status : ℕ} {note note_now : SinkState} → s.given_after ≡ s.given → TellsSame s.told s.told_after → KeepsAtMostOnce lines s to bytes status note note_now
+none_kept g t = keeps_nothing (record { given = g; told = t })
+
 -- ---- the bytes that are kept, and the puts
+
+-- one line was put
+one_noted : {line : List ℕ} {note between : SinkState} → IsPut line note between → AreNoted (Note line ∷ []) note between
+one_noted {between = between} put out = (sinks out between, (put, refl), refl)
+
+pub once_kept : {s : ShelfSeen} {to line bytes bytes' : List ℕ} {status : ℕ} {note between note_now : SinkState} → bytes ≡ bytes' → IsPut line note between → KeepsOnce s bytes → KeptOrNot s to bytes status between note_now
+    → KeepsAtMostOnce (Note line ∷ []) s to bytes' status note note_now
+once_kept {s} {to} {line} {bytes} {bytes'} {status} {note} {between} {note_now} e put once comes =
+    subst (λ (bs : List ℕ). KeepsAtMostOnce (Note line ∷ []) s to bs status note note_now) e (keeps_once between (one_noted put) once comes)
+
+-- a line that is put ends a job with its status, or with 6
+pub ends_so : {status stated : ℕ} {line : List ℕ} {note note_now : SinkState} → GivesNotes (told stated line) status note note_now → (status ≡ stated) ⊎ (status ≡ 6)
+ends_so {note = note} given = by (given note) where
+  by : {due : Answer} {status : ℕ} {a b : Sinks} → Gives due status a b → (status ≡ due.status) ⊎ (status ≡ 6)
+  by (gives_whole s w) = inl s
+  by (gives_part s cut) = inr s
 
 -- what comes of keeping bytes: they are kept, and the line on that is put; or they can't be kept
 pub then_kept : {s : ShelfSeen} {status : ℕ} {to : List ℕ} {image : Image} {bytes : List ℕ} {out note between after : SinkState} → bytes ≡ spelling_2 (contents image) → IsPut (budget_line image.budget) note between → KeptOrNot s to bytes status between after → GivesDue (DueOfKeeping s status to image) status (sinks out note) (sinks out after)

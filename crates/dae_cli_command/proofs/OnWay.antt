@@ -9,7 +9,7 @@ use Rattle.dae_cli_drive.specs.Lines.{memory_line, read_line}
 use Rattle.dae_cli_drive.specs.Puts.{Answer, told}
 use Rattle.dae_cli_command.specs.Fetching.{AreFetched, IsFirstNotFetched, IsNotFetched, not_got, too_long}
 use Rattle.dae_cli_refusals.specs.Refusals.{too_long_line}
-use Rattle.dae_cli_command.specs.Shelves.{IsTold, ShelfSeen, shelf_seen}
+use Rattle.dae_cli_command.specs.Shelves.{IsTold, ShelfSeen}
 
 -- the texts from the next one on
 pub texts_from : {X : Type 0} (text : X → List ℕ) (all : List X) (i : ℕ) (x : X) → i < length all → x ≡ get_or all i x → map text (drop i all) ≡ text x ∷ map text (drop (i + 1) all)
@@ -58,13 +58,25 @@ not_read {s} {left} {name} (inr f) = inr (subst (λ (a : Answer). IsNotFetched s
 
 -- ---- several files
 
+-- what is seen of a shelf, by its parts
+abbrev pub seen_by : (told told_after : List ℕ → Option (List ℕ)) → (count count_after : ℕ) → Option ShelfFault → (given given_after : List (List ℕ)) → ShelfSeen
+seen_by told told_after count count_after last given given_after = record {
+  told = told;
+  told_after = told_after;
+  count = count;
+  count_after = count_after;
+  last = last;
+  given = given;
+  given_after = given_after;
+}
+
 -- a shelf that tells the same, and of which fewer faults were counted before
-module _ (told before told' told'' : List ℕ → Option (List ℕ)) (first count after : ℕ) (last : Option ShelfFault) (same : TellsSame told before) (fewer : first ≤ count) where
+module _ (told before told' told'' : List ℕ → Option (List ℕ)) (first count after : ℕ) (last : Option ShelfFault) (given given' old new : List (List ℕ)) (same : TellsSame told before) (fewer : first ≤ count) where
   abbrev here : ShelfSeen
-  here = shelf_seen before told' count after last
+  here = seen_by before told' count after last given given'
 
   abbrev there : ShelfSeen
-  there = shelf_seen told told'' first after last
+  there = seen_by told told'' first after last old new
 
   pub one_before : (left : ℕ) (name : List ℕ) (a : Answer) → IsNotFetched here left name a → IsNotFetched there left name a
   one_before left name a (not_got f) = not_got (omega (arith, f.0), f.1)
@@ -102,9 +114,11 @@ all_short held left (n ∷ ns) [] few h = absurd h
 all_short held left (n ∷ ns) (t ∷ ts) few h = let short = h.1 in (omega arith, all_short held (left - length t) ns ts (omega arith) h.2)
 
 -- the fetch that stopped the files
-pub way_stops : {told before told' : List ℕ → Option (List ℕ)} (told'' : List ℕ → Option (List ℕ)) {first count after : ℕ} {last : Option ShelfFault} {most : ℕ} {all : List (List ℕ)} {left : ℕ} {name : List ℕ} {rest texts : List (List ℕ)} {x : Answer} → TellsSame told before → first ≤ count → IsOnWay told most all left (name ∷ rest) texts → (x ≡ answer_of_memory) ⊎ IsNotFetched (shelf_seen before told' count after last) left name x → (x ≡ answer_of_memory) ⊎ IsFirstNotFetched (shelf_seen told told'' first after last) most all x
-way_stops told'' same fewer way (inl e) = inl e
-way_stops {told} {before} {told'} told'' {first} {count} {after} {last} {left = left} {name = name} {x = x} same fewer way (inr d) = inr (way.stops (shelf_seen told told'' first after last) x refl (inl (one_before told before told' told'' first count after last same fewer left name x d)))
+pub way_stops : {told before told' : List ℕ → Option (List ℕ)} (told'' : List ℕ → Option (List ℕ)) {first count after : ℕ} {last : Option ShelfFault} {given given' : List (List ℕ)} (old new : List (List ℕ)) {most : ℕ} {all : List (List ℕ)} {left : ℕ} {name : List ℕ} {rest texts : List (List ℕ)} {x : Answer} → TellsSame told before → first ≤ count → IsOnWay told most all left (name ∷ rest) texts → (x ≡ answer_of_memory) ⊎ IsNotFetched (seen_by before told' count after last given given') left name x
+    → (x ≡ answer_of_memory) ⊎ IsFirstNotFetched (seen_by told told'' first after last old new) most all x
+way_stops told'' old new same fewer way (inl e) = inl e
+way_stops {told} {before} {told'} told'' {first} {count} {after} {last} {given} {given'} old new {left = left} {name = name} {x = x} same fewer way (inr d) =
+    inr (way.stops (seen_by told told'' first after last old new) x refl (inl (one_before told before told' told'' first count after last given given' old new same fewer left name x d)))
 
 -- the next text, as the shelf told it
 pub way_told : {held before : List ℕ → Option (List ℕ)} {most : ℕ} {all : List (List ℕ)} {left : ℕ} {name : List ℕ} {rest texts : List (List ℕ)} (text : List ℕ) → TellsSame held before → IsOnWay held most all left (name ∷ rest) texts → IsTold before name text → length text ≤ left → IsOnWay held most all (left - length text) rest (texts ++ (text ∷ []))

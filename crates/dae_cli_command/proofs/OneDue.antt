@@ -75,7 +75,7 @@ never tokens trees rules joining errors.Memory other = absurd (other refl)
 
 -- the answer tells why the texts are refused, or is due for an image of them
 abbrev IsOfTexts : (names texts : List (List ℕ)) → Options → (Image → Answer → Type 0) → Answer → Type 0
-IsOfTexts names texts c D a = TellsRefusal names texts c a ⊎ IsForImage texts c D a
+IsOfTexts names texts c D a = TellsRefusal names texts c a ⊎ IsForImage names texts c D a
 
 -- two refusals of the same texts
 module _ (names texts : List (List ℕ)) (c : Options) (D : Image → Answer → Type 0) (a b : Answer) where

@@ -1,6 +1,6 @@
 -- Runs of an image that keeps the meaning of a program.
 use Rattle.std.proofs.Common.{◌≡◌, ◌⊎◌, inl, inr, ℕ, ◌+◌, ◌*◌, ◌≤◌, List, [], ◌∷◌, ◌++◌, length, map, refl, ap, sym, ◌∙◌, subst, arith}
-use Rattle.std.specs.Prelude.{◌≢◌, Option, Some, None}
+use Rattle.std.specs.Prelude.{◌≢◌, ◌/◌, Option, Some, None}
 use Rattle.std.specs.List.{concat}
 use Rattle.dae_base.specs.Budgets.{Reaches}
 use Rattle.dae_base.proofs.Laws.{none_below}
@@ -12,7 +12,7 @@ use Rattle.dae_machine.specs.declared.End.TheVariants.{Ended, Trapped as EndTrap
 use Rattle.dae_machine.specs.declared.Pick.{Pick}
 use Rattle.dae_machine.specs.Machine.{Setup, State, Runs, IsFinal}
 use Rattle.dae_machine.specs.Opened.{opened, setup_of}
-use Rattle.dae_machine.specs.Ends.{CanOnlyEnd, GoesOn as RunsGoOn}
+use Rattle.dae_machine.specs.Ends.{CanOnlyEnd, IsPrefixOf, GoesOn as RunsGoOn}
 use Rattle.dae_machine.specs.Rests.{end_of}
 use Rattle.dae_machine.specs.Schedules.{scheduled, word_of}
 use Rattle.dae_meaning.specs.Worlds.{World}
@@ -20,17 +20,17 @@ use Rattle.dae_meaning.specs.Results.{Halted, Trapped}
 use Rattle.dae_program.specs.Outcomes.{last_world}
 use Rattle.dae_program.specs.Programs.{GoesOn, meaning_of, program_end}
 use Rattle.dae_program.specs.declared.program.Program.{Program}
-use Rattle.dae_compile_promise.specs.Promises.{KeepsMeaning, OnlyEnds}
+use Rattle.dae_compile_promise.specs.Promises.{IsAtEnd, KeepsMeaning, OnlyEnds}
 use Rattle.dae_cli_drive.specs.declared.driving.Driven.{Driven}
 use Rattle.dae_cli_drive.specs.declared.driving.Driven.TheVariants.{Final, Stuck, Spent, SinkFailed}
 use Rattle.dae_cli_drive.specs.declared.options.RunOptions.{RunOptions}
-use Rattle.dae_cli_drive.specs.Notes.{budget_line, ended_line, end_puts, show_puts, steps_line, trapped_line}
+use Rattle.dae_cli_drive.specs.Notes.{budget_line, ended_line, end_puts, running_line, show_puts, steps_line, trapped_line}
 use Rattle.dae_cli_drive.specs.Pieces.{pieces}
 use Rattle.dae_cli_drive.specs.Puts.{Answer, answer, Out, Note, Put}
 use Rattle.dae_cli_drive.specs.Turns.{Rested, Turns, puts_of_turns}
 use Rattle.dae_cli_drive.specs.Images.{status_of, due_end, DueAfterBudget, due_turns, due_depth, due_memory_for_machine, DueOfImage, due_budget, due_memory_for_lines}
 use Rattle.dae_cli_drive.proofs.Laws.{pieces_are_printed, steps_counted}
-use Rattle.dae_cli_command.specs.Promises.{IsRunOf, IsRunToEnd, TellsEnd}
+use Rattle.dae_cli_command.specs.Promises.{IsRunOf, IsRunToEnd, TellsEnd, TellsSoFar}
 
 none_or_some : {X : Type 0} {x : X} {o : Option X} → o ≡ None → o ≡ Some x → ⊥
 none_or_some h k = cc
@@ -68,7 +68,7 @@ module _ (image : Image) (o : RunOptions) (reach : Reaches o.depths image.budget
     end_is final = ap end_of (ap (λ (t : State). t.e.halt) (last_is final) ∙ only.halts)
 
     -- a run that took all its steps isn't at its end
-    not_spent : 1365 * (w.items + 1) ≤ o.steps → Rested Spent o.steps setup end → ⊥
+    not_spent : 4096 * (w.items / 4 + 1) ≤ o.steps → Rested Spent o.steps setup end → ⊥
     not_spent enough rested =
         let can = only.only o.depths reach in
         let most = can.at_most picks end turns in
@@ -112,12 +112,37 @@ module _ (image : Image) (o : RunOptions) (reach : Reaches o.depths image.budget
   trapped Spent code w only rested (inr h) = absurd (omega arith)
   trapped SinkFailed code w only rested h = absurd rested
 
-  enough_for : (how : Driven) (halt : Halt) (w : World) → OnlyEnds image halt w → Rested how o.steps setup end → 1365 * (w.items + 1) ≤ o.steps → status_of how ≢ 3
+  enough_for : (how : Driven) (halt : Halt) (w : World) → OnlyEnds image halt w → Rested how o.steps setup end → 4096 * (w.items / 4 + 1) ≤ o.steps → status_of how ≢ 3
   enough_for (Final (Ended n)) halt w only rested enough h = absurd (omega arith)
   enough_for (Final (EndTrapped n)) halt w only rested enough h = absurd (omega arith)
   enough_for Stuck halt w only rested enough h = absurd (omega arith)
   enough_for Spent halt w only rested enough h = not_spent halt w only enough rested
   enough_for SinkFailed halt w only rested enough h = absurd rested
+
+  -- a run that took all its steps
+  so_far : (how : Driven) (printed : List ℕ) → IsPrefixOf end.printed printed → Rested how o.steps setup end → status_of how ≡ 3 → TellsSoFar image o printed (run_answer image o end how)
+  so_far (Final (Ended n)) printed front rested h = absurd (omega arith)
+  so_far (Final (EndTrapped n)) printed front rested h = absurd (omega arith)
+  so_far Stuck printed front rested h = absurd (omega arith)
+  so_far Spent printed front rested h = record {
+    pieces = told_pieces;
+    front = subst (λ (xs : List ℕ). IsPrefixOf xs printed) (pieces_are_printed setup image end picks turns) front;
+    memory = end.memory;
+    puts = ap (λ (k : ℕ). Note (budget_line image.budget) ∷ (map Out told_pieces ++ (Note running_line ∷ (Note (steps_line k) ∷ show_puts o.show end.memory)))) rested.0;
+  }
+  so_far SinkFailed printed front rested h = absurd rested
+
+  front_is : (halt : Halt) (w : World) → OnlyEnds image halt w → IsPrefixOf end.printed w.printed
+  front_is halt w only = subst (λ (xs : List ℕ). IsPrefixOf end.printed xs) only.printed ((only.only o.depths reach).prints picks end turns)
+
+  -- a run that ended
+  at_end : (how : Driven) (p : Program) (limit : ℕ) → KeepsMeaning p limit image → Rested how o.steps setup end → (status_of how ≡ 0) ⊎ (status_of how ≡ 1) → (n : ℕ) × IsAtEnd (program_end (meaning_of p limit n))
+  at_end (Final e) p limit keeps rested h = keeps.ends_only o.depths reach picks end turns rested.0
+  at_end Stuck p limit keeps rested (inl h) = absurd (omega arith)
+  at_end Stuck p limit keeps rested (inr h) = absurd (omega arith)
+  at_end Spent p limit keeps rested (inl h) = absurd (omega arith)
+  at_end Spent p limit keeps rested (inr h) = absurd (omega arith)
+  at_end SinkFailed p limit keeps rested h = absurd rested
 
   not_final : (outputs : ℕ → List ℕ) → RunsGoOn setup (opened image) outputs → IsFinal setup end → ⊥
   not_final outputs goes final = let next = goes.enabled picks end turns in none_or_some (final.quiet next.0) next.2
@@ -147,21 +172,28 @@ module _ (image : Image) (o : RunOptions) (reach : Reaches o.depths image.budget
     never_stuck = never_nine how p limit keeps rested;
     below = λ h. absurd (never_four how h);
     told = λ low. absurd (low reach);
+    ends_only = at_end how p limit keeps rested;
     ends = λ n status e. record {
       tells = halted how status _ (keeps.ends n status e) rested;
+      running = so_far how _ (front_is (Status status) _ (keeps.ends n status e)) rested;
       enough = enough_for how (Status status) _ (keeps.ends n status e) rested;
     };
     traps = λ n code e. record {
       tells = trapped how code _ (keeps.traps n code e) rested;
+      running = so_far how _ (front_is (Trap code) _ (keeps.traps n code e)) rested;
       enough = enough_for how (Trap code) _ (keeps.traps n code e) rested;
     };
-    goes_on = λ g. never_ends how _ (keeps.goes_on g o.depths reach) rested;
+    goes_on = λ g. (
+        let goes = keeps.goes_on g o.depths reach in
+        let never = never_ends how _ goes rested in
+        let x = goes.prints picks end turns in
+        (never.0, never.1, λ h. (x.0, so_far how (last_world (meaning_of p limit x.0)).printed x.1 rested h)));
   }
 
 -- an answer without a run
 module _ (p : Program) (limit : ℕ) (image : Image) (o : RunOptions) (a : Answer) (zero : a.status ≢ 0) (one : a.status ≢ 1) (three : a.status ≢ 3) where
   never_run : (status : ℕ) (w : World) (line : List ℕ) → IsRunToEnd image o status w line a
-  never_run status w line = record { tells = no_end; enough = λ e. three } where
+  never_run status w line = record { tells = no_end; running = λ h. absurd (three h); enough = λ e. three } where
     no_end : (a.status ≡ 0) ⊎ (a.status ≡ 1) → (a.status ≡ status) × TellsEnd image o w line a
     no_end (inl h) = absurd (zero h)
     no_end (inr h) = absurd (one h)
@@ -171,10 +203,14 @@ module _ (p : Program) (limit : ℕ) (image : Image) (o : RunOptions) (a : Answe
     never_stuck = nine;
     below = below;
     told = told;
+    ends_only = not_over;
     ends = λ n status e. never_run 0 _ _;
     traps = λ n code e. never_run 1 _ _;
-    goes_on = λ g. (zero, one);
-  }
+    goes_on = λ g. (zero, one, λ h. absurd (three h));
+  } where
+    not_over : (a.status ≡ 0) ⊎ (a.status ≡ 1) → (n : ℕ) × IsAtEnd (program_end (meaning_of p limit n))
+    not_over (inl h) = absurd (zero h)
+    not_over (inr h) = absurd (one h)
 
 pub run_of_image : (p : Program) (limit : ℕ) (image : Image) (o : RunOptions) (a : Answer) → KeepsMeaning p limit image → DueOfImage image o a → IsRunOf p limit image o a
 run_of_image p limit image o a keeps (due_budget (due_turns reach (due_end end how turns rested))) = turned image o reach end turns how p limit keeps rested

@@ -30,16 +30,18 @@ pub record TellsRefusal (names texts : List (List ℕ)) (c : Options) (a : Answe
   pub told_is : a ≡ told 2 (refusal_line names error)
 
 -- the answer is due for an image of the texts
-pub record IsForImage (texts : List (List ℕ)) (c : Options) (DueOf : Image → Answer → Type 0) (a : Answer) : Type 0 where
+pub record IsForImage (names texts : List (List ℕ)) (c : Options)
+    (DueOf : Image → Answer → Type 0) (a : Answer) : Type 0 where
   pub image : Image
-  pub made : IsImageOf texts c image
+  pub made : IsImageOf texts names c image
   pub due : DueOf image a
 
 -- the texts have tokens and trees, and both answers tell why they are refused; or both are due for images of them
-abbrev pub AreOfTexts : (names texts : List (List ℕ)) → Options → (Image → Answer → Type 0) → (a b : Answer) → Type 0
+abbrev pub AreOfTexts : (names texts : List (List ℕ)) → Options → (Image → Answer → Type 0)
+    → (a b : Answer) → Type 0
 AreOfTexts names texts c DueOf a b =
     (HaveTrees texts × TellsRefusal names texts c a × TellsRefusal names texts c b)
-    ⊎ (IsForImage texts c DueOf a × IsForImage texts c DueOf b)
+    ⊎ (IsForImage names texts c DueOf a × IsForImage names texts c DueOf b)
 
 -- both are due for the same texts, which the files that the words ask to run hold
 pub record AreOfOneRun (words : List (List ℕ)) (s : ShelfSeen) (a b : Answer) : Type 0 where
@@ -52,7 +54,8 @@ pub record AreOfOneRun (words : List (List ℕ)) (s : ShelfSeen) (a b : Answer) 
   pub both : AreOfTexts files texts options (λ image. DueOfImage image run) a b
 
 -- the same of files that the words ask to compile
-pub record AreOfOneCompilation (words : List (List ℕ)) (s : ShelfSeen) (status : ℕ) (a b : Answer) : Type 0 where
+pub record AreOfOneCompilation (words : List (List ℕ)) (s : ShelfSeen) (status : ℕ) (a b : Answer)
+    : Type 0 where
   pub options : Options
   pub to : List ℕ
   pub files : List (List ℕ)
@@ -64,4 +67,5 @@ pub record AreOfOneCompilation (words : List (List ℕ)) (s : ShelfSeen) (status
 -- the two are the same; or both are due for the same texts of source files, of which the definitions leave open which broken
 -- rule is told, where they have trees, and which instructions an image has
 abbrev pub AreOne : List (List ℕ) → ShelfSeen → (status : ℕ) → (a b : Answer) → Type 0
-AreOne words s status a b = (a ≡ b) ⊎ (AreOfOneRun words s a b ⊎ AreOfOneCompilation words s status a b)
+AreOne words s status a b =
+    (a ≡ b) ⊎ (AreOfOneRun words s a b ⊎ AreOfOneCompilation words s status a b)

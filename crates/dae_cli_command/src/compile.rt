@@ -1,13 +1,13 @@
 // The job `compile`: source files are compiled, and their image is kept.
-ghost use Rattle.std.specs.Prelude.{◌≡◌, ◌⊎◌, IfOk, map, string_bytes};
+ghost use Rattle.std.specs.Prelude.{◌≡◌, ◌≢◌, ◌⊎◌, IfOk, map, string_bytes};
 ghost use Rattle.dae_image.specs.Images.{contents};
 ghost use Rattle.dae_image.specs.Spelling.{spelling_2};
 ghost use Rattle.dae_io.specs.Told.{TellsSame};
 ghost use Rattle.dae_io.specs.Sinks.{SinkState};
 ghost use Rattle.dae_cli_drive.specs.Notes.{budget_line};
 ghost use Rattle.dae_cli_drive.specs.Puts.{GivesDue, sinks};
-ghost use Rattle.dae_cli_command.specs.Keeping.{DueOfKeeping, KeptOrNot, TellsBut, kept_line};
-ghost use Rattle.dae_cli_command.specs.Shelves.{shelf_seen};
+ghost use Rattle.dae_cli_command.specs.Keeping.{DueOfKeeping, KeepsFilesOnce, KeepsImageOnce, KeptOrNot, TellsBut, kept_line};
+ghost use Rattle.dae_cli_command.specs.Shelves.{KeepsOnce, shelf_seen};
 ghost use Rattle.dae_cli_command.specs.Sources.{DueOfFiles};
 ghost use Rattle.dae_cli_jobs.specs.Words.{AreFiles};
 
@@ -29,13 +29,16 @@ pub fn compile_files<F: Shelf, N: Sink>(
 ) -> u8
     requires { AreFiles (map string_bytes files.now) }
     ensures gives { (out : SinkState) → GivesDue (DueOfFiles (map string_bytes files.now)
-        (shelf_seen (F.told shelf.old) (F.told shelf.new)
-        (F.count shelf.old) (F.count shelf.new) (F.last shelf.new)) options
-        (DueOfKeeping (shelf_seen (F.told shelf.old) (F.told shelf.new)
-        (F.count shelf.old) (F.count shelf.new) (F.last shelf.new)) result to.now)) result
+        (shelf_seen F.told F.count F.last F.given shelf.old shelf.new) options
+        (DueOfKeeping (shelf_seen F.told F.count F.last F.given shelf.old shelf.new)
+        result to.now)) result
         (sinks out (N.seen note.old)) (sinks out (N.seen note.new)) }
     ensures held { TellsSame (F.told shelf.old) (F.told shelf.new)
         ⊎ TellsBut to.now (F.told shelf.old) (F.told shelf.new) }
+    ensures kept { KeepsFilesOnce (map string_bytes files.now)
+        (shelf_seen F.told F.count F.last F.given shelf.old shelf.new) options to.now result
+        (N.seen note.old) (N.seen note.new) }
+    ensures unkept { result ≢ 0 → result ≢ 6 → TellsSame (F.told shelf.old) (F.told shelf.new) }
 {
     match image_of_files(alloc, files, options, shelf) {
         Ok(image) => keep_image(alloc, &image, to, shelf, note),
@@ -52,11 +55,13 @@ fn keep_image<F: Shelf, N: Sink>(
     note: &mut N,
 ) -> u8
     ensures gives { (out : SinkState) → GivesDue (DueOfKeeping
-        (shelf_seen (F.told shelf.old) (F.told shelf.new)
-        (F.count shelf.old) (F.count shelf.new) (F.last shelf.new)) result to.now image.now) result
-        (sinks out (N.seen note.old)) (sinks out (N.seen note.new)) }
+        (shelf_seen F.told F.count F.last F.given shelf.old shelf.new) result to.now
+        image.now) result (sinks out (N.seen note.old)) (sinks out (N.seen note.new)) }
     ensures held { TellsSame (F.told shelf.old) (F.told shelf.new)
         ⊎ TellsBut to.now (F.told shelf.old) (F.told shelf.new) }
+    ensures kept { KeepsImageOnce (shelf_seen F.told F.count F.last F.given shelf.old shelf.new)
+        to.now result (N.seen note.old) (N.seen note.new) image.now }
+    ensures unkept { result ≢ 0 → result ≢ 6 → TellsSame (F.told shelf.old) (F.told shelf.new) }
 {
     let Ok((budget, kept, bytes)) = texts_of(alloc, image, to) else {
         return Stop::Memory.tell(note);
@@ -76,10 +81,12 @@ fn keep_bytes<F: Shelf, N: Sink>(
     note: &mut N,
 ) -> u8
     requires { kept.now ≡ kept_line to.now }
-    ensures gives { KeptOrNot (shelf_seen (F.told shelf.old) (F.told shelf.new)
-        (F.count shelf.old) (F.count shelf.new) (F.last shelf.new)) to.now bytes.now result
-        (N.seen note.old) (N.seen note.new) }
+    ensures gives { KeptOrNot (shelf_seen F.told F.count F.last F.given shelf.old shelf.new)
+        to.now bytes.now result (N.seen note.old) (N.seen note.new) }
     ensures held { TellsBut to.now (F.told shelf.old) (F.told shelf.new) }
+    ensures once { KeepsOnce (shelf_seen F.told F.count F.last F.given shelf.old shelf.new)
+        bytes.now }
+    ensures ends { (result ≡ 0) ⊎ (result ≡ 6) }
 {
     match shelf.keep(to, bytes) {
         Ok(()) => noted(note, kept, 0),

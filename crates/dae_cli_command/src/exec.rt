@@ -31,6 +31,7 @@ pub fn exec<F: Shelf, O: Sink, N: Sink>(
         options.now) result
         (sinks (O.seen out.old) (N.seen note.old)) (sinks (O.seen out.new) (N.seen note.new)) }
     ensures held { TellsSame (F.told shelf.old) (F.told shelf.new) }
+    ensures given { F.given shelf.new ≡ F.given shelf.old }
 {
     match fetched(alloc, name, MOST, shelf) {
         Ok(bytes) => exec_bytes(alloc, bytes.as_slice(), options, out, note),

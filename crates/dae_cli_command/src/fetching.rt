@@ -24,11 +24,11 @@ pub fn fetch_all<F: Shelf>(
     ensures ok { IfOk result (λ texts. AreFetched (F.told shelf.old) most_source
         (map string_bytes names.now) (texts_in texts.items)) }
     ensures err { IfErr result (λ stop. (stop_answer stop ≡ told 7 memory_line)
-        ⊎ IsFirstNotFetched (shelf_seen (F.told shelf.old) (F.told shelf.new)
-        (F.count shelf.old) (F.count shelf.new) (F.last shelf.new)) most_source
-        (map string_bytes names.now) (stop_answer stop)) }
+        ⊎ IsFirstNotFetched (shelf_seen F.told F.count F.last F.given shelf.old shelf.new)
+        most_source (map string_bytes names.now) (stop_answer stop)) }
     ensures held { TellsSame (F.told shelf.old) (F.told shelf.new) }
     ensures counted { F.count shelf.old ≤ F.count shelf.new }
+    ensures given { F.given shelf.new ≡ F.given shelf.old }
 {
     let mut texts = Vec::new(alloc);
     let mut left = MOST_SOURCE;
@@ -48,11 +48,11 @@ fn fetch_one<F: Shelf>(alloc: Global, name: &str, left: u32, shelf: &mut F) -> R
     ensures text { IfOk result (λ text. IsTold (F.told shelf.old) name.now text.items) }
     ensures short { IfOk result (λ text. length text.items ≤ left) }
     ensures err { IfErr result (λ stop. (stop_answer stop ≡ told 7 memory_line)
-        ⊎ IsNotFetched (shelf_seen (F.told shelf.old) (F.told shelf.new)
-        (F.count shelf.old) (F.count shelf.new) (F.last shelf.new)) left name.now
-        (stop_answer stop)) }
+        ⊎ IsNotFetched (shelf_seen F.told F.count F.last F.given shelf.old shelf.new) left
+        name.now (stop_answer stop)) }
     ensures held { TellsSame (F.told shelf.old) (F.told shelf.new) }
     ensures counted { F.count shelf.old ≤ F.count shelf.new }
+    ensures given { F.given shelf.new ≡ F.given shelf.old }
 {
     let text = fetched(alloc, name, left + 1, shelf)?;
     if text.len() > left as usize {

@@ -12,9 +12,10 @@ ghost use Rattle.dae_cli_jobs.specs.Words.{SpellsRun};
 use dae_accept::{accepted_have_no_fault, one_cause_is_told};
 
 /// What is due for an image that keeps the meaning of a program is the answer of a run of that program. It is never that
-/// the machine is stuck. It tells of a depth below the budget exactly where one is, but for want of memory. Where the
-/// program ends or traps, a run that ended tells so, with the program's output and memory, and no run stops before where
-/// the steps that it may take are enough for the program's work. Where the program goes on, no run ends.
+/// the machine is stuck. It tells of a depth below the budget exactly where one is, but for want of memory. A run ends only
+/// where the program ends or traps. Where it does, a run that ended tells so, with the program's output and memory, and no
+/// run stops before where the steps that it may take are enough for the program's work. Where the program goes on, no run
+/// ends. A run that stops before an end has put out some first bytes of the program's output.
 pub fn runs_keep_meaning()
     ensures { RunsKeepMeaning }
 {}

@@ -25,11 +25,11 @@ pub fn run<F: Shelf, O: Sink, N: Sink>(
 ) -> u8
     requires { AreFiles (map string_bytes files.now) }
     ensures gives { GivesDue (DueOfFiles (map string_bytes files.now)
-        (shelf_seen (F.told shelf.old) (F.told shelf.new)
-        (F.count shelf.old) (F.count shelf.new) (F.last shelf.new))
+        (shelf_seen F.told F.count F.last F.given shelf.old shelf.new)
         compiled (λ image. DueOfImage image options.now)) result
         (sinks (O.seen out.old) (N.seen note.old)) (sinks (O.seen out.new) (N.seen note.new)) }
     ensures held { TellsSame (F.told shelf.old) (F.told shelf.new) }
+    ensures given { F.given shelf.new ≡ F.given shelf.old }
 {
     match image_of_files(alloc, files, compiled, shelf) {
         Ok(image) => run_image(alloc, &image, options, out, note),

@@ -30,11 +30,11 @@ pub fn image_of_files<F: Shelf>(
     ensures ok { IfOk result (IsImageOfFiles (F.told shelf.old)
         (map string_bytes names.now) options) }
     ensures err { IfErr result (λ stop. DueOfNoImage (map string_bytes names.now)
-        (shelf_seen (F.told shelf.old) (F.told shelf.new)
-        (F.count shelf.old) (F.count shelf.new) (F.last shelf.new)) options
+        (shelf_seen F.told F.count F.last F.given shelf.old shelf.new) options
         (stop_answer stop)) }
     ensures held { TellsSame (F.told shelf.old) (F.told shelf.new) }
     ensures counted { F.count shelf.old ≤ F.count shelf.new }
+    ensures given { F.given shelf.new ≡ F.given shelf.old }
 {
     let texts = fetch_all(alloc, names, shelf)?;
     image_of_texts(alloc, names, texts.as_slice(), options)
@@ -50,7 +50,8 @@ fn image_of_texts(
     requires files { AreFiles (map string_bytes names.now) }
     requires each { length names.now ≡ length texts.now }
     requires short { All IsShort texts.now }
-    ensures ok { IfOk result (IsImageOf (texts_in texts.now) options) }
+    ensures ok { IfOk result (IsImageOf (texts_in texts.now)
+        (map string_bytes names.now) options) }
     ensures err { IfErr result (λ stop. StopsTexts (map string_bytes names.now)
         (texts_in texts.now) options (stop_answer stop)) }
 {

@@ -2,6 +2,7 @@
 use Rattle.std.proofs.Common.{◌≡◌, ℕ, zero, suc, ◌+◌, ◌-◌, ◌≤◌, List, [], ◌∷◌, ◌++◌, length, map, refl, ap, sym, ◌∙◌, subst, append-nil, arith}
 use Rattle.std.specs.Prelude.{◌≢◌, Option, Some, None, option_map, option_and_then}
 use Rattle.std.proofs.lemmas.List.{map-append}
+use Rattle.std.proofs.lemmas.Option.{same_Some}
 use Rattle.dae_io.specs.Sinks.{SinkState, IsPutFailed}
 use Rattle.dae_base.specs.declared.Side.TheVariants.{A, E}
 use Rattle.dae_machine.specs.declared.Pick.{Pick}
@@ -30,9 +31,6 @@ use Rattle.dae_cli_drive.proofs.Puts.{made_then}
 pub record Made (setup : Setup) (s : State) (words : ℕ → ℕ) (turns : ℕ) (t : State) : Type 0 where
   pub run : Turns setup s words turns t
   pub all : length (scheduled setup s words turns) ≡ turns
-
-pub some_is : {X : Type 0} (x y : X) → Some x ≡ Some y → x ≡ y
-some_is x y h = cc
 
 -- a turn is the step of its pick
 pub turn_steps : (setup : Setup) (s : State) (word : ℕ) (r : Pick × State) → turned setup s word ≡ Some r → step setup s r.0 ≡ Some r.1
@@ -81,7 +79,7 @@ nothing_made setup s words = record { run = refl; all = refl }
 -- one turn more
 pub one_more : (setup : Setup) (s t : State) (words : ℕ → ℕ) (k : ℕ) (r : Pick × State) → Made setup s words k t → turned setup t (words k) ≡ Some r → Made setup s words (suc k) r.1
 one_more setup s t words zero r made h =
-    let same : s ≡ t = some_is s t made.run in
+    let same : s ≡ t = same_Some s t made.run in
     made_before setup s r.1 words 0 r (subst (λ (v : State). turned setup v (words 0) ≡ Some r) (sym same) h) (nothing_made setup r.1 (λ i. words (i + 1)))
 one_more setup s t words (suc k) r made h = by_first (turned setup s (words 0)) refl (λ q. one_more setup q.1 t (λ i. words (i + 1)) k r) where
   by_first : (o : Option (Pick × State)) → turned setup s (words 0) ≡ o → ((q : Pick × State) → Made setup q.1 (λ i. words (i + 1)) k t → turned setup t (words (k + 1)) ≡ Some r → Made setup q.1 (λ i. words (i + 1)) (suc k) r.1) → Made setup s words (suc (suc k)) r.1
@@ -94,7 +92,7 @@ one_more setup s t words (suc k) r made h = by_first (turned setup s (words 0)) 
 -- the picks of one turn more
 pub picks_more : (setup : Setup) (s t : State) (words : ℕ → ℕ) (k : ℕ) (r : Pick × State) → Made setup s words k t → turned setup t (words k) ≡ Some r → scheduled setup s words (suc k) ≡ scheduled setup s words k ++ r.0 ∷ []
 picks_more setup s t words zero r made h =
-    let same : s ≡ t = some_is s t made.run in
+    let same : s ≡ t = same_Some s t made.run in
     list_after setup s words 0 (Some r) (subst (λ (v : State). turned setup v (words 0) ≡ Some r) (sym same) h)
 picks_more setup s t words (suc k) r made h = by_first (turned setup s (words 0)) refl (λ q. picks_more setup q.1 t (λ i. words (i + 1)) k r) where
   by_first : (o : Option (Pick × State)) → turned setup s (words 0) ≡ o → ((q : Pick × State) → Made setup q.1 (λ i. words (i + 1)) k t → turned setup t (words (k + 1)) ≡ Some r → scheduled setup q.1 (λ i. words (i + 1)) (suc k) ≡ scheduled setup q.1 (λ i. words (i + 1)) k ++ r.0 ∷ []) → scheduled setup s words (suc (suc k)) ≡ scheduled setup s words (suc k) ++ r.0 ∷ []
@@ -112,7 +110,7 @@ none_more n = omega arith
 pub no_more : (setup : Setup) (s t : State) (words : ℕ → ℕ) (k more : ℕ) → Made setup s words k t → IsQuiet setup t → scheduled setup s words (k + more) ≡ scheduled setup s words k
 no_more setup s t words zero zero made quiet = refl
 no_more setup s t words zero (suc more) made quiet =
-    let same : s ≡ t = some_is s t made.run in
+    let same : s ≡ t = same_Some s t made.run in
     let still : turned setup s (words 0) ≡ None = rw same (quiet_turn setup t (words 0) quiet) in
     ap (scheduled setup s words) (none_more more) ∙ list_after setup s words more None still
 no_more setup s t words (suc k) more made quiet = by_first (turned setup s (words 0)) refl (λ q rest. no_more setup q.1 t (λ i. words (i + 1)) k more rest quiet) where
@@ -143,17 +141,6 @@ pub record OnTheWay (setup : Setup) (s : State) (words : Standing) (turns : ℕ)
   pub steps : now.steps ≡ s.steps + turns
   pub stands : StandsLater turns words words_now
   pub put : AreOut (puts_of_turns setup s (coming words) turns) out out_now
-
-pub begins : (setup : Setup) (s : State) (words : Standing) (out : SinkState) → s.printed ≡ [] → OnTheWay setup s words 0 setup s words out out
-begins setup s words out silent = record {
-  same = refl;
-  silent = silent;
-  done = [];
-  made = nothing_made setup s (coming words);
-  steps = omega arith;
-  stands = λ i. ap (coming words) (omega arith);
-  put = λ note. refl;
-}
 
 -- what a machine keeps of the state
 pub kept : (s : State) (done : List ℕ) → s.printed ≡ [] → s ≡ unprinted (behind done s)

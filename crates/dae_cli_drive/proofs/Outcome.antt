@@ -1,10 +1,11 @@
 -- How the turns of a schedule come out: they always lead somewhere, and there a machine is final or stuck, or can go on.
 use Rattle.std.proofs.Common.{◌≡◌, ◌⊎◌, ℕ, zero, suc, ◌+◌, Bool, true, false, List, [], ◌∷◌, ◌++◌, length, refl, ap, sym, ◌∙◌, subst, inl, inr, arith}
 use Rattle.std.specs.Prelude.{Option, Some, None, is_some}
+use Rattle.std.proofs.lemmas.Option.{same_Some}
 use Rattle.dae_encode.specs.declared.Halt.{Halt}
 use Rattle.dae_encode.specs.declared.Halt.TheVariants.{Plain, Status, Trap}
 use Rattle.dae_queues.specs.declared.StoreAt.{StoreAt}
-use Rattle.dae_base.proofs.Laws.{and_then_some}
+use Rattle.dae_base.proofs.Laws.{and_then_some, some_of}
 use Rattle.dae_machine.specs.declared.Pick.{Pick}
 use Rattle.dae_machine.specs.declared.End.TheVariants.{Ended, Trapped}
 use Rattle.dae_machine.specs.Held.{is_plain}
@@ -19,11 +20,7 @@ use Rattle.dae_machine.proofs.LawsOfRuns.{picked_goes, quiet_where_none}
 use Rattle.dae_cli_drive.specs.declared.driving.Driven.{Driven}
 use Rattle.dae_cli_drive.specs.declared.driving.Driven.TheVariants.{Final, Stuck, Spent}
 use Rattle.dae_cli_drive.specs.Turns.{Rested, Turns}
-use Rattle.dae_cli_drive.proofs.OnTheWay.{Made, list_after, made_none, made_rest, some_is, step_counts}
-
-found_is : {X : Type 0} (o : Option X) → is_some o ≡ true → (x : X) × (o ≡ Some x)
-found_is None h = cc
-found_is (Some x) h = (x, refl)
+use Rattle.dae_cli_drive.proofs.OnTheWay.{Made, list_after, made_none, made_rest, step_counts}
 
 -- what every state of a run from a good one is
 pub record Good (s : State) : Type 0 where
@@ -32,7 +29,7 @@ pub record Good (s : State) : Type 0 where
 
 -- along a run the steps count themselves, and the state stays good
 pub run_keeps : (setup : Setup) (s t : State) (ps : List Pick) → Good s → Runs setup s ps t → Good t × (t.steps ≡ s.steps + length ps)
-run_keeps setup s t [] good run = let e : s ≡ t = some_is s t run in (subst Good e good, subst (λ (v : State). v.steps ≡ s.steps + 0) e (omega arith))
+run_keeps setup s t [] good run = let e : s ≡ t = same_Some s t run in (subst Good e good, subst (λ (v : State). v.steps ≡ s.steps + 0) e (omega arith))
 run_keeps setup s t (p ∷ ps) good run =
     let x = and_then_some (λ (v : State). run_by (step setup) v ps) (step setup s p) t run in
     let next : Good x.0 = record { counted = counted_step setup s x.0 p good.counted x.1; halts = unplain_after setup s x.0 p good.halts x.1 } in
@@ -68,7 +65,7 @@ module _ (setup : Setup) (s : State) (steps : ℕ) (quiet : IsQuiet setup s) whe
 spent_or_rested : (setup : Setup) (s : State) (o : Option Pick) → pick_of setup s 0 ≡ o → Good s → (how : Driven) × Rested how s.steps setup s
 spent_or_rested setup s None e good = by_access setup s s.steps (quiet_where_none setup s 0 e) (is_some s.a.halt) refl good.halts
 spent_or_rested setup s (Some p) e good =
-    let found = found_is (step setup s p) (picked_goes setup s good.counted 0 p e) in
+    let found = some_of (step setup s p) (picked_goes setup s good.counted 0 p e) in
     (Spent, (refl, (p, found.0, found.1)))
 
 -- the turns of a schedule lead to a state, and that state comes out somehow

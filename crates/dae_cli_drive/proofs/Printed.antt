@@ -2,6 +2,7 @@
 use Rattle.std.proofs.Common.{◌≡◌, ℕ, List, [], ◌∷◌, ◌++◌, refl, ap, sym, ◌∙◌, append_assoc, append-nil}
 use Rattle.std.specs.Prelude.{Option, Some, option_map}
 use Rattle.std.specs.List.{concat}
+use Rattle.std.proofs.lemmas.Option.{same_Some}
 use Rattle.dae_base.proofs.Laws.{and_then_some, map_some_is}
 use Rattle.dae_base.specs.declared.Side.TheVariants.{A, E}
 use Rattle.dae_machine.specs.declared.Pick.{Pick}
@@ -11,9 +12,6 @@ use Rattle.dae_machine.specs.Machine.{Setup, State, move, moved_a, moved_e, fill
 use Rattle.dae_machine.specs.Printing.{behind}
 use Rattle.dae_machine.specs.Runs.{run_by}
 use Rattle.dae_cli_drive.specs.Pieces.{pieces, pieces_on, then_later, unprinted}
-
-some_is : {X : Type 0} (x y : X) → Some x ≡ Some y → x ≡ y
-some_is x y h = cc
 
 -- a step of a state, seen as a step of the state without what was printed
 pub record Front (setup : Setup) (s t : State) (p : Pick) : Type 0 where
@@ -59,7 +57,7 @@ pieces_first setup s t p ps f =
 
 -- the pieces of a run, and of what comes then
 pub pieces_after : (setup : Setup) (s t : State) (ps qs : List Pick) → Runs setup s ps t → pieces setup s (ps ++ qs) ≡ pieces setup s ps ++ pieces setup t qs
-pieces_after setup s t [] qs run = ap (λ (u : State). pieces setup u qs) (some_is s t run)
+pieces_after setup s t [] qs run = ap (λ (u : State). pieces setup u qs) (same_Some s t run)
 pieces_after setup s t (p ∷ ps) qs run =
     let x = and_then_some (λ (v : State). run_by (step setup) v ps) (step setup s p) t run in
     let f = front setup s x.0 p x.1 in
@@ -70,7 +68,7 @@ pieces_after setup s t (p ∷ ps) qs run =
 
 -- together the pieces of a run are what it prints
 pub pieces_printed : (setup : Setup) (s t : State) (ps : List Pick) → Runs setup s ps t → t.printed ≡ s.printed ++ concat (pieces setup s ps)
-pieces_printed setup s t [] run = sym (append-nil s.printed ∙ ap (λ (u : State). u.printed) (some_is s t run))
+pieces_printed setup s t [] run = sym (append-nil s.printed ∙ ap (λ (u : State). u.printed) (same_Some s t run))
 pieces_printed setup s t (p ∷ ps) run =
     let x = and_then_some (λ (v : State). run_by (step setup) v ps) (step setup s p) t run in
     let f = front setup s x.0 p x.1 in

@@ -1,7 +1,7 @@
 -- How puts, and answers that are given, go together.
 use Rattle.std.proofs.Common.{◌≡◌, ℕ, List, [], ◌∷◌, ◌++◌, refl, ap, sym, ◌∙◌, subst, append_assoc}
 use Rattle.std.specs.Prelude.{Result, Ok, Err, OnErr}
-use Rattle.dae_cli_drive.specs.Puts.{Put, Answer, answer, Sinks, IsMade, IsFailed, AreMade, AreCut, Gives, gives_whole, gives_part, GivesDue}
+use Rattle.dae_cli_drive.specs.Puts.{Put, Answer, answer, Sinks, IsMade, IsFailed, AreMade, AreCut, Gives, gives_whole, gives_part}
 
 -- puts, and then more of them
 pub made_then : (ps qs : List Put) (a b c : Sinks) → AreMade ps a b → AreMade qs b c → AreMade (ps ++ qs) a c
@@ -56,10 +56,6 @@ gives_failed p ps due_status a b f = gives_part refl (cut_here p ps a b f)
 -- the same answer, written otherwise
 pub gives_same : {x y : Answer} {status : ℕ} {a b : Sinks} → x ≡ y → Gives x status a b → Gives y status a b
 gives_same {x} {y} {status} {a} {b} e g = subst (λ (z : Answer). Gives z status a b) e g
-
--- what is due by one reason is due by another
-pub due_by : {D E : Answer → Type 0} {status : ℕ} {a b : Sinks} → ((x : Answer) → D x → E x) → GivesDue D status a b → GivesDue E status a b
-due_by f r = (r.0, f r.0 r.1, r.2)
 
 pub on_err : {T E : Type 0} (r : Result T E) (P : Type 0) → P → OnErr r P
 on_err (Ok x) P p = tt

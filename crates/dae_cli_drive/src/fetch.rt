@@ -24,6 +24,7 @@ pub fn fetched<F: Shelf>(
         × FetchFailed (F.count shelf.old) (F.count shelf.new) (F.last shelf.new) name.now)) }
     ensures held { TellsSame (F.told shelf.old) (F.told shelf.new) }
     ensures counted { F.count shelf.old ≤ F.count shelf.new }
+    ensures given { F.given shelf.new ≡ F.given shelf.old }
 {
     let Ok(line) = notes::read_line(alloc, name) else {
         return Err(Stop::Memory);

@@ -237,9 +237,6 @@ pub record IsLeft (command : Command) (words rest : List (List ℕ)) (now : Chos
   pub back : (after : Chosen) → ChosenAfter command now rest after → ChosenAfter command nothing words after
   pub on : (after : Chosen) → ChosenAfter command nothing words after → ChosenAfter command now rest after
 
-pub left_at_start : (command : Command) (words : List (List ℕ)) → IsLeft command words words nothing
-left_at_start command words = record { back = λ after k. k; on = λ after k. k }
-
 pub left_next : (command : Command) (words rest : List (List ℕ)) (word : List ℕ) (s : Setting) (now next : Chosen) → IsLeft command words (word ∷ rest) now → IsTheOne (SpellsOption command word) (Some s) → IsBoth now (alone s) next → IsLeft command words rest next
 left_next command words rest word s now next left one h = record {
   back = λ after k. left.back after (step_back command now next after word rest s one.has h k);

@@ -2,7 +2,7 @@
 use Rattle.std.proofs.Common.{◌≡◌, ◌≢◌, ℕ, zero, suc, ◌+◌, ◌-◌, ◌≤◌, Bool, true, false, not, ◌&&◌, nat_eq, cond, if◌then◌else◌, List, [], ◌∷◌, ◌++◌, length, get_or, take, drop, take_all, map, refl, sym, ap, ◌∙◌, subst, arith}
 use Rattle.std.specs.Prelude.{Option, Some, None, IsTrue, codes, is_none}
 use Rattle.std.specs.List.{AllByRecursion, filter, filter_map, list_all, prefix_len}
-use Rattle.std.proofs.lemmas.Bool.{and_parts}
+use Rattle.std.proofs.lemmas.Bool.{and_parts, not-true}
 use Rattle.dae_compile.specs.declared.options.Options.{Options}
 use Rattle.dae_cli_drive.specs.declared.options.RunOptions.{RunOptions}
 use Rattle.dae_base.specs.declared.Queue.TheVariants.{Ld, Al, Sa, Sd, Ab, Eb, Cq}
@@ -33,13 +33,9 @@ pub truth : (b : Bool) → IsTrue b → b ≡ true
 truth true t = refl
 truth false t = cc
 
-not_true : (b : Bool) → not b ≡ true → b ≡ false
-not_true true h = absurd (cc)
-not_true false h = refl
-
 pub files_plain : (files : List (List ℕ)) → AreFiles files → IsPlain files
 files_plain [] h = tt
-files_plain (w ∷ ws) h = not_true (begins_with_dash w) (and_parts (not (begins_with_dash w)) _ (and_parts (is_file_name w) (list_all is_file_name ws) (truth _ h.named)).0).0
+files_plain (w ∷ ws) h = not-true (begins_with_dash w) (and_parts (not (begins_with_dash w)) _ (and_parts (is_file_name w) (list_all is_file_name ws) (truth _ h.named)).0).0
 
 -- ---- words that choose begin with dashes
 
@@ -95,13 +91,6 @@ pub compile_dashed : {middle : List (List ℕ)} {c : Options} {to : List ℕ} �
 compile_dashed {middle} h = beside_dashed middle (chosen_dashed (h.chosen, h.beside.chosen_by))
 
 -- ---- words that spell no job
-
-pub no_words : SpellsNone []
-no_words = record {
-  no_run = λ c o files h. let e = h.parts.words_are in absurd (cc);
-  no_exec = λ o name h. let e = h.parts.words_are in absurd (cc);
-  no_compile = λ c to files h. let e = h.parts.words_are in absurd (cc);
-}
 
 -- what stands behind the dashed words is no files
 pub no_files : (words : List (List ℕ)) (command : List ℕ) (middle files : List (List ℕ)) → words ≡ command ∷ (middle ++ files) → AreDashed middle → IsPlain files → ¬ (AreFiles files) → SpellsNone words

@@ -9,6 +9,7 @@ use Rattle.std.proofs.lemmas.Bool.Decides.{nat_tests}
 use Rattle.std.proofs.lemmas.Fmt.{parse-decimal, digits_decimal}
 use Rattle.std.proofs.lemmas.Str.Parse.{numerals_by_value, tells_digits, not_in_digits}
 use Rattle.std.proofs.lemmas.Str.Pattern.{IsSplitOnceResult, split_after, split_parts}
+use Rattle.std.proofs.lemmas.Bool.{and_parts}
 use Rattle.dae_base.specs.declared.Queue.{Queue}
 use Rattle.dae_base.specs.declared.Queue.TheVariants.{Ld, Al, Sa, Sd, Ab, Eb, Cq}
 use Rattle.dae_machine.specs.declared.Schedule.TheVariants.{Seed}
@@ -55,17 +56,13 @@ lacks c (b ∷ bs) = not (nat_eq b c) && lacks c bs
 abbrev pub Lacks : ℕ → List ℕ → Type 0
 Lacks c xs = (i : ℕ) → i < length xs → get_or xs i 0 ≢ c
 
-both_true : (x y : Bool) → (x && y) ≡ true → (x ≡ true) × (y ≡ true)
-both_true true y h = (refl, h)
-both_true false y h = absurd (cc)
-
 not_this : (x c : ℕ) → not (nat_eq x c) ≡ true → x ≢ c
 not_this x c h = grind (arith, nat_tests)
 
 pub lacks_at : (c : ℕ) (xs : List ℕ) → lacks c xs ≡ true → Lacks c xs
 lacks_at c [] h i k = absurd (omega arith)
-lacks_at c (x ∷ xs) h zero k = not_this x c (both_true (not (nat_eq x c)) (lacks c xs) h).0
-lacks_at c (x ∷ xs) h (suc i) k = lacks_at c xs (both_true (not (nat_eq x c)) (lacks c xs) h).1 i (omega arith)
+lacks_at c (x ∷ xs) h zero k = not_this x c (and_parts (not (nat_eq x c)) (lacks c xs) h).0
+lacks_at c (x ∷ xs) h (suc i) k = lacks_at c xs (and_parts (not (nat_eq x c)) (lacks c xs) h).1 i (omega arith)
 
 -- a text is parted at the first of a sign
 pub record IsParted (c : ℕ) (text before after : List ℕ) : Type 0 where

@@ -45,11 +45,11 @@ keeps_if p calls ir (Ok image) law some lowered depth is does = keeps p calls ir
 keeps_if p calls ir (Err e) law some lowered depth is does = tt
 
 pub compiled_if : (p : Program) (calls cap : ℕ) (ir : Ir) (result : Result Image CodeError) → IsLowered p ir → ir.calls ≡ calls
-    → IfOk result (λ image. IsCompiledOf ir cap image) → IfOk result (λ image. image.content ≡ p.content) → IfOk result (λ image. IsShort ir image)
+    → IfOk result (λ image. IsCompiledOf ir cap image) → IfOk result (λ image. DoesForm ir image 14) → IfOk result (λ image. image.content ≡ p.content) → IfOk result (λ image. IsShort ir image)
     → IfOk result (λ image. HasFramesWithin ir image) → IfOk result (IsCompiledFrom p calls cap)
-compiled_if p calls cap ir (Ok image) lowered depth compiled content short frames =
-    record { form = ir; lowered = lowered; depth = depth; compiled = compiled; content = content; short = short; frames = frames }
-compiled_if p calls cap ir (Err e) lowered depth compiled content short frames = tt
+compiled_if p calls cap ir (Ok image) lowered depth compiled does content short frames =
+    record { form = ir; lowered = lowered; depth = depth; compiled = compiled; does = does; content = content; short = short; frames = frames }
+compiled_if p calls cap ir (Err e) lowered depth compiled does content short frames = tt
 
 pub long_if : (p : Program) (ir : Ir) (result : Result Image CodeError) → IsLowered p ir → IfErr result (λ e. e ≡ errors.Code → 2 ^ 25 < words_of_form ir)
     → IfErr result (λ e. e ≡ errors.Code → HasTooMuchCode p)

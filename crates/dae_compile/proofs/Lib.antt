@@ -1,2 +1,3 @@
+mod Accesses
 mod Fitting
 mod Small

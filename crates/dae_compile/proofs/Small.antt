@@ -20,9 +20,9 @@ use Rattle.dae_ir.specs.declared.form.Item.TheVariants.{Call}
 use Rattle.dae_select_walks.specs.Homes.{frame_words}
 use Rattle.dae_compile_generate.specs.Generated.{calls_of_form, is_call, words_of_form, words_of_functions, HasFramesWithin, HaveAtMost, IsShort, NeedsTooMuch}
 use Rattle.dae_lower_formed.specs.Formed.{AreFormsOf, IsFormOf, IsLowered}
-use Rattle.dae_code_sizes.specs.Code.{burden, item_burden}
-use Rattle.dae_small.specs.Promise.{burdens_of, DefinitionsAreShort, FormsAreWithin, FramesAreWithin, IsForm}
-use Rattle.dae_small.specs.Sources.{AreUpTo, bytes_in, tokens_in}
+use Rattle.dae_ir_pair.specs.Sizes.{burden, item_burden}
+use Rattle.dae_sizes.specs.Promise.{burdens_of, DefinitionsAreShort, FormsAreWithin, FramesAreWithin, IsForm}
+use Rattle.dae_sizes.specs.Sources.{AreUpTo, bytes_in, tokens_in}
 use Rattle.dae_accept.specs.Origins.{IsOfFiles, ReadAreWithin}
 use Rattle.dae_compile.specs.Compiled.{IsCompiledFrom, HasTooMuchPrivate, HasTooMuchCode}
 use Rattle.dae_compile.specs.Sizes.{private_beside, words_beside, IsSmallBeside}

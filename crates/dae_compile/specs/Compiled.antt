@@ -2,18 +2,22 @@
 use Rattle.std.specs.Prelude.{◌≡◌, ℕ, ◌^◌, ◌<◌}
 use Rattle.dae_image.specs.declared.Image.{Image}
 use Rattle.dae_ir.specs.declared.form.Ir.{Ir}
+use Rattle.dae_machine_runs.specs.Promises.{DoesForm}
 use Rattle.dae_program.specs.declared.program.Program.{Program}
 use Rattle.dae_lower_formed.specs.Formed.{IsLowered}
 use Rattle.dae_link.specs.Linked.{IsCompiledOf}
 use Rattle.dae_compile_generate.specs.Generated.{HasFramesWithin, IsShort, NeedsTooMuch, words_of_form}
 
 -- It has the program's data, memory and limit on calls, and is compiled of the form of the program, where a group
--- holds at most cap loads for E and as many copies. The form bounds its code and its private memories.
+-- holds at most cap loads for E and as many copies. It does the form in every order of steps, with at most 14
+-- instructions a move; for each bound under which the form goes on there is a run in canonical order that has printed
+-- what the form has. The form bounds its code and its private memories.
 pub record IsCompiledFrom (p : Program) (calls cap : ℕ) (image : Image) : Type 0 where
   pub form : Ir
   pub lowered : IsLowered p form
   pub depth : form.calls ≡ calls
   pub compiled : IsCompiledOf form cap image
+  pub does : DoesForm form image 14
   pub content : image.content ≡ p.content
   pub short : IsShort form image
   pub frames : HasFramesWithin form image

@@ -1,3 +1,4 @@
+pub mod Accesses
 pub mod Compiled
 pub mod Images
 pub mod Options

@@ -3,7 +3,7 @@ use Rattle.std.specs.Prelude.{ℕ, ◌+◌, ◌*◌, ◌≤◌, List, length}
 use Rattle.dae_image.specs.declared.Image.{Image}
 use Rattle.dae_tree.specs.Files.{Contents}
 use Rattle.dae_accept_sources.specs.Read.{AreRead}
-use Rattle.dae_small.specs.Sources.{AreUpTo, tokens_in, bytes_in}
+use Rattle.dae_sizes.specs.Sources.{AreUpTo, tokens_in, bytes_in}
 
 -- 224 words for each token of the files, 112 for each byte of their literals, and 8
 abbrev pub words_beside : List Contents → ℕ

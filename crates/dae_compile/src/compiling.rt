@@ -6,7 +6,6 @@ ghost use Rattle.dae_image.specs.Contents.{is_name};
 ghost use Rattle.dae_accept_sources.specs.Read.{IsShort, texts_in};
 ghost use Rattle.dae_accept.specs.Accepted.{IsRefusedFor};
 ghost use Rattle.dae_compile.specs.Images.{IsImageOf};
-ghost use Rattle.dae_compile.specs.Sizes.{IsSmallBeside};
 
 use crate::options::Options;
 use crate::programs::compile_program;
@@ -14,11 +13,15 @@ use dae_accept::{CompileError, accept, read_are_within};
 use dae_base::{Items, Text};
 use dae_image::Image;
 use dae_link_sides::CodeError;
-use dae_small::{definitions_are_short, forms_are_within, frames_are_within};
+use dae_lower_bounds::{conditions_bounded, loads_bounded};
+use dae_lower_formed::lowered_do_programs;
+use dae_sizes::{
+    definitions_are_short, forms_are_within, frames_are_within, functions_initialise_constants,
+};
 use std::alloc::Global;
 
 /// The image of texts, which are those of the files with these names: at most 1,024, each of at most 1,048,576 bytes.
-/// It is small beside them.
+/// It is small beside them, and names the files.
 ///
 /// # Errors
 ///
@@ -34,15 +37,17 @@ pub fn compile(
     requires short { All IsShort texts.now }
     requires each { length names ≡ length texts.now }
     requires named { IsTrue (list_all is_name names) }
-    ensures image { IfOk result (IsImageOf (texts_in texts.now) options) }
-    ensures small { IfOk result (IsSmallBeside (texts_in texts.now) options.calls) }
-    ensures names { IfOk result (λ image. image.names ≡ names) }
+    ensures image { IfOk result (IsImageOf (texts_in texts.now) names options) }
     ensures refused { IfErr result (IsRefusedFor (texts_in texts.now) options.memory) }
 {
     read_are_within();
     definitions_are_short();
     forms_are_within();
     frames_are_within();
+    functions_initialise_constants();
+    loads_bounded();
+    conditions_bounded();
+    lowered_do_programs();
     let program = accept(alloc, texts, options.memory)?;
     match compile_program(alloc, program, options.calls, options.cap, names) {
         Ok(image) => Ok(image),

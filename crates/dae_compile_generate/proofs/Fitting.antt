@@ -1,18 +1,15 @@
 -- The pair of a form that fits a machine can be linked.
-use Rattle.std.proofs.Common.{◌≡◌, ℕ, ◌≤◌, List, refl, sym, subst, arith, ◌∙◌}
+use Rattle.std.proofs.Common.{◌≡◌, ℕ, ◌≤◌, List, refl, subst, arith}
 use Rattle.dae_base.specs.declared.Depths.{Depths}
 use Rattle.dae_base.specs.declared.Queue.{Queue}
 use Rattle.dae_base.specs.declared.Queue.TheVariants.{Ld, Al, Sa, Sd, Ab, Eb, Cq}
 use Rattle.dae_base.specs.Budgets.{depth}
-use Rattle.dae_ir.specs.Programs.{IsPairOf, IsStreamOf}
+use Rattle.dae_ir.specs.Programs.{IsStreamOf}
 use Rattle.dae_ir.specs.Classes.{Classes}
 use Rattle.dae_ir.specs.declared.form.Ir.{Ir}
-use Rattle.dae_ir.specs.declared.stream.Class.{Class}
-use Rattle.dae_ir.specs.declared.stream.Pair.{Pair}
 use Rattle.dae_ir.specs.declared.stream.Stream.{Stream}
 use Rattle.dae_ir_pair.specs.Budget.{IsWithinCap}
 use Rattle.dae_link_sides.specs.Sides.{HasLimits}
-use Rattle.dae_link.specs.Linked.{CanLink}
 use Rattle.dae_compile_generate.specs.Generated.{FitsMachine}
 
 within_depth : (cap : ℕ) (d : Depths) → cap ≤ 64 → IsWithinCap cap d → (queue : Queue) → depth queue d ≤ 4096
@@ -31,21 +28,4 @@ has_limits by_a of cap ir content names s h f = record {
   frames = rw (h.frames, h.memory) f.frames;
   some = rw h.calls f.some;
   few = rw h.calls f.few;
-}
-
-pub can_link : (ir : Ir) (tables : List (List Class)) (cap : ℕ) (pair : Pair) (budget : Depths) (content : List ℕ) (names : List (List ℕ))
-    → cap ≤ 64 → IsPairOf ir tables cap pair → IsWithinCap cap budget → FitsMachine ir content names → CanLink pair budget content names
-can_link ir tables cap pair budget content names few is_pair within f = record {
-  side_a = is_pair.a.side;
-  side_e = is_pair.e.side;
-  a = has_limits _ _ cap ir content names pair.a is_pair.a f;
-  e = has_limits _ _ cap ir content names pair.e is_pair.e f;
-  memory = is_pair.e.memory ∙ sym is_pair.a.memory;
-  calls = is_pair.e.calls ∙ sym is_pair.a.calls;
-  aligned = rw is_pair.a.memory f.aligned;
-  depths = within_depth cap budget few within;
-  room = rw is_pair.a.memory f.room;
-  bytes = f.bytes;
-  few = f.files;
-  named = f.named;
 }

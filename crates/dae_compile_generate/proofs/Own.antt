@@ -1,8 +1,9 @@
 -- What is live in a stream of a scoped form are variables of its function.
-use Rattle.std.proofs.Common.{◌≡◌, ◌⊎◌, inl, inr, ℕ, ◌+◌, ◌≤◌, ◌<◌, Bool, true, false, not, ◌&&◌, ◌||◌, List, [], ◌∷◌, ◌++◌, refl, sym, subst, arith}
+use Rattle.std.proofs.Common.{◌≡◌, ◌⊎◌, inl, inr, ℕ, ◌+◌, ◌≤◌, ◌<◌, Bool, true, false, not, ◌&&◌, ◌||◌, List, [], ◌∷◌, ◌++◌, sym, subst, arith}
 use Rattle.std.specs.Prelude.{Option, Some, None, nat_eq, nat_lt, nat_le}
 use Rattle.std.specs.List.{AllByRecursion}
 use Rattle.std.proofs.lemmas.Bool.Decides.{nat_tests}
+use Rattle.std.proofs.lemmas.Bool.{or_cases, eqb-true}
 use Rattle.dae_base.proofs.Laws.{and_true}
 use Rattle.dae_ir.specs.Code.{Done, Do, If, Loop}
 use Rattle.dae_ir.specs.Classes.{VariableSet, Classes}
@@ -31,23 +32,16 @@ use Rattle.dae_regalloc.specs.Seen.{AreBelow}
 use Rattle.dae_link_sides.specs.Settled.{HasAtMost}
 use Rattle.dae_compile_generate.proofs.Names.{ProbeIn, OptionIn, ResultIn, ArgumentsIn, ActionIn, BranchIn, AreIn, stream_in}
 
-either : (a b : Bool) → (a || b) ≡ true → (a ≡ true) ⊎ (b ≡ true)
-either true b h = inl refl
-either false b h = inr h
-
-same : (u v : ℕ) → nat_eq u v ≡ true → u ≡ v
-same u v h = grind (arith, nat_tests)
-
 module _ (n : ℕ) where
   both_below : (s t : VariableSet) → AreBelow n s → AreBelow n t → AreBelow n (λ u. s u || t u)
-  both_below s t h i u e = by (either (s u) (t u) e)
+  both_below s t h i u e = by (or_cases (s u) (t u) e)
     where
       by : (s u ≡ true) ⊎ (t u ≡ true) → u < n
       by (inl f) = h u f
       by (inr f) = i u f
 
   one_below : (v : ℕ) → v < n → AreBelow n (λ u. nat_eq u v)
-  one_below v h u e = subst (λ (w : ℕ). w < n) (sym (same u v e)) h
+  one_below v h u e = subst (λ (w : ℕ). w < n) (sym (eqb-true u v e)) h
 
   none_below : AreBelow n none
   none_below u e = absurd (let z : false ≡ true = e in cc)

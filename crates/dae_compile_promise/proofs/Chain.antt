@@ -1,6 +1,6 @@
 -- From a program's meaning over its form to every run of an image that does the form.
 use Rattle.std.proofs.Common.{◌≡◌, ℕ, zero, suc, ◌+◌, ◌*◌, ◌≤◌, true, false, List, [], ◌∷◌, ◌++◌, length, Some, None, refl, sym, ap, ◌∙◌, subst, arith, append_assoc}
-use Rattle.std.specs.Prelude.{replicate, ◌-◌, ◌/◌, slice_get}
+use Rattle.std.specs.Prelude.{replicate, ◌≢◌, ◌-◌, ◌/◌, slice_get}
 use Rattle.std.specs.List.{AllByRecursion}
 use Rattle.dae_base.specs.declared.Depths.{Depths}
 use Rattle.dae_base.specs.Budgets.{Reaches}
@@ -8,14 +8,15 @@ use Rattle.dae_encode.specs.declared.Halt.{Halt}
 use Rattle.dae_encode.specs.declared.Halt.TheVariants.{Status, Trap}
 use Rattle.dae_image.specs.declared.Image.{Image}
 use Rattle.dae_machine.specs.declared.Pick.{Pick}
-use Rattle.dae_machine.specs.Machine.{Setup, State, Runs, IsStuck}
+use Rattle.dae_machine.specs.Machine.{Setup, State, Runs, IsCounted, IsFinal, IsStuck}
 use Rattle.dae_machine.specs.Opened.{setup_of, opened}
 use Rattle.dae_machine.specs.Ends.{IsPrefixOf, GoesOn as RunsGoOn}
-use Rattle.dae_machine.proofs.LawsOfRuns.{runs_deeper}
+use Rattle.dae_machine.proofs.LawsOfRuns.{can_only_end, runs_deeper}
 use Rattle.dae_meaning.specs.Worlds.{World}
 use Rattle.dae_meaning.specs.Results.{Result, Over, End, Halted, Trapped, Going, Astray, world_of}
 use Rattle.dae_meaning.specs.Variables.{Env, entered}
 use Rattle.dae_meaning.specs.Alike.{IsFront}
+use Rattle.dae_meaning.proofs.Laws.{front_on}
 use Rattle.dae_ir.specs.Form.{Form, calls_of, all_loads, deeper}
 use Rattle.dae_ir.specs.Programs as form
 use Rattle.dae_ir.specs.Programs.{outcome, end_of, body_in}
@@ -33,7 +34,7 @@ use Rattle.dae_lower_formed.specs.Formed.{IsLowered, FormsScoped}
 use Rattle.dae_lower_formed.specs.Order.{DoesTheSame, LoweredDoPrograms}
 use Rattle.dae_machine_rounds.specs.Order.{InOrder}
 use Rattle.dae_machine_runs.specs.Promises.{DoesForm, Ends}
-use Rattle.dae_compile_promise.specs.Promises.{OnlyEnds, KeepsMeaning, ImageKeepsMeaning}
+use Rattle.dae_compile_promise.specs.Promises.{OnlyEnds, IsAtEnd, KeepsMeaning, ImageKeepsMeaning}
 use Rattle.dae_compile_promise.proofs.Main.{IsOverResult, main_is_over}
 
 -- ---- fronts and prefixes, the same in two spellings
@@ -43,9 +44,6 @@ prefix_of xs ys h = (h.0, sym h.1)
 
 front_of : (xs ys : List ℕ) → IsPrefixOf xs ys → IsFront xs ys
 front_of xs ys h = (h.0, sym h.1)
-
-front_on : (xs ys zs : List ℕ) → IsFront xs ys → IsFront ys zs → IsFront xs zs
-front_on xs ys zs a b = (a.0 ++ b.0, b.1 ∙ ap (λ (l : List ℕ). l ++ b.0) a.1 ∙ append_assoc xs a.0 b.0)
 
 -- ---- of main
 
@@ -152,6 +150,46 @@ module _ (p : Program) (depth : ℕ) (ir : Ir) (image : Image) (lowered : IsLowe
             (x.0, x.1, x.2, prefix_on _ _ _ (prefix_of _ _ k.1) x.3));
       }
 
+  -- ---- where a run ends
+
+  counted : IsCounted (opened image)
+  counted = record { ld = record { numbers = refl; stamps = tt }; al = record { numbers = refl; stamps = tt }; sa = refl }
+
+  -- a run ends before the form has gone on for longer
+  not_longer : (depths : Depths) → Reaches depths image.budget → (picks : List Pick) (s : State) → Runs (setup_of image depths) (opened image) picks s → IsFinal (setup_of image depths) s
+      → (w : World) → form_meaning (suc (length picks)) ≡ Over Going w → ⊥
+  not_longer depths reach picks s runs final w is =
+      let x = done.continues (suc (length picks)) w is in
+      let run = runs_deeper (setup_of image image.budget) depths (opened image) x.state x.picks reach (as_run (setup_of image image.budget) (opened image) x.state x.picks x.order) in
+      let most = (can_only_end (setup_of image depths) (opened image) counted s picks runs final).at_most x.picks x.state run in
+      let long = x.long in absurd (omega (arith, most, long))
+
+  at_end : (e : End) → IsOver e → e ≢ Astray → IsAtEnd e
+  at_end (Halted status) o n = tt
+  at_end (Trapped code) o n = tt
+  at_end Going o n = o
+  at_end Astray o n = absurd (n refl)
+
+  -- under a bound under which the form doesn't go on, it is over, as the program is under some bound
+  over_so : (m : ℕ) → IsOver (end_of (form_meaning m)) → (n : ℕ) × IsAtEnd (program_end (program_meaning n))
+  over_so m o =
+      let k = alike.ends_only m o in
+      let kept = k.1 in
+      (k.0, subst IsAtEnd kept.end (at_end (end_of (form_meaning m)) o (alike.stays m)))
+
+  over_at : (m : ℕ) (e : End) → end_of (form_meaning m) ≡ e → (e ≡ Going → ⊥) → (n : ℕ) × IsAtEnd (program_end (program_meaning n))
+  over_at m (Halted status) h other = over_so m (subst IsOver (sym h) tt)
+  over_at m (Trapped code) h other = over_so m (subst IsOver (sym h) tt)
+  over_at m Going h other = absurd (other refl)
+  over_at m Astray h other = over_so m (subst IsOver (sym h) tt)
+
+  ends_only_so : (depths : Depths) → Reaches depths image.budget → (picks : List Pick) (s : State) → Runs (setup_of image depths) (opened image) picks s → IsFinal (setup_of image depths) s
+      → (n : ℕ) × IsAtEnd (program_end (program_meaning n))
+  ends_only_so depths reach picks s runs final =
+      let m = suc (length picks) in
+      let r = over m in
+      over_at m r.end (ap end_of r.is) (λ e. not_longer depths reach picks s runs final r.world (r.is ∙ ap (λ (x : End). Over x r.world) e))
+
   -- ---- so it is never stuck
 
   stuck_never : (depths : Depths) → Reaches depths image.budget → (picks : List Pick) (s : State)
@@ -171,7 +209,7 @@ module _ (p : Program) (depth : ℕ) (ir : Ir) (image : Image) (lowered : IsLowe
         goes n = by n (program_end (program_meaning n)) refl
 
   keeps_meaning : KeepsMeaning p (suc depth) image
-  keeps_meaning = record { never_stuck = stuck_never; ends = ends_so; traps = traps_so; goes_on = goes_so }
+  keeps_meaning = record { never_stuck = stuck_never; ends_only = ends_only_so; ends = ends_so; traps = traps_so; goes_on = goes_so }
 
 pub image_keeps_meaning : FormsScoped → LoweredDoPrograms → NeverStrays → OrdersRun → ImageKeepsMeaning
 image_keeps_meaning scoped same fair as_run p depth ir image lowered calls content done =

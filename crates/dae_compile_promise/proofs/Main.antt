@@ -4,6 +4,7 @@ use Rattle.dae_meaning.specs.Worlds.{World, ticked}
 use Rattle.dae_meaning.specs.Results.{Result, At, Over, Next, Leaves, Skips, Returns, End, Run, ◌▷◌, ◌↻◌, turns, within, checked}
 use Rattle.dae_meaning.specs.Variables.{Env}
 use Rattle.dae_base.specs.Words.{width_of}
+use Rattle.dae_base.proofs.Laws.{and_first, and_second}
 use Rattle.std.specs.Prelude.{length}
 use Rattle.dae_meaning.specs.Operations.{misplaced}
 use Rattle.dae_ir.specs.Code.{Done, Do, If, Loop, exec}
@@ -22,14 +23,6 @@ IsOut inside (At Leaves e w) = inside ≡ true
 IsOut inside (At Skips e w) = inside ≡ true
 IsOut inside (At Returns e w) = ⊥
 IsOut inside (Over end w) = Unit {0}
-
-first_true : (b c : Bool) → (b && c) ≡ true → b ≡ true
-first_true true c h = refl
-first_true false c h = cc
-
-second_true : (b c : Bool) → (b && c) ≡ true → c ≡ true
-second_true true c h = h
-second_true false c h = cc
 
 module _ {E : Type 0} where
   then_out : (inside : Bool) (r : Result E) (f : Run E) → IsOut inside r → ((e : E) (w : World) → IsOut inside (f e w)) → IsOut inside (r ▷ f)
@@ -78,8 +71,8 @@ module _ (p : Program) (counted : ℕ → Bool) (calls : Calls) (n : ℕ) where
   does_out inside place (Store width x y) k h s e w = within_out inside (misplaced width (value x e) (length w.memory)) w _ tt
   does_out inside place (Print spelling x) k h s e w = tt
   does_out inside place (Expect check) k h s e w = checked_out inside (fault p check w e) e (ticked w)
-  does_out inside place Break k h s e w = allowed inside (first_true _ _ s)
-  does_out inside place Continue k h s e w = allowed inside (first_true _ _ s)
+  does_out inside place Break k h s e w = allowed inside (and_first _ _ s)
+  does_out inside place Continue k h s e w = allowed inside (and_first _ _ s)
   does_out inside place (Call v f xs) k h s e w = within_out inside (fault p (Room f) w e) w _ (ended_out inside _ w _)
   does_out inside place (Return x) k h s e w = cc
   does_out inside place (Halt x) k h s e w = tt
@@ -87,23 +80,23 @@ module _ (p : Program) (counted : ℕ → Bool) (calls : Calls) (n : ℕ) where
   pub code_out : (inside : Bool) (code : Form) → never_returns code ≡ true → stays inside code ≡ true → (e : Env) (w : World) → IsOut inside (exec (meaning p counted calls) n code e w)
   code_out inside Done h s e w = tt
   code_out inside (Do place item k) h s e w =
-      then_out inside _ _ (does_out inside place item k h s e w) (code_out inside k (second_true _ _ h) (second_true _ _ s))
+      then_out inside _ _ (does_out inside place item k h s e w) (code_out inside k (and_second _ _ h) (and_second _ _ s))
   code_out inside (If place t x y k) h s e w =
-      let rest = second_true (never_returns x) (never_returns y && never_returns k) h in
-      let more = second_true (stays inside x) (stays inside y && stays inside k) s in
+      let rest = and_second (never_returns x) (never_returns y && never_returns k) h in
+      let more = and_second (stays inside x) (stays inside y && stays inside k) s in
       then_out inside _ _
       (choice_out inside (holds t e) _ _
-      (code_out inside x (first_true (never_returns x) (never_returns y && never_returns k) h) (first_true (stays inside x) (stays inside y && stays inside k) s) e (ticked w))
-      (code_out inside y (first_true (never_returns y) (never_returns k) rest) (first_true (stays inside y) (stays inside k) more) e (ticked w)))
-      (code_out inside k (second_true (never_returns y) (never_returns k) rest) (second_true (stays inside y) (stays inside k) more))
+      (code_out inside x (and_first (never_returns x) (never_returns y && never_returns k) h) (and_first (stays inside x) (stays inside y && stays inside k) s) e (ticked w))
+      (code_out inside y (and_first (never_returns y) (never_returns k) rest) (and_first (stays inside y) (stays inside k) more) e (ticked w)))
+      (code_out inside k (and_second (never_returns y) (never_returns k) rest) (and_second (stays inside y) (stays inside k) more))
   code_out inside (Loop place x y k) h s e w =
-      let rest = second_true (never_returns x) (never_returns y && never_returns k) h in
-      let more = second_true (stays true x) (stays true y && stays inside k) s in
+      let rest = and_second (never_returns x) (never_returns y && never_returns k) h in
+      let more = and_second (stays true x) (stays true y && stays inside k) s in
       then_out inside _ _
       (turns_out inside (exec (meaning p counted calls) n x) (exec (meaning p counted calls) n y)
-      (code_out true x (first_true (never_returns x) (never_returns y && never_returns k) h) (first_true (stays true x) (stays true y && stays inside k) s))
-      (code_out true y (first_true (never_returns y) (never_returns k) rest) (first_true (stays true y) (stays inside k) more)) n e w)
-      (code_out inside k (second_true (never_returns y) (never_returns k) rest) (second_true (stays true y) (stays inside k) more))
+      (code_out true x (and_first (never_returns x) (never_returns y && never_returns k) h) (and_first (stays true x) (stays true y && stays inside k) s))
+      (code_out true y (and_first (never_returns y) (never_returns k) rest) (and_first (stays true y) (stays inside k) more)) n e w)
+      (code_out inside k (and_second (never_returns y) (never_returns k) rest) (and_second (stays true y) (stays inside k) more))
 
 -- ---- and its end isn't reached
 

@@ -11,7 +11,7 @@ use Rattle.dae_machine.specs.Machine.{State, Runs, IsFinal, IsStuck}
 use Rattle.dae_machine.specs.Opened.{setup_of, opened}
 use Rattle.dae_machine.specs.Ends.{CanOnlyEnd, GoesOn as RunsGoOn}
 use Rattle.dae_meaning.specs.Worlds.{World}
-use Rattle.dae_meaning.specs.Results.{Halted, Trapped}
+use Rattle.dae_meaning.specs.Results.{End, Halted, Trapped, Going, Astray}
 use Rattle.dae_ir.specs.declared.form.Ir.{Ir}
 use Rattle.dae_program.specs.Outcomes.{Outcome, last_world}
 use Rattle.dae_program.specs.Programs.{meaning_of, program_end, GoesOn}
@@ -40,11 +40,22 @@ pub record OnlyEnds (image : Image) (halt : Halt) (w : World) : Type 0 where
 abbrev pub output : Outcome ℕ → List ℕ
 output r = let w = last_world r in w.printed
 
--- no run reaches a stuck state; where the program ends or traps under a bound on the turns of loops, every run can only end
--- so; where it goes on, every run goes on, and prints nothing but its output so far
+-- an end that a program has
+abbrev pub IsAtEnd : End → Type 0
+IsAtEnd (Halted status) = Unit {0}
+IsAtEnd (Trapped code) = Unit {0}
+IsAtEnd Going = ⊥
+IsAtEnd Astray = ⊥
+
+-- no run reaches a stuck state; a run ends only where the program ends or traps under some bound on the turns of loops; where it
+-- ends or traps under a bound, every run can only end so; where it goes on, every run goes on, and prints nothing but its output
+-- so far
 pub record KeepsMeaning (p : Program) (limit : ℕ) (image : Image) : Type 0 where
   pub never_stuck : (depths : Depths) → Reaches depths image.budget → (picks : List Pick) (s : State)
       → Runs (setup_of image depths) (opened image) picks s → ¬ (IsStuck (setup_of image depths) s)
+  pub ends_only : (depths : Depths) → Reaches depths image.budget → (picks : List Pick) (s : State)
+      → Runs (setup_of image depths) (opened image) picks s → IsFinal (setup_of image depths) s
+      → (n : ℕ) × IsAtEnd (program_end (meaning_of p limit n))
   pub ends : (n status : ℕ) → program_end (meaning_of p limit n) ≡ Halted status
       → OnlyEnds image (Status status) (last_world (meaning_of p limit n))
   pub traps : (n code : ℕ) → program_end (meaning_of p limit n) ≡ Trapped code

@@ -1,4 +1,5 @@
-// The worked rows of code and images: the words of blocks beside other assemblers', and images of small forms that run.
+// Tests of dae_link and what is below it: images of small forms that run, and the words of the instructions of which
+// dae_select_blocks makes its blocks, as other assemblers have them.
 #![tactic(auto)]
 
 #[cfg(test)]

@@ -1,23 +1,15 @@
 -- What a sink or a writer has taken after several puts or writes.
-use Rattle.std.proofs.Common.{◌≡◌, ℕ, ◌+◌, ◌-◌, ◌≤◌, List, [], ◌++◌, Option, None, Some, length, take, drop, min, ◌∙◌, ap, sym, append_assoc, take_all, length-drop, arith, append-nil}
+use Rattle.std.proofs.Common.{◌≡◌, ℕ, ◌+◌, ◌-◌, ◌≤◌, List, ◌++◌, Option, None, Some, length, take, drop, min, ◌∙◌, ap, append_assoc, take_all, length-drop, arith}
 use Rattle.std.specs.Io.KnownBytes.{Appends, Keeps}
 use Rattle.std.proofs.lemmas.List.{take-append-le, take_min}
 use Rattle.std.proofs.Math.Seq.{take-add, take-append-add}
 use Rattle.dae_io.specs.Sinks.{AppendsPrefix}
-
-pub Appends-nothing : (a : Option (List ℕ)) → Appends a a []
-Appends-nothing None = tt
-Appends-nothing (Some x) = sym (append-nil x)
 
 pub Appends-then : (a b c : Option (List ℕ)) (xs ys : List ℕ) → Appends a b xs → Appends b c ys → Appends a c (xs ++ ys)
 Appends-then None b c xs ys p q = tt
 Appends-then (Some x) None c xs ys p q = absurd p
 Appends-then (Some x) (Some y) None xs ys p q = absurd q
 Appends-then (Some x) (Some y) (Some z) xs ys p q = q ∙ ap (λ w. w ++ ys) p ∙ append_assoc x xs ys
-
--- a whole piece is a prefix of itself
-pub AppendsPrefix-whole : (a b : Option (List ℕ)) (xs : List ℕ) → Appends a b xs → AppendsPrefix a b xs
-AppendsPrefix-whole a b xs p = (length xs, rw (take_all (length xs) xs (omega arith)) p)
 
 -- a piece, and then some first bytes of the next
 pub AppendsPrefix-then : (a b c : Option (List ℕ)) (xs ys : List ℕ) → Appends a b xs → AppendsPrefix b c ys → AppendsPrefix a c (xs ++ ys)

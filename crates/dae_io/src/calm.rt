@@ -23,6 +23,7 @@ pub struct CalmShelf<'t> {
     pub texts: &'t [NamedText<'t>],
     /// Whether something was dropped.
     pub dropped: bool,
+    pub given: Given,
 }
 
 impl<'t> CalmShelf<'t> {
@@ -30,10 +31,12 @@ impl<'t> CalmShelf<'t> {
     pub fn new(texts: &'t [NamedText<'t>]) -> CalmShelf<'t>
         ensures texts { result.texts.now ≡ texts.now }
         ensures dropped { result.dropped ≡ false }
+        ensures given { result.given.pieces ≡ [] }
     {
         CalmShelf {
             texts,
             dropped: false,
+            given: Given::nothing(),
         }
     }
 }
@@ -56,12 +59,15 @@ impl<'t> Shelf for CalmShelf<'t> {
 
     ghost last = { λ _. None };
 
+    ghost given = { λ shelf. shelf.given.pieces };
+
     fn fetch(&mut self, alloc: Global, name: &str, most: u32) -> Result<Vec<u8>, FetchError> {
         let text = first_text(self.texts, name);
         Ok(Vec::from_slice(alloc, first_bytes(text, most as usize))?)
     }
 
-    fn keep(&mut self, _name: &str, _bytes: &[u8]) -> Result<(), KeepFailed> {
+    fn keep(&mut self, _name: &str, bytes: &[u8]) -> Result<(), KeepFailed> {
+        self.given = self.given.then(&PutCall { piece: bytes });
         self.dropped = true;
         Ok(())
     }

@@ -1,7 +1,8 @@
 // A shelf over the real files.
-ghost use Rattle.std.specs.Prelude.{◌≡◌, ℕ, ◌≤◌, length, IfOk, None};
+ghost use Rattle.std.specs.Prelude.{◌≡◌, ℕ, ◌≤◌, [], length, IfOk, None};
 
 use crate::faults::Faults;
+use crate::given::{Given, PutCall};
 use crate::shelf::{FetchError, KeepFailed, Shelf};
 use crate::sink::SinkFailed;
 use crate::transfer::{read_most, write_whole};
@@ -13,6 +14,7 @@ use std::fs::{File, Files};
 pub struct DirShelf<'r, R> {
     pub files: &'r R,
     pub faults: Faults,
+    pub given: Given,
 }
 
 impl<'r, R: Files> DirShelf<'r, R> {
@@ -20,10 +22,12 @@ impl<'r, R: Files> DirShelf<'r, R> {
     pub fn new(files: &'r R) -> DirShelf<'r, R>
         ensures count { result.faults.count ≡ 0 }
         ensures last { result.faults.last.fault ≡ None }
+        ensures given { result.given.pieces ≡ [] }
     {
         DirShelf {
             files,
             faults: Faults::none(),
+            given: Given::nothing(),
         }
     }
 }
@@ -52,6 +56,8 @@ impl<'r, R: Files> Shelf for DirShelf<'r, R> {
 
     ghost last = { λ shelf. shelf.faults.last.fault };
 
+    ghost given = { λ shelf. shelf.given.pieces };
+
     fn fetch(&mut self, alloc: Global, name: &str, most: u32) -> Result<Vec<u8>, FetchError> {
         let text = read_file(self.files, alloc, name, most as usize);
         if let Err(FetchError::Failed) = &text {
@@ -61,6 +67,7 @@ impl<'r, R: Files> Shelf for DirShelf<'r, R> {
     }
 
     fn keep(&mut self, name: &str, bytes: &[u8]) -> Result<(), KeepFailed> {
+        self.given = self.given.then(&PutCall { piece: bytes });
         let written = write_file(self.files, name, bytes);
         if written.is_err() {
             self.faults.keep_failed(name);

@@ -1,5 +1,5 @@
 // A shelf in memory. Its room for a keep is made before, stays until a keep uses it up, and is then no longer there.
-ghost use Rattle.std.specs.Prelude.{◌≡◌, ◌≢◌, ℕ, ◌+◌, ◌-◌, ◌^◌, ◌<◌, ◌≤◌, ◌⊎◌, ◌↔◌, min, [], length, vec_len, Some, None, IsSome, IsNone, IfOk, IsOk, OnOk, OnErr, IsErr, IsErrOf, IfSome, option_map, string_bytes, IsTrue};
+ghost use Rattle.std.specs.Prelude.{◌≡◌, ◌≢◌, ℕ, ◌+◌, ◌-◌, ◌^◌, ◌<◌, ◌≤◌, ◌⊎◌, ◌↔◌, min, [], ◌∷◌, ◌++◌, length, vec_len, Some, None, IsSome, IsNone, IfOk, IsOk, OnOk, OnErr, IsErr, IsErrOf, IfSome, option_map, string_bytes, IsTrue};
 ghost use Rattle.std.specs.Vec.{vec_capacity};
 ghost use Rattle.dae_io.specs.Failing.{failing_at};
 ghost use Rattle.dae_io.specs.Faults.{Rose, fetch_of, keep_of};
@@ -8,6 +8,7 @@ ghost use Rattle.dae_io.specs.Told.{IsFirst, TellsSame};
 
 use crate::failing::{FailingCall, failing_at};
 use crate::faults::Faults;
+use crate::given::{Given, PutCall};
 use crate::prefix::first_bytes;
 use crate::shelf::{FetchError, KeepFailed, Shelf};
 use std::alloc::{AllocError, Global};
@@ -33,6 +34,8 @@ pub struct MemShelf {
     pub faults: Faults,
     /// The calls that are to fail.
     pub failing: Vec<FailingCall>,
+    /// The bytes of each keep.
+    pub given: Given,
 }
 
 impl HeldText {
@@ -76,6 +79,7 @@ impl MemShelf {
         ensures count { IfOk result (λ shelf. shelf.faults.count ≡ 0) }
         ensures last { IfOk result (λ shelf. shelf.faults.last.fault ≡ None) }
         ensures failing { IfOk result (λ shelf. shelf.failing.items ≡ failing.now) }
+        ensures given { IfOk result (λ shelf. shelf.given.pieces ≡ []) }
     {
         Ok(MemShelf {
             texts: Vec::new(alloc),
@@ -83,6 +87,7 @@ impl MemShelf {
             calls: 0,
             faults: Faults::none(),
             failing: Vec::from_slice(alloc, failing)?,
+            given: Given::nothing(),
         })
     }
 
@@ -94,6 +99,7 @@ impl MemShelf {
         ensures faults { self.new.faults ≡ self.old.faults }
         ensures calls { self.new.calls ≡ self.old.calls }
         ensures failing { self.new.failing.items ≡ self.old.failing.items }
+        ensures given { self.new.given ≡ self.old.given }
         ensures room { KeepsRoom self.old self.new }
     {
         let name = String::from_str(alloc, name)?;
@@ -111,6 +117,7 @@ impl MemShelf {
         ensures faults { self.new.faults ≡ self.old.faults }
         ensures calls { self.new.calls ≡ self.old.calls }
         ensures failing { self.new.failing.items ≡ self.old.failing.items }
+        ensures given { self.new.given ≡ self.old.given }
     {
         let name = String::with_capacity(alloc, name)?;
         let text = Vec::with_capacity(alloc, text)?;
@@ -137,6 +144,7 @@ impl MemShelf {
         ensures faults { self.new.faults ≡ self.old.faults }
         ensures calls { self.new.calls ≡ self.old.calls }
         ensures failing { self.new.failing.items ≡ self.old.failing.items }
+        ensures given { self.new.given ≡ self.old.given }
         ensures succeeds { HasRoom self.old (length name.now) (length text.now) → IsTrue result }
         ensures used { self.new.room ≡ None }
     {
@@ -152,6 +160,7 @@ impl MemShelf {
         ensures faults { self.new.faults ≡ self.old.faults }
         ensures calls { self.new.calls ≡ min (self.old.calls + 1) (2 ^ 64 - 1) }
         ensures failing { self.new.failing.items ≡ self.old.failing.items }
+        ensures given { self.new.given ≡ self.old.given }
         ensures listed { result ≡ failing_at self.old.failing.items self.new.calls }
     {
         self.calls = self.calls.saturating_add(1);
@@ -165,6 +174,7 @@ impl MemShelf {
         ensures faults { self.new.faults ≡ self.old.faults }
         ensures calls { self.new.calls ≡ min (self.old.calls + 1) (2 ^ 64 - 1) }
         ensures failing { self.new.failing.items ≡ self.old.failing.items }
+        ensures given { self.new.given ≡ self.old.given }
         ensures listed { IsTrue result → IsNone (failing_at self.old.failing.items self.new.calls) }
         ensures room { IsNone (failing_at self.old.failing.items self.new.calls)
             → HasRoom self.old (length name.now) (length bytes.now) → IsTrue result }
@@ -187,6 +197,8 @@ impl Shelf for MemShelf {
 
     ghost last = { λ shelf. shelf.faults.last.fault };
 
+    ghost given = { λ shelf. shelf.given.pieces };
+
     /// Fails exactly where this call is listed or nothing is held under the name. The room for a keep stays.
     fn fetch(&mut self, alloc: Global, name: &str, most: u32) -> Result<Vec<u8>, FetchError>
         ensures bytes { IfOk result (λ text.
@@ -199,6 +211,7 @@ impl Shelf for MemShelf {
             → Rose self.old.faults.count self.new.faults.count }
         ensures fault { IsErrOf result FetchError.Failed
             → self.new.faults.last.fault ≡ fetch_of name.now }
+        ensures given { self.new.given.pieces ≡ self.old.given.pieces }
 
         ensures calls { self.new.calls ≡ min (self.old.calls + 1) (2 ^ 64 - 1) }
         ensures failing { self.new.failing.items ≡ self.old.failing.items }
@@ -227,6 +240,7 @@ impl Shelf for MemShelf {
         ensures no_fault { OnOk result (self.new.faults ≡ self.old.faults) }
         ensures rose { OnErr result (Rose self.old.faults.count self.new.faults.count) }
         ensures fault { OnErr result (self.new.faults.last.fault ≡ keep_of name.now) }
+        ensures given { self.new.given.pieces ≡ self.old.given.pieces ++ bytes.now ∷ [] }
 
         ensures calls { self.new.calls ≡ min (self.old.calls + 1) (2 ^ 64 - 1) }
         ensures failing { self.new.failing.items ≡ self.old.failing.items }
@@ -235,6 +249,7 @@ impl Shelf for MemShelf {
             → HasRoom self.old (length name.now) (length bytes.now) → IsOk result }
         ensures used { self.new.room ≡ None }
     {
+        self.given = self.given.then(&PutCall { piece: bytes });
         if self.next_keep(name, bytes) {
             return Ok(());
         }

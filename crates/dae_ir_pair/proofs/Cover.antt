@@ -1,7 +1,8 @@
 -- The budget of a form's pair is enough for each round of each function.
-use Rattle.std.proofs.Common.{◌≡◌, ℕ, zero, suc, ◌+◌, ◌≤◌, Bool, true, false, ◌||◌, List, [], ◌∷◌, if◌then◌else◌, refl, subst, arith}
+use Rattle.std.proofs.Common.{◌≡◌, ℕ, zero, suc, ◌+◌, ◌≤◌, Bool, true, false, List, [], ◌∷◌, if◌then◌else◌, subst, arith}
 use Rattle.std.specs.Prelude.{slice_get}
 use Rattle.std.specs.List.{list_any}
+use Rattle.std.proofs.lemmas.Bool.{or_left, or_right}
 use Rattle.dae_base.specs.declared.Depths.{Depths}
 use Rattle.dae_ir.specs.Code.{Done, Do, If, Loop, Each}
 use Rattle.dae_ir.specs.Form.{form_of}
@@ -28,14 +29,6 @@ Every P (g ∷ gs) = P (actions_of g.body) × Every P gs
 -- X follows from such an action or branch
 abbrev Follows : (Action → Bool) → (Branch → Bool) → Type 0 → Actions → Type 0
 Follows f h X code = Each (λ x. f x ≡ true → X) (λ b. h b ≡ true → X) code
-
-or_left : (a b : Bool) → a ≡ true → a || b ≡ true
-or_left true b h = refl
-or_left false b h = cc
-
-or_right : (a b : Bool) → b ≡ true → a || b ≡ true
-or_right true b h = refl
-or_right false b h = h
 
 -- what follows from some such action follows from each
 each_of : (f : Action → Bool) (h : Branch → Bool) (X : Type 0) (code : Actions) → (some f h code ≡ true → X) → Follows f h X code

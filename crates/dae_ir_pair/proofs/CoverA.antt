@@ -1,7 +1,9 @@
 -- Where each action of A's stream is within a budget, so is what A does in each round.
 use Rattle.std.proofs.Common.{◌≡◌, ℕ, ◌+◌, ◌≤◌, Bool, true, false, not, ◌&&◌, ◌||◌, List, [], ◌∷◌, ◌++◌, if◌then◌else◌, refl}
+use Rattle.std.proofs.lemmas.Bool.{or_left, or_right}
 use Rattle.dae_base.specs.declared.Depths.{Depths}
 use Rattle.dae_base.specs.declared.Place.{Place}
+use Rattle.dae_base.proofs.Laws.{no_true}
 use Rattle.dae_ir.specs.Code.{Done, Do, If, Loop, Each}
 use Rattle.dae_ir.specs.Form.{Form}
 use Rattle.dae_ir.specs.Classes.{Classes, has_check}
@@ -28,20 +30,9 @@ AFits d x = (is_own_load x ≡ true → 1 ≤ d.al) × (is_address x ≡ true �
 abbrev pub AllA : Depths → Actions → Type 0
 AllA d code = Each (AFits d) (λ b. is_told b ≡ true → 1 ≤ d.ab) code
 
-no_true : {X : Type 0} → false ≡ true → X
-no_true h = absurd (let e : false ≡ true = h in cc)
-
 or_so : {X : Type 0} (a b : Bool) → (a ≡ true → X) → (b ≡ true → X) → a || b ≡ true → X
 or_so true b f g h = f refl
 or_so false b f g h = g h
-
-or_left : (a b : Bool) → a ≡ true → a || b ≡ true
-or_left true b h = refl
-or_left false b h = no_true h
-
-or_right : (a b : Bool) → b ≡ true → a || b ≡ true
-or_right true b h = refl
-or_right false b h = h
 
 pub any_left : (f : Part → Bool) (g : List Part) (p : Part) → any_part f g ≡ true → any_part f (g ++ p ∷ []) ≡ true
 any_left f [] p h = no_true h

@@ -1,6 +1,6 @@
 -- Where no group of A's stream has more than m loads for E, or copies, no group of the rounds has.
-use Rattle.std.proofs.Common.{◌≡◌, ℕ, ◌+◌, ◌≤◌, Bool, true, false, not, ◌&&◌, nat_eq, List, [], ◌∷◌, if◌then◌else◌, refl, arith}
-use Rattle.std.proofs.lemmas.Bool.Decides.{nat_tests}
+use Rattle.std.proofs.Common.{◌≡◌, ℕ, ◌+◌, ◌≤◌, Bool, true, false, not, ◌&&◌, List, [], ◌∷◌, if◌then◌else◌, refl, arith}
+use Rattle.dae_base.proofs.Laws.{same_number}
 use Rattle.dae_ir.specs.Code.{Done, Do, If, Loop, Each}
 use Rattle.dae_ir.specs.Classes.{Classes}
 use Rattle.dae_ir.specs.Rounds.{Group, Alone, Region, Rounds, rounds, is_for_e, is_copied, how_many}
@@ -14,12 +14,6 @@ use Rattle.dae_ir.specs.declared.stream.Part.TheVariants.{Sets, Loads, Tests}
 use Rattle.dae_ir.specs.declared.stream.Action.{Action}
 use Rattle.dae_ir.specs.declared.stream.Action.TheVariants.{Set, Issue, Own, Offer, Tell}
 
-same : (n : ℕ) → nat_eq n n ≡ true
-same n = by (nat_eq n n) refl where
-  by : (b : Bool) → nat_eq n n ≡ b → b ≡ true
-  by true e = refl
-  by false e = absurd (grind (arith, nat_tests))
-
 -- each part counts as its actions do
 loads_in : (c : Classes) (n : ℕ) (p : Part) (k : Actions) → in_group is_load_for_e n (a_part c n p k) ≡ (if is_for_e c p then 1 else 0) + in_group is_load_for_e n k
 loads_in c n (Sets place v x) k = by (c.s v) (c.needs v) where
@@ -31,19 +25,19 @@ loads_in c n (Loads place v kind x) k = by (c.s v) (c.needs v) where
   by : (s e : Bool) → in_group is_load_for_e n (when (not s && e) (mark place n) (Issue kind x) (when s (mark place n) (Own v kind x) (when (s && e) (mark place n) (Offer v) k))) ≡ (if not s && e then 1 else 0) + in_group is_load_for_e n k
   by true true = omega (arith)
   by true false = omega (arith)
-  by false true = rw (same n) refl
+  by false true = rw (same_number n) refl
   by false false = omega (arith)
 loads_in c n (Tests place check) k = omega (arith)
 
 copies_in : (c : Classes) (n : ℕ) (p : Part) (k : Actions) → in_group is_copy n (a_part c n p k) ≡ (if is_copied c p then 1 else 0) + in_group is_copy n k
 copies_in c n (Sets place v x) k = by (c.s v) (c.needs v) where
   by : (s e : Bool) → in_group is_copy n (when s (mark place n) (Set v x) (when (s && e) (mark place n) (Offer v) k)) ≡ (if s && e then 1 else 0) + in_group is_copy n k
-  by true true = rw (same n) (omega (arith))
+  by true true = rw (same_number n) (omega (arith))
   by true false = omega (arith)
   by false e = omega (arith)
 copies_in c n (Loads place v kind x) k = by (c.s v) (c.needs v) where
   by : (s e : Bool) → in_group is_copy n (when (not s && e) (mark place n) (Issue kind x) (when s (mark place n) (Own v kind x) (when (s && e) (mark place n) (Offer v) k))) ≡ (if s && e then 1 else 0) + in_group is_copy n k
-  by true true = rw (same n) (omega (arith))
+  by true true = rw (same_number n) (omega (arith))
   by true false = omega (arith)
   by false true = omega (arith)
   by false false = omega (arith)

@@ -1,6 +1,7 @@
 -- Where each action of E's stream is within a budget, so is what E does in each round.
 use Rattle.std.proofs.Common.{◌≡◌, ℕ, ◌+◌, ◌≤◌, Bool, true, false, List, [], refl}
 use Rattle.dae_base.specs.declared.Depths.{Depths}
+use Rattle.dae_base.proofs.Laws.{no_true}
 use Rattle.dae_ir.specs.Code.{Done, Do, If, Loop, Each}
 use Rattle.dae_ir.specs.Classes.{Classes}
 use Rattle.dae_ir.specs.Rounds.{Group, Alone, Region, Rounds, rounds}
@@ -21,9 +22,6 @@ EFits d x = (is_datum x ≡ true → 1 ≤ d.sd) × (is_message x ≡ true → 1
 
 abbrev pub AllE : Depths → Actions → Type 0
 AllE d code = Each (EFits d) (λ b. is_told b ≡ true → 1 ≤ d.eb) code
-
-no_true : {X : Type 0} → false ≡ true → X
-no_true h = absurd (let e : false ≡ true = h in cc)
 
 no_false : {X : Type 0} → true ≡ false → X
 no_false h = absurd (let e : true ≡ false = h in cc)

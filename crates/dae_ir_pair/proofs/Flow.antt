@@ -1,7 +1,7 @@
 -- What a group reads was set before, on each side, where the form's statements set before they read.
 use Rattle.std.proofs.Common.{◌≡◌, ℕ, Bool, true, false, not, ◌&&◌, ◌||◌, nat_eq, List, [], ◌∷◌, ◌++◌, refl, arith}
 use Rattle.std.proofs.lemmas.Bool.Decides.{nat_tests}
-use Rattle.dae_base.proofs.Laws.{and_true}
+use Rattle.dae_base.proofs.Laws.{and_true, same_number}
 use Rattle.dae_ir.specs.Classes.{VariableSet, Classes, has, has_value, has_test, has_check}
 use Rattle.dae_ir.specs.Streams.{Actions, mark, when, a_part, e_part, parts, message, gives_address, hears_check, e_last, group_of, set_of}
 use Rattle.dae_ir.specs.SetFirst.{assured, IsSetFirst, with_set, stream_flow}
@@ -65,14 +65,8 @@ keeps_without s d d' v out k u h m = by (nat_eq u v) refl h where
   by true e h = let same : u ≡ v = grind (arith, nat_tests) in let f : s u ≡ false = rw (same) out in cc
   by false e h = k u h m
 
-same : (n : ℕ) → nat_eq n n ≡ true
-same n = by (nat_eq n n) refl where
-  by : (b : Bool) → nat_eq n n ≡ b → b ≡ true
-  by true e = refl
-  by false e = absurd (grind (arith, nat_tests))
-
 set_now : (v : ℕ) (d : VariableSet) → with_set v d v ≡ true
-set_now v d = rw (same v) refl
+set_now v d = rw (same_number v) refl
 
 -- from each set that keeps d, the actions read what is set, and leave set what t says
 abbrev pub Rest : VariableSet → VariableSet → VariableSet → Actions → Type 0

@@ -1,6 +1,6 @@
 -- What a stream reads was set before, where the form sets before it reads.
 use Rattle.std.proofs.Common.{◌≡◌, ℕ, ◌+◌, Bool, true, false, not, ◌&&◌, ◌||◌, List, [], ◌∷◌, ◌++◌, Some, None, if◌then◌else◌, refl, ap, sym, ◌∙◌, subst}
-use Rattle.dae_base.proofs.Laws.{and_true, not_true}
+use Rattle.dae_base.proofs.Laws.{and_true, not_true, no_true}
 use Rattle.dae_base.specs.declared.Place.{Place}
 use Rattle.dae_ir.specs.Code.{Done, Do, If, Loop, Each, every}
 use Rattle.dae_ir.specs.Form.{Form}
@@ -225,9 +225,6 @@ e_decides of c (Loop place p q code) kept is =
 
 -- ---- a region sets nothing that the other side needs
 
-no_so : {X : Type 0} → false ≡ true → X
-no_so h = absurd (let e : false ≡ true = h in cc)
-
 module _ (s : VariableSet) (f : Item → Bool) (h : Test → Bool)
     (item_sets : (item : Item) → f item ≡ true → is_jump item ≡ false → (d : VariableSet) → Keeps s (after_item d item) d) where
   nothing_set : (code : Form) → every f h code ≡ true → stays false code ≡ true → (d : VariableSet) → Keeps s (assured form_flow d code) d
@@ -259,12 +256,12 @@ a_item_sets c (Assign v x) is j d = keeps_without c.needs d d v (not_true (c.nee
 a_item_sets c (Load v kind x) is j d = keeps_without c.needs d d v (not_true (c.needs v) is) (itself c.needs d)
 a_item_sets c Break is j d = absurd (let e : true ≡ false = j in cc)
 a_item_sets c Continue is j d = absurd (let e : true ≡ false = j in cc)
-a_item_sets c (Store width x y) is j d = no_so is
-a_item_sets c (Print spelling x) is j d = no_so is
-a_item_sets c (Expect check) is j d = no_so is
-a_item_sets c (Call v f xs) is j d = no_so is
-a_item_sets c (Return x) is j d = no_so is
-a_item_sets c (Halt x) is j d = no_so is
+a_item_sets c (Store width x y) is j d = no_true is
+a_item_sets c (Print spelling x) is j d = no_true is
+a_item_sets c (Expect check) is j d = no_true is
+a_item_sets c (Call v f xs) is j d = no_true is
+a_item_sets c (Return x) is j d = no_true is
+a_item_sets c (Halt x) is j d = no_true is
 
 e_item_sets : (c : Classes) (item : Item) → is_e_item c item ≡ true → is_jump item ≡ false → (d : VariableSet) → Keeps c.s (after_item d item) d
 e_item_sets c (Assign v x) is j d = keeps_without c.s d d v (not_true (c.s v) is) (itself c.s d)
@@ -272,11 +269,11 @@ e_item_sets c (Load v kind x) is j d = keeps_without c.s d d v (not_true (c.s v)
 e_item_sets c Break is j d = absurd (let e : true ≡ false = j in cc)
 e_item_sets c Continue is j d = absurd (let e : true ≡ false = j in cc)
 e_item_sets c (Print spelling x) is j d = itself c.s d
-e_item_sets c (Store width x y) is j d = no_so is
-e_item_sets c (Expect check) is j d = no_so is
-e_item_sets c (Call v f xs) is j d = no_so is
-e_item_sets c (Return x) is j d = no_so is
-e_item_sets c (Halt x) is j d = no_so is
+e_item_sets c (Store width x y) is j d = no_true is
+e_item_sets c (Expect check) is j d = no_true is
+e_item_sets c (Call v f xs) is j d = no_true is
+e_item_sets c (Return x) is j d = no_true is
+e_item_sets c (Halt x) is j d = no_true is
 
 -- ---- outside of regions
 

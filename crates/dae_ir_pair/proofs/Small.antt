@@ -1,6 +1,6 @@
 -- The largest numbers of loads for E and of copies in a group of a pair are at most the cap.
 use Rattle.std.proofs.Common.{◌≡◌, ℕ, Bool, true, false, ◌&&◌, List, [], ◌∷◌, ◌++◌, if◌then◌else◌, refl, ◌∙◌, arith}
-use Rattle.dae_base.proofs.Laws.{and_true, not_true}
+use Rattle.dae_base.proofs.Laws.{and_true, not_true, no_true}
 use Rattle.dae_base.specs.declared.Place.{Place}
 use Rattle.dae_ir.specs.Code.{Done, Do, If, Loop, Each, every}
 use Rattle.dae_ir.specs.Form.{Form}
@@ -19,9 +19,6 @@ abbrev pub NoneOf : (Part → Bool) → Round → Type 0
 NoneOf kind (Group g last) = how_many kind g ≡ 0
 NoneOf kind (Alone jump) = Unit {0}
 NoneOf kind (Region d code) = Unit {0}
-
-no_item : {X : Type 0} → false ≡ true → X
-no_item h = absurd (let e : false ≡ true = h in cc)
 
 module _ (c : Classes) (cap : ℕ) (kind : Part → Bool)
     (sets : (place : Place) (v : ℕ) (x : _) → c.needs v ≡ false → kind (Sets place v x) ≡ false)
@@ -50,12 +47,12 @@ module _ (c : Classes) (cap : ℕ) (kind : Part → Bool)
   item_none place (Load v kind x) is g h r k = join_none place (Loads place v kind x) (loads place v kind x (not_true (c.needs v) is)) g h r k
   item_none place Break is g h r k = closed_none g h _ (tt, k [] refl)
   item_none place Continue is g h r k = closed_none g h _ (tt, k [] refl)
-  item_none place (Store width x y) is g h r k = no_item is
-  item_none place (Print spelling x) is g h r k = no_item is
-  item_none place (Expect check) is g h r k = no_item is
-  item_none place (Call v f xs) is g h r k = no_item is
-  item_none place (Return x) is g h r k = no_item is
-  item_none place (Halt x) is g h r k = no_item is
+  item_none place (Store width x y) is g h r k = no_true is
+  item_none place (Print spelling x) is g h r k = no_true is
+  item_none place (Expect check) is g h r k = no_true is
+  item_none place (Call v f xs) is g h r k = no_true is
+  item_none place (Return x) is g h r k = no_true is
+  item_none place (Halt x) is g h r k = no_true is
 
   pub region_none : (code : Form) → every (is_a_item c) (is_by_a c.s) code ≡ true → (g : List Part) → how_many kind g ≡ 0 → None' (rounds c cap false code g)
   region_none Done is g h = closed_none g h Done tt

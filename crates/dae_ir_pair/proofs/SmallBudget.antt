@@ -1,5 +1,6 @@
 -- The budget of a form's pair is at most the cap, and 1 for what isn't counted.
-use Rattle.std.proofs.Common.{◌≡◌, ◌⊎◌, inl, inr, ℕ, ◌+◌, ◌<◌, ◌≤◌, Bool, true, false, not, ◌&&◌, List, [], ◌∷◌, if◌then◌else◌, refl, sym, subst, arith}
+use Rattle.std.proofs.Common.{◌≡◌, ◌⊎◌, inl, inr, ℕ, ◌+◌, ◌<◌, ◌≤◌, Bool, true, false, not, List, [], ◌∷◌, if◌then◌else◌, refl, sym, subst, arith}
+use Rattle.std.proofs.lemmas.Bool.{and_right}
 use Rattle.dae_ir.specs.Code.{Done, Do, If, Loop, Each}
 use Rattle.dae_ir.specs.Form.{Form, form_of}
 use Rattle.dae_ir.specs.Classes.{Classes, classes_of}
@@ -16,10 +17,6 @@ use Rattle.dae_ir.specs.declared.form.Function.{Function}
 use Rattle.dae_ir.specs.declared.stream.Action.{Action}
 use Rattle.dae_ir.specs.declared.stream.Action.TheVariants.{Set, Issue, Own, Receive, Address, Datum, Offer, Accept, Emit, Probe, Tell, Hear, Stop, Break, Continue, Call, Return}
 use Rattle.dae_ir.specs.declared.stream.StreamFunction.{StreamFunction}
-
-unneeded : (a b : Bool) → b ≡ false → a && b ≡ false
-unneeded true b h = h
-unneeded false b h = refl
 
 not_load : (x : Action) → is_sent x ≡ false → is_load_for_e x ≡ false
 not_load (Issue kind x) h = h
@@ -65,7 +62,7 @@ module _ (of : ℕ → Classes) (cap : ℕ) (some : 0 < cap) where
   capped_loads c (Do place (Group g last) r) h k = (h.0.0, capped_loads c r h.1 k.1)
   capped_loads c (Do place (Alone jump) r) h k = (tt, capped_loads c r h.1 k.1)
   capped_loads c (Do place (Region true code) r) h k =
-      (region_none c cap (is_for_e c) (λ place v x e. refl) (λ place v kind x e. unneeded (not (c.s v)) (c.needs v) e) code k.0 [] refl, capped_loads c r h.1 k.1)
+      (region_none c cap (is_for_e c) (λ place v x e. refl) (λ place v kind x e. and_right (not (c.s v)) (c.needs v) e) code k.0 [] refl, capped_loads c r h.1 k.1)
   capped_loads c (Do place (Region false code) r) h k = (tt, capped_loads c r h.1 k.1)
   capped_loads c (If place q x y r) h k = (tt, capped_loads c x h.1 k.1, capped_loads c y h.2 k.2, capped_loads c r h.3 k.3)
   capped_loads c (Loop place x y r) h k = (capped_loads c x h.0 k.0, capped_loads c y h.1 k.1, capped_loads c r h.2 k.2)
@@ -75,7 +72,7 @@ module _ (of : ℕ → Classes) (cap : ℕ) (some : 0 < cap) where
   capped_copies c (Do place (Group g last) r) h k = (h.0.1, capped_copies c r h.1 k.1)
   capped_copies c (Do place (Alone jump) r) h k = (tt, capped_copies c r h.1 k.1)
   capped_copies c (Do place (Region true code) r) h k =
-      (region_none c cap (is_copied c) (λ place v x e. unneeded (c.s v) (c.needs v) e) (λ place v kind x e. unneeded (c.s v) (c.needs v) e) code k.0 [] refl, capped_copies c r h.1 k.1)
+      (region_none c cap (is_copied c) (λ place v x e. and_right (c.s v) (c.needs v) e) (λ place v kind x e. and_right (c.s v) (c.needs v) e) code k.0 [] refl, capped_copies c r h.1 k.1)
   capped_copies c (Do place (Region false code) r) h k = (tt, capped_copies c r h.1 k.1)
   capped_copies c (If place q x y r) h k = (tt, capped_copies c x h.1 k.1, capped_copies c y h.2 k.2, capped_copies c r h.3 k.3)
   capped_copies c (Loop place x y r) h k = (capped_copies c x h.0 k.0, capped_copies c y h.1 k.1, capped_copies c r h.2 k.2)

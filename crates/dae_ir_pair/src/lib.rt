@@ -4,7 +4,7 @@
 
 pub use theorems::{
     budget_covers, budget_is_within_cap, pair_keeps, program_kept, streams_are_small,
-    streams_set_first,
+    streams_set_first, words_are_bounded,
 };
 
 mod theorems;

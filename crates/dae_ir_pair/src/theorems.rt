@@ -7,7 +7,7 @@ ghost use Rattle.dae_ir_pair.specs.Budget.{BudgetCovers, BudgetIsWithinCap};
 ghost use Rattle.dae_ir_pair.specs.Laws.{PairKeeps};
 ghost use Rattle.dae_ir_pair.specs.Programs.{ProgramKept};
 ghost use Rattle.dae_ir_pair.specs.SetFirst.{StreamsSetFirst};
-ghost use Rattle.dae_ir_pair.specs.Sizes.{StreamsAreSmall};
+ghost use Rattle.dae_ir_pair.specs.Sizes.{StreamsAreSmall, WordsAreBounded};
 
 /// For the classes of a form, its pair in canonical order ends as the form does, for every bound on turns, cap and memory:
 /// with the same output, memory, stores and executed items, with what each side needs of main's variables, and with no
@@ -36,6 +36,12 @@ pub fn budget_is_within_cap()
 /// Each stream is at most twice as large as its form.
 pub fn streams_are_small()
     ensures { StreamsAreSmall }
+{}
+
+/// The code of a stream has at most 14 words for each unit that the form weighs, where an item, a test and a loop weigh 2, and a
+/// call 3 more and 2 for each argument.
+pub fn words_are_bounded()
+    ensures { WordsAreBounded }
 {}
 
 /// Where a form's function sets each variable before it reads it, so does each stream, from those of the variables set

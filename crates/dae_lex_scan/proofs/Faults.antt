@@ -12,10 +12,6 @@ pub on_by_one : (i : ℕ) (found : Option (Fault × ℕ)) → on_by i (one_on fo
 on_by_one i None = refl
 on_by_one i (Some f) = let e : i + suc f.1 ≡ i + 1 + f.1 = omega arith in rw e refl
 
-pub on_by_none : (found : Option (Fault × ℕ)) → on_by 0 found ≡ found
-on_by_none None = refl
-on_by_none (Some f) = let e : 0 + f.1 ≡ f.1 = omega arith in rw e refl
-
 module _ (n i : ℕ) (inside : List ℕ) (h : i < length inside) where
   pub fault_later : (m : ℕ) → checked n (drop i inside) ≡ Ok m
       → on_by i (fault_from n (drop i inside)) ≡ on_by (i + 1) (fault_from m (drop (i + 1) inside))

@@ -4,8 +4,7 @@ use Rattle.std.specs.Prelude.{Option, Some, None, nat_lt, if◌then◌else◌}
 use Rattle.std.specs.List.{All, last_or}
 use Rattle.std.proofs.lemmas.Bool.{and_parts, and_from, le-ltb}
 use Rattle.std.proofs.lemmas.Bool.Decides.{nat_tests}
-use Rattle.std.proofs.Math.Seq.{take-nil}
-use Rattle.std.proofs.lemmas.List.{append-nil, drop_more}
+use Rattle.std.proofs.lemmas.List.{drop_more}
 use Rattle.std.proofs.lemmas.List.Elements.{All-push}
 use Rattle.dae_base.specs.declared.Side.{Side}
 use Rattle.dae_base.specs.declared.Side.TheVariants.{A, E}
@@ -15,7 +14,7 @@ use Rattle.dae_image.specs.declared.header.Header.{Header}
 use Rattle.dae_select.specs.declared.growing.PlacedWord.{PlacedWord}
 use Rattle.dae_link.specs.declared.marks.MarkRoom.{MarkRoom}
 use Rattle.dae_link.specs.declared.marks.LineMarks.{LineMarks}
-use Rattle.dae_link.specs.Marked.{HasSizes, words_in, is_mark, mark_at, is_another_line, is_marked, marks_after, up_to, line_marks, is_added, HasMarkMore}
+use Rattle.dae_link.specs.Marked.{HasSizes, words_in, is_mark, mark_at, is_another_line, is_marked, marks_after, up_to, line_marks, HasMarkMore}
 
 abbrev the_room : ℕ → ℕ → ℕ → MarkRoom
 the_room a e n = record { words_a = a; words_e = e; files = n }
@@ -54,15 +53,6 @@ and_false : (a b : Bool) → a && (b && false) ≡ false
 and_false true true = refl
 and_false true false = refl
 and_false false b = refl
-
--- one more, or none
-pub added_or_not : (room : MarkRoom) (most : ℕ) (m : LineMark) (old new : LineMarks) (b : Bool) → is_added room most m old ≡ b
-    → new.lines.items ≡ (if b then old.lines.items ++ m ∷ [] else old.lines.items) → new.last ≡ (if b then Some m else old.last)
-    → HasMarkMore room most m old new
-added_or_not room most m old new b is lines last = record {
-  lines = lines ∙ sym (ap (λ (t : Bool). if t then old.lines.items ++ m ∷ [] else old.lines.items) is);
-  last = last ∙ sym (ap (λ (t : Bool). if t then Some m else old.last) is);
-}
 
 -- a word that isn't there isn't marked
 unmarked : (room : MarkRoom) (last : Option LineMark) (m : LineMark) → nat_lt m.word (words_in room m.side) ≡ false → is_marked room last m ≡ false
@@ -140,9 +130,6 @@ pub one_passed_by : (room : MarkRoom) (most : ℕ) (side : Side) (places : List 
 one_passed_by room most side places i words marks some all far =
     passed_by room most side (get_or places i no_word) (drop (i + 1) places) marks.lines.items marks.last (le-ltb (get_or places i no_word).word (words_in room side) (omega arith))
     ∙ ap (λ (ps : List PlacedWord). up_to most marks.lines.items (marks_after room side marks.last ps)) (sym (drop_more places i no_word some))
-
-pub all_marked : (most : ℕ) (lines : List LineMark) → up_to most lines [] ≡ lines
-all_marked most lines = ap (λ (xs : List LineMark). lines ++ xs) (take-nil (most - length lines)) ∙ append-nil lines
 
 -- ---- the marks of an image
 

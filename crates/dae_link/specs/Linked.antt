@@ -16,7 +16,7 @@ use Rattle.dae_link_uses.specs.Uses.{IsUnused}
 use Rattle.dae_link_faithful.specs.Made.{IsMade, IsReady}
 use Rattle.dae_machine_runs.specs.Promises.{DoesForm}
 use Rattle.dae_select.specs.declared.growing.PlacedWord.{PlacedWord}
-use Rattle.dae_link_sides.specs.Sides.{HasLimits, HasPlaces}
+use Rattle.dae_link_sides.specs.Sides.{HasLimits, HasPlaces, HasRegisters}
 use Rattle.dae_link_sides.specs.Settled.{IsTooDeep, IsPrivateWithin}
 use Rattle.dae_link_sides.specs.Sizes.{most_words}
 use Rattle.dae_link.specs.Marked.{IsMarkOf, line_marks}
@@ -62,9 +62,21 @@ pub record HasMarks (pair : Pair) (image : Image) : Type 0 where
 
 -- ---- what is compiled
 
+-- a number of the budget is 0 exactly where no word of either code uses its queue
+abbrev pub IsExact : Image → Type 0
+IsExact image =
+    (queue : Queue)
+    → depth queue image.budget ≡ 0 ↔ (IsUnused A queue image.code_a × IsUnused E queue image.code_e)
+
+-- no variable is in the frame of a function of either stream that has registers for all of them
+pub record KeepsRegisters (pair : Pair) (image : Image) : Type 0 where
+  pub a : HasRegisters pair.a image.code_a
+  pub e : HasRegisters pair.e image.code_e
+
 -- An image is compiled of a form, where a group has at most cap loads for E and as many copies: there are the least classes of
 -- the form's variables, the pair that they make and its budget, and the image's two codes do the pair, action by action, by
--- homes in which variables that are live at one place are apart. Its marks name the lines of the actions.
+-- homes in which variables that are live at one place are apart, and none is in a frame where registers are enough. A number of
+-- the budget is 0 exactly where no word uses the queue. Its marks name the lines of the actions.
 pub record IsCompiledOf (ir : Ir) (cap : ℕ) (image : Image) : Type 0 where
   pub tables : List (List Class)
   pub pair : Pair
@@ -73,6 +85,8 @@ pub record IsCompiledOf (ir : Ir) (cap : ℕ) (image : Image) : Type 0 where
   pub budget : IsBudgetOf pair image.budget
   pub calls : image.calls ≡ ir.calls
   pub made : IsMade ir tables cap image
+  pub exact : IsExact image
+  pub registers : KeepsRegisters pair image
   pub marks : HasMarks pair image
 
 -- of each form whose pair and budget these are
@@ -86,15 +100,6 @@ abbrev pub IsFaithful : Pair → Depths → Image → Type 0
 IsFaithful pair budget image =
     (ir : Ir) (tables : List (List Class)) (cap : ℕ) → IsReady ir → AreClassesOf ir tables → IsPairOf ir tables cap pair
     → IsBudgetOf pair budget → DoesForm ir image 14
-
--- a number of the budget is 0 exactly where no word of either code uses its queue
-abbrev pub IsExact : Image → Type 0
-IsExact image = (queue : Queue) → depth queue image.budget ≡ 0 ↔ (IsUnused A queue image.code_a × IsUnused E queue image.code_e)
-
--- where the pair is a form's, and the budget is the pair's
-abbrev pub HasExactBudget : Pair → Depths → Image → Type 0
-HasExactBudget pair budget image =
-    (ir : Ir) (tables : List (List Class)) (cap : ℕ) → IsPairOf ir tables cap pair → IsBudgetOf pair budget → IsExact image
 
 -- private memories are no larger than by frames of 19 words and one for each variable, in the deepest calls
 pub record HasPrivateWithin (pair : Pair) (image : Image) : Type 0 where

@@ -2,7 +2,7 @@
 
 ghost use Rattle.std.specs.Prelude.{◌≡◌, IfOk, IfErr};
 ghost use Rattle.dae_link_sides.specs.declared.error.CodeError.TheVariants as errors;
-ghost use Rattle.dae_link.specs.Linked.{CanLink, HasExactBudget, HasGiven, HasMarks, HasPrivateWithin, HasShortCode, HasTooDeep, IsCompiled, IsFaithful, IsTooLong};
+ghost use Rattle.dae_link.specs.Linked.{CanLink, HasGiven, HasMarks, HasPrivateWithin, HasShortCode, HasTooDeep, IsCompiled, IsFaithful, IsTooLong};
 
 use crate::marks::{MarkRoom, marks_of};
 use dae_base::{Depths, Items, Text};
@@ -29,7 +29,6 @@ pub fn link(
     ensures compiled { IfOk result (λ image. IsCompiled pair.now budget image) }
     ensures does { IfOk result (λ image. IsFaithful pair.now budget image) }
     ensures marks { IfOk result (λ image. HasMarks pair.now image) }
-    ensures exact { IfOk result (λ image. HasExactBudget pair.now budget image) }
     ensures short { IfOk result (λ image. HasShortCode pair.now image) }
     ensures private { IfOk result (λ image. HasPrivateWithin pair.now image) }
     ensures err { IfErr result (λ e. e ≡ errors.Code → IsTooLong pair.now) }

@@ -1,5 +1,6 @@
 -- Where a group copies a variable, copies are allowed. A region copies nothing.
-use Rattle.std.proofs.Common.{◌≡◌, ℕ, ◌≤◌, Bool, true, false, not, ◌&&◌, List, [], ◌∷◌, refl, arith}
+use Rattle.std.proofs.Common.{◌≡◌, ℕ, ◌≤◌, Bool, true, false, not, ◌&&◌, List, [], ◌∷◌, arith}
+use Rattle.dae_base.proofs.Laws.{and_first}
 use Rattle.dae_ir.specs.Code.{Code, Done, Do, If, Loop, Each}
 use Rattle.dae_ir.specs.Classes.{VariableSet, Classes}
 use Rattle.dae_ir.specs.Rounds.{Breaks, Continues, Enters, Gives, Halts, Round, Group, Alone, Region, Decision, Rounds, is_copied, how_many, is_a_item, is_e_item}
@@ -28,10 +29,6 @@ none_a : (s n : Bool) → not s ≡ true → (s && n) ≡ true → ⊥
 none_a true n h e = (let z : false ≡ true = h in cc)
 none_a false n h e = (let z : false ≡ true = e in cc)
 
-first_of : (a b : Bool) → (a && b) ≡ true → a ≡ true
-first_of true b h = refl
-first_of false b h = absurd (let z : false ≡ true = h in cc)
-
 module _ (plan : Plan) (copies : Bool) (entries : ℕ → VariableSet) (of : ℕ → Classes) (cap f cq : ℕ) (enough : 1 ≤ cq → copies ≡ true) where
   abbrev c : Classes
   c = of f
@@ -56,7 +53,7 @@ module _ (plan : Plan) (copies : Bool) (entries : ℕ → VariableSet) (of : ℕ
 
   e_copied : (b : Bool) (item : Item) → ItemWanted plan true entries of cap f b item → is_e_item c item ≡ true → ItemWanted plan copies entries of cap f b item
   e_copied b (Assign v x) h e = (h.0, λ g. absurd (none_a (c.s v) (c.needs v) e g))
-  e_copied b (Load v kind x) h e = (h.0, λ g. absurd (none_a (c.s v) (c.needs v) (first_of (not (c.s v)) (not (c.needs v)) e) g))
+  e_copied b (Load v kind x) h e = (h.0, λ g. absurd (none_a (c.s v) (c.needs v) (and_first (not (c.s v)) (not (c.needs v)) e) g))
   e_copied b (Store width x y) h e = absurd cc
   e_copied b (Print spelling x) h e = h
   e_copied b (Expect check) h e = absurd cc

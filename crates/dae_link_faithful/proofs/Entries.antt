@@ -2,6 +2,7 @@
 use Rattle.std.proofs.Common.{◌≡◌, ℕ, ◌+◌, ◌≤◌, ◌<◌, Bool, true, false, ◌&&◌, List, [], ◌∷◌, length, refl, sym, subst, arith}
 use Rattle.std.specs.Prelude.{Option, Some, slice_get, nat_eq, nat_lt, nat_le, if◌then◌else◌}
 use Rattle.std.proofs.lemmas.Bool.Decides.{nat_tests}
+use Rattle.std.proofs.lemmas.Bool.{and_parts}
 use Rattle.dae_ir.specs.Classes.{VariableSet, classes_of, AreClosed}
 use Rattle.dae_ir.specs.SetFirst.{IsSetFirst, form_flow, parameters_set, IsFunctionSetFirst}
 use Rattle.dae_ir.specs.Streams.{set_of, arguments_in}
@@ -17,10 +18,6 @@ use Rattle.dae_select_walks.proofs.LawsOfWalks.{live_set}
 use Rattle.dae_select_walks.specs.declared.Home.{Home}
 use Rattle.dae_select_blocks.specs.Wanted.{gives}
 use Rattle.dae_link_faithful.specs.Made.{stream}
-
-and_both : (a b : Bool) → (a && b) ≡ true → (a ≡ true) × (b ≡ true)
-and_both true b h = (refl, h)
-and_both false b h = absurd cc
 
 -- arguments for the parameters from k on that are in the set
 gives_all : (callee : VariableSet) (k : ℕ) (xs : List Operand) (u : ℕ) → k ≤ u → u < k + length xs → callee u ≡ true → gives (arguments_in callee k xs) u ≡ true
@@ -49,13 +46,13 @@ module _ (ir : Ir) (tables : List (List Class)) (cap : ℕ) (closed : AreClosed 
   entry_reads g function is first u h =
       let d : VariableSet = λ v. parameters_set function.parameters v && set_of b (classes_of tables g) v in
       let form = subst (λ (o : Option Function). IsSetFirst form_flow (parameters_set function.parameters) (body_in o)) (sym is) first in
-      and_both (parameters_set function.parameters u) (set_of b (classes_of tables g) u) (live_set (stream ir tables cap b g) d nowhere (streams_set_first (program_of ir) (classes_of tables) closed b cap g (parameters_set function.parameters) form) (λ v e. absurd cc) (λ v e. absurd cc) (λ v e. absurd cc) u h)
+      and_parts (parameters_set function.parameters u) (set_of b (classes_of tables g) u) (live_set (stream ir tables cap b g) d nowhere (streams_set_first (program_of ir) (classes_of tables) closed b cap g (parameters_set function.parameters) form) (λ v e. absurd cc) (λ v e. absurd cc) (λ v e. absurd cc) u h)
 
   -- and a call gives them
   pub entry_given : (g : ℕ) (function : Function) → slice_get ir.functions g ≡ Some function → IsFunctionSetFirst function → (xs : List Operand) → length xs ≡ function.parameters → (u : ℕ) → live (stream ir tables cap b g) nowhere u ≡ true → gives (arguments_in (set_of b (classes_of tables g)) 1 xs) u ≡ true
   entry_given g function is first xs count u h =
       let r = entry_reads g function is first u h in
-      let s = and_both (nat_lt 0 u) (nat_le u function.parameters) r.0 in
+      let s = and_parts (nat_lt 0 u) (nat_le u function.parameters) r.0 in
       let low = s.0 in let high = s.1 in
       gives_all (set_of b (classes_of tables g)) 1 xs u (grind (arith, nat_tests)) (grind (arith, nat_tests)) r.1
 
@@ -67,7 +64,7 @@ module _ (ir : Ir) (tables : List (List Class)) (cap : ℕ) (closed : AreClosed 
       by false e = e
       by true e =
           let r = entry_reads g function is first u e in
-          let s = and_both (nat_lt 0 u) (nat_le u function.parameters) r.0 in
+          let s = and_parts (nat_lt 0 u) (nat_le u function.parameters) r.0 in
           let low = s.0 in let high = s.1 in
           absurd (grind (arith, nat_tests))
 

@@ -10,4 +10,3 @@ mod Entries
 mod Ready
 mod Joined
 mod Usable
-mod Elements

@@ -2,7 +2,7 @@
 use Rattle.std.proofs.Common.{◌≡◌, ℕ, ◌≤◌, ◌<◌, Bool, true, false, List, [], length, refl, ap, sym, ◌∙◌, subst}
 use Rattle.std.specs.Prelude.{Option, Some, None, slice_get}
 use Rattle.std.proofs.lemmas.Option.{slice_get_within}
-use Rattle.dae_link_faithful.proofs.Elements.{all_get}
+use Rattle.dae_base.proofs.Laws.{all_at}
 use Rattle.dae_ir.specs.Code.{Done, Each}
 use Rattle.dae_ir.specs.Classes.{VariableSet, Classes, classes_of, AddressesKept, AreClosed}
 use Rattle.dae_ir.specs.Scope.{ItemIn, TestIn, TakesArguments, FunctionIn}
@@ -45,7 +45,7 @@ module _ (ir : Ir) (tables : List (List Class)) (cap : ℕ) (closed : AreClosed 
   call_wanted f g xs None e takes numbers = absurd takes
   call_wanted f g xs (Some function) e takes numbers =
       let small : g < plan.functions = subst (λ (n : ℕ). g < n) (sym count) (slice_get_within ir.functions g function e) in
-      let first = all_get IsFunctionSetFirst ir.functions g function ready.first e in (
+      let first = all_at IsFunctionSetFirst ir.functions g function ready.first e in (
         numbers,
         small,
         entry_given ir tables cap closed b g function e first xs takes,
@@ -71,10 +71,10 @@ module _ (ir : Ir) (tables : List (List Class)) (cap : ℕ) (closed : AreClosed 
   body_wanted : (f : ℕ) → f < length ir.functions → FormWanted plan true entries of cap f b ((program_of ir).body f)
   body_wanted f small =
       let x = found ir tables cap closed f small in
-      let i = all_get (FunctionIn ir.functions) ir.functions f x.function ready.scoped.functions x.is in
+      let i = all_at (FunctionIn ir.functions) ir.functions f x.function ready.scoped.functions x.is in
       let n : ℕ = x.function.variables in
       let names = subst (λ (o : Option Function). Each (ItemIn ir.functions n) (TestIn n) (body_in o)) (sym x.is) i.names in
-      let numbers = subst (λ (o : Option Function). Each ItemNumbers TestNumbers (body_in o)) (sym x.is) (all_get HasNumbers ir.functions f x.function ready.numbers x.is) in
+      let numbers = subst (λ (o : Option Function). Each ItemNumbers TestNumbers (body_in o)) (sym x.is) (all_at HasNumbers ir.functions f x.function ready.numbers x.is) in
       let code = (program_of ir).body f in
       let three = each_zip (ItemIn ir.functions n) ItemNumbers (λ (j : Item). ItemIn ir.functions n j × ItemNumbers j) (TestIn n) TestNumbers TestNumbers (λ j a c. (a, c)) (λ t a c. c) code names numbers in
       each_zip (AddressesKept (λ g. (of g).s) (of f).s) (λ (j : Item). ItemIn ir.functions n j × ItemNumbers j) (Wants f) (λ t. Unit {0}) TestNumbers TestNumbers (item_wanted f n) (λ t a c. c) code (closed.addresses f) three
@@ -87,4 +87,4 @@ module _ (ir : Ir) (tables : List (List Class)) (cap : ℕ) (closed : AreClosed 
   pub main_is_alone : (u : ℕ) → live (stream ir tables cap b ir.main) nowhere u ≡ false
   main_is_alone =
       let x = found ir tables cap closed ir.main ready.main in
-      main_reads ir tables cap closed b ir.main x.function x.is (all_get IsFunctionSetFirst ir.functions ir.main x.function ready.first x.is) (ap parameters_in (sym x.is) ∙ ready.alone)
+      main_reads ir tables cap closed b ir.main x.function x.is (all_at IsFunctionSetFirst ir.functions ir.main x.function ready.first x.is) (ap parameters_in (sym x.is) ∙ ready.alone)

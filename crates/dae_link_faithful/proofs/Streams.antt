@@ -2,7 +2,7 @@
 use Rattle.std.proofs.Common.{◌≡◌, ℕ, ◌<◌, Bool, true, false, List, length, refl, sym, subst, inl, inr, arith}
 use Rattle.std.specs.Prelude.{Option, Some, None, slice_get}
 use Rattle.std.proofs.lemmas.Option.{slice_get_cases, slice_get_within}
-use Rattle.dae_link_faithful.proofs.Elements.{all_get}
+use Rattle.dae_base.proofs.Laws.{all_at}
 use Rattle.dae_ir.specs.Code.{Code, Done, Do, If, Loop, Each}
 use Rattle.dae_ir.specs.Form.{form_of, Program}
 use Rattle.dae_ir.specs.Classes.{Classes, classes_of, AddressesKept, NeedsKept, TestKept, AreClosed}
@@ -80,7 +80,7 @@ module _ (ir : Ir) (tables : List (List Class)) (cap : ℕ) (closed : AreClosed 
 
   pub are_whole : (by_a : Bool) → IsScoped ir → FormsClose ir → AreWhole (length ir.functions) (λ g. set_of by_a (of g) 0) (stream ir tables cap by_a)
   are_whole by_a scoped ends = record {
-    fits = λ f small. (let x = found f small in let i = all_get (FunctionIn ir.functions) ir.functions f x.function scoped.functions x.is in stream_fits by_a of cap (length ir.functions) f (p.body f) (body_fits by_a f x.function.variables (subst (λ (o : Option Function). Each (ItemIn ir.functions x.function.variables) (TestIn x.function.variables) (body_in o)) (sym x.is) i.names)));
-    tight = λ f small. (let x = found f small in let i = all_get (FunctionIn ir.functions) ir.functions f x.function scoped.functions x.is in stream_tight by_a of cap (length ir.functions) f (p.body f) (subst (λ (o : Option Function). stays false (body_in o) ≡ true) (sym x.is) i.loops));
-    closed = λ f small. (let x = found f small in let i = all_get (λ (function : Function). FormCloses (form_of function.body)) ir.functions f x.function ends x.is in stream_closes by_a of cap (length ir.functions) f (p.body f) (subst (λ (o : Option Function). FormCloses (body_in o)) (sym x.is) i));
+    fits = λ f small. (let x = found f small in let i = all_at (FunctionIn ir.functions) ir.functions f x.function scoped.functions x.is in stream_fits by_a of cap (length ir.functions) f (p.body f) (body_fits by_a f x.function.variables (subst (λ (o : Option Function). Each (ItemIn ir.functions x.function.variables) (TestIn x.function.variables) (body_in o)) (sym x.is) i.names)));
+    tight = λ f small. (let x = found f small in let i = all_at (FunctionIn ir.functions) ir.functions f x.function scoped.functions x.is in stream_tight by_a of cap (length ir.functions) f (p.body f) (subst (λ (o : Option Function). stays false (body_in o) ≡ true) (sym x.is) i.loops));
+    closed = λ f small. (let x = found f small in let i = all_at (λ (function : Function). FormCloses (form_of function.body)) ir.functions f x.function ends x.is in stream_closes by_a of cap (length ir.functions) f (p.body f) (subst (λ (o : Option Function). FormCloses (body_in o)) (sym x.is) i));
   }

@@ -5,3 +5,4 @@ mod Settling
 mod Sizes
 mod Sided
 mod Used
+mod Registers

@@ -1,8 +1,9 @@
 -- What is settled of the function of a number.
-use Rattle.std.proofs.Common.{◌≡◌, ℕ, zero, suc, ◌≤◌, ◌<◌, ◌^◌, Bool, true, false, ◌||◌, List, [], ◌∷◌, length, refl, ap, sym, subst, arith}
+use Rattle.std.proofs.Common.{◌≡◌, ℕ, zero, suc, ◌≤◌, ◌<◌, ◌^◌, Bool, true, false, List, [], ◌∷◌, length, refl, ap, sym, subst, arith}
 use Rattle.std.specs.Prelude.{Option, Some, None, slice_get, nat_lt}
 use Rattle.std.specs.List.{AllByRecursion, AllZip}
 use Rattle.std.proofs.lemmas.Bool.Decides.{nat_tests}
+use Rattle.std.proofs.lemmas.Bool.{or_left, or_right}
 use Rattle.dae_ir.specs.Classes.{VariableSet}
 use Rattle.dae_ir.specs.SetFirst.{parameters_set}
 use Rattle.dae_ir.specs.Streams.{actions_of}
@@ -97,22 +98,14 @@ right_at None (Some l) is = absurd is
 right_at (Some f) None is = absurd is
 right_at (Some f) (Some l) is = rights (home_in l.homes) l.variables (lives (actions_of f.body) nowhere) is.homes.apart.1 is.inside.1
 
-with_one : (a b : Bool) → a ≡ true → (a || b) ≡ true
-with_one true b e = refl
-with_one false b e = absurd cc
-
-with_other : (a b : Bool) → b ≡ true → (a || b) ≡ true
-with_other true b e = refl
-with_other false b e = e
-
 pub reads_at : (f : Option StreamFunction) (l : Option FunctionLayout) → IsLayoutAt f l → (u : ℕ) → live (body_in f) nowhere u ≡ true → u < variables_at l
 reads_at None None is u h = absurd cc
 reads_at None (Some l) is u h = absurd is
 reads_at (Some f) None is u h = absurd is
-reads_at (Some f) (Some l) is u h = is.inside.0 u (with_one _ _ h)
+reads_at (Some f) (Some l) is u h = is.inside.0 u (or_left _ _ h)
 
 pub apart_at : (f : Option StreamFunction) (l : Option FunctionLayout) → IsLayoutAt f l → AreApart (home_in (homes_at l)) (parameters_set (parameters_in f))
 apart_at None None is u v hu hv other = absurd (grind (arith, nat_tests))
 apart_at None (Some l) is u v hu hv other = absurd is
 apart_at (Some f) None is u v hu hv other = absurd is
-apart_at (Some f) (Some l) is u v hu hv other = is.homes.apart.0 u v (with_other _ _ hu) (with_other _ _ hv) other
+apart_at (Some f) (Some l) is u v hu hv other = is.homes.apart.0 u v (or_right _ _ hu) (or_right _ _ hv) other

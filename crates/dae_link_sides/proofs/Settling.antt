@@ -8,7 +8,7 @@ use Rattle.dae_ir.specs.declared.stream.StreamFunction.{StreamFunction}
 use Rattle.dae_select_walks.specs.Homes.{frame_words}
 use Rattle.dae_select.specs.declared.layouts.FunctionLayout.{FunctionLayout}
 use Rattle.dae_select.specs.declared.layouts.Layouts.{Layouts}
-use Rattle.dae_link_sides.specs.Settled.{IsLayoutOf, IsFrameWithin, HasAtMost, AreTooMany, IsTooDeep, IsPrivateWithin, AreUnplaced}
+use Rattle.dae_link_sides.specs.Settled.{IsLayoutOf, IsFrameWithin, HasAtMost, IsTooDeep, IsPrivateWithin, AreUnplaced}
 
 pub zip_more : (fs : List StreamFunction) (ls : List FunctionLayout) (f : StreamFunction) (l : FunctionLayout) → AllZip IsLayoutOf fs ls → IsLayoutOf f l → AllZip IsLayoutOf (fs ++ f ∷ []) (ls ++ l ∷ [])
 zip_more [] [] f l h is = (is, tt)
@@ -38,10 +38,6 @@ has_at : (n : ℕ) (fs : List StreamFunction) (i : ℕ) (f : StreamFunction) →
 has_at n [] i f lt is most = absurd (omega arith)
 has_at n (g ∷ fs) zero f lt is most = subst (HasAtMost n) (sym is) most.0
 has_at n (g ∷ fs) (suc i) f lt is most = has_at n fs i f (omega arith) is most.1
-
--- one that has too many is enough
-pub too_many : (fs : List StreamFunction) (i : ℕ) (f : StreamFunction) → i < length fs → f ≡ get_or fs i f → AreTooMany (f ∷ []) → AreTooMany fs
-too_many fs i f lt is many = λ n most. many n (has_at n fs i f lt is most, tt)
 
 pub most_more : (n m : ℕ) (ls : List FunctionLayout) (l : FunctionLayout) → ((k : ℕ) → 19 ≤ k → AllByRecursion (IsFrameWithin k) ls → n ≤ k) → ((k : ℕ) → 19 ≤ k → n ≤ k → frame_words l.variables ≤ k → m ≤ k)
     → (k : ℕ) → 19 ≤ k → AllByRecursion (IsFrameWithin k) (ls ++ l ∷ []) → m ≤ k

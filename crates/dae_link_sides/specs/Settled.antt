@@ -6,17 +6,25 @@ use Rattle.dae_ir.specs.declared.stream.Stream.{Stream}
 use Rattle.dae_ir.specs.declared.stream.StreamFunction.{StreamFunction}
 use Rattle.dae_select_walks.specs.Homes.{AreHomes, frame_words, home_in}
 use Rattle.dae_select_walks.specs.Live.{function_lives}
+use Rattle.dae_regalloc.specs.Given.{AreFew, IsRegister}
 use Rattle.dae_regalloc.specs.Seen.{AreBelow}
 use Rattle.dae_select.specs.declared.layouts.FunctionLayout.{FunctionLayout}
 use Rattle.dae_select.specs.declared.layouts.Layouts.{Layouts}
 
--- the homes are right, and a variable that is live anywhere has one of them. The function is at word 0
+-- where around no place of the function more than 18 variables are live, each has a register
+abbrev pub KeepsInRegisters : StreamFunction → FunctionLayout → Type 0
+KeepsInRegisters f l =
+    AreFew 18 (function_lives f.parameters (actions_of f.body)) → (v : ℕ) → IsRegister (home_in l.homes v)
+
+-- the homes are right, a variable that is live anywhere has one of them, and each has a register where these are enough. The
+-- function is at word 0
 pub record IsLayoutOf (f : StreamFunction) (l : FunctionLayout) : Type 0 where
   pub count : l.variables ≡ length l.homes
   pub few : l.variables < 2 ^ 26 - 19
   pub homes : AreHomes l.variables (function_lives f.parameters (actions_of f.body)) (home_in l.homes)
   pub inside : AllByRecursion (AreBelow l.variables) (function_lives f.parameters (actions_of f.body))
   pub least : (n : ℕ) → AllByRecursion (AreBelow n) (function_lives f.parameters (actions_of f.body)) → l.variables ≤ n
+  pub registers : KeepsInRegisters f l
   pub frame : l.frame ≡ f.frame
   pub entry : l.entry ≡ 0
 

@@ -1,5 +1,6 @@
 -- What the code of a stream is.
 use Rattle.std.specs.Prelude.{◌≡◌, ◌↔◌, ℕ, ◌+◌, ◌^◌, ◌≤◌, length, slice_get, map, Option, Some, None, List}
+use Rattle.std.specs.List.{AllZip}
 use Rattle.dae_base.specs.declared.Queue.{Queue}
 use Rattle.dae_encode.specs.declared.Inst.{Inst}
 use Rattle.dae_encode.specs.Spelling.{encoded}
@@ -18,6 +19,7 @@ use Rattle.dae_select.specs.declared.layouts.FunctionLayout.{FunctionLayout}
 use Rattle.dae_select.specs.declared.layouts.Layouts.{Layouts}
 use Rattle.dae_link_faithful.specs.Made.{IsSide}
 use Rattle.dae_link_sides.specs.Placed.{functions_code, opening_code, whole_code, placed, functions_places}
+use Rattle.dae_link_sides.specs.Settled.{KeepsInRegisters}
 
 -- a machine can have such a memory, with the frames in it, and calls so deep
 pub record HasLimits (stream : Stream) : Type 0 where
@@ -113,3 +115,12 @@ pub record HasPlaces (stream : Stream) (words : List ℕ) (places : List PlacedW
   pub all : Layouts
   pub code : words ≡ map encoded (whole_by all stream)
   pub begins : places ≡ places_by all stream
+
+-- ---- registers
+
+-- there are layouts by which these words are the whole code of the stream, and no variable is in the frame of a function that
+-- has registers for all of them
+pub record HasRegisters (stream : Stream) (words : List ℕ) : Type 0 where
+  pub all : Layouts
+  pub code : words ≡ map encoded (whole_by all stream)
+  pub each : AllZip KeepsInRegisters stream.functions all.functions

@@ -8,7 +8,7 @@ ghost use Rattle.dae_link_sides.specs.declared.error.CodeError.TheVariants as er
 ghost use Rattle.dae_link_sides.specs.Settled.{AreUnplaced, IsPrivateWithin, IsTooDeep};
 ghost use Rattle.dae_link_sides.specs.Placed.{opening_code};
 ghost use Rattle.dae_link_sides.specs.Sizes.{most_words};
-ghost use Rattle.dae_link_sides.specs.Sides.{HasLimits, HasPlaces, HasUsesOf, IsCodeOf, at_places, code_at, end_of, places_by};
+ghost use Rattle.dae_link_sides.specs.Sides.{HasLimits, HasPlaces, HasRegisters, HasUsesOf, IsCodeOf, at_places, code_at, end_of, places_by};
 
 use crate::MOST_WORDS;
 use crate::error::CodeError;
@@ -91,8 +91,9 @@ fn placed_code(
     Ok(whole_code(alloc, &placed, stream, places)?)
 }
 
-/// The code of a stream. It is too long only where what bounds it is, and its private memory is too large only where frames
-/// for all variables of the functions are. A frame has 19 words and one for each variable at most.
+/// The code of a stream. No variable is in the frame of a function that has registers for all of them. The code is too long
+/// only where what bounds it is, and its private memory is too large only where frames for all variables of the functions
+/// are. A frame has 19 words and one for each variable at most.
 #[tactic(auto, using(crate::proofs::Sided::code_short))]
 pub fn side_code(alloc: Global, stream: &Stream) -> Result<SideCode, CodeError>
     requires { HasLimits stream.now }
@@ -104,6 +105,7 @@ pub fn side_code(alloc: Global, stream: &Stream) -> Result<SideCode, CodeError>
     ensures private { IfOk result (λ made. made.private ≤ 2 ^ 28) }
     ensures uses { IfOk result (λ made. HasUsesOf stream.now made.words) }
     ensures places { IfOk result (λ made. HasPlaces stream.now made.words made.places.items) }
+    ensures registers { IfOk result (λ made. HasRegisters stream.now made.words) }
     ensures frames { IfOk result (λ made. IsPrivateWithin stream.now made.private) }
     ensures err { IfErr result (λ e. e ≡ errors.Code → 2 ^ 25 < most_words stream.now) }
     ensures deep { IfErr result (λ e. e ≡ errors.Private → IsTooDeep stream.now) }

@@ -2,10 +2,12 @@
 use Rattle.std.proofs.Common.{◌≡◌, ◌≢◌, ℕ, suc, ◌+◌, ◌≤◌, Bool, true, false, List, [], ◌∷◌, Option, Some, None, refl, sym, subst, ◌∙◌, arith}
 use Rattle.std.specs.Prelude.{slice_get}
 use Rattle.std.proofs.lemmas.Option.{same_Some}
+use Rattle.std.proofs.lemmas.Bool.{false_from_ne_true}
 use Rattle.dae_base.specs.declared.Depths.{Depths}
 use Rattle.dae_base.specs.declared.Queue.{Queue}
 use Rattle.dae_base.specs.declared.Queue.TheVariants.{Ld, Al, Sa, Sd, Ab, Eb, Cq}
 use Rattle.dae_base.specs.Budgets.{depth}
+use Rattle.dae_base.proofs.Laws.{no_true}
 use Rattle.dae_ir.specs.Code.{Done, Do, If, Loop, Each}
 use Rattle.dae_ir.specs.Budgets.{is_load_for_e, is_copy, is_own_load, is_address, is_datum, is_message, is_told, never, IsBudgetOf}
 use Rattle.dae_ir.specs.Classes.{Classes, classes_of}
@@ -154,9 +156,6 @@ Kinds by_a a =
     (is_load_for_e a ≡ true → action_queue by_a a ≡ Some Ld) × (is_own_load a ≡ true → action_queue by_a a ≡ Some Al) × (is_address a ≡ true → action_queue by_a a ≡ Some Sa)
     × (is_datum a ≡ true → action_queue by_a a ≡ Some Sd) × (is_message a ≡ true → action_queue by_a a ≡ Some (told_on by_a)) × (is_copy a ≡ true → action_queue by_a a ≡ Some Cq)
 
-no_true : {X : Type 0} → false ≡ true → X
-no_true h = absurd (let e : false ≡ true = h in cc)
-
 kinds : (by_a : Bool) (a : Action) → Kinds by_a a
 kinds by_a (Set v x) = ((λ e. no_true e), (λ e. no_true e), (λ e. no_true e), (λ e. no_true e), (λ e. no_true e), (λ e. no_true e))
 kinds by_a (Issue kind x) = ((λ e. refl), (λ e. no_true e), (λ e. no_true e), (λ e. no_true e), (λ e. no_true e), (λ e. no_true e))
@@ -180,10 +179,6 @@ told : (by_a : Bool) (b : Branch) → is_told b ≡ true → branch_queue by_a b
 told by_a (Silent t) e = no_true e
 told by_a (Tells t) e = refl
 told by_a Hears e = no_true e
-
-not_one : (b : Bool) → (b ≡ true → ⊥) → b ≡ false
-not_one true h = absurd (h refl)
-not_one false h = refl
 
 -- ---- a whole pair
 
@@ -239,7 +234,7 @@ module _ (pair : Pair) (d : Depths) (is : IsBudgetOf pair d) where
   -- no action or branch of a kind, where the queue isn't touched
   none_of : (by_a : Bool) (q : Queue) (f : Action → Bool) (h : Branch → Bool) (fs : List StreamFunction) → ((a : Action) → f a ≡ true → action_queue by_a a ≡ Some q) → ((b : Branch) → h b ≡ true → branch_queue by_a b ≡ Some q)
       → AllUntouched by_a q fs → AllCode (λ (a : Action). f a ≡ false) (λ (b : Branch). h b ≡ false) fs
-  none_of by_a q f h fs uses decides free = map_all (λ a ne. not_one (f a) (λ e. ne (uses a e))) (λ b ne. not_one (h b) (λ e. ne (decides b e))) fs free
+  none_of by_a q f h fs uses decides free = map_all (λ a ne. false_from_ne_true (f a) (λ e. ne (uses a e))) (λ b ne. false_from_ne_true (h b) (λ e. ne (decides b e))) fs free
 
   any_branch : (f : Action → Bool) (fs : List StreamFunction) → AllCode (λ (a : Action). f a ≡ false) (λ (b : Branch). never b ≡ false) fs → AllCode (λ (a : Action). f a ≡ false) (λ (b : Branch). Unit {0}) fs
   any_branch f fs h = map_all (λ a e. e) (λ b e. tt) fs h

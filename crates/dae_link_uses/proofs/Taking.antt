@@ -1,7 +1,7 @@
 -- Each action of a pair is of its side, and what it takes from a queue of the other side has its place in the budget.
 use Rattle.std.proofs.Common.{◌≡◌, ℕ, ◌+◌, ◌≤◌, Bool, true, false, not, ◌&&◌, List, [], ◌∷◌, if◌then◌else◌, refl}
 use Rattle.std.specs.List.{AllByRecursion}
-use Rattle.dae_base.proofs.Laws.{and_true}
+use Rattle.dae_base.proofs.Laws.{and_true, no_true}
 use Rattle.dae_base.specs.declared.Place.{Place}
 use Rattle.dae_base.specs.declared.Depths.{Depths}
 use Rattle.dae_ir.specs.Code.{Done, Do, If, Loop, Each, every}
@@ -24,9 +24,6 @@ use Rattle.dae_ir.specs.declared.stream.Branch.{Branch}
 use Rattle.dae_ir.specs.declared.stream.Branch.TheVariants.{Silent, Tells, Hears}
 use Rattle.dae_ir_pair.specs.Budget.{Covers}
 use Rattle.dae_link_uses.proofs.Rounds.{regions_ok, Has, StandOk, rounds_have, every_each, PartTaken, LastTaken, ETakes, ATakes, e_takes, a_takes}
-
-no_true : {X : Type 0} → false ≡ true → X
-no_true h = absurd (let e : false ≡ true = h in cc)
 
 module _ (d : Depths) where
   -- what A may do, and E

@@ -1,5 +1,6 @@
 -- The forms of `&&`, `||` and `?:` follow their evaluation.
 use Rattle.std.proofs.Common.{◌≡◌, ℕ, ◌+◌, ◌<◌, ◌≤◌, inl, refl, arith}
+use Rattle.std.proofs.lemmas.Bool.{or_parts}
 use Rattle.dae_base.specs.declared.Place.{Place}
 use Rattle.dae_meaning.specs.Worlds.{World}
 use Rattle.dae_meaning.specs.Variables.{Env}
@@ -12,7 +13,7 @@ use Rattle.dae_program.specs.Trees.{Expression, Target, Expressions}
 use Rattle.dae_program.specs.Outcomes.{Outcome, Gives, ◌⟫◌}
 use Rattle.dae_program.specs.Expressions.{Setup, evaluate as value, decide as decided}
 use Rattle.dae_lower.specs.Lowering.{Made, nothing, ◌≫◌, or, nowhere, assigned, Condition, branches, gives, Links, ways}
-use Rattle.dae_lower.proofs.Relation.{Kept, Lasts, or_false}
+use Rattle.dae_lower.proofs.Relation.{Kept, Lasts}
 use Rattle.dae_lower.proofs.Chains.{Follows, paid, sooner, spared, weaker, knowing, chain, recast, given_on}
 use Rattle.dae_lower.proofs.Leaves.{Holding, nothing_follows}
 use Rattle.dae_lower.proofs.Branches.{Deciding, Always, gives_follows, branches_follow}
@@ -77,9 +78,9 @@ module _ (m n : ℕ) (s : Setup) (l : Links) (p : Program) (calls : Calls) where
         (weaker m n p calls 0 11 (k + 1) 0 2 k (or (assigned a) (or (assigned b) (assigned c))) (omega arith) (omega arith) (omega arith) (λ v z. z)
         (branches_follow m n p calls place _ _ (λ x. value s b) (λ x. value s c) 0 10 11 (k + 1) (k + 1) k (assigned a) (or (assigned b) (assigned c)) (omega arith)
         (paid m n p calls 0 2 (k + 1) (h.condition (or later (or (assigned b) (assigned c))) (k + 1) (omega (arith, low)))) (λ x e o u t. tt)
-        (λ o r. weaker m n p calls 10 11 o 10 11 k (or (assigned b) (assigned c)) (omega arith) (omega arith) (omega arith) (λ v z. (or_false (assigned b v) (assigned c v) z).0) (spared m n p calls 10 0 1 o
+        (λ o r. weaker m n p calls 10 11 o 10 11 k (or (assigned b) (assigned c)) (omega arith) (omega arith) (omega arith) (λ v z. (or_parts (assigned b v) (assigned c v) z).0) (spared m n p calls 10 0 1 o
         (value_in place (assigned b) _ (value s b) later o k low (omega (arith, r)) i.value (λ x e o u t. tt))))
-        (λ o r. weaker m n p calls 10 11 o 10 11 k (or (assigned b) (assigned c)) (omega arith) (omega arith) (omega arith) (λ v z. (or_false (assigned b v) (assigned c v) z).1) (spared m n p calls 10 0 1 o
+        (λ o r. weaker m n p calls 10 11 o 10 11 k (or (assigned b) (assigned c)) (omega arith) (omega arith) (omega arith) (λ v z. (or_parts (assigned b v) (assigned c v) z).1) (spared m n p calls 10 0 1 o
         (value_in place (assigned c) _ (value s c) later o k low (omega (arith, r)) j.value (λ x e o u t. tt))))))
 
     pub conditional_effect : (place : Place) (a b c : Expression) → (Faithful m n s l p calls) (assigned a) (ways l a) (value s a) → (Faithful m n s l p calls) (assigned b) (ways l b) (value s b) → (Faithful m n s l p calls) (assigned c) (ways l c) (value s c) → (AsEffect m n s l p calls) (or (assigned a) (or (assigned b) (assigned c))) (ways l (tree.Conditional place a b c)).effect (value s (tree.Conditional place a b c))
@@ -87,7 +88,7 @@ module _ (m n : ℕ) (s : Setup) (l : Links) (p : Program) (calls : Calls) where
         weaker m n p calls 0 12 k 0 2 k (or (assigned a) (or (assigned b) (assigned c))) (omega arith) (omega arith) (omega arith) (λ v z. z)
         (branches_follow m n p calls place _ _ (λ x. value s b) (λ x. value s c) 0 10 12 k k k (assigned a) (or (assigned b) (assigned c)) (omega arith)
         (paid m n p calls 0 2 k (h.condition (or later (or (assigned b) (assigned c))) k low)) (λ x e o u t. tt)
-        (λ o r. weaker m n p calls 10 12 o 10 12 k (or (assigned b) (assigned c)) (omega arith) (omega arith) (omega arith) (λ v z. (or_false (assigned b v) (assigned c v) z).0) (spared m n p calls 10 0 2 o
+        (λ o r. weaker m n p calls 10 12 o 10 12 k (or (assigned b) (assigned c)) (omega arith) (omega arith) (omega arith) (λ v z. (or_parts (assigned b v) (assigned c v) z).0) (spared m n p calls 10 0 2 o
         ((lower_base m n s l p calls places) k o r (i.effect later o (omega (arith, low, r))))))
-        (λ o r. weaker m n p calls 10 12 o 10 12 k (or (assigned b) (assigned c)) (omega arith) (omega arith) (omega arith) (λ v z. (or_false (assigned b v) (assigned c v) z).1) (spared m n p calls 10 0 2 o
+        (λ o r. weaker m n p calls 10 12 o 10 12 k (or (assigned b) (assigned c)) (omega arith) (omega arith) (omega arith) (λ v z. (or_parts (assigned b v) (assigned c v) z).1) (spared m n p calls 10 0 2 o
         ((lower_base m n s l p calls places) k o r (j.effect later o (omega (arith, low, r)))))))

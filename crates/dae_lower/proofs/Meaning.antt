@@ -1,8 +1,9 @@
 -- The form of a program keeps its meaning, whatever the bound on turns.
-use Rattle.std.proofs.Common.{◌≡◌, ℕ, zero, suc, ◌+◌, ◌≤◌, true, false, List, [], ◌++◌, refl, ap, sym, ◌∙◌, subst, arith, append_assoc, append-nil}
+use Rattle.std.proofs.Common.{◌≡◌, ℕ, zero, suc, ◌+◌, ◌≤◌, true, false, [], refl, sym, subst, arith}
 use Rattle.dae_meaning.specs.Results.{Result}
 use Rattle.dae_meaning.specs.Alike.{IsFront}
 use Rattle.dae_meaning.specs.Variables.{Env}
+use Rattle.dae_meaning.proofs.Laws.{front_same, front_on}
 use Rattle.dae_ir.specs.Form.{calls_of, all_loads}
 use Rattle.dae_program.specs.Outcomes.{Outcome, last_world as program_world}
 use Rattle.dae_program.specs.Printing.{most_bytes}
@@ -12,12 +13,6 @@ use Rattle.dae_lower.specs.Lowering.{program_form}
 use Rattle.dae_lower.specs.Keeping.{IsKept, IsOver, MeaningIsKept, MeaningKept, with_no_items}
 use Rattle.dae_program.specs.Turns.{IsBelow, Same, Fewer, TurnsInOrder}
 use Rattle.dae_lower.proofs.Whole.{form_keeps}
-
-front_same : (xs : List ℕ) → IsFront xs xs
-front_same xs = ([], sym (append-nil xs))
-
-front_on : (xs ys zs : List ℕ) → IsFront xs ys → IsFront ys zs → IsFront xs zs
-front_on xs ys zs a b = (a.0 ++ b.0, b.1 ∙ ap (λ l. l ++ b.0) a.1 ∙ append_assoc xs a.0 b.0)
 
 printed_below : (r q : Outcome ℕ) → IsBelow r q → IsFront (program_world r).printed (program_world q).printed
 printed_below r q (Same t) = front_same (program_world t).printed

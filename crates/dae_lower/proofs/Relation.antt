@@ -1,7 +1,8 @@
 -- How the form follows the program: the form's variables below m are the program's, its worlds differ in the number of
--- items alone, and 11 items are paid for by each unit of work.
+-- items alone, and 9 items are paid for by each unit of work.
 use Rattle.std.proofs.Common.{◌≡◌, ℕ, ◌+◌, ◌*◌, ◌<◌, ◌≤◌, ◌⊎◌, inl, inr, Bool, true, false, ◌&&◌, ◌||◌, nat_eq, if◌then◌else◌, refl, ◌∙◌, arith}
 use Rattle.std.proofs.lemmas.Bool.Decides.{nat_tests}
+use Rattle.std.proofs.lemmas.Bool.{or_parts}
 use Rattle.dae_meaning.specs.Results.{Result, At, Over, Next, Leaves, Skips, Returns, End, Run, ◌▷◌}
 use Rattle.dae_meaning.specs.Worlds.{World}
 use Rattle.dae_ir.specs.Code.{Done, Do, If, Loop, Meaning, exec}
@@ -53,17 +54,13 @@ abbrev pub Lasts : ℕ → VariableSet → ℕ → ℕ → Operand → Type 0
 Lasts m later k n (Variable v) = ((k ≤ v) × (v < n)) ⊎ ((v < m) × (later v ≡ false))
 Lasts m later k n (Number x) = Unit {0}
 
-pub or_false : (a b : Bool) → (a || b) ≡ false → (a ≡ false) × (b ≡ false)
-or_false true b h = cc
-or_false false b h = (refl, h)
-
 pub fixed_left : (m : ℕ) (c d : VariableSet) (v : ℕ) → Fixed m (or c d) v → Fixed m c v
 fixed_left m c d v (inl h) = inl h
-fixed_left m c d v (inr h) = inr ((or_false (c v) (d v) h).0)
+fixed_left m c d v (inr h) = inr ((or_parts (c v) (d v) h).0)
 
 pub fixed_right : (m : ℕ) (c d : VariableSet) (v : ℕ) → Fixed m (or c d) v → Fixed m d v
 fixed_right m c d v (inl h) = inl h
-fixed_right m c d v (inr h) = inr ((or_false (c v) (d v) h).1)
+fixed_right m c d v (inr h) = inr ((or_parts (c v) (d v) h).1)
 
 -- first one, then another
 pub kept_on : (m k n : ℕ) (c d : VariableSet) (e f g : Env) → k ≤ n → Kept m k c e f → Kept m n d f g → Kept m k (or c d) e g
@@ -76,7 +73,7 @@ kept_all m k c e v l x = refl
 pub still : (m k n : ℕ) (later c : VariableSet) (x : Operand) (e f : Env) → m ≤ k → k ≤ n → Lasts m (or later c) k n x → Kept m n c e f → held x f ≡ held x e
 still m k n later c (Number x) e f l o h a = refl
 still m k n later c (Variable v) e f l o (inl h) a = a v h.1 (inl (omega (arith, l, h.0)))
-still m k n later c (Variable v) e f l o (inr h) a = a v (omega (arith, l, o, h.0)) (inr ((or_false (later v) (c v) h.1).1))
+still m k n later c (Variable v) e f l o (inr h) a = a v (omega (arith, l, o, h.0)) (inr ((or_parts (later v) (c v) h.1).1))
 
 -- nothing of the program's is assigned
 pub still_alone : (m k n : ℕ) (later : VariableSet) (x : Operand) (e f : Env) → m ≤ k → k ≤ n → Lasts m later k n x → Kept m n (λ v. false) e f → held x f ≡ held x e
@@ -88,7 +85,7 @@ still_alone m k n later (Variable v) e f l o (inr h) a = a v (omega (arith, l, o
 pub lasts_on : (m : ℕ) (later c : VariableSet) (k n j q : ℕ) (x : Operand) → j ≤ k → n ≤ q → Lasts m (or later c) k n x → Lasts m later j q x
 lasts_on m later c k n j q (Number x) l o h = tt
 lasts_on m later c k n j q (Variable v) l o (inl h) = inl (omega (arith, l, h.0), omega (arith, o, h.1))
-lasts_on m later c k n j q (Variable v) l o (inr h) = inr (h.0, (or_false (later v) (c v) h.1).0)
+lasts_on m later c k n j q (Variable v) l o (inr h) = inr (h.0, (or_parts (later v) (c v) h.1).0)
 
 pub lasts_wider : (m : ℕ) (later : VariableSet) (k n j q : ℕ) (x : Operand) → j ≤ k → n ≤ q → Lasts m later k n x → Lasts m later j q x
 lasts_wider m later k n j q (Number x) l o h = tt

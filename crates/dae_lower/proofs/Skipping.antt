@@ -1,5 +1,6 @@
 -- Statements that hold no continue of a loop round them don't continue it.
 use Rattle.std.proofs.Common.{◌≡◌, ℕ, zero, suc, Bool, true, false, ◌||◌, nat_eq, List, [], ◌∷◌, length, Option, Some, None, if◌then◌else◌}
+use Rattle.std.proofs.lemmas.Bool.{or_parts}
 use Rattle.dae_meaning.specs.Results.{Result, At, Over, End, Next, Leaves, Skips, Returns, Run, ◌▷◌, ◌↻◌, within}
 use Rattle.dae_meaning.specs.Worlds.{World, ticked}
 use Rattle.dae_meaning.specs.Variables.{Env}
@@ -20,7 +21,6 @@ use Rattle.dae_base.specs.declared.LoadKind.TheVariants.{U8}
 use Rattle.dae_meaning.specs.Operations.{spelled, misplaced}
 use Rattle.dae_meaning.specs.declared.Spelling.TheVariants.{Byte}
 use Rattle.dae_lower.specs.Lowering.{continues, arms_continue}
-use Rattle.dae_lower.proofs.Relation.{or_false}
 
 pub data NotSkips : Result Env → Type 0 where
   goes_next : (e : Env) (w : World) → NotSkips (At Next e w)
@@ -91,11 +91,11 @@ module _ (s : Setup) (n : ℕ) where
     statements_stay (tree.Initialise place offset size items k) h e w = not_then _ _ (not_then _ _ (cleared_stays size (plus w.frame offset) e (ticked w)) (λ e w. settled_stays s items e w)) (statements_stay k h)
     statements_stay (tree.Print place xs ps k) h e w = not_then _ _ (not_value _ _ (λ words e w. shown_stays ps words e w)) (statements_stay k h)
     statements_stay (tree.If place x t u k) h e w =
-        not_then _ _ (not_value (value s x e (ticked w)) _ (λ x e w. not_choice (nat_eq x 0) _ _ (statements_stay u ((or_false (continues u) (continues k) ((or_false (continues t) (continues u || continues k) h).1)).0) e w) (statements_stay t ((or_false (continues t) (continues u || continues k) h).0) e w)))
-        (statements_stay k ((or_false (continues u) (continues k) ((or_false (continues t) (continues u || continues k) h).1)).1))
+        not_then _ _ (not_value (value s x e (ticked w)) _ (λ x e w. not_choice (nat_eq x 0) _ _ (statements_stay u ((or_parts (continues u) (continues k) ((or_parts (continues t) (continues u || continues k) h).1)).0) e w) (statements_stay t ((or_parts (continues t) (continues u || continues k) h).0) e w)))
+        (statements_stay k ((or_parts (continues u) (continues k) ((or_parts (continues t) (continues u || continues k) h).1)).1))
     statements_stay (tree.Loop place test body step k) h e w = not_then _ _ (looped_stays (tested s test) (does s false n body) (evaluated s step) n e _) (statements_stay k h)
     statements_stay (tree.Do place body test k) h e w = not_then _ _ (looped_stays (At Next) (does s false n body) (tested s (Some test)) n e _) (statements_stay k h)
-    statements_stay (tree.Switch place x arms k) h e w = not_then _ _ (not_left _ (not_value _ _ (λ x e w. arms_stay arms ((or_false (arms_continue arms) (continues k) h).0) (first_arm x arms) e w))) (statements_stay k ((or_false (arms_continue arms) (continues k) h).1))
+    statements_stay (tree.Switch place x arms k) h e w = not_then _ _ (not_left _ (not_value _ _ (λ x e w. arms_stay arms ((or_parts (arms_continue arms) (continues k) h).0) (first_arm x arms) e w))) (statements_stay k ((or_parts (arms_continue arms) (continues k) h).1))
     statements_stay (tree.Break place k) h e w = goes_behind e _
     statements_stay (tree.Continue place k) h e w = cc
     statements_stay (tree.Return place None k) h e w = goes_back _ _
@@ -103,5 +103,5 @@ module _ (s : Setup) (n : ℕ) where
 
     pub arms_stay : (arms : Arms) → arms_continue arms ≡ false → (before : ℕ) (e : Env) (w : World) → NotSkips (does_from s false n before arms e w)
     arms_stay tree.no_arms h before e w = goes_next e w
-    arms_stay (tree.arm_then labels t rest) h zero e w = not_then _ _ (statements_stay t ((or_false (continues t) (arms_continue rest) h).0) e w) (arms_stay rest ((or_false (continues t) (arms_continue rest) h).1) zero)
-    arms_stay (tree.arm_then labels t rest) h (suc before) e w = arms_stay rest ((or_false (continues t) (arms_continue rest) h).1) before e w
+    arms_stay (tree.arm_then labels t rest) h zero e w = not_then _ _ (statements_stay t ((or_parts (continues t) (arms_continue rest) h).0) e w) (arms_stay rest ((or_parts (continues t) (arms_continue rest) h).1) zero)
+    arms_stay (tree.arm_then labels t rest) h (suc before) e w = arms_stay rest ((or_parts (continues t) (arms_continue rest) h).1) before e w

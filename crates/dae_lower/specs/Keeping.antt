@@ -20,7 +20,7 @@ use Rattle.dae_program.specs.Scope.{KeepsScope}
 use Rattle.dae_program.specs.Trees as tree
 use Rattle.dae_lower.specs.Lowering.{program_form}
 
--- what is kept of a program's run in its form's: the end, memory, output, reads and writes. It executes at most 11 items
+-- what is kept of a program's run in its form's: the end, memory, output, reads and writes. It executes at most 9 items
 -- for each unit of work
 pub record IsKept (r : Outcome ℕ) (q : Result Env) : Type 0 where
   pub end : end_of q ≡ program_end r

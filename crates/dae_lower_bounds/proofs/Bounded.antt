@@ -2,7 +2,10 @@
 use Rattle.std.proofs.Common.{◌≡◌, ℕ, ◌+◌, ◌<◌, ◌≤◌, ◌%◌, Bool, true, false, not, ◌&&◌, nat_eq, if◌then◌else◌, List, length, Option, Some, None, refl, ap, sym, ◌∙◌, subst, arith}
 use Rattle.std.specs.Prelude.{slice_get, nat_le}
 use Rattle.std.specs.List.{list_all, AllByRecursion}
+use Rattle.std.proofs.lemmas.Bool.{and_from, eqb-true, leb-true}
+use Rattle.std.proofs.lemmas.Option.{same_Some}
 use Rattle.dae_base.specs.declared.Place.{Place}
+use Rattle.dae_base.proofs.Laws.{and_first, and_second, all_at}
 use Rattle.dae_ir.specs.Code.{Done, Do, If, Loop, Each}
 use Rattle.dae_ir.specs.Form.{Form, form_of}
 use Rattle.dae_ir.specs.Classes.{VariableSet, IsWithin, AddressesKept, has, has_test, is_by_a, classes_of}
@@ -27,7 +30,7 @@ use Rattle.dae_lower_bounds.specs.Bounds.{LoadsBounded, ConditionsBounded}
 use Rattle.dae_lower_bounds.specs.Constants.{InitialisesConstants}
 use Rattle.dae_lower_bounds.specs.Voids.{void_statements, void_tests}
 use Rattle.dae_lower_formed.specs.Formed.{plain, IsFunctionFormOf, IsLowered}
-use Rattle.dae_lower_formed.proofs.Laws.{and_true, first, second, equal, bounds_of, within, form_there, function_there, same, each_at, lawful_at, counts}
+use Rattle.dae_lower_formed.proofs.Laws.{bounds_of, form_there, function_there, lawful_at, counts}
 use Rattle.dae_lower_bounds.proofs.Marked.{AnyTest, loads_into, loads_then, tests_within, tests_then, bit_grows, each_then, joined, joined_first, joined_second, Any, Marked}
 use Rattle.dae_lower_bounds.proofs.MarkedStatements.{function_does}
 
@@ -59,7 +62,7 @@ tests_grow : (s t : VariableSet) → IsWithin s t → (c : Form) → tests_withi
 tests_grow s t w Done = omega arith
 tests_grow s t w (Do place item k) = let h = tests_grow s t w k in omega (arith, h)
 tests_grow s t w (If place x a b k) =
-    let one = bit_grows (is_by_a s x) (is_by_a t x) (λ i. and_true (has t x.left) (has t x.right) (has_grows s t w x.left (first (has s x.left) (has s x.right) i)) (has_grows s t w x.right (second (has s x.left) (has s x.right) i))) in
+    let one = bit_grows (is_by_a s x) (is_by_a t x) (λ i. and_from (has t x.left) (has t x.right) (has_grows s t w x.left (and_first (has s x.left) (has s x.right) i)) (has_grows s t w x.right (and_second (has s x.left) (has s x.right) i))) in
     let h = tests_grow s t w a in
     let g = tests_grow s t w b in
     let d = tests_grow s t w k in
@@ -121,20 +124,20 @@ module _ (p : Program) (ir : Ir) (low : IsLowered p ir) (constants : AllByRecurs
   few k f e =
       let h = lawful_at p ir low k f e in
       let g = plain p f in
-      let numbers = first (nat_eq (g.frame % 4) 0 && nat_le (1 + length g.parameters) f.variables) _ (first _ (are_inside false false (not (nat_eq k p.main)) g.body) h) in
-      within _ f.variables (second _ _ numbers)
+      let numbers = and_first (nat_eq (g.frame % 4) 0 && nat_le (1 + length g.parameters) f.variables) _ (and_first _ (are_inside false false (not (nat_eq k p.main)) g.body) h) in
+      leb-true _ f.variables (and_second _ _ numbers)
 
   sound : (k : ℕ) (f : Function) → slice_get p.functions k ≡ Some f → are_sound_statements (bounds_of p.memory f.variables (counts p ir low f) (plain p f)) (let g = plain p f in g.body) ≡ true
   sound k f e =
       let h = lawful_at p ir low k f e in
       let g = plain p f in
-      second _ _ (second (nat_eq (g.frame % 4) 0 && nat_le (1 + length g.parameters) f.variables) (list_all (is_sound_slot g.frame) g.parameters && are_sound_statements (bounds_of p.memory f.variables (counts p ir low f) g) g.body) (first _ (are_inside false false (not (nat_eq k p.main)) g.body) h))
+      and_second _ _ (and_second (nat_eq (g.frame % 4) 0 && nat_le (1 + length g.parameters) f.variables) (list_all (is_sound_slot g.frame) g.parameters && are_sound_statements (bounds_of p.memory f.variables (counts p ir low f) g) g.body) (and_first _ (are_inside false false (not (nat_eq k p.main)) g.body) h))
 
   enough : (f : Function) (g k : ℕ) → takes (counts p ir low f g) k ≡ true → k < own (let h = plain p f in h.callee g)
   enough f g k h = by (slice_get p.functions (let q = plain p f in q.callee g)) refl h where
     by : (o : Option Function) → slice_get p.functions (let q = plain p f in q.callee g) ≡ o → takes (parameter_count o) k ≡ true → k < variables_in o
     by None e h = absurd (let c : false ≡ true = h in cc)
-    by (Some x) e h = let low = few (let q = plain p f in q.callee g) x e in let i = equal k (length x.parameters) h in omega (arith, low, i)
+    by (Some x) e h = let low = few (let q = plain p f in q.callee g) x e in let i = eqb-true k (length x.parameters) h in omega (arith, low, i)
 
   kept_at : (k : ℕ) (f : Function) → slice_get p.functions k ≡ Some f → KeepStatements wants (let g = plain p f in g.callee) k (let g = plain p f in g.body)
   kept_at k f e = subst (λ (o : Option Function). KeepStatements wants (let g = function_in (length p.functions) p.links o in g.callee) k (let g = function_in (length p.functions) p.links o in g.body)) e (kept k)
@@ -143,7 +146,7 @@ module _ (p : Program) (ir : Ir) (low : IsLowered p ir) (constants : AllByRecurs
       (parameters_stored f.place (let g = plain p f in g.parameters) 1 f.variables ≫ λ x. statements (record { address = (plain p f).address; callee = (plain p f).callee }) (let g = plain p f in g.body))
   marked k f e =
       function_does wants own k (bounds_of p.memory f.variables (counts p ir low f) (plain p f)) (let h = few k f e in omega (arith, h)) (record { address = (plain p f).address; callee = (plain p f).callee }) (enough f)
-      f.place (let g = plain p f in g.parameters) (let g = plain p f in g.body) (sound k f e) (kept_at k f e) (each_at (λ (f : Function). InitialisesConstants (let g = plain p f in g.body)) p.functions k f constants e)
+      f.place (let g = plain p f in g.parameters) (let g = plain p f in g.body) (sound k f e) (kept_at k f e) (all_at (λ (f : Function). InitialisesConstants (let g = plain p f in g.body)) p.functions k f constants e)
 
   -- the wanted variables of a function, and its marks
   set_of : (k : ℕ) (o : Option Function) → slice_get p.functions k ≡ o → VariableSet
@@ -204,16 +207,16 @@ module _ (p : Program) (ir : Ir) (low : IsLowered p ir) (constants : AllByRecurs
   loads_at k None e f i g j = absurd (let c : None ≡ Some f = i in cc)
   loads_at k (Some x) e f i g j =
       let h = forms k x e in
-      let is : form_of g.body ≡ function_code x.place (nat_eq k p.main) (plain p x) x.variables = ap (λ (t : FormFunction). form_of t.body) (same g h.0 (sym j ∙ h.1)) ∙ h.2 in
-      subst (λ (y : Function). loads_into (set_of k (Some x) e) (form_of g.body) ≤ wanted_in wants (let h = plain p y in h.callee) k (let h = plain p y in h.body)) (same x f i)
+      let is : form_of g.body ≡ function_code x.place (nat_eq k p.main) (plain p x) x.variables = ap (λ (t : FormFunction). form_of t.body) (same_Some g h.0 (sym j ∙ h.1)) ∙ h.2 in
+      subst (λ (y : Function). loads_into (set_of k (Some x) e) (form_of g.body) ≤ wanted_in wants (let h = plain p y in h.callee) k (let h = plain p y in h.body)) (same_Some x f i)
       (subst (λ (c : Form). loads_into (set_of k (Some x) e) c ≤ wanted_in wants (let h = plain p x in h.callee) k (let h = plain p x in h.body)) (sym is) (code_at k x e).1)
 
   tests_at : (k : ℕ) (o : Option Function) (e : slice_get p.functions k ≡ o) (f : Function) → o ≡ Some f → (g : FormFunction) → slice_get ir.functions k ≡ Some g → tests_within (set_of k o e) (form_of g.body) ≤ open_statements (wants k) (let h = plain p f in h.body) + void_statements (let h = plain p f in h.body)
   tests_at k None e f i g j = absurd (let c : None ≡ Some f = i in cc)
   tests_at k (Some x) e f i g j =
       let h = forms k x e in
-      let is : form_of g.body ≡ function_code x.place (nat_eq k p.main) (plain p x) x.variables = ap (λ (t : FormFunction). form_of t.body) (same g h.0 (sym j ∙ h.1)) ∙ h.2 in
-      subst (λ (y : Function). tests_within (set_of k (Some x) e) (form_of g.body) ≤ open_statements (wants k) (let h = plain p y in h.body) + void_statements (let h = plain p y in h.body)) (same x f i)
+      let is : form_of g.body ≡ function_code x.place (nat_eq k p.main) (plain p x) x.variables = ap (λ (t : FormFunction). form_of t.body) (same_Some g h.0 (sym j ∙ h.1)) ∙ h.2 in
+      subst (λ (y : Function). tests_within (set_of k (Some x) e) (form_of g.body) ≤ open_statements (wants k) (let h = plain p y in h.body) + void_statements (let h = plain p y in h.body)) (same_Some x f i)
       (subst (λ (c : Form). tests_within (set_of k (Some x) e) c ≤ open_statements (wants k) (let h = plain p x in h.body) + void_statements (let h = plain p x in h.body)) (sym is) (code_at k x e).2)
 
   bounded : (tables : List (List Class)) → AreClassesOf ir tables → (k : ℕ) (f : Function) (g : FormFunction) → slice_get p.functions k ≡ Some f → slice_get ir.functions k ≡ Some g → own_loads (classes_of tables k) (form_of g.body) ≤ wanted_reads (program_of p limit) wants k

@@ -1,7 +1,7 @@
 -- Code whose variables are marked where they lead to addresses: sets that hold just those marks, and the wanted variables of the
 -- function itself, are kept by the code; and it has few loads into variables that are marked, and few tests of them alone.
 use Rattle.std.proofs.Common.{◌≡◌, ℕ, suc, ◌+◌, ◌<◌, ◌≤◌, Bool, true, false, ◌&&◌, nat_eq, nat_lt, if◌then◌else◌, refl, ap, sym, ◌∙◌, subst, arith}
-use Rattle.std.proofs.lemmas.Bool.Decides.{nat_tests}
+use Rattle.std.proofs.lemmas.Bool.{lt-ltb, le-ltb, and_from}
 use Rattle.dae_base.specs.declared.Place.{Place}
 use Rattle.dae_base.specs.declared.LoadKind.{LoadKind}
 use Rattle.dae_base.specs.declared.LoadKind.TheVariants.{I8, U8, I16, U16, I32}
@@ -20,7 +20,6 @@ use Rattle.dae_ir.specs.declared.form.Value.TheVariants.{Same, Extended, Binary}
 use Rattle.dae_meaning.specs.declared.Operator.{Operator}
 use Rattle.dae_program.specs.Expressions.{divides}
 use Rattle.dae_lower.specs.Lowering.{Made, ◌⨾◌, ◌≫◌, nothing, only, one, set, variable, fetched, held, put_in, operated, narrowed, checks, may_be_zero, Spot, Local, Placed, Condition, branches, gives}
-use Rattle.dae_lower_formed.proofs.Laws.{and_true}
 
 abbrev pub AnyTest : Test → Type 0
 AnyTest t = Unit {0}
@@ -67,12 +66,6 @@ tests_if : (s : VariableSet) (turned : Bool) (p : Place) (t : Test) (a b : Form)
 tests_if s true p t a b = omega arith
 tests_if s false p t a b = omega arith
 
-less_true : (v q : ℕ) → v < q → nat_lt v q ≡ true
-less_true v q h = grind (arith, nat_tests, h)
-
-less_false : (v q : ℕ) → q ≤ v → nat_lt v q ≡ false
-less_false v q h = grind (arith, nat_tests, h)
-
 -- ---- marks
 
 -- one set of marks before a number, and another from there on
@@ -87,16 +80,16 @@ abbrev pick : Bool → Bool → Bool → Bool
 pick b x y = if b then x else y
 
 pub joined_first : (q : ℕ) (c d : VariableSet) (v : ℕ) → v < q → joined q c d v ≡ c v
-joined_first q c d v h = ap (λ (b : Bool). pick b (c v) (d v)) (less_true v q h)
+joined_first q c d v h = ap (λ (b : Bool). pick b (c v) (d v)) (lt-ltb v q h)
 
 pub joined_second : (q : ℕ) (c d : VariableSet) (v : ℕ) → q ≤ v → joined q c d v ≡ d v
-joined_second q c d v h = ap (λ (b : Bool). pick b (c v) (d v)) (less_false v q h)
+joined_second q c d v h = ap (λ (b : Bool). pick b (c v) (d v)) (le-ltb v q h)
 
 pub agrees_first : (n q j : ℕ) (c d s : VariableSet) → q ≤ j → AgreesOn n j (joined q c d) s → AgreesOn n q c s
-agrees_first n q j c d s l h v g k = h v g (omega (arith, k, l)) ∙ ap (λ (b : Bool). pick b (c v) (d v)) (less_true v q k)
+agrees_first n q j c d s l h v g k = h v g (omega (arith, k, l)) ∙ ap (λ (b : Bool). pick b (c v) (d v)) (lt-ltb v q k)
 
 pub agrees_second : (n q j : ℕ) (c d s : VariableSet) → n ≤ q → AgreesOn n j (joined q c d) s → AgreesOn q j d s
-agrees_second n q j c d s l h v g k = h v (omega (arith, g, l)) k ∙ ap (λ (b : Bool). pick b (c v) (d v)) (less_false v q g)
+agrees_second n q j c d s l h v g k = h v (omega (arith, g, l)) k ∙ ap (λ (b : Bool). pick b (c v) (d v)) (le-ltb v q g)
 
 -- an operand leads to an address where the flag says so
 abbrev pub Leads : Bool → VariableSet → Operand → Type 0
@@ -233,7 +226,7 @@ module _ (wants : ℕ → ℕ → Bool) (own : ℕ → ℕ) (f m : ℕ) where
 
     pub operated_marked : {n : ℕ} (flag : Bool) (P : Type 0) (p : Place) (operator : Operator) (x y : Operand) → ((s : VariableSet) → OwnFits s → G s → Leads flag s x × Leads flag s y) → Marked G (Led flag P) n 0 0 (operated p operator x y n)
     operated_marked {n} flag P p operator x y h = one_new flag _ (Variable n) (λ all fits s own g is. (
-      operated_each (divides operator && may_be_zero y) all s p n (Binary operator x y) y (λ t. let c = h s own g in and_true (has s x) (has s y) (c.0 (sym is ∙ t)) (c.1 (sym is ∙ t))),
+      operated_each (divides operator && may_be_zero y) all s p n (Binary operator x y) y (λ t. let c = h s own g in and_from (has s x) (has s y) (c.0 (sym is ∙ t)) (c.1 (sym is ∙ t))),
       operated_loads (divides operator && may_be_zero y) s p n (Binary operator x y) y,
       operated_tests (divides operator && may_be_zero y) s p n (Binary operator x y) y,
       fresh_led flag P s n is,

@@ -1,9 +1,11 @@
 -- The code of each expression is marked as what is wanted of it says, and has the tests that are counted in it.
 use Rattle.std.proofs.Common.{◌≡◌, ℕ, suc, ◌+◌, ◌<◌, ◌≤◌, Bool, true, false, ◌&&◌, ◌||◌, if◌then◌else◌, List, [], ◌∷◌, length, refl, ap, sym, ◌∙◌, subst, arith}
+use Rattle.std.proofs.lemmas.Bool.{or_left, or_right, and_from, ltb-true}
 use Rattle.dae_base.specs.declared.Place.{Place}
 use Rattle.dae_base.specs.declared.LoadKind.{LoadKind}
 use Rattle.dae_base.specs.declared.LoadKind.TheVariants.{U8}
 use Rattle.dae_base.specs.Words.{plus}
+use Rattle.dae_base.proofs.Laws.{or_true, and_first, and_second}
 use Rattle.dae_ir.specs.Code.{Do}
 use Rattle.dae_ir.specs.Classes.{VariableSet, has, has_test, ArgumentsKept}
 use Rattle.dae_ir.specs.Sizes.{bit}
@@ -22,30 +24,17 @@ use Rattle.dae_program.specs.Trees as tree
 use Rattle.dae_program.specs.Trees.{Expression, Target, Expressions}
 use Rattle.dae_lower.specs.Lowering.{Made, ◌≫◌, nothing, only, emit, skip, one, set, or, assigned, assigned_all, fetched, held, put_in, operated, narrowed, Spot, Local, Placed, test_of, related, isnt_zero, turn, gives, Ways, by_value, chosen, variable, advanced, stepped, assigned_target, Links, ways, spot, operands}
 use Rattle.dae_lower_bounds.specs.Voids.{is_void, is_void_test, void_in, void_in_all}
-use Rattle.dae_lower_formed.proofs.Laws.{and_true, first, second, below}
 use Rattle.dae_lower_bounds.proofs.Marked.{Leads, Led, Decides, fresh_led, Any, OwnFits, Marked, chain, more, told, with_new, plain_code, one_new, nothing_marked, set_marked, variable_marked, fetched_marked, HeldLeads, held_marked, PutLeads, put_marked, operated_marked, narrowed_marked, gives_marked, branches_marked}
-
-either_left : (a b : Bool) → a ≡ true → (a || b) ≡ true
-either_left true b h = refl
-either_left false b h = cc
-
-either_right : (a b : Bool) → b ≡ true → (a || b) ≡ true
-either_right true b h = refl
-either_right false b h = h
 
 pub either_bit : (a b : Bool) → bit (a || b) ≤ bit a + bit b
 either_bit true b = omega arith
 either_bit false b = omega arith
 
-last_true : (a : Bool) → (a || true) ≡ true
-last_true true = refl
-last_true false = refl
-
 -- a comparison is counted where both its operands are
 compared_counts : (x u y v : Bool) → (x || u) ≡ true → (y || v) ≡ true → ((x && y) || (u || v)) ≡ true
 compared_counts true u true v h g = refl
-compared_counts true u false v h g = either_right u v g
-compared_counts false u y v h g = either_left u v h
+compared_counts true u false v h g = or_right u v g
+compared_counts false u y v h g = or_left u v h
 
 if_so : (X : Type 0) (b : Bool) → IfSo b X → b ≡ true → X
 if_so X true h e = h
@@ -62,12 +51,12 @@ wanted_or false true e h = refl
 wanted_or false false e h = h refl
 
 related_leads : (s : VariableSet) (flag : Bool) (comparison : Comparison) (turned : Bool) (x y : Operand) → Leads flag s x → Leads flag s y → flag ≡ true → (has s (related comparison turned x y).left && has s (related comparison turned x y).right) ≡ true
-related_leads s flag comparison true x y h g t = and_true (has s y) (has s x) (g t) (h t)
-related_leads s flag comparison false x y h g t = and_true (has s x) (has s y) (h t) (g t)
+related_leads s flag comparison true x y h g t = and_from (has s y) (has s x) (g t) (h t)
+related_leads s flag comparison false x y h g t = and_from (has s x) (has s y) (h t) (g t)
 
 related_has : (s : VariableSet) (comparison : Comparison) (turned : Bool) (x y : Operand) → has_test s (related comparison turned x y) ≡ true → (has s x ≡ true) × (has s y ≡ true)
-related_has s comparison true x y h = (second (has s y) (has s x) h, first (has s y) (has s x) h)
-related_has s comparison false x y h = (first (has s x) (has s y) h, second (has s x) (has s y) h)
+related_has s comparison true x y h = (and_second (has s y) (has s x) h, and_first (has s y) (has s x) h)
+related_has s comparison false x y h = (and_first (has s x) (has s y) h, and_second (has s x) (has s y) h)
 
 picked_led : (flag : Bool) (P : Type 0) (s : VariableSet) (b : Bool) (x y : Operand) → Led flag P s x → Led flag P s y → Led flag P s (if b then x else y)
 picked_led flag P s true x y h g = h
@@ -75,7 +64,7 @@ picked_led flag P s false x y h g = g
 
 -- it is led by the flag alone, as it is by the flag or because a variable is wanted
 led_by_flag : (flag w : Bool) (P : Type 0) → (w ≡ true → P) → (s : VariableSet) (y : Operand) → Led (flag || w) (w ≡ true) s y → Led flag P s y
-led_by_flag flag w P so s y h = ((λ t. h.0 (either_left flag w t)), (λ e i. so (wanted_or flag w e (λ r. h.1 r i))))
+led_by_flag flag w P so s y h = ((λ t. h.0 (or_left flag w t)), (λ e i. so (wanted_or flag w e (λ r. h.1 r i))))
 
 -- arguments from number k on lead to addresses where the flags say so
 abbrev pub AllLead : (ℕ → Bool) → ℕ → VariableSet → List Operand → Type 0
@@ -126,7 +115,7 @@ module _ (wants : Wants) (own : ℕ → ℕ) (f : ℕ) (b : Bounds) (l : Links) 
   value_effect flag P h v G later n = more wants own f b.variables (omega arith) (omega arith) (chain wants own f b.variables (λ x. skip) (v G later n) (λ q y o. nothing_marked wants own f b.variables tt (λ s w g. tt)))
 
   value_condition : {k t : ℕ} (flag c d : Bool) (h : VariableSet → ℕ → Made Operand) → ValueDoes flag (Both c d) k t h → (G : VariableSet → Type 0) (later : VariableSet) (n : ℕ) → Does G (λ s x. flag ≡ false → Decides d s x) n k t (h later n ≫ λ x. nothing (isnt_zero x))
-  value_condition flag c d h v G later n = more wants own f b.variables (omega arith) (omega arith) (chain wants own f b.variables (λ x. nothing (isnt_zero x)) (v G later n) (λ q y o. nothing_marked wants own f b.variables (isnt_zero y) (λ s w g e i. (g.1.1 e (first (has s y) true i)).1)))
+  value_condition flag c d h v G later n = more wants own f b.variables (omega arith) (omega arith) (chain wants own f b.variables (λ x. nothing (isnt_zero x)) (v G later n) (λ q y o. nothing_marked wants own f b.variables (isnt_zero y) (λ s w g e i. (g.1.1 e (and_first (has s y) true i)).1)))
 
   by_value_does : {k t : ℕ} (flag c d : Bool) (h : VariableSet → ℕ → Made Operand) → ValueDoes flag (Both c d) k t h → WaysDo flag c d k t (by_value h)
   by_value_does flag c d h v = record { value = v; effect = value_effect flag (Both c d) h v; condition = value_condition flag c d h v }
@@ -140,7 +129,7 @@ module _ (wants : Wants) (own : ℕ → ℕ) (f : ℕ) (b : Bounds) (l : Links) 
   own_leads flag v low h s w t = w v low ∙ if_so (wants f v ≡ true) flag h t
 
   own_counts : (v : ℕ) → wants f v ≡ true → Both ((wants f v || false) || false) ((wants f v || false) || false)
-  own_counts v t = let c = either_left (wants f v || false) false (either_left (wants f v) false t) in (c, c)
+  own_counts v t = let c = or_left (wants f v || false) false (or_left (wants f v) false t) in (c, c)
 
   own_led : (flag : Bool) (v : ℕ) → v < b.variables → IfSo flag (wants f v ≡ true) → (s : VariableSet) → OwnFits wants own f b.variables s → Led flag (Both ((wants f v || false) || false) ((wants f v || false) || false)) s (Variable v)
   own_led flag v low h s w = (own_leads flag v low h s w, (λ e i. own_counts v (sym (w v low) ∙ i)))
@@ -151,7 +140,7 @@ module _ (wants : Wants) (own : ℕ → ℕ) (f : ℕ) (b : Bounds) (l : Links) 
 
   -- the old value of a variable, what is made of it, and the assignment
   put_local : (flag : Bool) (P : Type 0) (v : ℕ) → v < b.variables → (s : VariableSet) → OwnFits wants own f b.variables s → (y : Operand) → Leads (flag || wants f v) s y → P → PutLeads s y (Local v) × Led flag P s y
-  put_local flag P v low s w y h so = ((λ t. h (either_right flag (wants f v) (sym (w v low) ∙ t))), ((λ t. h (either_left flag (wants f v) t)), (λ e i. so)))
+  put_local flag P v low s w y h so = ((λ t. h (or_right flag (wants f v) (sym (w v low) ∙ t))), ((λ t. h (or_left flag (wants f v) t)), (λ e i. so)))
 
   -- ---- nodes
 
@@ -173,7 +162,7 @@ module _ (wants : Wants) (own : ℕ → ℕ) (f : ℕ) (b : Bounds) (l : Links) 
 
   advanced_does : {G : VariableSet → Type 0} {n : ℕ} (flag : Bool) (P : Type 0) (p : Place) (kind : LoadKind) (change : ℕ) (o : Spot) (x : Operand) → ((s : VariableSet) → OwnFits wants own f b.variables s → G s → Leads flag s x × ((y : Operand) → Leads flag s y → PutLeads s y o)) → Does G (Led flag P) n 0 0 (advanced p kind change o x n)
   advanced_does flag P p kind change o x h =
-      more wants own f b.variables (omega arith) (omega arith) (chain wants own f b.variables (λ z n. narrowed p kind z n ≫ put_in p kind o) (set_marked wants own f b.variables flag P p (Binary Add x (Number change)) (λ s w g t. and_true (has s x) true ((h s w g).0 t) refl))
+      more wants own f b.variables (omega arith) (omega arith) (chain wants own f b.variables (λ z n. narrowed p kind z n ≫ put_in p kind o) (set_marked wants own f b.variables flag P p (Binary Add x (Number change)) (λ s w g t. and_from (has s x) true ((h s w g).0 t) refl))
       (λ q z u. chain wants own f b.variables (put_in p kind o) (narrowed_marked wants own f b.variables flag P p kind z (λ s w g. g.1)) (λ q y u. put_marked wants own f b.variables flag P p kind o y (λ s w g. ((h s w g.0.0).1 y g.1.0, g.1)))))
 
   -- one more or less of a variable
@@ -181,7 +170,7 @@ module _ (wants : Wants) (own : ℕ → ℕ) (f : ℕ) (b : Bounds) (l : Links) 
       Does G (Led flag P) n 0 0 (variable copied p v n ≫ λ x n. advanced p kind change (Local v) x n ≫ λ y. nothing (if new then y else x))
   local_stepped flag P p kind v change new copied low h so =
       more wants own f b.variables (omega arith) (omega arith) (chain wants own f b.variables (λ x n. advanced p kind change (Local v) x n ≫ λ y. nothing (if new then y else x)) (variable_marked wants own f b.variables (flag || wants f v) (wants f v ≡ true) copied p v (λ s w g. ((λ t. w v low ∙ wanted_now flag (wants f v) h t), (λ e i. sym (w v low) ∙ i))))
-      (λ q x o. chain wants own f b.variables (λ y. nothing (if new then y else x)) (advanced_does (flag || wants f v) (wants f v ≡ true) p kind change (Local v) x (λ s w g. (g.1.0, λ y i t. i (either_right flag (wants f v) (sym (w v low) ∙ t)))))
+      (λ q x o. chain wants own f b.variables (λ y. nothing (if new then y else x)) (advanced_does (flag || wants f v) (wants f v ≡ true) p kind change (Local v) x (λ s w g. (g.1.0, λ y i t. i (or_right flag (wants f v) (sym (w v low) ∙ t)))))
       (λ q y o. nothing_marked wants own f b.variables (if new then y else x) (λ s w g. picked_led flag P s new y x (led_by_flag flag (wants f v) P so s y g.1) (led_by_flag flag (wants f v) P so s x g.0.1)))))
 
   placed_stepped : {G : VariableSet → Type 0} {c d : Bool} {n k t : ℕ} (flag : Bool) (P : Type 0) (checked : Bool) (p : Place) (kind : LoadKind) (change : ℕ) (new : Bool) (copied later : VariableSet) (a : Ways) → WaysDo true c d k t a →
@@ -233,7 +222,7 @@ module _ (wants : Wants) (own : ℕ → ℕ) (f : ℕ) (b : Bounds) (l : Links) 
     expression_does flag (tree.Frame p offset) h w = by_value_does flag true true (λ later. set p (FrameAddress offset)) (λ G later n. set_marked wants own f b.variables flag (Both true true) p (FrameAddress offset) (λ s o g t. refl))
     expression_does flag (tree.Variable p v) h w =
         let c = (wants f v || false) || false in
-        let low = below v b.variables h in
+        let low = ltb-true v b.variables h in
         record {
           value = λ G later n. variable_marked wants own f b.variables flag (Both c c) (later v) p v (λ s o g. own_led flag v low w s o);
           effect = λ G later n. nothing_marked wants own f b.variables tt (λ s o g. tt);
@@ -241,7 +230,7 @@ module _ (wants : Wants) (own : ℕ → ℕ) (f : ℕ) (b : Bounds) (l : Links) 
         }
     expression_does flag (tree.Read p kind checked a) h w =
         let e = tree.Read p kind checked a in
-        by_value_does flag (counts_operand e) (counts_test e) (ways l e).value (λ G later n. more wants own f b.variables (omega arith) (omega arith) (chain wants own f b.variables (fetched p kind checked) ((expression_does true a (second _ _ h) w).value G later n) (λ q y o. fetched_marked wants own f b.variables flag (Counts e) p kind checked y (λ s o g. g.1.0 refl))))
+        by_value_does flag (counts_operand e) (counts_test e) (ways l e).value (λ G later n. more wants own f b.variables (omega arith) (omega arith) (chain wants own f b.variables (fetched p kind checked) ((expression_does true a (and_second _ _ h) w).value G later n) (λ q y o. fetched_marked wants own f b.variables flag (Counts e) p kind checked y (λ s o g. g.1.0 refl))))
     expression_does flag (tree.Convert p kind a) h w =
         let e = tree.Convert p kind a in
         let go : ValueDoes flag (Counts e) (loads_of flag a) (tests_of a) (λ later n. (ways l a).value later n ≫ narrowed p kind) = λ G later n. more wants own f b.variables (omega arith) (omega arith) (chain wants own f b.variables (narrowed p kind) ((expression_does flag a h w).value G later n) (λ q y o. narrowed_marked wants own f b.variables flag (Counts e) p kind y (λ s o g. (g.1.0, λ r i. let c = g.1.1 r i in (c.0, c.0))))) in
@@ -253,79 +242,79 @@ module _ (wants : Wants) (own : ℕ → ℕ) (f : ℕ) (b : Bounds) (l : Links) 
     expression_does flag (tree.Not p a) h w =
         let e = tree.Not p a in
         record {
-          value = λ G later n. more wants own f b.variables (omega arith) (omega arith) (chain wants own f b.variables (λ x. set p (Holds (test_of Equal x (Number 0)))) ((expression_does flag a h w).value G later n) (λ q y o. set_marked wants own f b.variables flag (Counts e) p (Holds (test_of Equal y (Number 0))) (λ s o g t. and_true (has s y) true (g.1.0 t) refl)));
+          value = λ G later n. more wants own f b.variables (omega arith) (omega arith) (chain wants own f b.variables (λ x. set p (Holds (test_of Equal x (Number 0)))) ((expression_does flag a h w).value G later n) (λ q y o. set_marked wants own f b.variables flag (Counts e) p (Holds (test_of Equal y (Number 0))) (λ s o g t. and_from (has s y) true (g.1.0 t) refl)));
           effect = (expression_does flag a h w).effect;
           condition = λ G later n. more wants own f b.variables (omega arith) (omega arith) (chain wants own f b.variables (λ c. nothing (turn c)) ((expression_does flag a h w).condition G later n) (λ q y o. nothing_marked wants own f b.variables (turn y) (λ s o g. g.1)));
         }
     expression_does flag (tree.Binary p operator x y) h w =
         let e = tree.Binary p operator x y in
-        by_value_does flag (counts_operand e) (counts_test e) (ways l e).value (λ G later n. more wants own f b.variables (omega arith) (omega arith) (chain wants own f b.variables (λ x n. (ways l y).value later n ≫ operated p operator x) ((expression_does flag x (first _ _ h) w.0).value G (or later (assigned y)) n)
-        (λ q u o. chain wants own f b.variables (operated p operator u) ((expression_does flag y (second _ _ h) w.1).value _ later q) (λ q v o. operated_marked wants own f b.variables flag (Counts e) p operator u v (λ s o g. (g.0.1.0, g.1.0))))))
+        by_value_does flag (counts_operand e) (counts_test e) (ways l e).value (λ G later n. more wants own f b.variables (omega arith) (omega arith) (chain wants own f b.variables (λ x n. (ways l y).value later n ≫ operated p operator x) ((expression_does flag x (and_first _ _ h) w.0).value G (or later (assigned y)) n)
+        (λ q u o. chain wants own f b.variables (operated p operator u) ((expression_does flag y (and_second _ _ h) w.1).value _ later q) (λ q v o. operated_marked wants own f b.variables flag (Counts e) p operator u v (λ s o g. (g.0.1.0, g.1.0))))))
     expression_does flag (tree.Compare p comparison turned x y) h w =
         let e = tree.Compare p comparison turned x y in
         record {
-          value = λ G later n. more wants own f b.variables (omega arith) (omega arith) (chain wants own f b.variables (λ x n. (ways l y).value later n ≫ λ y. set p (Holds (related comparison turned x y))) ((expression_does flag x (first _ _ h) w.0).value G (or later (assigned y)) n)
-              (λ q u o. chain wants own f b.variables (λ v. set p (Holds (related comparison turned u v))) ((expression_does flag y (second _ _ h) w.1).value _ later q) (λ q v o. set_marked wants own f b.variables flag (Counts e) p (Holds (related comparison turned u v)) (λ s o g. related_leads s flag comparison turned u v g.0.1.0 g.1.0))));
-          effect = λ G later n. more wants own f b.variables (omega arith) (omega arith) (chain wants own f b.variables (λ x. (ways l y).effect later) ((expression_does flag x (first _ _ h) w.0).effect G (or later (assigned y)) n) (λ q u o. (expression_does flag y (second _ _ h) w.1).effect _ later q));
-          condition = λ G later n. more wants own f b.variables (omega arith) (omega arith) (chain wants own f b.variables (λ x n. (ways l y).value later n ≫ λ y. nothing (record { test = related comparison turned x y; turned = false })) ((expression_does flag x (first _ _ h) w.0).value G (or later (assigned y)) n)
-              (λ q u o. chain wants own f b.variables (λ v. nothing (record { test = related comparison turned u v; turned = false })) ((expression_does flag y (second _ _ h) w.1).value _ later q) (λ q v o. nothing_marked wants own f b.variables (record { test = related comparison turned u v; turned = false })
+          value = λ G later n. more wants own f b.variables (omega arith) (omega arith) (chain wants own f b.variables (λ x n. (ways l y).value later n ≫ λ y. set p (Holds (related comparison turned x y))) ((expression_does flag x (and_first _ _ h) w.0).value G (or later (assigned y)) n)
+              (λ q u o. chain wants own f b.variables (λ v. set p (Holds (related comparison turned u v))) ((expression_does flag y (and_second _ _ h) w.1).value _ later q) (λ q v o. set_marked wants own f b.variables flag (Counts e) p (Holds (related comparison turned u v)) (λ s o g. related_leads s flag comparison turned u v g.0.1.0 g.1.0))));
+          effect = λ G later n. more wants own f b.variables (omega arith) (omega arith) (chain wants own f b.variables (λ x. (ways l y).effect later) ((expression_does flag x (and_first _ _ h) w.0).effect G (or later (assigned y)) n) (λ q u o. (expression_does flag y (and_second _ _ h) w.1).effect _ later q));
+          condition = λ G later n. more wants own f b.variables (omega arith) (omega arith) (chain wants own f b.variables (λ x n. (ways l y).value later n ≫ λ y. nothing (record { test = related comparison turned x y; turned = false })) ((expression_does flag x (and_first _ _ h) w.0).value G (or later (assigned y)) n)
+              (λ q u o. chain wants own f b.variables (λ v. nothing (record { test = related comparison turned u v; turned = false })) ((expression_does flag y (and_second _ _ h) w.1).value _ later q) (λ q v o. nothing_marked wants own f b.variables (record { test = related comparison turned u v; turned = false })
               (λ s o g r i. let c = related_has s comparison turned u v i in compared_counts (is_open_operand (wants f) x) (is_void x) (is_open_operand (wants f) y) (is_void y) (g.0.1.1 r c.0).0 (g.1.1 r c.1).0))));
         }
     expression_does flag (tree.And p x y) h w =
         let e = tree.And p x y in
         let one = either_bit (is_open (wants f) x) (is_void_test x) in
         let other = either_bit (is_open (wants f) y) (is_void_test y) in
-        by_value_does flag (counts_operand e) (counts_test e) (ways l e).value (λ G later n. set_by_both flag (Counts e) _ (more wants own f b.variables (omega arith) (omega (arith, one, other)) (branches_marked wants own f b.variables (counts_test x) p _ _ (decided (or later (assigned y)) (expression_does false x (first _ _ h) w.0))
-        (λ q o. branches_marked wants own f b.variables (counts_test y) p _ _ (decided later (expression_does false y (second _ _ h) w.1)) (λ q o. gives_marked wants own f b.variables flag p (Number 1) (λ s o g. (g.1, λ t. refl))) (λ q o. gives_marked wants own f b.variables flag p (Number 0) (λ s o g. (g.1, λ t. refl))))
+        by_value_does flag (counts_operand e) (counts_test e) (ways l e).value (λ G later n. set_by_both flag (Counts e) _ (more wants own f b.variables (omega arith) (omega (arith, one, other)) (branches_marked wants own f b.variables (counts_test x) p _ _ (decided (or later (assigned y)) (expression_does false x (and_first _ _ h) w.0))
+        (λ q o. branches_marked wants own f b.variables (counts_test y) p _ _ (decided later (expression_does false y (and_second _ _ h) w.1)) (λ q o. gives_marked wants own f b.variables flag p (Number 1) (λ s o g. (g.1, λ t. refl))) (λ q o. gives_marked wants own f b.variables flag p (Number 0) (λ s o g. (g.1, λ t. refl))))
         (λ q o. gives_marked wants own f b.variables flag p (Number 0) (λ s o g. (g.1, λ t. refl))))))
     expression_does flag (tree.Or p x y) h w =
         let e = tree.Or p x y in
         let one = either_bit (is_open (wants f) x) (is_void_test x) in
         let other = either_bit (is_open (wants f) y) (is_void_test y) in
-        by_value_does flag (counts_operand e) (counts_test e) (ways l e).value (λ G later n. set_by_both flag (Counts e) _ (more wants own f b.variables (omega arith) (omega (arith, one, other)) (branches_marked wants own f b.variables (counts_test x) p _ _ (decided (or later (assigned y)) (expression_does false x (first _ _ h) w.0))
+        by_value_does flag (counts_operand e) (counts_test e) (ways l e).value (λ G later n. set_by_both flag (Counts e) _ (more wants own f b.variables (omega arith) (omega (arith, one, other)) (branches_marked wants own f b.variables (counts_test x) p _ _ (decided (or later (assigned y)) (expression_does false x (and_first _ _ h) w.0))
         (λ q o. gives_marked wants own f b.variables flag p (Number 1) (λ s o g. (g.1, λ t. refl)))
-        (λ q o. branches_marked wants own f b.variables (counts_test y) p _ _ (decided later (expression_does false y (second _ _ h) w.1)) (λ q o. gives_marked wants own f b.variables flag p (Number 1) (λ s o g. (g.1, λ t. refl))) (λ q o. gives_marked wants own f b.variables flag p (Number 0) (λ s o g. (g.1, λ t. refl)))))))
+        (λ q o. branches_marked wants own f b.variables (counts_test y) p _ _ (decided later (expression_does false y (and_second _ _ h) w.1)) (λ q o. gives_marked wants own f b.variables flag p (Number 1) (λ s o g. (g.1, λ t. refl))) (λ q o. gives_marked wants own f b.variables flag p (Number 0) (λ s o g. (g.1, λ t. refl)))))))
     expression_does flag (tree.Conditional p x y z) h w =
         let e = tree.Conditional p x y z in
         let t = or (assigned y) (assigned z) in
         let one = either_bit (is_open (wants f) x) (is_void_test x) in
-        let go : ValueDoes flag (Counts e) (loads_of flag e) (tests_of e) (chosen p t (ways l x) (ways l y) (ways l z)) = λ G later n. set_by_both flag (Counts e) _ (more wants own f b.variables (omega arith) (omega (arith, one)) (branches_marked wants own f b.variables (counts_test x) p _ _ (decided (or later t) (expression_does false x (first _ _ h) w.0))
-        (λ q o. chain wants own f b.variables (gives p n) ((expression_does flag y (first _ _ (second _ _ h)) w.1).value _ later q) (λ q u o. gives_marked wants own f b.variables flag p u (λ s o g. (g.0.1, g.1.0))))
-        (λ q o. chain wants own f b.variables (gives p n) ((expression_does flag z (second _ _ (second _ _ h)) w.2).value _ later q) (λ q u o. gives_marked wants own f b.variables flag p u (λ s o g. (g.0.1, g.1.0)))))) in
+        let go : ValueDoes flag (Counts e) (loads_of flag e) (tests_of e) (chosen p t (ways l x) (ways l y) (ways l z)) = λ G later n. set_by_both flag (Counts e) _ (more wants own f b.variables (omega arith) (omega (arith, one)) (branches_marked wants own f b.variables (counts_test x) p _ _ (decided (or later t) (expression_does false x (and_first _ _ h) w.0))
+        (λ q o. chain wants own f b.variables (gives p n) ((expression_does flag y (and_first _ _ (and_second _ _ h)) w.1).value _ later q) (λ q u o. gives_marked wants own f b.variables flag p u (λ s o g. (g.0.1, g.1.0))))
+        (λ q o. chain wants own f b.variables (gives p n) ((expression_does flag z (and_second _ _ (and_second _ _ h)) w.2).value _ later q) (λ q u o. gives_marked wants own f b.variables flag p u (λ s o g. (g.0.1, g.1.0)))))) in
         record {
           value = go;
-          effect = λ G later n. more wants own f b.variables (omega arith) (omega (arith, one)) (branches_marked wants own f b.variables (counts_test x) p _ _ (decided (or later t) (expression_does false x (first _ _ h) w.0)) (λ q o. (expression_does flag y (first _ _ (second _ _ h)) w.1).effect _ later q) (λ q o. (expression_does flag z (second _ _ (second _ _ h)) w.2).effect _ later q));
+          effect = λ G later n. more wants own f b.variables (omega arith) (omega (arith, one)) (branches_marked wants own f b.variables (counts_test x) p _ _ (decided (or later t) (expression_does false x (and_first _ _ h) w.0)) (λ q o. (expression_does flag y (and_first _ _ (and_second _ _ h)) w.1).effect _ later q) (λ q o. (expression_does flag z (and_second _ _ (and_second _ _ h)) w.2).effect _ later q));
           condition = value_condition flag (counts_operand e) (counts_test e) (chosen p t (ways l x) (ways l y) (ways l z)) go;
         }
     expression_does flag (tree.Comma x y) h w = record {
-      value = λ G later n. more wants own f b.variables (omega arith) (omega arith) (chain wants own f b.variables (λ x. (ways l y).value later) ((expression_does false x (first _ _ h) w.0).effect G (or later (assigned y)) n) (λ q u o. told wants own f b.variables (λ s y i. (i.0, λ r j. (refl, refl))) ((expression_does flag y (second _ _ h) w.1).value _ later q)));
-      effect = λ G later n. more wants own f b.variables (omega arith) (omega arith) (chain wants own f b.variables (λ x. (ways l y).effect later) ((expression_does false x (first _ _ h) w.0).effect G (or later (assigned y)) n) (λ q u o. (expression_does flag y (second _ _ h) w.1).effect _ later q));
-      condition = λ G later n. more wants own f b.variables (omega arith) (omega arith) (chain wants own f b.variables (λ x. (ways l y).condition later) ((expression_does false x (first _ _ h) w.0).effect G (or later (assigned y)) n) (λ q u o. told wants own f b.variables (λ s c i r j. refl) ((expression_does flag y (second _ _ h) w.1).condition _ later q)));
+      value = λ G later n. more wants own f b.variables (omega arith) (omega arith) (chain wants own f b.variables (λ x. (ways l y).value later) ((expression_does false x (and_first _ _ h) w.0).effect G (or later (assigned y)) n) (λ q u o. told wants own f b.variables (λ s y i. (i.0, λ r j. (refl, refl))) ((expression_does flag y (and_second _ _ h) w.1).value _ later q)));
+      effect = λ G later n. more wants own f b.variables (omega arith) (omega arith) (chain wants own f b.variables (λ x. (ways l y).effect later) ((expression_does false x (and_first _ _ h) w.0).effect G (or later (assigned y)) n) (λ q u o. (expression_does flag y (and_second _ _ h) w.1).effect _ later q));
+      condition = λ G later n. more wants own f b.variables (omega arith) (omega arith) (chain wants own f b.variables (λ x. (ways l y).condition later) ((expression_does false x (and_first _ _ h) w.0).effect G (or later (assigned y)) n) (λ q u o. told wants own f b.variables (λ s c i r j. refl) ((expression_does flag y (and_second _ _ h) w.1).condition _ later q)));
     }
     expression_does flag (tree.Assign p kind (tree.InVariable v) x) h w =
-        by_value_does flag true true (ways l (tree.Assign p kind (tree.InVariable v) x)).value (λ G later n. more wants own f b.variables (omega arith) (omega arith) (chain wants own f b.variables (put_in p kind (Local v)) ((expression_does (flag || wants f v) x (second _ _ h) w).value G later n)
-        (λ q y o. put_marked wants own f b.variables flag (Both true true) p kind (Local v) y (λ s o g. put_local flag (Both true true) v (below v b.variables (second _ _ (first _ _ h))) s o y g.1.0 (refl, refl)))))
+        by_value_does flag true true (ways l (tree.Assign p kind (tree.InVariable v) x)).value (λ G later n. more wants own f b.variables (omega arith) (omega arith) (chain wants own f b.variables (put_in p kind (Local v)) ((expression_does (flag || wants f v) x (and_second _ _ h) w).value G later n)
+        (λ q y o. put_marked wants own f b.variables flag (Both true true) p kind (Local v) y (λ s o g. put_local flag (Both true true) v (ltb-true v b.variables (and_second _ _ (and_first _ _ h))) s o y g.1.0 (refl, refl)))))
     expression_does flag (tree.Assign p kind (tree.AtAddress checked a) x) h w =
-        by_value_does flag true true (ways l (tree.Assign p kind (tree.AtAddress checked a) x)).value (λ G later n. more wants own f b.variables (omega arith) (omega arith) (chain wants own f b.variables (λ o n. (ways l x).value later n ≫ put_in p kind o) (spot_does checked (ways l a) (expression_does true a (second _ _ (first _ _ h)) w.0) G (or later (assigned x)) n)
-        (λ q o u. chain wants own f b.variables (put_in p kind o) ((expression_does flag x (second _ _ h) w.1).value _ later q) (λ q y u. put_marked wants own f b.variables flag (Both true true) p kind o y (λ s c g. (spot_put s y o g.0.1, (g.1.0, λ r i. (refl, refl))))))))
+        by_value_does flag true true (ways l (tree.Assign p kind (tree.AtAddress checked a) x)).value (λ G later n. more wants own f b.variables (omega arith) (omega arith) (chain wants own f b.variables (λ o n. (ways l x).value later n ≫ put_in p kind o) (spot_does checked (ways l a) (expression_does true a (and_second _ _ (and_first _ _ h)) w.0) G (or later (assigned x)) n)
+        (λ q o u. chain wants own f b.variables (put_in p kind o) ((expression_does flag x (and_second _ _ h) w.1).value _ later q) (λ q y u. put_marked wants own f b.variables flag (Both true true) p kind o y (λ s c g. (spot_put s y o g.0.1, (g.1.0, λ r i. (refl, refl))))))))
     expression_does flag (tree.Update p kind (tree.InVariable v) operator x) h w =
         by_value_does flag true true (ways l (tree.Update p kind (tree.InVariable v) operator x)).value (λ G later n. more wants own f b.variables (omega arith) (omega arith) (chain wants own f b.variables (λ u n. (ways l x).value later n ≫ λ y n. operated p operator u y n ≫ λ z n. narrowed p kind z n ≫ put_in p kind (Local v))
-        (variable_marked wants own f b.variables (flag || wants f v) (Unit {0}) (or later (assigned x) v) p v (λ s c g. ((λ t. c v (below v b.variables (second _ _ (first _ _ h))) ∙ wanted_now flag (wants f v) w.0 t), (λ r i. tt))))
-        (λ q u o. chain wants own f b.variables (λ y n. operated p operator u y n ≫ λ z n. narrowed p kind z n ≫ put_in p kind (Local v)) ((expression_does (flag || wants f v) x (second _ _ h) w.1).value _ later q)
+        (variable_marked wants own f b.variables (flag || wants f v) (Unit {0}) (or later (assigned x) v) p v (λ s c g. ((λ t. c v (ltb-true v b.variables (and_second _ _ (and_first _ _ h))) ∙ wanted_now flag (wants f v) w.0 t), (λ r i. tt))))
+        (λ q u o. chain wants own f b.variables (λ y n. operated p operator u y n ≫ λ z n. narrowed p kind z n ≫ put_in p kind (Local v)) ((expression_does (flag || wants f v) x (and_second _ _ h) w.1).value _ later q)
         (λ q y o. chain wants own f b.variables (λ z n. narrowed p kind z n ≫ put_in p kind (Local v)) (operated_marked wants own f b.variables (flag || wants f v) (Unit {0}) p operator u y (λ s c g. (g.0.1.0, g.1.0)))
         (λ q z o. chain wants own f b.variables (put_in p kind (Local v)) (narrowed_marked wants own f b.variables (flag || wants f v) (Unit {0}) p kind z (λ s c g. g.1))
-        (λ q r o. put_marked wants own f b.variables flag (Both true true) p kind (Local v) r (λ s c g. put_local flag (Both true true) v (below v b.variables (second _ _ (first _ _ h))) s c r g.1.0 (refl, refl))))))))
+        (λ q r o. put_marked wants own f b.variables flag (Both true true) p kind (Local v) r (λ s c g. put_local flag (Both true true) v (ltb-true v b.variables (and_second _ _ (and_first _ _ h))) s c r g.1.0 (refl, refl))))))))
     expression_does flag (tree.Update p kind (tree.AtAddress checked a) operator x) h w =
         by_value_does flag true true (ways l (tree.Update p kind (tree.AtAddress checked a) operator x)).value (λ G later n. more wants own f b.variables (omega arith) (omega arith) (chain wants own f b.variables (λ o n. held p kind (or later (assigned x)) o n ≫ λ u n. (ways l x).value later n ≫ λ y n. operated p operator u y n ≫ λ z n. narrowed p kind z n ≫ put_in p kind o)
-        (spot_does checked (ways l a) (expression_does true a (second _ _ (first _ _ h)) w.0) G (or later (assigned x)) n)
+        (spot_does checked (ways l a) (expression_does true a (and_second _ _ (and_first _ _ h)) w.0) G (or later (assigned x)) n)
         (λ q o t. chain wants own f b.variables (λ u n. (ways l x).value later n ≫ λ y n. operated p operator u y n ≫ λ z n. narrowed p kind z n ≫ put_in p kind o) (held_marked wants own f b.variables flag (Unit {0}) p kind (or later (assigned x)) o (λ s c g. spot_held flag (Unit {0}) s o g.1))
-        (λ q u t. chain wants own f b.variables (λ y n. operated p operator u y n ≫ λ z n. narrowed p kind z n ≫ put_in p kind o) ((expression_does flag x (second _ _ h) w.1).value _ later q)
+        (λ q u t. chain wants own f b.variables (λ y n. operated p operator u y n ≫ λ z n. narrowed p kind z n ≫ put_in p kind o) ((expression_does flag x (and_second _ _ h) w.1).value _ later q)
         (λ q y t. chain wants own f b.variables (λ z n. narrowed p kind z n ≫ put_in p kind o) (operated_marked wants own f b.variables flag (Unit {0}) p operator u y (λ s c g. (g.0.1.0, g.1.0)))
         (λ q z t. chain wants own f b.variables (put_in p kind o) (narrowed_marked wants own f b.variables flag (Unit {0}) p kind z (λ s c g. g.1))
         (λ q r t. put_marked wants own f b.variables flag (Both true true) p kind o r (λ s c g. (spot_put s r o g.0.0.0.0.1, (g.1.0, λ e i. (refl, refl)))))))))))
     expression_does flag (tree.Step p kind (tree.InVariable v) change new) h w =
         let c = (wants f v || false) || false in
-        let low = below v b.variables (second _ _ (first _ _ h)) in
+        let low = ltb-true v b.variables (and_second _ _ (and_first _ _ h)) in
         record {
           value = λ G later n. local_stepped flag (Both c c) p kind v change new ((if new then later else or later (assigned_target (tree.InVariable v))) v) low w (own_counts v);
           effect = value_effect flag (Both c c) (λ later n. stepped p kind (spot l (tree.InVariable v)) change true later later n) (λ G later n. local_stepped flag (Both c c) p kind v change true (later v) low w (own_counts v));
@@ -334,7 +323,7 @@ module _ (wants : Wants) (own : ℕ → ℕ) (f : ℕ) (b : Bounds) (l : Links) 
     expression_does flag (tree.Step p kind (tree.AtAddress checked a) change new) h w =
         let t = tree.AtAddress checked a in
         let e = tree.Step p kind t change new in
-        let d = expression_does true a (second _ _ (first _ _ h)) w in
+        let d = expression_does true a (and_second _ _ (and_first _ _ h)) w in
         record {
           value = λ G later n. placed_stepped flag (Counts e) checked p kind change new (if new then later else or later (assigned_target t)) later (ways l a) d;
           effect = value_effect flag (Counts e) (λ later n. stepped p kind (spot l t) change true later later n) (λ G later n. placed_stepped flag (Counts e) checked p kind change true later later (ways l a) d);
@@ -342,8 +331,8 @@ module _ (wants : Wants) (own : ℕ → ℕ) (f : ℕ) (b : Bounds) (l : Links) 
         }
     expression_does flag (tree.Call p g xs) h w =
         let e = tree.Call p g xs in
-        by_value_does flag (counts_operand e) (counts_test e) (ways l e).value (λ G later n. more wants own f b.variables (omega arith) (omega arith) (chain wants own f b.variables (λ ys n. only (Do p (Expect (Room (l.callee g))) (one p (Call n (l.callee g) ys))) (Variable n) (n + 1)) (arguments_do (l.callee g) 1 xs (second _ _ h) w.1 G later n)
-        (λ q ys o. call_does flag (Counts e) p g (count xs) ys (enough g (count xs) (first _ _ h)) w.0 (λ s c i. i.1))))
+        by_value_does flag (counts_operand e) (counts_test e) (ways l e).value (λ G later n. more wants own f b.variables (omega arith) (omega arith) (chain wants own f b.variables (λ ys n. only (Do p (Expect (Room (l.callee g))) (one p (Call n (l.callee g) ys))) (Variable n) (n + 1)) (arguments_do (l.callee g) 1 xs (and_second _ _ h) w.1 G later n)
+        (λ q ys o. call_does flag (Counts e) p g (count xs) ys (enough g (count xs) (and_first _ _ h)) w.0 (λ s c i. i.1))))
     expression_does flag (tree.Putchar p a) h w =
         let e = tree.Putchar p a in
         let go : ValueDoes flag (Counts e) (loads_of flag a) (tests_of a) (λ later n. (ways l a).value later n ≫ λ x n. only (one p (Print Byte x)) x n ≫ λ x. set p (Extended U8 x)) =
@@ -356,12 +345,12 @@ module _ (wants : Wants) (own : ℕ → ℕ) (f : ℕ) (b : Bounds) (l : Links) 
         }
     expression_does flag (tree.Exit p a) h w =
         let e = tree.Exit p a in
-        let c = last_true (is_open_operand (wants f) e) in
+        let c = or_true (is_open_operand (wants f) e) in
         by_value_does flag (counts_operand e) (counts_test e) (ways l e).value (λ G later n. more wants own f b.variables (omega arith) (omega arith) (chain wants own f b.variables (λ x. only (one p (Halt x)) (Number 0)) ((expression_does false a h w).value G later n) (λ q y o. halt_does flag (Counts e) p y (c, c))))
     expression_does flag (tree.Abort p) h w = by_value_does flag true true (λ later. only (one p (Expect Abort)) (Number 0)) (λ G later n. plain_code wants own f b.variables (one p (Expect Abort)) (Number 0) (λ all fits s c g. ((tt, tt), omega arith, omega arith, ((λ t. refl), (λ e i. (refl, refl))))))
 
     arguments_do : (g k : ℕ) (xs : Expressions) → are_sound b xs ≡ true → KeepArguments wants l.callee f g k xs → (G : VariableSet → Type 0) (later : VariableSet) (n : ℕ) → Does G (ArgumentsLead (wants g) k (count xs)) n (wanted_arguments wants l.callee f g k xs) (open_in_all (wants f) xs + void_in_all xs) (operands l xs later n)
     arguments_do g k tree.no_expressions h w G later n = more wants own f b.variables (omega arith) (omega arith) (nothing_marked wants own f b.variables [] (λ s c g. (tt, refl)))
     arguments_do g k (tree.expression_then x xs) h w G later n =
-        more wants own f b.variables (omega arith) (omega arith) (chain wants own f b.variables (λ x n. operands l xs later n ≫ λ xs. nothing (x ∷ xs)) ((expression_does (wants g k) x (first _ _ h) w.0).value G (or later (assigned_all xs)) n)
-        (λ q y o. chain wants own f b.variables (λ ys. nothing (y ∷ ys)) (arguments_do g (suc k) xs (second _ _ h) w.1 _ later q) (λ q ys o. nothing_marked wants own f b.variables (y ∷ ys) (λ s c i. ((i.0.1.0, i.1.0), ap suc i.1.1)))))
+        more wants own f b.variables (omega arith) (omega arith) (chain wants own f b.variables (λ x n. operands l xs later n ≫ λ xs. nothing (x ∷ xs)) ((expression_does (wants g k) x (and_first _ _ h) w.0).value G (or later (assigned_all xs)) n)
+        (λ q y o. chain wants own f b.variables (λ ys. nothing (y ∷ ys)) (arguments_do g (suc k) xs (and_second _ _ h) w.1 _ later q) (λ q ys o. nothing_marked wants own f b.variables (y ∷ ys) (λ s c i. ((i.0.1.0, i.1.0), ap suc i.1.1)))))

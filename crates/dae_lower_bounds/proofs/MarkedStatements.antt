@@ -1,7 +1,9 @@
 -- The code of statements and functions is marked as what is wanted of them says, and has the tests that are counted in them.
 use Rattle.std.proofs.Common.{◌≡◌, ℕ, zero, suc, ◌+◌, ◌<◌, ◌≤◌, inl, inr, Bool, true, false, ◌&&◌, ◌||◌, nat_eq, if◌then◌else◌, List, [], ◌∷◌, Option, Some, None, refl, ap, sym, ◌∙◌, subst, arith}
 use Rattle.std.proofs.lemmas.Bool.Decides.{nat_tests}
+use Rattle.std.proofs.lemmas.Bool.{or_right, or_left, and_from}
 use Rattle.dae_base.specs.declared.Place.{Place}
+use Rattle.dae_base.proofs.Laws.{same_number, and_first, and_second}
 use Rattle.dae_ir.specs.Code.{Done, Do, If, Each}
 use Rattle.dae_ir.specs.Form.{Form}
 use Rattle.dae_ir.specs.Classes.{VariableSet, has, AddressesKept}
@@ -25,23 +27,11 @@ use Rattle.dae_program.specs.declared.statements.Piece.TheVariants as piece
 use Rattle.dae_lower.specs.Lowering.{Made, ◌≫◌, nothing, emit, one, nowhere, or, assigned_all, test_of, Links, ways, operands, leave_unless, leave_unless_some, effect_of_some, loop, text_loop, prints, zeros, settings, arms_continue, search_labels, search, switch, statements, arms_from, parameters_stored}
 use Rattle.dae_lower_bounds.specs.Constants.{IsConstant, AreConstant, InitialisesConstants, ArmsInitialiseConstants}
 use Rattle.dae_lower_bounds.specs.Voids.{is_void_test, void_in_all, void_in_some, void_test, void_some, count_labels, void_statements, void_arms}
-use Rattle.dae_lower_formed.proofs.Laws.{and_true, first, second}
 use Rattle.dae_lower_bounds.proofs.Marked.{AnyTest, loads_into, loads_then, tests_within, tests_then, bit_grows, each_then, joined, agrees_first, agrees_second, Leads, Any, OwnFits, Marked, chain, more, plain_code, one_new, nothing_marked, branches_marked}
 use Rattle.dae_lower_bounds.proofs.MarkedExpressions.{WaysDo, AllLead, either_bit, tests_of, counts_operand, counts_test, decided, expression_does}
 
-same_is : (n : ℕ) → nat_eq n n ≡ true
-same_is n = grind (arith, nat_tests)
-
 next_isnt : (n : ℕ) → nat_eq (n + 1) n ≡ false
 next_isnt n = grind (arith, nat_tests)
-
-other_way : (a b : Bool) → b ≡ true → (a || b) ≡ true
-other_way true b h = refl
-other_way false b h = h
-
-one_is : (a c : Bool) → a ≡ true → (a || c) ≡ true
-one_is true c h = refl
-one_is false c h = cc
 
 bit_most : (a : Bool) → bit a ≤ 1
 bit_most true = omega arith
@@ -195,19 +185,19 @@ module _ (wants : Wants) (own : ℕ → ℕ) (f : ℕ) (b : Bounds) (some : 0 < 
   printed_do : (pieces : List Piece) (k : ℕ) (xs : Expressions) → are_sound b xs ≡ true → KeepPrinted wants l.callee f pieces k xs → (G : VariableSet → Type 0) (later : VariableSet) (n : ℕ) → Does G (AllLead (λ j. is_text j pieces) k) n (wanted_printed wants l.callee f pieces k xs) (open_in_all (wants f) xs + void_in_all xs) (operands l xs later n)
   printed_do pieces k tree.no_expressions h w G later n = more wants own f b.variables (omega arith) (omega arith) (nothing_marked wants own f b.variables [] (λ s c g. tt))
   printed_do pieces k (tree.expression_then x xs) h w G later n =
-      more wants own f b.variables (omega arith) (omega arith) (chain wants own f b.variables (λ x n. operands l xs later n ≫ λ xs. nothing (x ∷ xs)) ((expression_does wants own f b l enough (is_text k pieces) x (first _ _ h) w.0).value G (or later (assigned_all xs)) n)
-      (λ q y o. chain wants own f b.variables (λ ys. nothing (y ∷ ys)) (printed_do pieces (suc k) xs (second _ _ h) w.1 _ later q) (λ q ys o. nothing_marked wants own f b.variables (y ∷ ys) (λ s c i. (i.0.1.0, i.1)))))
+      more wants own f b.variables (omega arith) (omega arith) (chain wants own f b.variables (λ x n. operands l xs later n ≫ λ xs. nothing (x ∷ xs)) ((expression_does wants own f b l enough (is_text k pieces) x (and_first _ _ h) w.0).value G (or later (assigned_all xs)) n)
+      (λ q y o. chain wants own f b.variables (λ ys. nothing (y ∷ ys)) (printed_do pieces (suc k) xs (and_second _ _ h) w.1 _ later q) (λ q ys o. nothing_marked wants own f b.variables (y ∷ ys) (λ s c i. (i.0.1.0, i.1)))))
 
   text_does : {G : VariableSet → Type 0} (n : ℕ) (p : Place) (x : Operand) → ((s : VariableSet) → OwnFits wants own f b.variables s → G s → has s x ≡ true) → Does G Any n 0 0 (text_loop p x n)
   text_does n p x h = record {
     grows = omega arith;
     marks = λ v. nat_eq v n;
     holds = λ all fits s w g agree.
-        let at : s n ≡ true = agree n (omega arith) (omega arith) ∙ same_is n in
+        let at : s n ≡ true = agree n (omega arith) (omega arith) ∙ same_number n in
         let byte : s (n + 1) ≡ false = agree (n + 1) (omega arith) (omega arith) ∙ next_isnt n in
         let none : bit (s (n + 1)) ≡ 0 = ap bit byte in
         let no_test = no_bit (s (n + 1)) true byte in
-        (((λ t. h s w g), (((at, (at, (tt, tt, (tt, tt), (tt, tt)))), ((λ t. and_true (s n) true at refl), tt), tt))), omega (arith, none), omega (arith, no_test), tt);
+        (((λ t. h s w g), (((at, (at, (tt, tt, (tt, tt), (tt, tt)))), ((λ t. and_from (s n) true at refl), tt), tt))), omega (arith, none), omega (arith, no_test), tt);
   }
 
   prints_do : {G : VariableSet → Type 0} (p : Place) (ps : List Piece) (xs : List Operand) → ((s : VariableSet) → OwnFits wants own f b.variables s → G s → (j : ℕ) → is_text j ps ≡ true → has s (argument (Number 0) xs j) ≡ true) → (n : ℕ) → Does G Any n 0 0 (prints p ps xs n)
@@ -215,8 +205,8 @@ module _ (wants : Wants) (own : ℕ → ℕ) (f : ℕ) (b : Bounds) (some : 0 < 
   prints_do p (piece.Byte c ∷ ps) xs h n = more wants own f b.variables (omega arith) (omega arith) (chain wants own f b.variables (λ x. prints p ps xs) (printed_item n p (Print Byte (Number c)) (λ all s. tt) (λ s. omega arith)) (λ q y o. prints_do p ps xs (λ s w g. h s w g.0) q))
   prints_do p (piece.Word spelling k ∷ ps) xs h n = more wants own f b.variables (omega arith) (omega arith) (chain wants own f b.variables (λ x. prints p ps xs) (printed_item n p (Print spelling (argument (Number 0) xs k)) (λ all s. tt) (λ s. omega arith)) (λ q y o. prints_do p ps xs (λ s w g. h s w g.0) q))
   prints_do p (piece.String k ∷ ps) xs h n =
-      more wants own f b.variables (omega arith) (omega arith) (chain wants own f b.variables (λ x. prints p ps xs) (text_does n p (argument (Number 0) xs k) (λ s w g. h s w g k (one_is (nat_eq k k) (is_text k ps) (same_is k))))
-      (λ q y o. prints_do p ps xs (λ s w g j t. h s w g.0 j (other_way (nat_eq j k) (is_text j ps) t)) q))
+      more wants own f b.variables (omega arith) (omega arith) (chain wants own f b.variables (λ x. prints p ps xs) (text_does n p (argument (Number 0) xs k) (λ s w g. h s w g k (or_left (nat_eq k k) (is_text k ps) (same_number k))))
+      (λ q y o. prints_do p ps xs (λ s w g j t. h s w g.0 j (or_right (nat_eq j k) (is_text j ps) t)) q))
 
   -- ---- aggregates
 
@@ -229,7 +219,7 @@ module _ (wants : Wants) (own : ℕ → ℕ) (f : ℕ) (b : Bounds) (some : 0 < 
         let index : s (n + 1) ≡ true = agree (n + 1) (omega arith) (omega arith) in
         let start : s (n + 2) ≡ true = agree (n + 2) (omega arith) (omega arith) in
         let one_test = bit_most (s (n + 1) && true) in
-        (((λ t. refl), ((λ t. refl), ((tt, tt, (tt, tt), ((λ t. and_true (s (n + 2)) (s (n + 1)) start index), (address, tt))), ((λ t. and_true (s (n + 1)) true index refl), tt), tt))), omega arith, omega (arith, one_test), address);
+        (((λ t. refl), ((λ t. refl), ((tt, tt, (tt, tt), ((λ t. and_from (s (n + 2)) (s (n + 1)) start index), (address, tt))), ((λ t. and_from (s (n + 1)) true index refl), tt), tt))), omega arith, omega (arith, one_test), address);
   }
 
   placed_does : {G : VariableSet → Type 0} (n : ℕ) (p : Place) (v : ℕ) (item : Setting) (y : Operand) → ((s : VariableSet) → OwnFits wants own f b.variables s → G s → s v ≡ true) → Does G Any n 0 0 (emit (Do p (Assign v (FrameAddress item.offset)) (one p (Store item.width (Variable v) y))) n)
@@ -246,8 +236,8 @@ module _ (wants : Wants) (own : ℕ → ℕ) (f : ℕ) (b : Bounds) (some : 0 < 
   items_do : (p : Place) (v : ℕ) (items : List Setting) {G : VariableSet → Type 0} → are_sound_items b items ≡ true → KeepItems wants l.callee f items → AreConstant items → ((s : VariableSet) → OwnFits wants own f b.variables s → G s → s v ≡ true) → (n : ℕ) → Does G Any n 0 0 (settings l p v items n)
   items_do p v [] h w c g n = nothing_marked wants own f b.variables tt (λ s w g. tt)
   items_do p v (item ∷ items) {G} h w c g n =
-      more wants own f b.variables (let e = constant_loads item.value c.0 in omega (arith, e)) (let e = constant_tests item.value c.0 in omega (arith, e)) (chain wants own f b.variables (λ y n. emit (Do p (Assign v (FrameAddress item.offset)) (one p (Store item.width (Variable v) y))) n ≫ λ x. settings l p v items) ((expression_does wants own f b l enough false item.value (first _ _ (second _ _ h)) w.0).value G nowhere n)
-      (λ q y o. chain wants own f b.variables (λ x. settings l p v items) (placed_does q p v item y (λ s i j. g s i j.0)) (λ q y o. items_do p v items (second _ _ (second _ _ h)) w.1 c.1 (λ s i j. g s i j.0.0) q)))
+      more wants own f b.variables (let e = constant_loads item.value c.0 in omega (arith, e)) (let e = constant_tests item.value c.0 in omega (arith, e)) (chain wants own f b.variables (λ y n. emit (Do p (Assign v (FrameAddress item.offset)) (one p (Store item.width (Variable v) y))) n ≫ λ x. settings l p v items) ((expression_does wants own f b l enough false item.value (and_first _ _ (and_second _ _ h)) w.0).value G nowhere n)
+      (λ q y o. chain wants own f b.variables (λ x. settings l p v items) (placed_does q p v item y (λ s i j. g s i j.0)) (λ q y o. items_do p v items (and_second _ _ (and_second _ _ h)) w.1 c.1 (λ s i j. g s i j.0.0) q)))
 
   -- ---- switches
 
@@ -282,45 +272,45 @@ module _ (wants : Wants) (own : ℕ → ℕ) (f : ℕ) (b : Bounds) (some : 0 < 
     pub statements_do : (t : Statements) → are_sound_statements b t ≡ true → KeepStatements wants l.callee f t → InitialisesConstants t → (G : VariableSet → Type 0) (n : ℕ) → Does G Any n (wanted_in wants l.callee f t) (tests_statements t) (statements l t n)
     statements_do tree.Done h w c G n = more wants own f b.variables (omega arith) (omega arith) (nothing_marked wants own f b.variables tt (λ s w g. tt))
     statements_do (tree.Evaluate p e k) h w c G n =
-        more wants own f b.variables (omega arith) (omega arith) (chain wants own f b.variables (λ x. statements l k) ((expression_does wants own f b l enough false e (first _ _ h) w.0).effect G nowhere n) (λ q y o. statements_do k (second _ _ h) w.1 c _ q))
+        more wants own f b.variables (omega arith) (omega arith) (chain wants own f b.variables (λ x. statements l k) ((expression_does wants own f b l enough false e (and_first _ _ h) w.0).effect G nowhere n) (λ q y o. statements_do k (and_second _ _ h) w.1 c _ q))
     statements_do (tree.Initialise p offset size items k) h w c G n =
-        more wants own f b.variables (omega arith) (omega arith) (chain wants own f b.variables (λ x. statements l k) (chain wants own f b.variables (λ x. settings l p n items) (zeros_do n p offset size) (λ q y o. items_do p n items (first _ _ (second _ _ h)) w.0 c.0 (λ s i j. j.1) q)) (λ q y o. statements_do k (second _ _ (second _ _ h)) w.1 c.1 _ q))
+        more wants own f b.variables (omega arith) (omega arith) (chain wants own f b.variables (λ x. statements l k) (chain wants own f b.variables (λ x. settings l p n items) (zeros_do n p offset size) (λ q y o. items_do p n items (and_first _ _ (and_second _ _ h)) w.0 c.0 (λ s i j. j.1) q)) (λ q y o. statements_do k (and_second _ _ (and_second _ _ h)) w.1 c.1 _ q))
     statements_do (tree.Print p xs pieces k) h w c G n =
-        more wants own f b.variables (omega arith) (omega arith) (chain wants own f b.variables (λ x. statements l k) (chain wants own f b.variables (prints p pieces) (printed_do pieces 0 xs (first _ _ h) w.0 G nowhere n)
+        more wants own f b.variables (omega arith) (omega arith) (chain wants own f b.variables (λ x. statements l k) (chain wants own f b.variables (prints p pieces) (printed_do pieces 0 xs (and_first _ _ h) w.0 G nowhere n)
         (λ q ys o. prints_do p pieces ys (λ s i g j t. argument_leads (λ j. is_text j pieces) s ys 0 j g.1 (subst (λ (r : ℕ). is_text r pieces ≡ true) (let e : j ≡ 0 + j = omega arith in e) t)) q))
-        (λ q y o. statements_do k (second _ _ h) w.1 c _ q))
+        (λ q y o. statements_do k (and_second _ _ h) w.1 c _ q))
     statements_do (tree.If p e t u k) h w c G n =
-        let step = second (is_sound b e) (are_sound_statements b t && (are_sound_statements b u && are_sound_statements b k)) h in
-        let last = second (are_sound_statements b t) (are_sound_statements b u && are_sound_statements b k) step in
+        let step = and_second (is_sound b e) (are_sound_statements b t && (are_sound_statements b u && are_sound_statements b k)) h in
+        let last = and_second (are_sound_statements b t) (are_sound_statements b u && are_sound_statements b k) step in
         let one = either_bit (is_open (wants f) e) (is_void_test e) in
-        more wants own f b.variables (omega arith) (omega (arith, one)) (chain wants own f b.variables (λ x. statements l k) (branches_marked wants own f b.variables (counts_test wants own f b l enough e) p _ _ (decided wants own f b l enough nowhere (expression_does wants own f b l enough false e (first _ _ h) w.0)) (λ q o. statements_do t (first _ _ step) w.1 c.0 _ q) (λ q o. statements_do u (first _ _ last) w.2 c.1 _ q))
-        (λ q y o. statements_do k (second _ _ last) w.3 c.2 _ q))
+        more wants own f b.variables (omega arith) (omega (arith, one)) (chain wants own f b.variables (λ x. statements l k) (branches_marked wants own f b.variables (counts_test wants own f b l enough e) p _ _ (decided wants own f b l enough nowhere (expression_does wants own f b l enough false e (and_first _ _ h) w.0)) (λ q o. statements_do t (and_first _ _ step) w.1 c.0 _ q) (λ q o. statements_do u (and_first _ _ last) w.2 c.1 _ q))
+        (λ q y o. statements_do k (and_second _ _ last) w.3 c.2 _ q))
     statements_do (tree.Loop p test body step k) h w c G n =
-        let rest = second (is_sound_some b test) (are_sound_statements b body && (is_sound_some b step && are_sound_statements b k)) h in
-        let last = second (are_sound_statements b body) (is_sound_some b step && are_sound_statements b k) rest in
-        more wants own f b.variables (omega arith) (omega arith) (chain wants own f b.variables (λ x. statements l k) (loop_does p (effect_of_some l step) (chain wants own f b.variables (λ x. statements l body) (leave_some_does p test (first _ _ h) w.0 G n) (λ q y o. statements_do body (first _ _ rest) w.1 c.0 _ q)) (λ q o. effect_some_does step (first _ _ last) w.2 G q))
-        (λ q y o. statements_do k (second _ _ last) w.3 c.1 _ q))
+        let rest = and_second (is_sound_some b test) (are_sound_statements b body && (is_sound_some b step && are_sound_statements b k)) h in
+        let last = and_second (are_sound_statements b body) (is_sound_some b step && are_sound_statements b k) rest in
+        more wants own f b.variables (omega arith) (omega arith) (chain wants own f b.variables (λ x. statements l k) (loop_does p (effect_of_some l step) (chain wants own f b.variables (λ x. statements l body) (leave_some_does p test (and_first _ _ h) w.0 G n) (λ q y o. statements_do body (and_first _ _ rest) w.1 c.0 _ q)) (λ q o. effect_some_does step (and_first _ _ last) w.2 G q))
+        (λ q y o. statements_do k (and_second _ _ last) w.3 c.1 _ q))
     statements_do (tree.Do p body test k) h w c G n =
-        more wants own f b.variables (omega arith) (omega arith) (chain wants own f b.variables (λ x. statements l k) (loop_does p (leave_unless l p test) (statements_do body (first _ _ h) w.0 c.0 G n) (λ q o. leave_does p test (expression_does wants own f b l enough false test (first _ _ (second _ _ h)) w.1) G q))
-        (λ q y o. statements_do k (second _ _ (second _ _ h)) w.2 c.1 _ q))
+        more wants own f b.variables (omega arith) (omega arith) (chain wants own f b.variables (λ x. statements l k) (loop_does p (leave_unless l p test) (statements_do body (and_first _ _ h) w.0 c.0 G n) (λ q o. leave_does p test (expression_does wants own f b l enough false test (and_first _ _ (and_second _ _ h)) w.1) G q))
+        (λ q y o. statements_do k (and_second _ _ (and_second _ _ h)) w.2 c.1 _ q))
     statements_do (tree.Switch p e arms k) h w c G n =
         let few = arms_tests (wants f) (is_open (wants f) e) (is_void_test e) arms in
         more wants own f b.variables (omega arith) (omega (arith, few)) (chain wants own f b.variables (λ x. statements l k)
-        (chain wants own f b.variables (λ x n. switch p x n (arm_with None 0 arms (count_arms arms)) (search p x n 0 arms) (arms_continue arms) (arms_from l p n 0 arms (n + 2))) ((expression_does wants own f b l enough false e (first _ _ (first _ _ h)) w.0).value G nowhere n)
+        (chain wants own f b.variables (λ x n. switch p x n (arm_with None 0 arms (count_arms arms)) (search p x n 0 arms) (arms_continue arms) (arms_from l p n 0 arms (n + 2))) ((expression_does wants own f b l enough false e (and_first _ _ (and_first _ _ h)) w.0).value G nowhere n)
         (λ q y o. switch_does (arms_continue arms) p y (arm_with None 0 arms (count_arms arms)) arms (arms_from l p q 0 arms (q + 2)) (λ s g. search_tests (wants f) (is_open (wants f) e) (is_void_test e) s p y q 0 arms (λ i. (g.1.1 refl i).1))
-        (arms_do arms (first _ _ (second _ _ h)) w.1 c.0 p q 0 _ (λ s g. g.1) (q + 2))))
-        (λ q y o. statements_do k (second _ _ (second _ _ h)) w.2 c.1 _ q))
+        (arms_do arms (and_first _ _ (and_second _ _ h)) w.1 c.0 p q 0 _ (λ s g. g.1) (q + 2))))
+        (λ q y o. statements_do k (and_second _ _ (and_second _ _ h)) w.2 c.1 _ q))
     statements_do (tree.Break p k) h w c G n = more wants own f b.variables (omega arith) (omega arith) (chain wants own f b.variables (λ x. statements l k) (break_does p) (λ q y o. statements_do k h w c _ q))
     statements_do (tree.Continue p k) h w c G n = more wants own f b.variables (omega arith) (omega arith) (chain wants own f b.variables (λ x. statements l k) (continue_does p) (λ q y o. statements_do k h w c _ q))
     statements_do (tree.Return p None k) h w c G n = more wants own f b.variables (omega arith) (omega arith) (chain wants own f b.variables (λ x. statements l k) (return_does p (Number 0) (λ s i g t. refl)) (λ q y o. statements_do k h w.1 c _ q))
     statements_do (tree.Return p (Some e) k) h w c G n =
-        more wants own f b.variables (omega arith) (omega arith) (chain wants own f b.variables (λ x n. emit (one p (Return x)) n ≫ λ x. statements l k) ((expression_does wants own f b l enough (wants f 0) e (first _ _ h) w.0).value G nowhere n)
-        (λ q y o. chain wants own f b.variables (λ x. statements l k) (return_does p y (λ s i g. g.1.0)) (λ q y o. statements_do k (second _ _ h) w.1 c _ q)))
+        more wants own f b.variables (omega arith) (omega arith) (chain wants own f b.variables (λ x n. emit (one p (Return x)) n ≫ λ x. statements l k) ((expression_does wants own f b l enough (wants f 0) e (and_first _ _ h) w.0).value G nowhere n)
+        (λ q y o. chain wants own f b.variables (λ x. statements l k) (return_does p y (λ s i g. g.1.0)) (λ q y o. statements_do k (and_second _ _ h) w.1 c _ q)))
 
     arms_do : (arms : Arms) → are_sound_arms b arms ≡ true → KeepArms wants l.callee f arms → ArmsInitialiseConstants arms → (p : Place) (v k : ℕ) (G : VariableSet → Type 0) → ((s : VariableSet) → G s → s v ≡ false) → (n : ℕ) → Does G Any n (wanted_in_arms wants l.callee f arms) (body_tests (wants f) arms) (arms_from l p v k arms n)
     arms_do tree.no_arms h w c p v k G unset n = nothing_marked wants own f b.variables tt (λ s w g. tt)
     arms_do (tree.arm_then labels t rest) h w c p v k G unset n =
-        chain wants own f b.variables (λ x. arms_from l p v (suc k) rest) (guarded_does p k v (statements l t n) unset (statements_do t (first _ _ (second _ _ h)) w.0 c.0 G n)) (λ q y o. arms_do rest (second _ _ (second _ _ h)) w.1 c.1 p v (suc k) _ (λ s g. unset s g.0) q)
+        chain wants own f b.variables (λ x. arms_from l p v (suc k) rest) (guarded_does p k v (statements l t n) unset (statements_do t (and_first _ _ (and_second _ _ h)) w.0 c.0 G n)) (λ q y o. arms_do rest (and_second _ _ (and_second _ _ h)) w.1 c.1 p v (suc k) _ (λ s g. unset s g.0) q)
 
   -- ---- functions
 

@@ -1,5 +1,4 @@
 mod Counting
-mod Views
 mod Chains
 mod Nodes
 pub mod Laws

@@ -1,9 +1,9 @@
 -- Nodes with branches, and lists of expressions.
-use Rattle.std.proofs.Common.{◌≡◌, ℕ, ◌+◌, Bool, true, false, not, ◌||◌, List, [], ◌∷◌, ◌++◌, nat_eq, if◌then◌else◌, refl, ap, sym, ◌∙◌, subst, arith}
-use Rattle.std.proofs.lemmas.Bool.Decides.{nat_tests}
+use Rattle.std.proofs.Common.{◌≡◌, ℕ, ◌+◌, Bool, true, false, not, ◌||◌, List, [], ◌∷◌, ◌++◌, if◌then◌else◌, refl, ap, sym, ◌∙◌, subst, append-nil}
 use Rattle.dae_base.specs.declared.LoadKind.{LoadKind}
 use Rattle.dae_meaning.specs.declared.Operator.{Operator}
 use Rattle.dae_base.specs.declared.Place.{Place}
+use Rattle.dae_base.proofs.Laws.{same_number, or_true}
 use Rattle.dae_ir.specs.Classes.{VariableSet}
 use Rattle.dae_ir.specs.Code.{Done}
 use Rattle.dae_ir.specs.Form.{form_of}
@@ -111,16 +111,9 @@ removed_lowered v a b e h = record {
   by = λ rest q. (h rest q, subst (λ (w : Written). Writes (nothing (Local v) a.written.next) a.written w (Local v)) (sym e) (nothing_written a.written (Local v)));
 }
 
-itself : (v : ℕ) → nat_eq v v ≡ true
-itself v = grind (arith, nat_tests)
-
-or_true : (b : Bool) → (b || true) ≡ true
-or_true true = refl
-or_true false = refl
-
 step_flag : (new : Bool) (c : VariableSet) (v : ℕ) → (not new || c v) ≡ (if new then c else or c (just v)) v
 step_flag true c v = refl
-step_flag false c v = sym (ap (λ b. c v || b) (itself v) ∙ or_true (c v))
+step_flag false c v = sym (ap (λ b. c v || b) (same_number v) ∙ or_true (c v))
 
 -- what a step finds in a place
 step_held : (l : Links) (place : Place) (kind : LoadKind) (t : Target) (c : VariableSet) (n : ℕ) (o : Spot) (new flag : Bool) → o ≡ (spot l t c n).given → flag ≡ (not new || is_copied c o)
@@ -257,10 +250,6 @@ seam : {X : Type 0} (xs : List X) (x : X) (ys : List X) → (xs ++ x ∷ ys) ≡
 seam [] x ys = refl
 seam (y ∷ xs) x ys = ap (λ zs. y ∷ zs) (seam xs x ys)
 
-behind_nothing : {X : Type 0} (xs : List X) → (xs ++ []) ≡ xs
-behind_nothing [] = refl
-behind_nothing (x ∷ xs) = ap (λ zs. x ∷ zs) (behind_nothing xs)
-
 -- the first expressions of a list are lowered, and then the others
 pub record Listed (l : Links) (xs : Expressions) (a now : State) (done : List Operand) (ys : Expressions) : Type 0 where
   pub follows : (b : State) (zs : List Operand) → Lowers (operands l ys) (all_assignments ys) now b zs → Lowers (operands l xs) (all_assignments xs) a b (done ++ zs)
@@ -280,5 +269,5 @@ next_listed l xs a now new done more y ys zs x e m h k = record {
 
 pub last_listed : (l : Links) (xs : Expressions) (a now : State) (done : List Operand) (ys : Expressions) → ys ≡ no_expressions → Listed l xs a now done ys → Lowers (operands l xs) (all_assignments xs) a now done
 last_listed l xs a now done ys e h =
-    subst (λ (os : List Operand). Lowers (operands l xs) (all_assignments xs) a now os) (behind_nothing done)
+    subst (λ (os : List Operand). Lowers (operands l xs) (all_assignments xs) a now os) (append-nil done)
     (h.follows now [] (subst (λ (es : Expressions). Lowers (operands l es) (all_assignments es) now now []) (sym e) (nothing_lowered now [])))

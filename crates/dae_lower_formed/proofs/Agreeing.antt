@@ -2,6 +2,7 @@
 -- which nobody calls.
 use Rattle.std.proofs.Common.{◌≡◌, ℕ, zero, suc, ◌+◌, Bool, true, nat_eq, if◌then◌else◌, List, [], length, Option, Some, None, refl, ap, sym, ◌∙◌, subst, arith}
 use Rattle.std.specs.Prelude.{slice_get}
+use Rattle.dae_base.proofs.Laws.{all_at}
 use Rattle.dae_meaning.specs.Worlds.{World, ticked}
 use Rattle.dae_meaning.specs.Variables.{Env, put, entered}
 use Rattle.dae_meaning.specs.Results.{Result, Run, ◌▷◌, turns, within, checked}
@@ -25,7 +26,7 @@ use Rattle.dae_lower.specs.Keeping.{form_run_of, place_in}
 use Rattle.dae_lower.specs.Lowering.{function_code}
 use Rattle.dae_lower_formed.specs.Formed.{IsFunctionFormOf, IsLowered, FormsScoped}
 use Rattle.dae_lower_formed.specs.Order.{DoesTheSame, FormsDoPrograms, LoweredDoPrograms}
-use Rattle.dae_lower_formed.proofs.Programs.{form_there, function_there, each_at}
+use Rattle.dae_lower_formed.proofs.Programs.{form_there, function_there}
 
 abbrev IsThere : List FormFunction → ℕ → Type 0
 IsThere functions f = (g : FormFunction) × (slice_get functions f ≡ Some g)
@@ -147,7 +148,7 @@ module _ (p : Program) (ir : Ir) (low : IsLowered p ir) (scoped : IsScoped ir) w
   names : (k : ℕ) → IsThere ir.functions k → (m : ℕ) × Each (ItemIn ir.functions m) (TestIn m) (body_in (slice_get ir.functions k))
   names k t =
       let g = t.0 in
-      let h = each_at (FunctionIn ir.functions) ir.functions k g scoped.functions t.1 in
+      let h = all_at (FunctionIn ir.functions) ir.functions k g scoped.functions t.1 in
       (g.variables, subst (λ (o : Option FormFunction). Each (ItemIn ir.functions g.variables) (TestIn g.variables) (body_in o)) (sym t.1) h.names)
 
   main_there : IsThere ir.functions ir.main

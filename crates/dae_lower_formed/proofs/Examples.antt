@@ -1,5 +1,5 @@
 -- How large the form of a small function is.
-use Rattle.std.proofs.Common.{◌≡◌, ℕ, true, false, List, [], ◌∷◌, Option, Some, None, refl}
+use Rattle.std.proofs.Common.{◌≡◌, ℕ, List, [], Option, Some, refl}
 use Rattle.dae_base.specs.declared.Place.{Place}
 use Rattle.dae_base.specs.declared.LoadKind.TheVariants.{I32}
 use Rattle.dae_meaning.specs.declared.Operator.TheVariants.{Add}

@@ -1,13 +1,14 @@
 -- Each expression makes good code, as a value, for its effects, and as a condition.
-use Rattle.std.proofs.Common.{◌≡◌, ℕ, zero, suc, ◌+◌, ◌<◌, ◌≤◌, ◌^◌, Bool, true, false, ◌&&◌, ◌||◌, nat_eq, nat_lt, if◌then◌else◌, List, [], ◌∷◌, length, Option, Some, None, refl, ap, sym, subst, arith}
-use Rattle.std.proofs.lemmas.Bool.{and_parts}
-use Rattle.std.proofs.lemmas.Bool.Decides.{nat_tests}
+use Rattle.std.proofs.Common.{◌≡◌, ℕ, suc, ◌+◌, ◌<◌, ◌≤◌, ◌^◌, Bool, true, false, ◌&&◌, ◌||◌, nat_eq, if◌then◌else◌, List, [], ◌∷◌, length, Option, Some, None, refl, ap, sym, subst, arith}
+use Rattle.std.proofs.lemmas.Bool.{ltb-true, and_from}
 use Rattle.std.specs.Prelude.{slice_get}
+use Rattle.std.proofs.lemmas.Option.{slice_get_within}
 use Rattle.dae_base.specs.declared.Place.{Place}
 use Rattle.dae_base.specs.declared.LoadKind.{LoadKind}
 use Rattle.dae_base.specs.declared.LoadKind.TheVariants.{U8}
 use Rattle.dae_base.specs.declared.Width.{Width}
 use Rattle.dae_base.specs.Words.{plus, width_of}
+use Rattle.dae_base.proofs.Laws.{and_first, and_second, plus_small}
 use Rattle.dae_ir.specs.Code.{Do}
 use Rattle.dae_ir.specs.Classes.{VariableSet, IsWithin, has}
 use Rattle.dae_ir.specs.Scope.{TakesArguments}
@@ -28,26 +29,11 @@ use Rattle.dae_program.specs.Trees as tree
 use Rattle.dae_program.specs.Trees.{Expression, Target, Expressions}
 use Rattle.dae_lower.specs.Lowering.{Made, ◌≫◌, nothing, only, emit, skip, one, set, or, assigned, assigned_all, assigned_target, fetched, held, put_in, operated, narrowed, Spot, Local, Placed, test_of, related, turn, branches, gives, Ways, by_value, chosen, advanced, stepped, Links, ways, spot, operands}
 use Rattle.dae_program.specs.SetFirst.{both, with_target, set_behind, set_behind_target, set_behind_all, is_old_set, reads_set, reads_set_target, all_read_set}
-use Rattle.dae_lower_formed.proofs.Good.{and_true, set_here, set_on, within_set}
+use Rattle.dae_lower_formed.proofs.Good.{set_here, set_on, within_set}
 use Rattle.dae_lower_formed.proofs.Makes.{Fits, OperandFits, SpotFits, AllFit, Anything, operand_still, spot_still, all_still, all_in, all_read, test_fits, related_fits, number_fits, new_fits, IsOld, with_spot, Makes, chain, weaker, sooner, nothing_makes, set_makes, item_makes, variable_makes, fetched_makes, held_makes, put_makes, operated_makes, narrowed_makes, gives_makes, branches_make, WaysMake, AsValue, value_effect, value_condition, by_value_makes}
-
-pub first : (x y : Bool) → (x && y) ≡ true → x ≡ true
-first x y h = (and_parts x y h).0
-
-pub second : (x y : Bool) → (x && y) ≡ true → y ≡ true
-second x y h = (and_parts x y h).1
-
-pub below : (a b : ℕ) → nat_lt a b ≡ true → a < b
-below a b h = grind (arith, nat_tests)
-
-pub equal : (a b : ℕ) → nat_eq a b ≡ true → a ≡ b
-equal a b h = grind (arith, nat_tests)
 
 less_on : (u v n : ℕ) → u < v → v ≤ n → u < n
 less_on u v n h j = omega (arith, h, j)
-
-sum_is_word : (x y : ℕ) → plus x y < 2 ^ 32
-sum_is_word x y = omega arith
 
 set_both : (v : ℕ) (c d : VariableSet) → IsWithin (with_set v (both c d)) (both (with_set v c) (with_set v d))
 set_both v c d u h = by (nat_eq u v) h where
@@ -56,18 +42,13 @@ set_both v c d u h = by (nat_eq u v) h where
   by false h = h
 
 set_twice : (v : ℕ) (c : VariableSet) → IsWithin (with_set v c) (both (with_set v c) (with_set v c))
-set_twice v c u h = and_true (with_set v c u) (with_set v c u) h h
-
-there : {A : Type 0} (xs : List A) (k : ℕ) (x : A) → slice_get xs k ≡ Some x → k < length xs
-there [] k x e = absurd (let c : None ≡ Some x = e in cc)
-there (y ∷ ys) zero x e = omega arith
-there (y ∷ ys) (suc k) x e = let h = there ys k x e in omega arith
+set_twice v c u h = and_from (with_set v c u) (with_set v c u) h h
 
 takes_there : (functions : List Function) (k arguments : ℕ) → TakesArguments (slice_get functions k) arguments → k < length functions
 takes_there functions k arguments h = by (slice_get functions k) refl h where
   by : (f : Option Function) → slice_get functions k ≡ f → TakesArguments f arguments → k < length functions
   by None e h = absurd h
-  by (Some f) e h = there functions k f e
+  by (Some f) e h = slice_get_within functions k f e
 
 -- a call that names so many arguments finds its function, with so many parameters
 abbrev pub FindsFunctions : List Function → Bounds → Links → Type 0
@@ -258,7 +239,7 @@ module _ (functions : List Function) (b : Bounds) (some : 0 < b.variables) (l : 
 
   advanced_makes : {i r : Bool} {n : ℕ} {s c : VariableSet} (p : Place) (kind : LoadKind) (change : ℕ) (o : Spot) (x : Operand) → change < 2 ^ 32 → b.variables ≤ n → IsWithin c s → SpotFits n s o → OperandFits n s x → Makes functions i r OperandFits n s c (advanced p kind change o x n)
   advanced_makes {i} {r} {n} {s} {c} p kind change o x h j w fits k =
-      chain functions (λ z n. narrowed p kind z n ≫ put_in p kind o) j (set_makes functions p (Binary Add x (Number change)) some j w ((k.0, h), and_true (has s x) true k.1 refl))
+      chain functions (λ z n. narrowed p kind z n ≫ put_in p kind o) j (set_makes functions p (Binary Add x (Number change)) some j w ((k.0, h), and_from (has s x) true k.1 refl))
       (λ q v y k g t u x. chain functions (put_in p kind o) k (narrowed_makes functions p kind y some k u x)
       (λ q2 v2 y2 k2 o2 t2 u2 x2. weaker functions c (λ a b. spot_grows v2 o a (u2 a b)) (put_makes functions p kind o y2 (spot_still n q2 s v2 (omega (arith, g, o2)) (λ a b. t2 a (t a b)) o fits) x2)))
 
@@ -321,11 +302,11 @@ module _ (functions : List Function) (b : Bounds) (some : 0 < b.variables) (l : 
 
   mutual
     pub expression_makes : (d : VariableSet) (e : Expression) → is_sound b e ≡ true → reads_set d e ≡ true → WaysDo d (set_behind d e) (ways l e)
-    expression_makes d (tree.Number k) h g = number_makes d k (below k (2 ^ 32) h)
-    expression_makes d (tree.Address object offset) h g = number_makes d (plus (l.address object) offset) (sum_is_word (l.address object) offset)
-    expression_makes d (tree.Frame p offset) h g = by_value_makes functions (λ later. set p (FrameAddress offset)) (λ i r later n s j w. set_makes functions p (FrameAddress offset) some j w (below offset (2 ^ 32) h, refl))
-    expression_makes d (tree.Variable p v) h g = variable_ways d p v (below v b.variables h) g
-    expression_makes d (tree.Read p kind checked a) h g = by_value_makes functions (λ later n. (ways l a).value later n ≫ fetched p kind checked) (read_makes d (set_behind d a) (ways l a) p kind checked (expression_makes d a (second _ _ h) g))
+    expression_makes d (tree.Number k) h g = number_makes d k (ltb-true k (2 ^ 32) h)
+    expression_makes d (tree.Address object offset) h g = number_makes d (plus (l.address object) offset) (plus_small (l.address object) offset)
+    expression_makes d (tree.Frame p offset) h g = by_value_makes functions (λ later. set p (FrameAddress offset)) (λ i r later n s j w. set_makes functions p (FrameAddress offset) some j w (ltb-true offset (2 ^ 32) h, refl))
+    expression_makes d (tree.Variable p v) h g = variable_ways d p v (ltb-true v b.variables h) g
+    expression_makes d (tree.Read p kind checked a) h g = by_value_makes functions (λ later n. (ways l a).value later n ≫ fetched p kind checked) (read_makes d (set_behind d a) (ways l a) p kind checked (expression_makes d a (and_second _ _ h) g))
     expression_makes d (tree.Convert p kind a) h g = record {
       value = convert_makes d (set_behind d a) (ways l a) p kind (expression_makes d a h g);
       effect = (expression_makes d a h g).effect;
@@ -334,44 +315,44 @@ module _ (functions : List Function) (b : Bounds) (some : 0 < b.variables) (l : 
     expression_makes d (tree.Not p a) h g = not_makes d (set_behind d a) (ways l a) p (expression_makes d a h g)
     expression_makes d (tree.Binary p operator x y) h g =
         let c = set_behind d x in
-        by_value_makes functions (ways l (tree.Binary p operator x y)).value (binary_makes d c (set_behind c y) (assigned y) (ways l x) (ways l y) p operator (expression_makes d x (first _ _ h) (first _ _ g)) (expression_makes c y (second _ _ h) (second _ _ g)))
+        by_value_makes functions (ways l (tree.Binary p operator x y)).value (binary_makes d c (set_behind c y) (assigned y) (ways l x) (ways l y) p operator (expression_makes d x (and_first _ _ h) (and_first _ _ g)) (expression_makes c y (and_second _ _ h) (and_second _ _ g)))
     expression_makes d (tree.Compare p comparison turned x y) h g =
         let c = set_behind d x in
-        compare_makes d c (set_behind c y) (assigned y) (ways l x) (ways l y) p comparison turned (expression_makes d x (first _ _ h) (first _ _ g)) (expression_makes c y (second _ _ h) (second _ _ g))
+        compare_makes d c (set_behind c y) (assigned y) (ways l x) (ways l y) p comparison turned (expression_makes d x (and_first _ _ h) (and_first _ _ g)) (expression_makes c y (and_second _ _ h) (and_second _ _ g))
     expression_makes d (tree.And p x y) h g =
         let c = set_behind d x in
-        by_value_makes functions (ways l (tree.And p x y)).value (and_makes d c (set_behind c y) (assigned y) (ways l x) (ways l y) p (expression_makes d x (first _ _ h) (first _ _ g)) (expression_makes c y (second _ _ h) (second _ _ g)))
+        by_value_makes functions (ways l (tree.And p x y)).value (and_makes d c (set_behind c y) (assigned y) (ways l x) (ways l y) p (expression_makes d x (and_first _ _ h) (and_first _ _ g)) (expression_makes c y (and_second _ _ h) (and_second _ _ g)))
     expression_makes d (tree.Or p x y) h g =
         let c = set_behind d x in
-        by_value_makes functions (ways l (tree.Or p x y)).value (or_makes d c (set_behind c y) (assigned y) (ways l x) (ways l y) p (expression_makes d x (first _ _ h) (first _ _ g)) (expression_makes c y (second _ _ h) (second _ _ g)))
+        by_value_makes functions (ways l (tree.Or p x y)).value (or_makes d c (set_behind c y) (assigned y) (ways l x) (ways l y) p (expression_makes d x (and_first _ _ h) (and_first _ _ g)) (expression_makes c y (and_second _ _ h) (and_second _ _ g)))
     expression_makes d (tree.Conditional p x y z) h g =
         let c = set_behind d x in
-        conditional_makes d c (set_behind c y) (set_behind c z) (or (assigned y) (assigned z)) (ways l x) (ways l y) (ways l z) p (expression_makes d x (first _ _ h) (first _ _ g)) (expression_makes c y (first _ _ (second _ _ h)) (first _ _ (second _ _ g))) (expression_makes c z (second _ _ (second _ _ h)) (second _ _ (second _ _ g)))
+        conditional_makes d c (set_behind c y) (set_behind c z) (or (assigned y) (assigned z)) (ways l x) (ways l y) (ways l z) p (expression_makes d x (and_first _ _ h) (and_first _ _ g)) (expression_makes c y (and_first _ _ (and_second _ _ h)) (and_first _ _ (and_second _ _ g))) (expression_makes c z (and_second _ _ (and_second _ _ h)) (and_second _ _ (and_second _ _ g)))
     expression_makes d (tree.Comma x y) h g =
         let c = set_behind d x in
-        comma_makes d c (set_behind c y) (assigned y) (ways l x) (ways l y) (expression_makes d x (first _ _ h) (first _ _ g)) (expression_makes c y (second _ _ h) (second _ _ g))
+        comma_makes d c (set_behind c y) (assigned y) (ways l x) (ways l y) (expression_makes d x (and_first _ _ h) (and_first _ _ g)) (expression_makes c y (and_second _ _ h) (and_second _ _ g))
     expression_makes d (tree.Assign p kind t x) h g =
         let c = set_behind_target d t in
-        by_value_makes functions (ways l (tree.Assign p kind t x)).value (assign_makes d c (set_behind c x) (assigned x) t (spot l t) (ways l x) p kind (target_makes d (width_of kind) t (first _ _ h) (first _ _ g)) (expression_makes c x (second _ _ h) (second _ _ g)))
+        by_value_makes functions (ways l (tree.Assign p kind t x)).value (assign_makes d c (set_behind c x) (assigned x) t (spot l t) (ways l x) p kind (target_makes d (width_of kind) t (and_first _ _ h) (and_first _ _ g)) (expression_makes c x (and_second _ _ h) (and_second _ _ g)))
     expression_makes d (tree.Update p kind t operator x) h g =
         let c = set_behind_target d t in
-        by_value_makes functions (ways l (tree.Update p kind t operator x)).value (update_makes d c (set_behind c x) (assigned x) (assigned x) t (spot l t) (ways l x) p kind operator (target_makes d (width_of kind) t (first _ _ h) (first _ _ (first _ _ g))) (second _ _ (first _ _ g)) (expression_makes c x (second _ _ h) (second _ _ g)))
+        by_value_makes functions (ways l (tree.Update p kind t operator x)).value (update_makes d c (set_behind c x) (assigned x) (assigned x) t (spot l t) (ways l x) p kind operator (target_makes d (width_of kind) t (and_first _ _ h) (and_first _ _ (and_first _ _ g))) (and_second _ _ (and_first _ _ g)) (expression_makes c x (and_second _ _ h) (and_second _ _ g)))
     expression_makes d (tree.Step p kind t change new) h g =
-        step_makes d (set_behind_target d t) t (spot l t) p kind change new (assigned_target t) (target_makes d (width_of kind) t (first _ _ h) (first _ _ g)) (second _ _ g) (below change (2 ^ 32) (second _ _ h))
+        step_makes d (set_behind_target d t) t (spot l t) p kind change new (assigned_target t) (target_makes d (width_of kind) t (and_first _ _ h) (and_first _ _ g)) (and_second _ _ g) (ltb-true change (2 ^ 32) (and_second _ _ h))
     expression_makes d (tree.Call p f xs) h g =
-        by_value_makes functions (ways l (tree.Call p f xs)).value (λ i r later n s j w. chain functions (λ xs n. only (Do p (Expect (Room (l.callee f))) (one p (Call n (l.callee f) xs))) (Variable n) (n + 1)) j (operands_make d xs (second _ _ h) g i r later n s j w)
-        (λ q e y k o t u x. call_makes p f y (first _ _ h) k u x))
+        by_value_makes functions (ways l (tree.Call p f xs)).value (λ i r later n s j w. chain functions (λ xs n. only (Do p (Expect (Room (l.callee f))) (one p (Call n (l.callee f) xs))) (Variable n) (n + 1)) j (operands_make d xs (and_second _ _ h) g i r later n s j w)
+        (λ q e y k o t u x. call_makes p f y (and_first _ _ h) k u x))
     expression_makes d (tree.Putchar p x) h g = putchar_ways d (set_behind d x) (ways l x) p (expression_makes d x h g)
     expression_makes d (tree.Exit p x) h g = by_value_makes functions (ways l (tree.Exit p x)).value (exit_makes d (set_behind d x) all_set (ways l x) p (expression_makes d x h g))
     expression_makes d (tree.Abort p) h g = by_value_makes functions (ways l (tree.Abort p)).value (abort_makes d p)
 
     target_makes : (d : VariableSet) (width : Width) (t : Target) → is_sound_target b width t ≡ true → reads_set_target d t ≡ true → TargetDoes d (set_behind_target d t) t (spot l t)
-    target_makes d width (tree.InVariable v) h g i r later n s j w = nothing_makes functions (Local v) w ((below 0 v (first _ _ h), less_on v b.variables n (below v b.variables (second _ _ h)) j), (refl, below v b.variables (second _ _ h)))
-    target_makes d width (tree.AtAddress checked x) h g i r later n s j w = chain functions (λ x. nothing (Placed checked x)) j ((expression_makes d x (second _ _ h) g).value i r later n s j w) (λ q e y k o t u x. nothing_makes functions (Placed checked y) u (x, tt))
+    target_makes d width (tree.InVariable v) h g i r later n s j w = nothing_makes functions (Local v) w ((ltb-true 0 v (and_first _ _ h), less_on v b.variables n (ltb-true v b.variables (and_second _ _ h)) j), (refl, ltb-true v b.variables (and_second _ _ h)))
+    target_makes d width (tree.AtAddress checked x) h g i r later n s j w = chain functions (λ x. nothing (Placed checked x)) j ((expression_makes d x (and_second _ _ h) g).value i r later n s j w) (λ q e y k o t u x. nothing_makes functions (Placed checked y) u (x, tt))
 
     pub operands_make : (d : VariableSet) (xs : Expressions) → are_sound b xs ≡ true → all_read_set d xs ≡ true → (i r : Bool) (later : VariableSet) (n : ℕ) (s : VariableSet) → b.variables ≤ n → IsWithin d s → Makes functions i r (ListFits (count xs)) n s (set_behind_all d xs) (operands l xs later n)
     operands_make d tree.no_expressions h g i r later n s j w = nothing_makes functions [] w (tt, refl)
     operands_make d (tree.expression_then x xs) h g i r later n s j w =
-        chain functions (λ x n. operands l xs later n ≫ λ xs. nothing (x ∷ xs)) j ((expression_makes d x (first _ _ h) (first _ _ g)).value i r (or later (assigned_all xs)) n s j w)
-        (λ q e y k o t u fits. chain functions (λ xs. nothing (y ∷ xs)) k (operands_make (set_behind d x) xs (second _ _ h) (second _ _ g) i r later q e k u)
+        chain functions (λ x n. operands l xs later n ≫ λ xs. nothing (x ∷ xs)) j ((expression_makes d x (and_first _ _ h) (and_first _ _ g)).value i r (or later (assigned_all xs)) n s j w)
+        (λ q e y k o t u fits. chain functions (λ xs. nothing (y ∷ xs)) k (operands_make (set_behind d x) xs (and_second _ _ h) (and_second _ _ g) i r later q e k u)
         (λ q2 e2 ys k2 o2 t2 u2 all. nothing_makes functions (y ∷ ys) u2 ((operand_still q q2 e e2 o2 t2 y fits, all.0), ap suc all.1)))

@@ -3,7 +3,9 @@ use Rattle.std.proofs.Common.{◌≡◌, ℕ, suc, ◌+◌, ◌<◌, ◌≤◌, 
 use Rattle.std.proofs.lemmas.Bool.Decides.{nat_tests}
 use Rattle.std.specs.Prelude.{nat_le}
 use Rattle.std.specs.List.{list_all}
+use Rattle.std.proofs.lemmas.Bool.{leb-true, ltb-true}
 use Rattle.dae_base.specs.declared.Place.{Place}
+use Rattle.dae_base.proofs.Laws.{and_first, and_second}
 use Rattle.dae_ir.specs.Code.{Do}
 use Rattle.dae_ir.specs.Form.{Form}
 use Rattle.dae_ir.specs.Classes.{VariableSet, IsWithin}
@@ -22,12 +24,9 @@ use Rattle.dae_program.specs.SetFirst.{statements_read_set, set_behind_statement
 use Rattle.dae_lower_formed.specs.Formed.{below, form_variables}
 use Rattle.dae_lower_formed.proofs.Good.{set_here, set_on, IsGood, good_then}
 use Rattle.dae_lower_formed.proofs.Makes.{Anything, Makes, chain, nothing_makes}
-use Rattle.dae_lower_formed.proofs.Expressions.{first, second, below as less, FindsFunctions}
+use Rattle.dae_lower_formed.proofs.Expressions.{FindsFunctions}
 use Rattle.dae_lower_formed.proofs.Statements.{statements_make}
 use Rattle.dae_lower_formed.proofs.Below.{statements_below}
-
-pub within : (a b : ℕ) → nat_le a b ≡ true → a ≤ b
-within a b h = grind (arith, nat_tests)
 
 -- the parameters are among these
 abbrev pub HoldsParameters : ℕ → VariableSet → Type 0
@@ -40,11 +39,11 @@ module _ (functions : List FormFunction) {jumps returns : Bool} where
   parameters_make p frame count (None ∷ slots) low h k some few n d j w g = parameters_make p frame count slots low h (k + 1) (omega arith) (omega (arith, few)) n d j w g
   parameters_make {m} {c} p frame count (Some slot ∷ slots) low h k some few n d j w g =
       chain functions (λ x. parameters_stored p slots (k + 1)) j stored
-      (λ q e x o t z u a. parameters_make p frame count slots low (second _ _ h) (k + 1) (omega arith) (omega (arith, few)) q e o u (λ v a b. z v (g v a b))) where
+      (λ q e x o t z u a. parameters_make p frame count slots low (and_second _ _ h) (k + 1) (omega arith) (omega (arith, few)) q e o u (λ v a b. z v (g v a b))) where
         stored : Makes functions jumps returns Anything n d c (emit (Do p (Assign n (FrameAddress slot.offset)) (one p (Store slot.width (Variable n) (Variable k)))) (n + 1))
         stored = record {
           grows = omega arith;
-          good = ((refl, ((omega (arith, low, j), omega arith), less slot.offset (2 ^ 32) (first _ _ (first _ _ h))), refl), ((refl, (omega arith, omega (arith, few, low, j)), (set_here n d, set_on n d k (g k some (omega (arith, few))))), tt));
+          good = ((refl, ((omega (arith, low, j), omega arith), ltb-true slot.offset (2 ^ 32) (and_first _ _ (and_first _ _ h))), refl), ((refl, (omega arith, omega (arith, few, low, j)), (set_here n d, set_on n d k (g k some (omega (arith, few))))), tt));
           sets = λ v z. set_on n d v (w v z);
           given = tt;
         }
@@ -75,13 +74,13 @@ module _ (functions : List FormFunction) (memory variables : ℕ) (counts : ℕ 
   bounds = bounds_of memory variables counts f
 
   numbers : (nat_eq (f.frame % 4) 0 && nat_le (1 + length f.parameters) variables) ≡ true
-  numbers = first _ _ (first _ _ lawful)
+  numbers = and_first _ _ (and_first _ _ lawful)
 
   parts : (list_all (is_sound_slot f.frame) f.parameters && are_sound_statements (bounds_of memory variables counts f) f.body) ≡ true
-  parts = second (nat_eq (f.frame % 4) 0 && nat_le (1 + length f.parameters) variables) _ (first _ (are_inside false false (not is_main) f.body) lawful)
+  parts = and_second (nat_eq (f.frame % 4) 0 && nat_le (1 + length f.parameters) variables) _ (and_first _ (are_inside false false (not is_main) f.body) lawful)
 
   pub few_parameters : 1 + length f.parameters ≤ variables
-  few_parameters = within _ variables (second _ _ numbers)
+  few_parameters = leb-true _ variables (and_second _ _ numbers)
 
   some : 0 < variables
   some = let h = few_parameters in omega (arith, h)
@@ -92,9 +91,9 @@ module _ (functions : List FormFunction) (memory variables : ℕ) (counts : ℕ 
   core_makes : (d : VariableSet) → HoldsParameters (length f.parameters) d → statements_read_set d f.body ≡ true → Makes functions false (not is_main) Anything variables d (set_behind_statements d f.body) made
   core_makes d h g =
       chain functions (λ x. statements (record { address = f.address; callee = f.callee }) f.body) (let j : variables ≤ variables = omega arith in j)
-      (parameters_make functions p f.frame (length f.parameters) f.parameters few_parameters (first _ _ parts) 1 (omega arith) (omega arith) variables d (omega arith) (λ v z. z) h)
+      (parameters_make functions p f.frame (length f.parameters) f.parameters few_parameters (and_first _ _ parts) 1 (omega arith) (omega arith) variables d (omega arith) (λ v z. z) h)
       (λ q e x o t z u a. statements_make functions (bounds_of memory variables counts f) some (record { address = f.address; callee = f.callee }) finds d f.body false false false (not is_main) (λ c. c) (λ c. c)
-      (second _ _ parts) (second _ _ lawful) bytes g q e o u)
+      (and_second _ _ parts) (and_second _ _ lawful) bytes g q e o u)
 
   -- the form of a function, where its parameters are set and its body reads nothing that isn't
   pub function_good : (d : VariableSet) → HoldsParameters (length f.parameters) d → statements_read_set d f.body ≡ true → IsGood functions false (not is_main) (form_variables p f variables) d (function_code p is_main f variables)
@@ -109,7 +108,7 @@ module _ (functions : List FormFunction) (memory variables : ℕ) (counts : ℕ 
   holds_below v h g = let low = few_parameters in grind (arith, nat_tests, h, g, low)
 
   pub reads_below : statements_read_set (below variables) f.body ≡ true
-  reads_below = statements_below (bounds_of memory variables counts f) f.body (below variables) (λ v z. z) (second _ _ parts)
+  reads_below = statements_below (bounds_of memory variables counts f) f.body (below variables) (λ v z. z) (and_second _ _ parts)
 
   pub holds_parameters : HoldsParameters (length f.parameters) (parameters_set (length f.parameters))
   holds_parameters v h g = grind (arith, nat_tests, h, g)

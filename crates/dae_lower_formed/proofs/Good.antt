@@ -1,9 +1,9 @@
 -- Code that is well made where a set of variables is set: what it names is there, what it reads was set before, a break or a
 -- continue stands in a loop, and a return where one may be.
 use Rattle.std.proofs.Common.{◌≡◌, ℕ, ◌≤◌, Bool, true, false, not, ◌&&◌, ◌||◌, nat_eq, List, [], ◌∷◌, length, refl, arith}
-use Rattle.std.proofs.lemmas.Bool.{and_parts}
-use Rattle.std.proofs.lemmas.Bool.Decides.{nat_tests}
+use Rattle.std.proofs.lemmas.Bool.{or_right, or_left, and_from}
 use Rattle.std.specs.List.{AllByRecursion}
+use Rattle.dae_base.proofs.Laws.{same_number}
 use Rattle.dae_ir.specs.Code.{Done, Do, If, Loop, Each}
 use Rattle.dae_ir.specs.Form.{Form}
 use Rattle.dae_ir.specs.Classes.{VariableSet, IsWithin, has_test}
@@ -25,26 +25,11 @@ use Rattle.dae_program.specs.SetFirst.{both}
 
 -- ---- sets
 
-pub either_way : (a b : Bool) → b ≡ true → (a || b) ≡ true
-either_way true b h = refl
-either_way false b h = h
-
-pub one_way : (a b : Bool) → a ≡ true → (a || b) ≡ true
-one_way true b h = refl
-one_way false b h = cc
-
-pub and_true : (a b : Bool) → a ≡ true → b ≡ true → (a && b) ≡ true
-and_true true b h i = i
-and_true false b h i = cc
-
-pub same_number : (v : ℕ) → nat_eq v v ≡ true
-same_number v = grind (arith, nat_tests)
-
 pub set_here : (v : ℕ) (d : VariableSet) → with_set v d v ≡ true
-set_here v d = one_way (nat_eq v v) (d v) (same_number v)
+set_here v d = or_left (nat_eq v v) (d v) (same_number v)
 
 pub set_on : (v : ℕ) (d : VariableSet) → IsWithin d (with_set v d)
-set_on v d u h = either_way (nat_eq u v) (d u) h
+set_on v d u h = or_right (nat_eq u v) (d u) h
 
 pub within_set : (v : ℕ) (c d : VariableSet) → IsWithin c d → IsWithin (with_set v c) (with_set v d)
 within_set v c d h u i = by (nat_eq u v) i where
@@ -53,10 +38,7 @@ within_set v c d h u i = by (nat_eq u v) i where
   by false i = h u i
 
 pub within_both : (c d e : VariableSet) → IsWithin c d → IsWithin c e → IsWithin c (both d e)
-within_both c d e h i v g = and_true (d v) (e v) (h v g) (i v g)
-
-pub both_within : (c d e f : VariableSet) → IsWithin c e → IsWithin d f → IsWithin (both c d) (both e f)
-both_within c d e f h i v g = let p = and_parts (c v) (d v) g in and_true (e v) (f v) (h v p.0) (i v p.1)
+within_both c d e h i v g = and_from (d v) (e v) (h v g) (i v g)
 
 pub after_grows : (d : VariableSet) (item : Item) → IsWithin d (after_item d item)
 after_grows d (Assign v x) = set_on v d
@@ -73,7 +55,7 @@ after_grows d (Halt x) = λ u h. refl
 pub assured_grows : (c : Form) (d : VariableSet) → IsWithin d (assured form_flow d c)
 assured_grows Done d v h = h
 assured_grows (Do place item k) d v h = assured_grows k (after_item d item) v (after_grows d item v h)
-assured_grows (If place t p q k) d v h = assured_grows k (both (assured form_flow d p) (assured form_flow d q)) v (and_true (assured form_flow d p v) (assured form_flow d q v) (assured_grows p d v h) (assured_grows q d v h))
+assured_grows (If place t p q k) d v h = assured_grows k (both (assured form_flow d p) (assured form_flow d q)) v (and_from (assured form_flow d p v) (assured form_flow d q v) (assured_grows p d v h) (assured_grows q d v h))
 assured_grows (Loop place body step k) d v h = assured_grows k d v h
 
 pub assured_then : (a b : Form) (d : VariableSet) → assured form_flow d (a ⨾ b) ≡ assured form_flow (assured form_flow d a) b
@@ -98,16 +80,16 @@ may_stand jumps returns (Return x) = returns
 may_stand jumps returns (Halt x) = true
 
 jump : (i r : Bool) (item : Item) → may_stand i r item ≡ true → (i || not (is_jump item)) ≡ true
-jump i r (Assign v x) h = either_way i true refl
-jump i r (Load v kind x) h = either_way i true refl
-jump i r (Store width x y) h = either_way i true refl
-jump i r (Print spelling x) h = either_way i true refl
-jump i r (Expect check) h = either_way i true refl
-jump i r Break h = one_way i false h
-jump i r Continue h = one_way i false h
-jump i r (Call v f xs) h = either_way i true refl
-jump i r (Return x) h = either_way i true refl
-jump i r (Halt x) h = either_way i true refl
+jump i r (Assign v x) h = or_right i true refl
+jump i r (Load v kind x) h = or_right i true refl
+jump i r (Store width x y) h = or_right i true refl
+jump i r (Print spelling x) h = or_right i true refl
+jump i r (Expect check) h = or_right i true refl
+jump i r Break h = or_left i false h
+jump i r Continue h = or_left i false h
+jump i r (Call v f xs) h = or_right i true refl
+jump i r (Return x) h = or_right i true refl
+jump i r (Halt x) h = or_right i true refl
 
 no_return : (i : Bool) (item : Item) → may_stand i false item ≡ true → not (is_return item) ≡ true
 no_return i (Assign v x) h = refl
@@ -204,13 +186,13 @@ module _ (functions : List Function) where
   -- no jump leads out of it, if none may stand
   pub good_stays : (i r : Bool) (n : ℕ) (c : Form) (d : VariableSet) → IsGood i r n d c → stays i c ≡ true
   good_stays i r n Done d h = refl
-  good_stays i r n (Do place item k) d h = and_true (i || not (is_jump item)) (stays i k) (jump i r item h.0.0) (good_stays i r n k (after_item d item) h.1)
-  good_stays i r n (If place t a b k) d h = and_true (stays i a) (stays i b && stays i k) (good_stays i r n a d h.1) (and_true (stays i b) (stays i k) (good_stays i r n b d h.2) (good_stays i r n k (both (assured form_flow d a) (assured form_flow d b)) h.3))
-  good_stays i r n (Loop place body step k) d h = and_true (stays true body) (stays true step && stays i k) (good_stays true r n body d h.0) (and_true (stays true step) (stays i k) (good_stays true r n step d h.1) (good_stays i r n k d h.2))
+  good_stays i r n (Do place item k) d h = and_from (i || not (is_jump item)) (stays i k) (jump i r item h.0.0) (good_stays i r n k (after_item d item) h.1)
+  good_stays i r n (If place t a b k) d h = and_from (stays i a) (stays i b && stays i k) (good_stays i r n a d h.1) (and_from (stays i b) (stays i k) (good_stays i r n b d h.2) (good_stays i r n k (both (assured form_flow d a) (assured form_flow d b)) h.3))
+  good_stays i r n (Loop place body step k) d h = and_from (stays true body) (stays true step && stays i k) (good_stays true r n body d h.0) (and_from (stays true step) (stays i k) (good_stays true r n step d h.1) (good_stays i r n k d h.2))
 
   -- nor does it return, if no return may stand
   pub good_never_returns : (i : Bool) (n : ℕ) (c : Form) (d : VariableSet) → IsGood i false n d c → never_returns c ≡ true
   good_never_returns i n Done d h = refl
-  good_never_returns i n (Do place item k) d h = and_true (not (is_return item)) (never_returns k) (no_return i item h.0.0) (good_never_returns i n k (after_item d item) h.1)
-  good_never_returns i n (If place t a b k) d h = and_true (never_returns a) (never_returns b && never_returns k) (good_never_returns i n a d h.1) (and_true (never_returns b) (never_returns k) (good_never_returns i n b d h.2) (good_never_returns i n k (both (assured form_flow d a) (assured form_flow d b)) h.3))
-  good_never_returns i n (Loop place body step k) d h = and_true (never_returns body) (never_returns step && never_returns k) (good_never_returns true n body d h.0) (and_true (never_returns step) (never_returns k) (good_never_returns true n step d h.1) (good_never_returns i n k d h.2))
+  good_never_returns i n (Do place item k) d h = and_from (not (is_return item)) (never_returns k) (no_return i item h.0.0) (good_never_returns i n k (after_item d item) h.1)
+  good_never_returns i n (If place t a b k) d h = and_from (never_returns a) (never_returns b && never_returns k) (good_never_returns i n a d h.1) (and_from (never_returns b) (never_returns k) (good_never_returns i n b d h.2) (good_never_returns i n k (both (assured form_flow d a) (assured form_flow d b)) h.3))
+  good_never_returns i n (Loop place body step k) d h = and_from (never_returns body) (never_returns step && never_returns k) (good_never_returns true n body d h.0) (and_from (never_returns step) (never_returns k) (good_never_returns true n step d h.1) (good_never_returns i n k d h.2))

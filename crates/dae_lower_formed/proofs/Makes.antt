@@ -1,6 +1,6 @@
 -- Pieces of code that are made well, one after the other.
 use Rattle.std.proofs.Common.{◌≡◌, ℕ, ◌+◌, ◌<◌, ◌≤◌, ◌^◌, Bool, true, false, ◌&&◌, if◌then◌else◌, List, [], ◌∷◌, refl, sym, subst, arith}
-use Rattle.std.proofs.lemmas.Bool.{and_parts}
+use Rattle.std.proofs.lemmas.Bool.{and_parts, and_from}
 use Rattle.std.specs.List.{AllByRecursion}
 use Rattle.dae_base.specs.declared.Place.{Place}
 use Rattle.dae_base.specs.declared.LoadKind.{LoadKind}
@@ -25,7 +25,7 @@ use Rattle.dae_meaning.specs.declared.Comparison.TheVariants.{NotEqual}
 use Rattle.dae_lower.specs.Lowering.{Made, ◌≫◌, nothing, emit, skip, one, set, variable, fetched, held, put_in, operated, narrowed, checks, may_be_zero, Spot, Local, Placed, Condition, test_of, related, isnt_zero, branches, gives, Ways, by_value}
 use Rattle.dae_program.specs.Expressions.{divides}
 use Rattle.dae_program.specs.SetFirst.{both}
-use Rattle.dae_lower_formed.proofs.Good.{and_true, set_here, set_on, assured_grows, assured_then, within_set, IsGood, IsGoodItem, good_then, good_wider, operand_wider, value_wider}
+use Rattle.dae_lower_formed.proofs.Good.{set_here, set_on, assured_grows, assured_then, within_set, IsGood, IsGoodItem, good_then, good_wider, operand_wider, value_wider}
 
 -- ---- what is given, where variables are below n and those of d are set
 
@@ -77,7 +77,7 @@ all_read n d [] h = tt
 all_read n d (x ∷ xs) h = (h.0.1, all_read n d xs h.1)
 
 pub test_fits : (n : ℕ) (d : VariableSet) (c : Comparison) (x y : Operand) → OperandFits n d x → OperandFits n d y → TestFits n d (test_of c x y)
-test_fits n d c x y h g = ((h.0, g.0), and_true (has d x) (has d y) h.1 g.1)
+test_fits n d c x y h g = ((h.0, g.0), and_from (has d x) (has d y) h.1 g.1)
 
 pub related_fits : (n : ℕ) (d : VariableSet) (c : Comparison) (turned : Bool) (x y : Operand) → OperandFits n d x → OperandFits n d y → TestFits n d (related c turned x y)
 related_fits n d c true x y h g = test_fits n d c y x g h
@@ -105,8 +105,8 @@ behind n d true p operator x y = refl
 behind n d false p operator x y = refl
 
 if_sets : (d c e : VariableSet) (turned : Bool) (p : Place) (t : Test) (a b : Form) → IsWithin c (assured form_flow d a) → IsWithin e (assured form_flow d b) → IsWithin (both c e) (assured form_flow d (if turned then If p t b a Done else If p t a b Done))
-if_sets d c e true p t a b h g = λ v z. let q = and_parts (c v) (e v) z in and_true (assured form_flow d b v) (assured form_flow d a v) (g v q.1) (h v q.0)
-if_sets d c e false p t a b h g = λ v z. let q = and_parts (c v) (e v) z in and_true (assured form_flow d a v) (assured form_flow d b v) (h v q.0) (g v q.1)
+if_sets d c e true p t a b h g = λ v z. let q = and_parts (c v) (e v) z in and_from (assured form_flow d b v) (assured form_flow d a v) (g v q.1) (h v q.0)
+if_sets d c e false p t a b h g = λ v z. let q = and_parts (c v) (e v) z in and_from (assured form_flow d a v) (assured form_flow d b v) (h v q.0) (g v q.1)
 
 module _ (functions : List Function) where
   -- Of the code that is made from variable n on, where the variables of d are set: it is good, what it sets holds the
@@ -119,8 +119,8 @@ module _ (functions : List Function) where
 
   tested : (i r : Bool) (n m : ℕ) (d : VariableSet) (b : Bool) (p : Place) (operator : Operator) (x y : Operand) → 0 < m → m ≤ n → OperandFits n d x → OperandFits n d y →
       IsGood functions i r (n + 1) d (checks b p (Expect (Zero y)) (one p (Assign n (Binary operator x y))))
-  tested i r n m d true p operator x y some l h g = ((refl, operand_wider functions n (n + 1) (omega arith) y g.0, g.1), ((refl, ((omega (arith, some, l), omega arith), (operand_wider functions n (n + 1) (omega arith) x h.0, operand_wider functions n (n + 1) (omega arith) y g.0)), and_true (has d x) (has d y) h.1 g.1), tt))
-  tested i r n m d false p operator x y some l h g = ((refl, ((omega (arith, some, l), omega arith), (operand_wider functions n (n + 1) (omega arith) x h.0, operand_wider functions n (n + 1) (omega arith) y g.0)), and_true (has d x) (has d y) h.1 g.1), tt)
+  tested i r n m d true p operator x y some l h g = ((refl, operand_wider functions n (n + 1) (omega arith) y g.0, g.1), ((refl, ((omega (arith, some, l), omega arith), (operand_wider functions n (n + 1) (omega arith) x h.0, operand_wider functions n (n + 1) (omega arith) y g.0)), and_from (has d x) (has d y) h.1 g.1), tt))
+  tested i r n m d false p operator x y some l h g = ((refl, ((omega (arith, some, l), omega arith), (operand_wider functions n (n + 1) (omega arith) x h.0, operand_wider functions n (n + 1) (omega arith) y g.0)), and_from (has d x) (has d y) h.1 g.1), tt)
 
   if_good : (i r : Bool) (n : ℕ) (d : VariableSet) (turned : Bool) (p : Place) (t : Test) (a b : Form) → TestFits n d t → IsGood functions i r n d a → IsGood functions i r n d b → IsGood functions i r n d (if turned then If p t b a Done else If p t a b Done)
   if_good i r n d true p t a b h g k = (h, k, g, tt)

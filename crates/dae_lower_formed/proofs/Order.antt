@@ -1,8 +1,9 @@
 -- What the form of a program does under small bounds is a part of what it does under large ones.
-use Rattle.std.proofs.Common.{◌≡◌, ◌≢◌, ℕ, zero, suc, ◌+◌, ◌≤◌, List, [], ◌++◌, refl, ap, sym, ◌∙◌, subst, arith, append_assoc, append-nil}
+use Rattle.std.proofs.Common.{◌≡◌, ◌≢◌, ℕ, zero, suc, ◌+◌, ◌≤◌, [], refl, sym, subst, arith}
 use Rattle.dae_meaning.specs.Results.{Result, End, Going, Astray, Halted, Trapped, world_of}
 use Rattle.dae_meaning.specs.Alike.{IsFront, IsUnder, Stays, Grows}
 use Rattle.dae_meaning.specs.Variables.{Env}
+use Rattle.dae_meaning.proofs.Laws.{front_on, front_same}
 use Rattle.dae_ir.specs.Form.{Program as FormProgram, all_loads}
 use Rattle.dae_ir.specs.Laws.{Counting, MoreTurns}
 use Rattle.dae_ir.specs.Programs.{end_of}
@@ -13,12 +14,6 @@ use Rattle.dae_lower.specs.Keeping.{IsKept, IsOver, MeaningIsKept, ProgramsKept,
 use Rattle.dae_lower.specs.Lowering.{program_form}
 use Rattle.std.specs.Prelude.{slice_get}
 use Rattle.dae_lower_formed.specs.Order.{DoesTheSame, FormsDoPrograms}
-
-front_on : (xs ys zs : List ℕ) → IsFront xs ys → IsFront ys zs → IsFront xs zs
-front_on xs ys zs a b = (a.0 ++ b.0, b.1 ∙ ap (λ l. l ++ b.0) a.1 ∙ append_assoc xs a.0 b.0)
-
-front_same : (xs : List ℕ) → IsFront xs xs
-front_same xs = ([], sym (append-nil xs))
 
 under_printed : (r q : Result Env) → IsUnder r q → IsFront (world_of r).printed (world_of q).printed
 under_printed r q (Stays t) = front_same (world_of t).printed

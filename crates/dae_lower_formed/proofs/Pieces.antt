@@ -1,6 +1,7 @@
 -- The parts of statements make good code: the loops of text and of zeros, items of aggregates, and the search for an arm.
 use Rattle.std.proofs.Common.{ℕ, zero, suc, ◌+◌, ◌<◌, ◌≤◌, ◌^◌, Bool, true, List, [], ◌∷◌, refl, arith}
 use Rattle.std.specs.List.{AllByRecursion}
+use Rattle.std.proofs.lemmas.Bool.{and_from}
 use Rattle.dae_base.specs.declared.Place.{Place}
 use Rattle.dae_ir.specs.Classes.{VariableSet, IsWithin}
 use Rattle.dae_ir.specs.SetFirst.{with_set, all_set}
@@ -15,7 +16,7 @@ use Rattle.dae_program.specs.declared.statements.Piece.TheVariants as piece
 use Rattle.dae_lower.specs.Lowering.{Made, emit, loop, text_loop, prints, zeros}
 use Rattle.dae_lower_formed.specs.Bytes.{IsByte}
 use Rattle.dae_program.specs.SetFirst.{both}
-use Rattle.dae_lower_formed.proofs.Good.{and_true, set_here, set_on, good_wider, operand_wider}
+use Rattle.dae_lower_formed.proofs.Good.{set_here, set_on, good_wider, operand_wider}
 use Rattle.dae_lower_formed.proofs.Makes.{OperandFits, AllFit, Anything, all_still, number_fits, Makes, chain, nothing_makes, item_makes}
 
 argument_fits : (n : ℕ) (d : VariableSet) (xs : List Operand) (k : ℕ) → AllFit n d xs → OperandFits n d (argument (Number 0) xs k)
@@ -54,14 +55,14 @@ module _ (functions : List Function) {i r : Bool} where
               (
                 (refl, ((omega arith, omega arith), omega arith), here),
                 (
-                  ((omega arith, omega arith), and_true (byte (n + 1)) true there refl),
+                  ((omega arith, omega arith), and_from (byte (n + 1)) true there refl),
                   tt,
                   ((refl, tt, tt), tt),
-                  ((refl, omega arith, and_true (byte (n + 1)) true there refl), tt),
+                  ((refl, omega arith, and_from (byte (n + 1)) true there refl), tt),
                 ),
               ),
             ),
-            ((refl, ((omega (arith, some, j), omega arith), (omega arith, omega arith)), and_true (at n) true here refl), tt),
+            ((refl, ((omega (arith, some, j), omega arith), (omega arith, omega arith)), and_from (at n) true here refl), tt),
             tt,
           ),
         );
@@ -91,8 +92,8 @@ module _ (functions : List Function) {i r : Bool} where
       let started = set_on (n + 1) start (n + 2) (set_here (n + 2) d) in
       let counted = set_here (n + 1) start in
       let inside = both count all_set in
-      let began = and_true (count (n + 2)) true started refl in
-      let came = and_true (count (n + 1)) true counted refl in
+      let began = and_from (count (n + 2)) true started refl in
+      let came = and_from (count (n + 1)) true counted refl in
       record {
         grows = omega arith;
         good = (
@@ -100,7 +101,7 @@ module _ (functions : List Function) {i r : Bool} where
           (
             (refl, ((omega arith, omega arith), omega arith), refl),
             (
-              (((omega arith, g), came), tt, ((refl, tt, tt), tt), ((refl, ((omega (arith, some, j), omega arith), (omega arith, omega arith)), and_true (inside (n + 2)) (inside (n + 1)) began came), ((refl, (omega arith, omega arith), (set_here n inside, refl)), tt))),
+              (((omega arith, g), came), tt, ((refl, tt, tt), tt), ((refl, ((omega (arith, some, j), omega arith), (omega arith, omega arith)), and_from (inside (n + 2)) (inside (n + 1)) began came), ((refl, (omega arith, omega arith), (set_here n inside, refl)), tt))),
               ((refl, ((omega arith, omega arith), (omega arith, omega arith)), came), tt),
               tt,
             ),

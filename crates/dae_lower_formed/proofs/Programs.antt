@@ -1,7 +1,10 @@
 -- The form of a program is well made.
-use Rattle.std.proofs.Common.{◌≡◌, ℕ, zero, suc, ◌+◌, ◌<◌, Bool, true, false, not, ◌&&◌, nat_eq, List, [], ◌∷◌, length, Option, Some, None, refl, ap, sym, ◌∙◌, subst, arith}
+use Rattle.std.proofs.Common.{◌≡◌, ℕ, zero, suc, ◌+◌, ◌<◌, Bool, true, false, not, ◌&&◌, nat_eq, List, [], ◌∷◌, length, Option, Some, None, refl, sym, ◌∙◌, subst, arith}
 use Rattle.std.specs.Prelude.{slice_get, IsTrue}
-use Rattle.std.specs.List.{list_all, AllByRecursion}
+use Rattle.std.specs.List.{list_all}
+use Rattle.std.proofs.lemmas.Option.{same_Some}
+use Rattle.std.proofs.lemmas.Bool.{eqb-true}
+use Rattle.dae_base.proofs.Laws.{passes_at, all_by_place, same_number, and_first, and_second}
 use Rattle.dae_ir.specs.Code.{Each}
 use Rattle.dae_ir.specs.Form.{Form, form_of}
 use Rattle.dae_ir.specs.Classes.{VariableSet}
@@ -19,32 +22,11 @@ use Rattle.dae_lower_formed.specs.Bytes.{PrintBytes}
 use Rattle.dae_program.specs.SetFirst.{is_set_first, statements_read_set}
 use Rattle.dae_lower_formed.specs.Formed.{form_variables, plain, IsFunctionFormOf, AreFormsOf, IsLowered, FormsScoped, below, MadeSetFirst, FormsSetFirst}
 use Rattle.dae_lower_formed.proofs.Printing.{print_bytes}
-use Rattle.dae_lower_formed.proofs.Good.{IsGood, good_names, good_first, good_stays, good_never_returns, same_number}
-use Rattle.dae_lower_formed.proofs.Expressions.{first, second, equal, FindsFunctions}
+use Rattle.dae_lower_formed.proofs.Good.{IsGood, good_names, good_first, good_stays, good_never_returns}
+use Rattle.dae_lower_formed.proofs.Expressions.{FindsFunctions}
 use Rattle.dae_lower_formed.proofs.Functions.{HoldsParameters, bounds_of, few_parameters, function_good, no_fewer, holds_below, reads_below, holds_parameters}
 
 -- ---- lists
-
-abbrev or_else : {A : Type 0} → A → Option A → A
-or_else y None = y
-or_else y (Some x) = x
-
-pub same : {A : Type 0} (x y : A) → Some x ≡ Some y → x ≡ y
-same x y e = ap (or_else x) e
-
-at : {A : Type 0} (test : A → Bool) (xs : List A) (k : ℕ) (x : A) → list_all test xs ≡ true → slice_get xs k ≡ Some x → test x ≡ true
-at test [] k x h e = absurd (let c : None ≡ Some x = e in cc)
-at test (y ∷ ys) zero x h e = subst (λ z. test z ≡ true) (same y x e) (first _ _ h)
-at test (y ∷ ys) (suc k) x h e = at test ys k x (second _ _ h) e
-
-pub each_at : {A : Type 0} (P : A → Type 0) (xs : List A) (k : ℕ) (x : A) → AllByRecursion P xs → slice_get xs k ≡ Some x → P x
-each_at P [] k x h e = absurd (let c : None ≡ Some x = e in cc)
-each_at P (y ∷ ys) zero x h e = subst P (same y x e) h.0
-each_at P (y ∷ ys) (suc k) x h e = each_at P ys k x h.1 e
-
-by_index : {A : Type 0} (P : A → Type 0) (xs : List A) → ((k : ℕ) (x : A) → slice_get xs k ≡ Some x → P x) → AllByRecursion P xs
-by_index P [] h = tt
-by_index P (x ∷ xs) h = (h 0 x refl, by_index P xs (λ k. h (suc k)))
 
 -- ---- functions and their forms
 
@@ -59,30 +41,30 @@ module _ (p : Program) where
   pub form_there : (k : ℕ) (fs : List Function) (gs : List FormFunction) → AreFormsOf p k fs gs → (j : ℕ) (f : Function) → slice_get fs j ≡ Some f → (g : FormFunction) × (slice_get gs j ≡ Some g) × IsFunctionFormOf p (k + j) f g
   form_there k [] gs a j f e = absurd (let c : None ≡ Some f = e in cc)
   form_there k (x ∷ fs) [] a j f e = absurd a
-  form_there k (x ∷ fs) (y ∷ gs) a zero f e = (y, refl, first_number k f y (subst (λ z. IsFunctionFormOf p k z y) (same x f e) a.0))
+  form_there k (x ∷ fs) (y ∷ gs) a zero f e = (y, refl, first_number k f y (subst (λ z. IsFunctionFormOf p k z y) (same_Some x f e) a.0))
   form_there k (x ∷ fs) (y ∷ gs) a (suc j) f e = let h = form_there (k + 1) fs gs a.1 j f e in (h.0, h.1, next_number k j f h.0 h.2)
 
   -- the function of a form
   pub function_there : (k : ℕ) (fs : List Function) (gs : List FormFunction) → AreFormsOf p k fs gs → (j : ℕ) (g : FormFunction) → slice_get gs j ≡ Some g → (f : Function) × (slice_get fs j ≡ Some f) × IsFunctionFormOf p (k + j) f g
   function_there k fs [] a j g e = absurd (let c : None ≡ Some g = e in cc)
   function_there k [] (y ∷ gs) a j g e = absurd a
-  function_there k (x ∷ fs) (y ∷ gs) a zero g e = (x, refl, first_number k x g (subst (λ z. IsFunctionFormOf p k x z) (same y g e) a.0))
+  function_there k (x ∷ fs) (y ∷ gs) a zero g e = (x, refl, first_number k x g (subst (λ z. IsFunctionFormOf p k x z) (same_Some y g e) a.0))
   function_there k (x ∷ fs) (y ∷ gs) a (suc j) g e = let h = function_there (k + 1) fs gs a.1 j g e in (h.0, h.1, next_number k j h.0 g h.2)
 
 module _ (p : Program) (ir : Ir) (low : IsLowered p ir) where
   placed : is_well_placed p.memory p.frames p.content p.links p.functions p.main ≡ true
-  placed = first _ (list_all (is_ready p.links p.functions) p.functions) low.lawful
+  placed = and_first _ (list_all (is_ready p.links p.functions) p.functions) low.lawful
 
   main_is : is_main p.memory p.links p.functions (slice_get p.functions p.main) ≡ true
-  main_is = second (is_lawful_memory p.memory p.frames (length p.content)) _ (first _ (list_all (spares p.main) p.links && list_all (is_lawful_in p.memory p.links p.functions true) p.functions) placed)
+  main_is = and_second (is_lawful_memory p.memory p.frames (length p.content)) _ (and_first _ (list_all (spares p.main) p.links && list_all (is_lawful_in p.memory p.links p.functions true) p.functions) placed)
 
   all_lawful : list_all (is_lawful_in p.memory p.links p.functions true) p.functions ≡ true
-  all_lawful = second (list_all (spares p.main) p.links) _ (second (is_lawful_memory p.memory p.frames (length p.content) && is_main p.memory p.links p.functions (slice_get p.functions p.main)) _ placed)
+  all_lawful = and_second (list_all (spares p.main) p.links) _ (and_second (is_lawful_memory p.memory p.frames (length p.content) && is_main p.memory p.links p.functions (slice_get p.functions p.main)) _ placed)
 
   ready_at : (k : ℕ) (f : Function) → slice_get p.functions k ≡ Some f → is_ready p.links p.functions f ≡ true
   ready_at k f e =
-      at (is_ready p.links p.functions) p.functions k f
-      (second (is_well_placed p.memory p.frames p.content p.links p.functions p.main) (list_all (is_ready p.links p.functions) p.functions) low.lawful) e
+      passes_at (is_ready p.links p.functions) p.functions k f
+      (and_second (is_well_placed p.memory p.frames p.content p.links p.functions p.main) (list_all (is_ready p.links p.functions) p.functions) low.lawful) e
 
   abbrev pub counts : Function → ℕ → Option ℕ
   counts f k = parameter_count (slice_get p.functions (let g = plain p f in g.callee k))
@@ -92,20 +74,20 @@ module _ (p : Program) (ir : Ir) (low : IsLowered p ir) where
   lawful_at k f e = by (nat_eq k p.main) refl where
     main_so : (o : Option Function) → o ≡ Some f → is_main p.memory p.links p.functions o ≡ true → is_lawful_body p.memory f.variables (counts f) false (plain p f) ≡ true
     main_so None e h = absurd (let c : false ≡ true = h in cc)
-    main_so (Some x) e h = subst (λ z. is_lawful_in p.memory p.links p.functions false z ≡ true) (same x f e) (second _ _ h)
+    main_so (Some x) e h = subst (λ z. is_lawful_in p.memory p.links p.functions false z ≡ true) (same_Some x f e) (and_second _ _ h)
 
     by : (b : Bool) → nat_eq k p.main ≡ b → is_lawful_body p.memory f.variables (counts f) (not b) (plain p f) ≡ true
-    by true i = main_so (slice_get p.functions p.main) (subst (λ (n : ℕ). slice_get p.functions n ≡ Some f) (equal k p.main i) e) main_is
-    by false i = at (is_lawful_in p.memory p.links p.functions true) p.functions k f all_lawful e
+    by true i = main_so (slice_get p.functions p.main) (subst (λ (n : ℕ). slice_get p.functions n ≡ Some f) (eqb-true k p.main i) e) main_is
+    by false i = passes_at (is_lawful_in p.memory p.links p.functions true) p.functions k f all_lawful e
 
   forms : AreFormsOf p 0 p.functions ir.functions
   forms = let g = low.form in g.functions
 
   bytes_at : (k : ℕ) (f : Function) → slice_get p.functions k ≡ Some f → PrintBytes (let g = plain p f in g.body)
-  bytes_at k f e = let g = plain p f in print_bytes g.body (second (is_set_first g) (prints_bytes g.body) (ready_at k f e))
+  bytes_at k f e = let g = plain p f in print_bytes g.body (and_second (is_set_first g) (prints_bytes g.body) (ready_at k f e))
 
   first_at : (k : ℕ) (f : Function) → slice_get p.functions k ≡ Some f → is_set_first (plain p f) ≡ true
-  first_at k f e = let g = plain p f in first (is_set_first g) (prints_bytes g.body) (ready_at k f e)
+  first_at k f e = let g = plain p f in and_first (is_set_first g) (prints_bytes g.body) (ready_at k f e)
 
   -- a call finds its function
   finds : (f : Function) → FindsFunctions ir.functions (bounds_of p.memory f.variables (counts f) (plain p f)) (record { address = (plain p f).address; callee = (plain p f).callee })
@@ -114,7 +96,7 @@ module _ (p : Program) (ir : Ir) (low : IsLowered p ir) where
     by None e h = absurd (let c : false ≡ true = h in cc)
     by (Some x) e h =
         let g = form_there p 0 p.functions ir.functions forms ((plain p f).callee j) x e in
-        subst (λ (o : Option FormFunction). TakesArguments o arguments) (sym g.1) (equal arguments (length x.parameters) h ∙ sym (let i = g.2 in i.parameters))
+        subst (λ (o : Option FormFunction). TakesArguments o arguments) (sym g.1) (eqb-true arguments (length x.parameters) h ∙ sym (let i = g.2 in i.parameters))
 
   number_is : (k : ℕ) (f : Function) (g : FormFunction) → IsFunctionFormOf p (0 + k) f g → IsFunctionFormOf p k f g
   number_is k f g h = subst (λ (n : ℕ). IsFunctionFormOf p n f g) (omega arith) h
@@ -169,19 +151,19 @@ module _ (p : Program) (ir : Ir) (low : IsLowered p ir) where
         let code = function_code f.place (nat_eq p.main p.main) (plain p f) f.variables in
         let good = subst (λ (b : Bool). IsGood ir.functions false (not b) n (below f.variables) code) (same_number p.main) (below_good p.main f e) in
         subst IsMain (sym found.1)
-        (form.parameters ∙ equal (length f.parameters) 0 (first _ _ h), subst (λ (c : Form). IsTrue (never_returns c)) (sym form.body) (good_never_returns ir.functions false n code (below f.variables) good))
+        (form.parameters ∙ eqb-true (length f.parameters) 0 (and_first _ _ h), subst (λ (c : Form). IsTrue (never_returns c)) (sym form.body) (good_never_returns ir.functions false n code (below f.variables) good))
 
     is_scoped : IsScoped ir
     is_scoped = record {
       main = subst (λ (m : ℕ). IsMain (slice_get ir.functions m)) (sym (let f = low.form in f.main)) (main_fits (slice_get p.functions p.main) refl main_is);
-      functions = by_index (FunctionIn ir.functions) ir.functions function_is;
+      functions = all_by_place (FunctionIn ir.functions) ir.functions function_is;
     }
 
   made_first : (k : ℕ) (f : Function) (g : FormFunction) → slice_get p.functions k ≡ Some f → slice_get ir.functions k ≡ Some g → IsSetFirst form_flow (below f.variables) (form_of g.body)
   made_first k f g e i =
       let found = form_there p 0 p.functions ir.functions forms k f e in
       let form = number_is k f found.0 found.2 in
-      subst (λ (h : FormFunction). IsSetFirst form_flow (below f.variables) (form_of h.body)) (same found.0 g (sym found.1 ∙ i))
+      subst (λ (h : FormFunction). IsSetFirst form_flow (below f.variables) (form_of h.body)) (same_Some found.0 g (sym found.1 ∙ i))
       (subst (λ (c : Form). IsSetFirst form_flow (below f.variables) c) (sym form.body)
       (good_first ir.functions false (not (nat_eq k p.main)) (form_variables f.place (plain p f) f.variables) (function_code f.place (nat_eq k p.main) (plain p f) f.variables) (below f.variables) (below_good k f e)))
 
@@ -204,4 +186,4 @@ pub made_set_first : MadeSetFirst
 made_set_first p ir low = made_first p ir low
 
 pub forms_set_first : FormsSetFirst
-forms_set_first p ir low = by_index IsFunctionSetFirst ir.functions (function_first p ir low)
+forms_set_first p ir low = all_by_place IsFunctionSetFirst ir.functions (function_first p ir low)

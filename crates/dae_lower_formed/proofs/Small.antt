@@ -1,4 +1,4 @@
--- How much code and how many variables are made for each expression.
+-- How much code is made for each expression.
 use Rattle.std.proofs.Common.{◌≡◌, ℕ, suc, ◌+◌, ◌*◌, ◌≤◌, Bool, true, false, ◌&&◌, if◌then◌else◌, List, [], ◌∷◌, length, refl, ap, arith}
 use Rattle.dae_base.specs.declared.Place.{Place}
 use Rattle.dae_base.specs.declared.LoadKind.{LoadKind}
@@ -6,7 +6,6 @@ use Rattle.dae_base.specs.declared.LoadKind.TheVariants.{I8, U8, I16, U16, I32}
 use Rattle.dae_base.specs.Words.{plus}
 use Rattle.dae_ir.specs.Code.{Done, Do, If, Loop}
 use Rattle.dae_ir.specs.Form.{Form}
-use Rattle.dae_ir.specs.Sizes.{form_size}
 use Rattle.dae_ir.specs.Classes.{VariableSet}
 use Rattle.dae_ir.specs.declared.form.Item.TheVariants.{Assign, Print, Expect, Call, Halt}
 use Rattle.dae_ir.specs.declared.form.Check.TheVariants.{Zero, Room, Abort}
@@ -24,9 +23,11 @@ use Rattle.dae_program.specs.Lawful.{count}
 use Rattle.dae_program.specs.Trees as tree
 use Rattle.dae_program.specs.Trees.{Expression, Target, Expressions}
 use Rattle.dae_lower.specs.Lowering.{Made, ◌⨾◌, ◌≫◌, nothing, only, emit, skip, one, set, or, assigned, assigned_all, assigned_target, variable, fetched, held, put_in, operated, narrowed, checks, may_be_zero, Spot, Local, Placed, Condition, test_of, related, isnt_zero, turn, branches, gives, Ways, by_value, chosen, advanced, stepped, Links, ways, spot, operands}
-use Rattle.dae_lower_formed.specs.Sizes.{nodes, nodes_of_target, nodes_of_all, most_made, most_made_for, most_made_of_all}
+use Rattle.dae_lower_formed.specs.Sizes.{most_made, most_made_for, most_made_of_all}
+use Rattle.dae_ir_pair.specs.Sizes.{burden}
+use Rattle.dae_lower_formed.specs.Code.{most_code, most_code_for, most_code_of_all}
 
-pub size_then : (a b : Form) → form_size (a ⨾ b) ≡ form_size a + form_size b
+pub size_then : (a b : Form) → burden (a ⨾ b) ≡ burden a + burden b
 size_then Done b = omega arith
 size_then (Do place item k) b = let h = size_then k b in omega (arith, h)
 size_then (If place t p q k) b = let h = size_then k b in omega (arith, h)
@@ -35,7 +36,7 @@ size_then (Loop place body step k) b = let h = size_then k b in omega (arith, h)
 -- Code from variable n on makes at most w variables, and is at most c large.
 pub record Small {Y : Type 0} (Is : Y → Type 0) (n w c : ℕ) (made : Made Y) : Type 0 where
   pub few : made.next ≤ n + w
-  pub small : form_size made.code ≤ c
+  pub small : burden made.code ≤ c
   pub given : Is made.given
 
 abbrev pub Any : {Y : Type 0} → Y → Type 0
@@ -60,48 +61,48 @@ sooner n h = record { few = omega (arith, h.few); small = h.small; given = h.giv
 pub nothing_small : {Y : Type 0} {Is : Y → Type 0} {n : ℕ} (y : Y) → Is y → Small Is n 0 0 (nothing y n)
 nothing_small y h = record { few = omega arith; small = omega arith; given = h }
 
-set_small : {n : ℕ} (p : Place) (x : Value) → Small Any n 1 1 (set p x n)
+set_small : {n : ℕ} (p : Place) (x : Value) → Small Any n 1 2 (set p x n)
 set_small p x = record { few = omega arith; small = omega arith; given = tt }
 
-variable_small : {n : ℕ} (b : Bool) (p : Place) (v : ℕ) → Small Any n 1 1 (variable b p v n)
+variable_small : {n : ℕ} (b : Bool) (p : Place) (v : ℕ) → Small Any n 1 2 (variable b p v n)
 variable_small true p v = set_small p (Same (Variable v))
 variable_small false p v = weaker (omega arith) (omega arith) (nothing_small (Variable v) tt)
 
-fetched_small : {n : ℕ} (p : Place) (kind : LoadKind) (checked : Bool) (x : Operand) → Small Any n 1 2 (fetched p kind checked x n)
+fetched_small : {n : ℕ} (p : Place) (kind : LoadKind) (checked : Bool) (x : Operand) → Small Any n 1 4 (fetched p kind checked x n)
 fetched_small p kind true x = record { few = omega arith; small = omega arith; given = tt }
 fetched_small p kind false x = record { few = omega arith; small = omega arith; given = tt }
 
-held_small : {n : ℕ} (p : Place) (kind : LoadKind) (copied : VariableSet) (o : Spot) → Small Any n 1 2 (held p kind copied o n)
+held_small : {n : ℕ} (p : Place) (kind : LoadKind) (copied : VariableSet) (o : Spot) → Small Any n 1 4 (held p kind copied o n)
 held_small p kind copied (Local v) = weaker (omega arith) (omega arith) (variable_small (copied v) p v)
 held_small p kind copied (Placed checked x) = fetched_small p kind checked x
 
-put_small : {n : ℕ} (p : Place) (kind : LoadKind) (o : Spot) (y : Operand) → Small Any n 0 2 (put_in p kind o y n)
+put_small : {n : ℕ} (p : Place) (kind : LoadKind) (o : Spot) (y : Operand) → Small Any n 0 4 (put_in p kind o y n)
 put_small p kind (Local v) y = record { few = omega arith; small = omega arith; given = tt }
 put_small p kind (Placed true x) y = record { few = omega arith; small = omega arith; given = tt }
 put_small p kind (Placed false x) y = record { few = omega arith; small = omega arith; given = tt }
 
-tested_small : (b : Bool) (p : Place) (n : ℕ) (v : Value) (y : Operand) → form_size (checks b p (Expect (Zero y)) (one p (Assign n v))) ≤ 2
+tested_small : (b : Bool) (p : Place) (n : ℕ) (v : Value) (y : Operand) → burden (checks b p (Expect (Zero y)) (one p (Assign n v))) ≤ 4
 tested_small true p n v y = omega arith
 tested_small false p n v y = omega arith
 
-operated_small : {n : ℕ} (p : Place) (operator : Operator) (x y : Operand) → Small Any n 1 2 (operated p operator x y n)
+operated_small : {n : ℕ} (p : Place) (operator : Operator) (x y : Operand) → Small Any n 1 4 (operated p operator x y n)
 operated_small {n} p operator x y = record { few = omega arith; small = tested_small (divides operator && may_be_zero y) p n (Binary operator x y) y; given = tt }
 
-narrowed_small : {n : ℕ} (p : Place) (kind : LoadKind) (x : Operand) → Small Any n 1 1 (narrowed p kind x n)
+narrowed_small : {n : ℕ} (p : Place) (kind : LoadKind) (x : Operand) → Small Any n 1 2 (narrowed p kind x n)
 narrowed_small p I32 x = weaker (omega arith) (omega arith) (nothing_small x tt)
 narrowed_small p I8 x = set_small p (Extended I8 x)
 narrowed_small p U8 x = set_small p (Extended U8 x)
 narrowed_small p I16 x = set_small p (Extended I16 x)
 narrowed_small p U16 x = set_small p (Extended U16 x)
 
-gives_small : {n : ℕ} (p : Place) (v : ℕ) (x : Operand) → Small Any n 0 1 (gives p v x n)
+gives_small : {n : ℕ} (p : Place) (v : ℕ) (x : Operand) → Small Any n 0 2 (gives p v x n)
 gives_small p v x = record { few = omega arith; small = omega arith; given = tt }
 
-if_size : (turned : Bool) (p : Place) (t : Test) (a b : Form) → form_size (if turned then If p t b a Done else If p t a b Done) ≡ 1 + (form_size a + form_size b)
+if_size : (turned : Bool) (p : Place) (t : Test) (a b : Form) → burden (if turned then If p t b a Done else If p t a b Done) ≡ 2 + (burden a + burden b)
 if_size true p t a b = omega arith
 if_size false p t a b = omega arith
 
-pub branches_small : {made : Made Condition} {n w c v d u e : ℕ} (p : Place) (f g : ℕ → Made (Unit {0})) → Small Any n w c made → ((q : ℕ) → Small Any q v d (f q)) → ((q : ℕ) → Small Any q u e (g q)) → Small Any n (w + (v + u)) (c + (1 + (d + e))) (branches p made f g)
+pub branches_small : {made : Made Condition} {n w c v d u e : ℕ} (p : Place) (f g : ℕ → Made (Unit {0})) → Small Any n w c made → ((q : ℕ) → Small Any q v d (f q)) → ((q : ℕ) → Small Any q u e (g q)) → Small Any n (w + (v + u)) (c + (2 + (d + e))) (branches p made f g)
 branches_small {made} {n} {w} {c} {v} {d} {u} {e} p f g h hf hg = record {
   few = omega (arith, h.few, yes.few, no.few);
   small = let s = size_then made.code (if made.given.turned then If p made.given.test (g (f made.next).next).code (f made.next).code Done else If p made.given.test (f made.next).code (g (f made.next).next).code Done) in
@@ -133,12 +134,12 @@ value_effect f h later n = weaker (omega arith) (omega arith) (chain (λ x. skip
 by_value_small : {w c : ℕ} (f : VariableSet → ℕ → Made Operand) → ValueSmall w c f → WaysSmall w c (by_value f)
 by_value_small f h = record { value = h; effect = value_effect f h; condition = value_condition f h }
 
-advanced_small : {n : ℕ} (p : Place) (kind : LoadKind) (change : ℕ) (o : Spot) (x : Operand) → Small Any n 2 4 (advanced p kind change o x n)
+advanced_small : {n : ℕ} (p : Place) (kind : LoadKind) (change : ℕ) (o : Spot) (x : Operand) → Small Any n 2 8 (advanced p kind change o x n)
 advanced_small p kind change o x =
     weaker (omega arith) (omega arith) (chain (λ z n. narrowed p kind z n ≫ put_in p kind o) (set_small p (Binary Add x (Number change)))
     (λ q y t. chain (put_in p kind o) (narrowed_small p kind y) (λ q y t. put_small p kind o y)))
 
-stepped_small : {w c n : ℕ} (p : Place) (kind : LoadKind) (f : VariableSet → ℕ → Made Spot) (change : ℕ) (new : Bool) (copied later : VariableSet) → Small Any n w c (f later n) → Small Any n (3 + w) (6 + c) (stepped p kind f change new copied later n)
+stepped_small : {w c n : ℕ} (p : Place) (kind : LoadKind) (f : VariableSet → ℕ → Made Spot) (change : ℕ) (new : Bool) (copied later : VariableSet) → Small Any n w c (f later n) → Small Any n (3 + w) (12 + c) (stepped p kind f change new copied later n)
 stepped_small p kind f change new copied later h =
     weaker (omega arith) (omega arith) (chain (λ o n. held p kind copied o n ≫ λ x n. advanced p kind change o x n ≫ λ y. nothing (if new then y else x)) h
     (λ q o t. chain (λ x n. advanced p kind change o x n ≫ λ y. nothing (if new then y else x)) (held_small p kind copied o)
@@ -148,35 +149,35 @@ stepped_small p kind f change new copied later h =
 chosen_small : {w c : ℕ} {n : ℕ} (made : Made (Unit {0})) → Small Any (n + 1) w c made → Small Any n (1 + w) c (made ≫ λ x. nothing (Variable n))
 chosen_small {w} {c} {n} made h = sooner n (weaker (omega arith) (omega arith) (chain (λ x. nothing (Variable n)) h (λ q y t. nothing_small (Variable n) tt)))
 
--- the nodes of arguments, themselves left out
-abbrev inner_nodes : Expressions → ℕ
-inner_nodes tree.no_expressions = 0
-inner_nodes (tree.expression_then a xs) = nodes a + inner_nodes xs
+-- the code of arguments, without what the call has for them
+abbrev pub inner_code : Expressions → ℕ
+inner_code tree.no_expressions = 0
+inner_code (tree.expression_then a xs) = most_code a + inner_code xs
 
-pub inner_and_count : (xs : Expressions) → inner_nodes xs + count xs ≡ nodes_of_all xs
+pub inner_and_count : (xs : Expressions) → inner_code xs + 2 * count xs ≡ most_code_of_all xs
 inner_and_count tree.no_expressions = refl
 inner_and_count (tree.expression_then a xs) = let h = inner_and_count xs in omega (arith, h)
 
-called : (n k : ℕ) (p : Place) (f : ℕ) (ys : List Operand) → length ys ≡ k → Small Any n 1 (2 + k) (only (Do p (Expect (Room f)) (one p (Call n f ys))) (Variable n) (n + 1))
+called : (n k : ℕ) (p : Place) (f : ℕ) (ys : List Operand) → length ys ≡ k → Small Any n 1 (7 + 2 * k) (only (Do p (Expect (Room f)) (one p (Call n f ys))) (Variable n) (n + 1))
 called n k p f ys h = record { few = omega arith; small = omega (arith, h); given = tt }
 
-printed : (n : ℕ) (p : Place) (y : Operand) → Small Any n 0 1 (only (one p (Print Byte y)) y n)
+printed : (n : ℕ) (p : Place) (y : Operand) → Small Any n 0 2 (only (one p (Print Byte y)) y n)
 printed n p y = record { few = omega arith; small = omega arith; given = tt }
 
-print_small : (n : ℕ) (p : Place) (y : Operand) → Small Any n 0 1 (emit (one p (Print Byte y)) n)
+print_small : (n : ℕ) (p : Place) (y : Operand) → Small Any n 0 2 (emit (one p (Print Byte y)) n)
 print_small n p y = record { few = omega arith; small = omega arith; given = tt }
 
-halt_small : (n : ℕ) (p : Place) (y : Operand) → Small Any n 0 1 (only (one p (Halt y)) (Number 0) n)
+halt_small : (n : ℕ) (p : Place) (y : Operand) → Small Any n 0 2 (only (one p (Halt y)) (Number 0) n)
 halt_small n p y = record { few = omega arith; small = omega arith; given = tt }
 
 module _ (l : Links) where
   mutual
-    pub expression_small : (e : Expression) → WaysSmall (most_made e) (10 * nodes e) (ways l e)
+    pub expression_small : (e : Expression) → WaysSmall (most_made e) (most_code e) (ways l e)
     expression_small (tree.Number k) = by_value_small (λ later. nothing (Number k)) (λ later n. weaker (omega arith) (omega arith) (nothing_small (Number k) tt))
     expression_small (tree.Address object offset) = by_value_small (λ later. nothing (Number (plus (l.address object) offset))) (λ later n. weaker (omega arith) (omega arith) (nothing_small (Number (plus (l.address object) offset)) tt))
     expression_small (tree.Frame p offset) = by_value_small (λ later. set p (FrameAddress offset)) (λ later n. weaker (omega arith) (omega arith) (set_small p (FrameAddress offset)))
     expression_small (tree.Variable p v) =
-        let h : ValueSmall 1 10 (λ later n. variable (later v) p v n) = λ later n. weaker (omega arith) (omega arith) (variable_small (later v) p v) in
+        let h : ValueSmall 1 2 (λ later n. variable (later v) p v n) = λ later n. weaker (omega arith) (omega arith) (variable_small (later v) p v) in
         record {
           value = h;
           effect = λ later n. weaker (omega arith) (omega arith) (nothing_small tt tt);
@@ -185,7 +186,7 @@ module _ (l : Links) where
     expression_small (tree.Read p kind checked a) =
         by_value_small (ways l (tree.Read p kind checked a)).value (λ later n. weaker (omega arith) (omega arith) (chain (fetched p kind checked) ((expression_small a).value later n) (λ q y t. fetched_small p kind checked y)))
     expression_small (tree.Convert p kind a) =
-        let h : ValueSmall (1 + most_made a) (10 * (1 + nodes a)) (λ later n. (ways l a).value later n ≫ narrowed p kind) = λ later n. weaker (omega arith) (omega arith) (chain (narrowed p kind) ((expression_small a).value later n) (λ q y t. narrowed_small p kind y)) in
+        let h : ValueSmall (1 + most_made a) (2 + most_code a) (λ later n. (ways l a).value later n ≫ narrowed p kind) = λ later n. weaker (omega arith) (omega arith) (chain (narrowed p kind) ((expression_small a).value later n) (λ q y t. narrowed_small p kind y)) in
         record {
           value = h;
           effect = λ later n. weaker (omega arith) (omega arith) ((expression_small a).effect later n);
@@ -216,7 +217,7 @@ module _ (l : Links) where
         (λ q. branches_small p _ _ ((expression_small b).condition later q) (λ q. gives_small p n (Number 1)) (λ q. gives_small p n (Number 0))))))
     expression_small (tree.Conditional p a b c) =
         let s = or (assigned b) (assigned c) in
-        let h : ValueSmall (1 + (most_made a + (most_made b + most_made c))) (10 * (1 + (nodes a + (nodes b + nodes c)))) (chosen p s (ways l a) (ways l b) (ways l c)) = λ later n. weaker (omega arith) (omega arith) (chosen_small _ (branches_small p _ _ ((expression_small a).condition (or later s) (n + 1))
+        let h : ValueSmall (1 + (most_made a + (most_made b + most_made c))) (6 + (most_code a + (most_code b + most_code c))) (chosen p s (ways l a) (ways l b) (ways l c)) = λ later n. weaker (omega arith) (omega arith) (chosen_small _ (branches_small p _ _ ((expression_small a).condition (or later s) (n + 1))
         (λ q. chain (gives p n) ((expression_small b).value later q) (λ q y t. gives_small p n y))
         (λ q. chain (gives p n) ((expression_small c).value later q) (λ q y t. gives_small p n y)))) in
         record {
@@ -240,7 +241,7 @@ module _ (l : Links) where
         (λ q y u. chain (λ z n. narrowed p kind z n ≫ put_in p kind o) (operated_small p operator x y)
         (λ q z u. chain (put_in p kind o) (narrowed_small p kind z) (λ q y u. put_small p kind o y)))))))
     expression_small (tree.Step p kind t change new) =
-        let h : ValueSmall (3 + most_made_for t) (10 * (1 + nodes_of_target t)) (λ later n. stepped p kind (spot l t) change new (if new then later else or later (assigned_target t)) later n) =
+        let h : ValueSmall (3 + most_made_for t) (12 + most_code_for t) (λ later n. stepped p kind (spot l t) change new (if new then later else or later (assigned_target t)) later n) =
         λ later n. weaker (omega arith) (omega arith) (stepped_small p kind (spot l t) change new (if new then later else or later (assigned_target t)) later (target_small t later n)) in
         record {
           value = h;
@@ -250,7 +251,7 @@ module _ (l : Links) where
     expression_small (tree.Call p f xs) =
         by_value_small (ways l (tree.Call p f xs)).value (λ later n. weaker (omega arith) (let h = inner_and_count xs in omega (arith, h)) (chain (λ xs n. only (Do p (Expect (Room (l.callee f))) (one p (Call n (l.callee f) xs))) (Variable n) (n + 1)) (operands_small xs later n) (λ q ys t. called q (count xs) p (l.callee f) ys t)))
     expression_small (tree.Putchar p a) =
-        let h : ValueSmall (1 + most_made a) (10 * (1 + nodes a)) (λ later n. (ways l a).value later n ≫ λ x n. only (one p (Print Byte x)) x n ≫ λ x. set p (Extended U8 x)) =
+        let h : ValueSmall (1 + most_made a) (4 + most_code a) (λ later n. (ways l a).value later n ≫ λ x n. only (one p (Print Byte x)) x n ≫ λ x. set p (Extended U8 x)) =
         λ later n. weaker (omega arith) (omega arith) (chain (λ x n. only (one p (Print Byte x)) x n ≫ λ x. set p (Extended U8 x)) ((expression_small a).value later n)
         (λ q y t. chain (λ x. set p (Extended U8 x)) (printed q p y) (λ q y t. set_small p (Extended U8 y)))) in
         record {
@@ -262,11 +263,11 @@ module _ (l : Links) where
         by_value_small (ways l (tree.Exit p a)).value (λ later n. weaker (omega arith) (omega arith) (chain (λ x. only (one p (Halt x)) (Number 0)) ((expression_small a).value later n) (λ q y t. halt_small q p y)))
     expression_small (tree.Abort p) = by_value_small (λ later. only (one p (Expect Abort)) (Number 0)) (λ later n. record { few = omega arith; small = omega arith; given = tt })
 
-    target_small : (t : Target) (later : VariableSet) (n : ℕ) → Small Any n (most_made_for t) (10 * nodes_of_target t) (spot l t later n)
+    target_small : (t : Target) (later : VariableSet) (n : ℕ) → Small Any n (most_made_for t) (most_code_for t) (spot l t later n)
     target_small (tree.InVariable v) later n = nothing_small (Local v) tt
     target_small (tree.AtAddress checked a) later n = weaker (omega arith) (omega arith) (chain (λ x. nothing (Placed checked x)) ((expression_small a).value later n) (λ q y t. nothing_small (Placed checked y) tt))
 
-    pub operands_small : (xs : Expressions) (later : VariableSet) (n : ℕ) → Small (λ (ys : List Operand). length ys ≡ count xs) n (most_made_of_all xs) (10 * inner_nodes xs) (operands l xs later n)
+    pub operands_small : (xs : Expressions) (later : VariableSet) (n : ℕ) → Small (λ (ys : List Operand). length ys ≡ count xs) n (most_made_of_all xs) (inner_code xs) (operands l xs later n)
     operands_small tree.no_expressions later n = nothing_small [] refl
     operands_small (tree.expression_then a xs) later n =
         weaker (omega arith) (omega arith) (chain (λ x n. operands l xs later n ≫ λ xs. nothing (x ∷ xs)) ((expression_small a).value (or later (assigned_all xs)) n)

@@ -1,7 +1,9 @@
 -- Switches make good code, where the code of their arms is good.
 use Rattle.std.proofs.Common.{◌≡◌, ℕ, suc, ◌+◌, ◌<◌, ◌≤◌, ◌^◌, Bool, true, false, if◌then◌else◌, List, [], ◌∷◌, Option, Some, None, refl, arith}
 use Rattle.std.specs.List.{list_all}
+use Rattle.std.proofs.lemmas.Bool.{and_from, ltb-true}
 use Rattle.dae_base.specs.declared.Place.{Place}
+use Rattle.dae_base.proofs.Laws.{and_first, and_second}
 use Rattle.dae_ir.specs.Form.{Form}
 use Rattle.dae_ir.specs.Classes.{VariableSet, IsWithin, has}
 use Rattle.dae_ir.specs.Scope.{IsTarget}
@@ -15,9 +17,8 @@ use Rattle.dae_program.specs.Trees as tree
 use Rattle.dae_program.specs.Trees.{Arms}
 use Rattle.dae_lower.specs.Lowering.{Made, ◌⨾◌, emit, one, search_labels, search, switch}
 use Rattle.dae_program.specs.SetFirst.{both}
-use Rattle.dae_lower_formed.proofs.Good.{and_true, set_here, set_on, assured_grows, IsGood, good_then}
+use Rattle.dae_lower_formed.proofs.Good.{set_here, set_on, assured_grows, IsGood, good_then}
 use Rattle.dae_lower_formed.proofs.Makes.{OperandFits, Anything, operand_still, Makes}
-use Rattle.dae_lower_formed.proofs.Expressions.{first, second, below}
 
 abbrev pub AreLabelWords : Arms → Type 0
 AreLabelWords tree.no_arms = Unit {0}
@@ -37,10 +38,10 @@ module _ (functions : List Function) (returns : Bool) where
   labels_good p x v k [] rest t h g d f next = next d (λ u z. z)
   labels_good p x v k (None ∷ labels) rest t h g d f next = labels_good p x v k labels rest t h g d f next
   labels_good {n} p x v k (Some label ∷ labels) rest t h g d f next = (
-    ((f.0, below label (2 ^ 32) (first _ _ g)), and_true (has d x) true f.1 refl),
+    ((f.0, ltb-true label (2 ^ 32) (and_first _ _ g)), and_from (has d x) true f.1 refl),
     ((refl, (t, h), refl), ((refl, tt, tt), tt)),
     tt,
-    labels_good p x v k labels rest t h (second _ _ g) (both all_set d) (operand_still n n d (both all_set d) (omega arith) (λ u z. z) x f) (λ e z. next e (λ u y. z u y)),
+    labels_good p x v k labels rest t h (and_second _ _ g) (both all_set d) (operand_still n n d (both all_set d) (omega arith) (λ u z. z) x f) (λ e z. next e (λ u y. z u y)),
   )
 
   pub search_good : {n : ℕ} (p : Place) (x : Operand) (v k : ℕ) (arms : Arms) → IsTarget n v → k + count_arms arms < 2 ^ 32 → AreLabelWords arms → (d : VariableSet) → OperandFits n d x → IsGood functions true returns n d (search p x v k arms)
@@ -73,7 +74,7 @@ module _ (functions : List Function) (returns : Bool) where
             (
               arms_then_break last p flagged arms (ha flagged on (set_on (n + 1) at n (set_here n d))),
               ((refl, ((omega arith, omega (arith, l)), omega arith), refl), ((refl, tt, tt), tt)),
-              (((omega (arith, l), omega arith), and_true (flagged (n + 1)) true here refl), ((out refl, tt, tt), tt), tt, tt),
+              (((omega (arith, l), omega arith), and_from (flagged (n + 1)) true here refl), ((out refl, tt, tt), tt), tt, tt),
             ),
           ),
         ),

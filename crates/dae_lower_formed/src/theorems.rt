@@ -1,5 +1,6 @@
 // What is proved of the forms of programs in memory.
 
+ghost use Rattle.dae_lower_formed.specs.Code.{CodeWithin};
 ghost use Rattle.dae_lower_formed.specs.Formed.{FormsScoped, FormsSetFirst, MadeSetFirst};
 ghost use Rattle.dae_lower_formed.specs.Order.{FormsDoPrograms, LoweredDoPrograms};
 ghost use Rattle.dae_lower_formed.specs.Sizes.{FormsSmall};
@@ -36,6 +37,11 @@ pub fn forms_do_programs()
 /// 10 items of code for each node.
 pub fn forms_small()
     ensures { FormsSmall }
+{}
+
+/// The form of a function weighs at most what is counted of its tree, node by node.
+pub fn code_within()
+    ensures { CodeWithin }
 {}
 
 /// The same of a form in memory that is a program's, with a limit of at least one call: it does what the program does.

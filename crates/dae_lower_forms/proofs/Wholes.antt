@@ -109,9 +109,6 @@ by_plain p links k f g e h = record {
 pub links_there : (p : Program) (links : Links) (k : ℕ) (f : Function) (g : FormFunction) → slice_get p.links f.file ≡ Some links → IsFormWith (length p.functions) links (nat_eq k p.main) f g → IsFunctionFormOf p k f g
 links_there p links k f g e = by_plain p links k f g (ap (λ o. view_with (length p.functions) o f) (sym e))
 
-abbrev no_links : Links
-no_links = record { addresses = []; functions = [] }
-
 pub links_missing : (p : Program) (links : Links) (k : ℕ) (f : Function) (g : FormFunction) → slice_get p.links f.file ≡ None → links.addresses ≡ [] → links.functions ≡ [] → IsFormWith (length p.functions) links (nat_eq k p.main) f g → IsFunctionFormOf p k f g
 links_missing p links k f g e a b = by_plain p links k f g (ap (λ (xs : List ℕ). of xs links.functions) a ∙ ap (of []) b ∙ ap (λ o. view_with (length p.functions) o f) (sym e)) where
   of : List ℕ → List ℕ → tree.Function

@@ -1,7 +1,6 @@
 -- Numbers in lists, one for each variable.
 use Rattle.std.proofs.Common.{◌≡◌, ℕ, zero, suc, ◌+◌, ◌-◌, ◌<◌, ◌≤◌, List, [], ◌∷◌, ◌++◌, length, get_or, take, set, replicate, nat_eq, if◌then◌else◌, refl, ap, sym, ◌∙◌, slice_index, arith}
-use Rattle.std.specs.Prelude.{true, false}
-use Rattle.std.proofs.lemmas.Bool.Decides.{nat_tests}
+use Rattle.dae_base.proofs.Laws.{suc_suc, suc_zero, zero_suc, same_number}
 use Rattle.dae_lower_maker.specs.Counting.{Counts, both, once}
 
 taken : (xs : List ℕ) (n : ℕ) → length xs ≤ n → take n xs ≡ xs
@@ -30,24 +29,12 @@ pub resized : (xs ys : List ℕ) (n k : ℕ) → length xs ≤ n → ys ≡ take
 resized xs ys n k h e = λ i v. (ap (λ zs. slice_index zs v) e ∙ (ap (λ zs. slice_index (zs ++ replicate k 0) v) (taken xs n h) ∙ filled xs k v)) i
 
 -- 1 for the variable itself, and 0 for another
-same_suc : (u v : ℕ) → nat_eq (suc u) (suc v) ≡ nat_eq u v
-same_suc u v = grind (arith, nat_tests)
-
-suc_zero : (u : ℕ) → nat_eq (suc u) 0 ≡ false
-suc_zero u = grind (arith, nat_tests)
-
-zero_suc : (u : ℕ) → nat_eq 0 (suc u) ≡ false
-zero_suc u = grind (arith, nat_tests)
-
-itself : (u : ℕ) → nat_eq u u ≡ true
-itself u = grind (arith, nat_tests)
-
 raised_at : (xs : List ℕ) (v u n : ℕ) → v < length xs → n ≡ get_or xs v 0 + 1 → get_or (set xs v n) u 0 ≡ get_or xs u 0 + (if nat_eq u v then 1 else 0)
 raised_at [] v u n h e = absurd (omega (arith, h))
 raised_at (x ∷ xs) zero zero n h e = e
 raised_at (x ∷ xs) zero (suc u) n h e = rw (suc_zero u) (sym (plus_zero (get_or xs u 0)))
 raised_at (x ∷ xs) (suc v) zero n h e = rw (zero_suc v) (sym (plus_zero x))
-raised_at (x ∷ xs) (suc v) (suc u) n h e = rw (same_suc u v) (raised_at xs v u n (omega (arith, h)) e)
+raised_at (x ∷ xs) (suc v) (suc u) n h e = rw (suc_suc u v) (raised_at xs v u n (omega (arith, h)) e)
 
 pub raised : (xs : List ℕ) (c : Counts) (v n : ℕ) → slice_index xs ≡ c → v < length xs → n ≡ get_or xs v 0 + 1 → slice_index (set xs v n) ≡ both c (once v)
 raised xs c v n e h k = λ i u. (raised_at xs v u n h k ∙ ap (λ (d : Counts). d u + (if nat_eq u v then 1 else 0)) e) i
@@ -57,7 +44,7 @@ dropped_at [] v u n h e = absurd (omega (arith, h))
 dropped_at (x ∷ xs) zero zero n h e = e
 dropped_at (x ∷ xs) zero (suc u) n h e = rw (suc_zero u) (sym (minus_zero (get_or xs u 0)))
 dropped_at (x ∷ xs) (suc v) zero n h e = rw (zero_suc v) (sym (minus_zero x))
-dropped_at (x ∷ xs) (suc v) (suc u) n h e = rw (same_suc u v) (dropped_at xs v u n (omega (arith, h)) e)
+dropped_at (x ∷ xs) (suc v) (suc u) n h e = rw (suc_suc u v) (dropped_at xs v u n (omega (arith, h)) e)
 
 taken_off : (a b k : ℕ) → a ≡ b + k → a - k ≡ b
 taken_off a b k e = omega (arith, e)
@@ -71,7 +58,7 @@ past (x ∷ xs) zero h = absurd (omega (arith, h))
 past (x ∷ xs) (suc v) h = past xs v (omega (arith, h))
 
 once_at : (v : ℕ) → once v v ≡ 1
-once_at v = rw (itself v) refl
+once_at v = rw (same_number v) refl
 
 -- what is past the end isn't counted
 pub never_dropped : {A : Type 0} (xs : List ℕ) (v : ℕ) → length xs ≤ v → (rest : Counts) → slice_index xs ≡ both rest (once v) → A

@@ -10,7 +10,7 @@ use Rattle.dae_ir.specs.declared.form.Operand.TheVariants.{Variable, Number}
 use Rattle.dae_ir.specs.declared.form.Value.TheVariants.{FrameAddress}
 use Rattle.dae_lower.specs.Lowering.{Links, effect_of_some, emit, leave_unless, leave_unless_some, loop, one, parameters_stored, prints, settings, skip, statements, text_loop, ways, nowhere, zeros, ◌≫◌}
 use Rattle.dae_lower_programs.proofs.Rows.{seam_one, seam_two}
-use Rattle.dae_lower_programs.proofs.Views.{statements_at, statements_end}
+use Rattle.dae_program.proofs.LawsOfTrees.{statements_at, statements_end}
 use Rattle.dae_meaning.specs.declared.Spelling.TheVariants.{Byte}
 use Rattle.dae_program.specs.declared.program.Slot.{Slot}
 use Rattle.dae_program.specs.declared.statements.Piece.{Piece}
@@ -64,9 +64,3 @@ made_end l xs i le = ap (statements l) (statements_end xs i le)
 parameters_first : (p : Place) (x : Option Slot) (xs : List (Option Slot)) (k n : ℕ) → parameters_stored p (x ∷ xs) k n ≡ (parameters_stored p (x ∷ []) k n ≫ λ u. parameters_stored p xs (k + 1))
 parameters_first p None xs k n = refl
 parameters_first p (Some slot) xs k n = seam_one (emit (Do p (Assign n (FrameAddress slot.offset)) (one p (Store slot.width (Variable n) (Variable k)))) (n + 1)) (parameters_stored p xs (k + 1))
-
-pub parameters_at : (p : Place) (xs : List (Option Slot)) (k i : ℕ) (x : Option Slot) → i < length xs → x ≡ get_or xs i x → (n : ℕ) → parameters_stored p (drop i xs) k n ≡ (parameters_stored p (x ∷ []) k n ≫ λ u. parameters_stored p (drop (i + 1) xs) (k + 1))
-parameters_at p xs k i x lt is n = ap (λ ys. parameters_stored p ys k n) (drop_at xs i x lt is) ∙ parameters_first p x (drop (i + 1) xs) k n
-
-pub parameters_end : (p : Place) (xs : List (Option Slot)) (k i : ℕ) → length xs ≤ i → parameters_stored p (drop i xs) k ≡ skip
-parameters_end p xs k i le = ap (λ ys. parameters_stored p ys k) (drop_all i xs le)

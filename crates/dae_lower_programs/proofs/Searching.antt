@@ -9,8 +9,7 @@ use Rattle.dae_ir.specs.declared.form.Item.TheVariants.{Break}
 use Rattle.dae_ir.specs.declared.form.Operand.{Operand}
 use Rattle.dae_ir.specs.declared.form.Statement.{Statement as FormStatement, Simple}
 use Rattle.dae_lower.specs.Lowering.{arms_continue, continues, search, search_labels, ◌⨾◌}
-use Rattle.dae_lower_programs.proofs.Views.{arms_at, arms_end, statements_at}
-use Rattle.dae_lower_programs.specs.Made.{arms_of}
+use Rattle.dae_program.proofs.LawsOfTrees.{arms_at, arms_end, statements_at}
 use Rattle.dae_lower_programs.specs.Parts.{label_then}
 use Rattle.dae_lower_maker.proofs.Laws.{behind_behind, form_of_pushed}
 use Rattle.dae_program.specs.declared.statements.Arm.{Arm}
@@ -18,7 +17,7 @@ use Rattle.dae_program.specs.declared.statements.Statement.{Statement}
 use Rattle.dae_program.specs.declared.statements.Statement.TheVariants as statement
 use Rattle.dae_program.specs.Switches.{arm_with, count_arms, has_label}
 use Rattle.dae_program.specs.Trees as tree
-use Rattle.dae_program.specs.Views.{row_then, statement_then, view_arms, view_statements}
+use Rattle.dae_program.specs.Views.{row_then, statement_then, view_arms, view_statements, arms_of}
 
 -- ---- the default
 

@@ -12,13 +12,13 @@ use Rattle.dae_lower_expressions.specs.Lowered.{State, Whole}
 use Rattle.dae_lower_programs.proofs.Parted.{going_on, noted}
 use Rattle.dae_lower_programs.proofs.Rows.{two_codes}
 use Rattle.dae_lower_programs.proofs.Searching.{one_more}
-use Rattle.dae_lower_programs.proofs.Views.{arms_at, arms_end}
-use Rattle.dae_lower_programs.specs.Made.{WholeBlock, arms_of}
+use Rattle.dae_program.proofs.LawsOfTrees.{arms_at, arms_end}
+use Rattle.dae_lower_programs.specs.Made.{WholeBlock}
 use Rattle.dae_lower_programs.specs.Switching.{arm_done, switch_begun, switch_ended}
 use Rattle.dae_meaning.specs.declared.Comparison.TheVariants.{AtLeastUnsigned}
 use Rattle.dae_program.specs.declared.statements.Arm.{Arm}
 use Rattle.dae_program.specs.Trees as tree
-use Rattle.dae_program.specs.Views.{view_statements}
+use Rattle.dae_program.specs.Views.{view_statements, arms_of}
 
 -- an arm of a number
 abbrev pub arm_made : Links → Place → (v k : ℕ) → tree.Statements → ℕ → Made (Unit {0})

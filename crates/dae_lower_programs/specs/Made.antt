@@ -9,11 +9,6 @@ use Rattle.dae_program.specs.declared.statements.Arm.{Arm}
 use Rattle.dae_program.specs.Trees.{Arms, no_arms, arm_then}
 use Rattle.dae_program.specs.Views.{view_statements}
 
--- arms in memory as plain data
-abbrev pub arms_of : List Arm → Arms
-arms_of [] = no_arms
-arms_of (arm ∷ arms) = arm_then arm.labels.items (view_statements arm.statements.items) (arms_of arms)
-
 -- nothing is still to come before and behind, and what is made are statements of their own
 pub record WholeBlock (made : ℕ → Made (Unit {0})) (a b : State) (inner : List Statement) : Type 0 where
   pub by : a.later ≡ never → (b.later ≡ never) × IsBlock (made a.written.next) a.written b.written inner

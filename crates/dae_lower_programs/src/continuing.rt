@@ -2,9 +2,8 @@
 
 ghost use Rattle.std.specs.Prelude.{◌≡◌};
 ghost use Rattle.dae_lower.specs.Lowering.{arms_continue, continues};
-ghost use Rattle.dae_lower_programs.specs.Made.{arms_of};
 ghost use Rattle.dae_program.specs.Trees.{Done};
-ghost use Rattle.dae_program.specs.Views.{statement_then, view_statements};
+ghost use Rattle.dae_program.specs.Views.{statement_then, view_statements, arms_of};
 
 use dae_program::{Arm, Statement};
 

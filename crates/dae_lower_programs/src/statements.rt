@@ -4,10 +4,10 @@ ghost use Rattle.std.specs.Prelude.{IfOk};
 ghost use Rattle.dae_lower.specs.Lowering.{arms_from, effect_of_some, leave_unless};
 ghost use Rattle.dae_lower.specs.Lowering.{leave_unless_some, statements};
 ghost use Rattle.dae_lower_expressions.specs.Lowered.{MakesWhole, links_in};
-ghost use Rattle.dae_lower_programs.specs.Made.{MakesBlock, arms_of};
+ghost use Rattle.dae_lower_programs.specs.Made.{MakesBlock};
 ghost use Rattle.dae_lower_programs.specs.Switching.{switch_on};
 ghost use Rattle.dae_program.specs.Trees.{Done, Initialise, Return};
-ghost use Rattle.dae_program.specs.Views.{statement_then, view, view_settings, view_some, view_statements};
+ghost use Rattle.dae_program.specs.Views.{statement_then, view, view_settings, view_some, view_statements, arms_of};
 
 use crate::blocks::single;
 use crate::continuing::arms_continue;

@@ -4,7 +4,7 @@ ghost use Rattle.std.specs.Prelude.{◌≡◌, [], ◌∷◌, IfOk, None};
 ghost use Rattle.dae_ir.specs.Code.{Do, Done, If};
 ghost use Rattle.dae_ir.specs.Form.{before, form_of, Form};
 ghost use Rattle.dae_lower.specs.Lowering.{arms_continue, emit, one, search, search_labels, test_of, where_so, ◌⨾◌};
-ghost use Rattle.dae_lower_programs.specs.Made.{arms_of};
+ghost use Rattle.dae_program.specs.Views.{arms_of};
 ghost use Rattle.dae_lower_programs.specs.Parts.{label_then};
 ghost use Rattle.dae_ir.specs.declared.form.Item.TheVariants.{Assign, Break, Continue};
 ghost use Rattle.dae_ir.specs.declared.form.Operand.TheVariants.{Number, Variable};

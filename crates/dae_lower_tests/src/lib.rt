@@ -1,4 +1,4 @@
-// The worked rows of lowering in code: a small program with its form, and that it takes no more than memory.
+// Tests of dae_lower_forms: a small program with its form.
 #![tactic(auto)]
 
 #[cfg(test)]

@@ -1,5 +1,6 @@
 -- What both sides do between groups: silent moves, told conditions, and halts.
 use Rattle.std.proofs.Common.{◌≡◌, ℕ, ◌+◌, ◌*◌, ◌<◌, ◌≤◌, ◌^◌, inl, Bool, true, false, List, [], ◌∷◌, ◌++◌, Some, None, if◌then◌else◌, refl, sym, ◌∙◌, subst, append-nil, arith}
+use Rattle.std.proofs.lemmas.Bool.{lt-ltb}
 use Rattle.dae_encode.specs.declared.Halt.TheVariants.{Plain, Status}
 use Rattle.dae_encode.specs.Processor.{Processor}
 use Rattle.dae_core.specs.Queues.{Queues}
@@ -24,7 +25,6 @@ use Rattle.dae_machine.specs.Walks.{state_of, ends, grants}
 use Rattle.dae_machine_rounds.proofs.Does.{Does, here, stops, did_a}
 use Rattle.dae_machine_rounds.proofs.Both.{does_one}
 use Rattle.dae_machine_rounds.proofs.Slots.{Counts, held, resting, none_waits}
-use Rattle.dae_machine_rounds.proofs.PartsA.{lt_true}
 use Rattle.dae_machine_rounds.proofs.Landing.{level, IsSound, Stands, Arrived, Ended}
 use Rattle.dae_machine_rounds.proofs.Play.{Part, play, ends_with}
 use Rattle.dae_machine_rounds.proofs.Groups.{rest_words, rest_empty, arrives, ends_so}
@@ -65,7 +65,7 @@ module _ (setup : Setup) (p : Program) (body_a body_e : ℕ → Actions) (most :
       let word : ℕ = if told then 1 else 0 in
       let q1 = held (level x) [] [] [] (word ∷ []) [] [] in
       let part_a : Part setup p true body_a w.memory (spot (point (If m (Tells t) xa ya ka) ba) b.a w ca) q [] (Arrives (spot (point (if told then xa else ya) (After ka ba)) b.a w ca)) q1 1 0 =
-      record { moves = 1; fills = 0; instructions = 0; does = does_one (tells w) (grants {q = q} (lt_true 0 setup.depths.ab (omega arith)) refl ends) (tt, tt); few = omega arith; some = omega arith } in
+      record { moves = 1; fills = 0; instructions = 0; does = does_one (tells w) (grants {q = q} (lt-ltb 0 setup.depths.ab (omega arith)) refl ends) (tt, tt); few = omega arith; some = omega arith } in
       let part_e : Part setup p false body_e w.memory (spot (point (If m Hears xe ye ke) be) b.e w ce) q1 [] (Arrives (spot (point (if told then xe else ye) (After ke be)) b.e w ce)) q 1 0 =
       record { moves = 1; fills = 0; instructions = 0; does = does_one (hears w told) (grants {q = q1} refl refl ends) (told_word told, tt); few = omega arith; some = omega arith } in
       let played = play setup p body_a body_e most At_a At_e code_a code_e positive w.memory s (spot (point (If m (Tells t) xa ya ka) ba) b.a w ca) (spot (point (If m Hears xe ye ke) be) b.e w ce) q q (level x) 0 0 [] [] [] (word ∷ []) [] [] [] (Arrives (spot (point (if told then xa else ya) (After ka ba)) b.a w ca)) (Arrives (spot (point (if told then xe else ye) (After ke be)) b.e w ce)) 1 1 0 0
@@ -88,7 +88,7 @@ module _ (setup : Setup) (p : Program) (body_a body_e : ℕ → Actions) (most :
       let sa' = spot (point (if told then xa else ya) (After ka ba)) b.a w ca in
       let se' = spot (point (if told then xe else ye) (After ke be)) b.e w ce in
       let part_e : Part setup p false body_e w.memory (spot (point (If m (Tells t) xe ye ke) be) b.e w ce) q [] (Arrives se') q1 1 0 =
-      record { moves = 1; fills = 0; instructions = 0; does = does_one (tells w) (grants {q = q} (lt_true 0 setup.depths.eb (omega arith)) refl ends) (tt, tt); few = omega arith; some = omega arith } in
+      record { moves = 1; fills = 0; instructions = 0; does = does_one (tells w) (grants {q = q} (lt-ltb 0 setup.depths.eb (omega arith)) refl ends) (tt, tt); few = omega arith; some = omega arith } in
       let played = play setup p body_a body_e most At_a At_e code_a code_e positive w.memory s sa (spot (point (If m (Tells t) xe ye ke) be) b.e w ce) q q1 (level x) 0 0 [] [] [] [] [] [] [] (Arrives sa) (Arrives se') 0 1 0 0
       stands.a stands.e stands.queues (rest_words (level x)) stands.memory (none_waits 0) no_move (λ wait. part_e) in
       let s3 = state_of played.a played.e q1 s.memory (s.printed ++ []) played.total in

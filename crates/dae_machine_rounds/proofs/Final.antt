@@ -1,8 +1,9 @@
 -- Where both sides have halted, each slot that is left is filled, and no store waits, the state is final.
-use Rattle.std.proofs.Common.{◌≡◌, ℕ, ◌+◌, Bool, true, false, ◌&&◌, List, [], ◌∷◌, refl}
+use Rattle.std.proofs.Common.{◌≡◌, ℕ, ◌+◌, Bool, List, [], ◌∷◌, refl}
 use Rattle.std.specs.Prelude.{Some, None, nat_eq}
 use Rattle.dae_base.specs.declared.Side.{Side}
 use Rattle.dae_base.specs.declared.Side.TheVariants.{A, E}
+use Rattle.dae_base.proofs.Laws.{and_false}
 use Rattle.dae_encode.specs.declared.Halt.{Halt}
 use Rattle.dae_encode.specs.declared.Request.TheVariants.{Halted}
 use Rattle.dae_encode.specs.Processor.{Processor, request}
@@ -15,10 +16,6 @@ use Rattle.dae_machine_rounds.proofs.Slots.{Counts, Loads, held, filled_slots}
 halted : (copies : Bool) (side : Side) (words : List ℕ) (size : ℕ) (p : Processor) (h : Halt) → p.halt ≡ Some h → request copies side words size p ≡ Halted
 unfolding request
 halted copies side words size p h e = rw e refl
-
-and_false : (b : Bool) → (b && false) ≡ false
-and_false true = refl
-and_false false = refl
 
 none_waiting : (j n stamp : ℕ) (m : List ℕ) (ls : Loads) → waiting j (filled_slots n stamp m ls) ≡ None
 none_waiting j n stamp m [] = refl

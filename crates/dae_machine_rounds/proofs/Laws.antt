@@ -2,7 +2,7 @@
 pub use Rattle.dae_machine_rounds.proofs.Does.{Does, here, did_a, did_e}
 pub use Rattle.dae_machine_rounds.proofs.Both.{does_same, does_both, does_one, does_to}
 pub use Rattle.dae_machine_rounds.proofs.Slots.{Counts, resting, held, none_waits, Loads, sending, words_for}
-pub use Rattle.dae_machine_rounds.proofs.PartsA.{with_al, lt_true, HasRoom, Comes, parts_come}
+pub use Rattle.dae_machine_rounds.proofs.PartsA.{with_al, HasRoom, Comes, parts_come}
 pub use Rattle.dae_machine_rounds.proofs.Landing.{least_of, GoesOn, level, IsSound, Stands, Ended, Lands, then_order, order_run, exits, Arrived, then_lands, less}
 pub use Rattle.dae_machine_rounds.proofs.Worlds.{LoadsWords, loads_words}
 pub use Rattle.dae_machine_rounds.proofs.PartsE.{parts_taken}

@@ -2,6 +2,7 @@
 use Rattle.std.proofs.Common.{◌≡◌, ℕ, suc, ◌+◌, ◌*◌, ◌<◌, ◌≤◌, Bool, true, false, not, ◌&&◌, ◌||◌, nat_eq, List, [], ◌∷◌, ◌++◌, length, Option, Some, None, if◌then◌else◌, refl, ap, sym, ◌∙◌, subst, append_assoc, append-nil, length-append, arith}
 use Rattle.std.specs.Prelude.{nat_lt}
 use Rattle.std.proofs.lemmas.Bool.Decides.{nat_tests}
+use Rattle.std.proofs.lemmas.Bool.{lt-ltb}
 use Rattle.dae_base.specs.declared.Depths.{Depths}
 use Rattle.dae_base.specs.declared.LoadKind.{LoadKind}
 use Rattle.dae_base.specs.declared.Queue.TheVariants.{Ld, Ab}
@@ -44,9 +45,6 @@ pub record HasRoom (c : Classes) (d : Depths) (loads copies : ℕ) (g : List Par
 
 abbrev pub with_al : ℕ → ℕ → Counts → Counts
 with_al t r c = record c { al_taken = t; al_reserved = r }
-
-pub lt_true : (x y : ℕ) → x < y → nat_lt x y ≡ true
-lt_true x y h = grind (arith, nat_tests)
 
 module _ (setup : Setup) (p : Program) (body : ℕ → Actions) (k : Actions) (b : Behind) (calls : List Waiting) where
   abbrev at_code : Actions → Env → World → Spot
@@ -145,7 +143,7 @@ module _ (setup : Setup) (p : Program) (body : ℕ → Actions) (k : Actions) (b
   issue_does : (m : List ℕ) (at : Mark) (kind : LoadKind) (x : Operand) (next : Actions) (env : Env) (u : World) (c : Counts) (ls : Loads) (cq : List ℕ) → length u.memory ≡ setup.memory → misplaced (width_of kind) (value x env) setup.memory ≡ None → length ls < setup.depths.ld
       → Does setup p true body m 1 0 0 (at_code (Do at (Issue kind x) next) env u) (sending c ls [] [] cq) [] (Arrives (at_code next env u)) (sending c (ls ++ (kind, value x env) ∷ []) [] [] cq)
   issue_does m at kind x next env u c ls cq size good room =
-      let can : nat_lt (length (waiting_slots c.ld_reserved c.issued ls)) setup.depths.ld ≡ true = rw (waiting_count c.ld_reserved c.issued ls) (lt_true (length ls) setup.depths.ld room) in
+      let can : nat_lt (length (waiting_slots c.ld_reserved c.issued ls)) setup.depths.ld ≡ true = rw (waiting_count c.ld_reserved c.issued ls) (lt-ltb (length ls) setup.depths.ld room) in
       let a = value x env in
       let follows : Follows (deed p true (Issue kind x) u env) (Reserves Ld kind a ∷ []) (Leaves env) = reserves went in
       does_to (reserved_is c ls cq kind a) (does_one {m = m} (acts u refl size follows) (grants {q = sending c ls [] [] cq} can refl ends) (good, tt))
@@ -154,13 +152,13 @@ module _ (setup : Setup) (p : Program) (body : ℕ → Actions) (k : Actions) (b
       → Does setup p true body m 1 1 0 (at_code (Do at (Own v kind x) next) env u) (sending c ls [] [] cq) [] (Arrives (at_code next (put true v (loaded kind (value x env) m) env) u)) (sending (owned c) ls [] [] cq)
   own_does m at v kind x next env u c ls cq size good room words =
       let a = value x env in
-      let can : nat_lt 0 setup.depths.al ≡ true = lt_true 0 setup.depths.al room in
+      let can : nat_lt 0 setup.depths.al ≡ true = lt-ltb 0 setup.depths.al room in
       does_one (acts u refl size (reserves (takes (loaded kind a m) went))) (owns {q = sending c ls [] [] cq} c.al_reserved can (own_filled c ls cq m kind a) (grants refl refl ends)) (good, (words kind a, tt))
 
   offer_does : (m : List ℕ) (at : Mark) (v : ℕ) (next : Actions) (env : Env) (u : World) (c : Counts) (ls : Loads) (cq : List ℕ) → length u.memory ≡ setup.memory → length cq < setup.depths.cq
       → Does setup p true body m 1 0 0 (at_code (Do at (Offer v) next) env u) (sending c ls [] [] cq) [] (Arrives (at_code next env u)) (sending c ls [] [] (cq ++ env v ∷ []))
   offer_does m at v next env u c ls cq size room =
-      does_one (acts u refl size (pushes went)) (grants {q = sending c ls [] [] cq} (lt_true (length cq) setup.depths.cq room) refl ends) (tt, tt)
+      does_one (acts u refl size (pushes went)) (grants {q = sending c ls [] [] cq} (lt-ltb (length cq) setup.depths.cq room) refl ends) (tt, tt)
 
   passes_does : (m : List ℕ) (at : Mark) (check : Check) (next : Actions) (env : Env) (u : World) (q : Queues) → length u.memory ≡ setup.memory → fault p check u env ≡ None
       → Does setup p true body m 1 0 0 (at_code (Do at (Probe check) next) env u) q [] (Arrives (at_code next env u)) q
@@ -172,7 +170,7 @@ module _ (setup : Setup) (p : Program) (body : ℕ → Actions) (k : Actions) (b
       → Does setup p true body m 1 0 0 (at_code (Do at (Probe check) next) env u) (sending c ls [] [] cq) [] (Halted Plainly) (sending c ls [] (code ∷ []) cq)
   fails_does m at check next env u c ls cq code size e room =
       let follows : Follows (deed p true (Probe check) u env) (Pushes Ab code ∷ []) (Quits Plainly) = rw e (pushes halts) in
-      stops (acts u refl size follows) (grants {q = sending c ls [] [] cq} (lt_true 0 setup.depths.ab room) refl ends) (tt, tt)
+      stops (acts u refl size follows) (grants {q = sending c ls [] [] cq} (lt-ltb 0 setup.depths.ab room) refl ends) (tt, tt)
 
   -- ---- the parts
 

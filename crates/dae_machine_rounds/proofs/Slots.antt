@@ -1,13 +1,15 @@
 -- The queues in a round, where no own load waits: loads for E that wait, and are filled in their order.
-use Rattle.std.proofs.Common.{◌≡◌, ℕ, suc, ◌+◌, ◌<◌, Bool, true, false, ◌&&◌, List, [], ◌∷◌, ◌++◌, length, refl, ap, ◌∙◌, append_assoc, length-append, arith}
+use Rattle.std.proofs.Common.{◌≡◌, ℕ, suc, ◌+◌, ◌<◌, false, List, [], ◌∷◌, ◌++◌, length, refl, ap, ◌∙◌, append_assoc, length-append, arith}
 use Rattle.std.specs.Prelude.{Some, is_none, nat_eq, nat_lt}
 use Rattle.std.specs.List.{AllByRecursion, list_any}
 use Rattle.std.proofs.lemmas.Bool.Decides.{nat_tests}
+use Rattle.std.proofs.lemmas.Bool.{and_right}
 use Rattle.dae_base.specs.declared.Side.TheVariants.{A, E}
 use Rattle.dae_base.specs.declared.LoadKind.{LoadKind}
 use Rattle.dae_base.specs.declared.Width.{Width}
 use Rattle.dae_base.specs.declared.Queue.TheVariants.{Ld, Al}
 use Rattle.dae_base.specs.Words.{loaded}
+use Rattle.dae_base.proofs.Laws.{same_number}
 use Rattle.dae_encode.specs.declared.QueueUse.TheVariants.{Load}
 use Rattle.dae_encode.specs.Processor.{Processor}
 use Rattle.dae_queues.specs.declared.Slot.{Slot}
@@ -91,35 +93,24 @@ reserved_is c ls cq kind a =
 abbrev pub owned : Counts → Counts
 owned c = record c { al_taken = c.al_taken + 1; al_reserved = c.al_reserved + 1 }
 
-pub nat_eq_same : (j : ℕ) → nat_eq j j ≡ true
-nat_eq_same j = grind (arith, nat_tests)
-
--- behind the reservation, and behind the fill
-abbrev pub with_own : Counts → Loads → List ℕ → LoadKind → ℕ → Queues
-with_own c ls cq kind a = record (sending (record c { al_reserved = c.al_reserved + 1 }) ls [] [] cq) { al = record { taken = c.al_taken; reserved = c.al_reserved + 1; slots = new_slot c.al_reserved kind a c.issued ∷ [] } }
-
 abbrev pub with_own_filled : Counts → Loads → List ℕ → List ℕ → LoadKind → ℕ → Queues
 with_own_filled c ls cq m kind a = record (sending (record c { al_reserved = c.al_reserved + 1 }) ls [] [] cq) { al = record { taken = c.al_taken; reserved = c.al_reserved + 1; slots = filled_slot c.al_reserved c.issued m kind a ∷ [] } }
 
 pub own_filled : (c : Counts) (ls : Loads) (cq m : List ℕ) (kind : LoadKind) (a : ℕ) → fill A c.al_reserved (commit (Load Al kind) a (sending c ls [] [] cq)) m ≡ Some (with_own_filled c ls cq m kind a)
-own_filled c ls cq m kind a = rw (nat_eq_same c.al_reserved) refl
+own_filled c ls cq m kind a = rw (same_number c.al_reserved) refl
 
 -- ---- the fills
 
 abbrev pub AreFilled : List Slot → Type 0
 AreFilled ss = AllByRecursion (λ (s : Slot). is_none s.value ≡ false) ss
 
-and_false : (b c : Bool) → c ≡ false → (b && c) ≡ false
-and_false true c h = h
-and_false false c h = refl
-
 waiting_done : (j : ℕ) (done ss : List Slot) → AreFilled done → waiting j (done ++ ss) ≡ waiting j ss
 waiting_done j [] ss h = refl
-waiting_done j (s ∷ done) ss h = rw (and_false (nat_eq s.number j) (is_none s.value) h.0) (waiting_done j done ss h.1)
+waiting_done j (s ∷ done) ss h = rw (and_right (nat_eq s.number j) (is_none s.value) h.0) (waiting_done j done ss h.1)
 
 with_value_done : (j w : ℕ) (done ss : List Slot) → AreFilled done → with_value j w (done ++ ss) ≡ done ++ with_value j w ss
 with_value_done j w [] ss h = refl
-with_value_done j w (s ∷ done) ss h = rw (and_false (nat_eq s.number j) (is_none s.value) h.0) (ap (λ xs. s ∷ xs) (with_value_done j w done ss h.1))
+with_value_done j w (s ∷ done) ss h = rw (and_right (nat_eq s.number j) (is_none s.value) h.0) (ap (λ xs. s ∷ xs) (with_value_done j w done ss h.1))
 
 with_value_later : (j w k stamp : ℕ) (ls : Loads) → j < k → with_value j w (waiting_slots k stamp ls) ≡ waiting_slots k stamp ls
 with_value_later j w k stamp [] h = refl
@@ -151,7 +142,7 @@ module _ (setup : Setup) (a e : Processor) (c : Counts) (stamp : ℕ) (sa : List
   filling_step : (done : List Slot) (j addr steps : ℕ) (kind : LoadKind) (later : Loads) → AreFilled done
       → step setup (at_slots (done ++ new_slot j kind addr stamp ∷ waiting_slots (j + 1) stamp later) steps) (Fill E j) ≡ Some (at_slots (done ++ filled_slot j stamp memory kind addr ∷ waiting_slots (j + 1) stamp later) (steps + 1))
   filling_step done j addr steps kind later h =
-      rw (waiting_done j done (waiting_slots j stamp ((kind, addr) ∷ later)) h, nat_eq_same j, free j addr kind, with_value_done j (loaded kind addr memory) done (waiting_slots j stamp ((kind, addr) ∷ later)) h, nat_eq_same j, with_value_later j (loaded kind addr memory) (j + 1) stamp later (omega arith)) refl
+      rw (waiting_done j done (waiting_slots j stamp ((kind, addr) ∷ later)) h, same_number j, free j addr kind, with_value_done j (loaded kind addr memory) done (waiting_slots j stamp ((kind, addr) ∷ later)) h, same_number j, with_value_later j (loaded kind addr memory) (j + 1) stamp later (omega arith)) refl
 
   pub record Filled (before after : List Slot) (steps count : ℕ) : Type 0 where
     pub picks : List Pick

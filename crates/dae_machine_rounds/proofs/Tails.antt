@@ -1,5 +1,6 @@
 -- What closes a group, on each side: addresses and messages of A; the message, data, prints and checks of E.
 use Rattle.std.proofs.Common.{◌≡◌, ℕ, ◌+◌, ◌<◌, ◌≤◌, ◌^◌, Bool, true, false, nat_eq, List, [], ◌∷◌, ◌++◌, length, Some, None, if◌then◌else◌, refl, arith}
+use Rattle.std.proofs.lemmas.Bool.{lt-ltb}
 use Rattle.dae_base.specs.declared.Place.{Place}
 use Rattle.dae_base.specs.declared.Queue.TheVariants.{Ab, Eb}
 use Rattle.dae_queues.specs.declared.Slot.{Slot}
@@ -30,7 +31,6 @@ use Rattle.dae_machine.specs.Walks.{ends, grants}
 use Rattle.dae_machine_rounds.proofs.Does.{Does, here, stops}
 use Rattle.dae_machine_rounds.proofs.Both.{does_both, does_one}
 use Rattle.dae_machine_rounds.proofs.Slots.{Counts, Loads, held, sending, waiting_slots}
-use Rattle.dae_machine_rounds.proofs.PartsA.{lt_true}
 
 -- a group has a message where it has a check that A decides
 pub data IsMessage (n : ℕ) (x : Action) (k : Actions) : Bool → Actions → Type 0 where
@@ -89,7 +89,7 @@ module _ (setup : Setup) (p : Program) (body : ℕ → Actions) (b : Behind) (ca
   address_does m n Nothing k env u c ls cq size good room = here
   address_does m n (Stores place width x y) k env u c ls cq size good room =
       let one = room refl in
-      does_one (acts u refl size (sends went)) (grants {q = sending c ls [] [] cq} (lt_true 0 setup.depths.sa (omega arith)) refl ends) (good, tt)
+      does_one (acts u refl size (sends went)) (grants {q = sending c ls [] [] cq} (lt-ltb 0 setup.depths.sa (omega arith)) refl ends) (good, tt)
   address_does m n (Prints place spelling x) k env u c ls cq size good room = here
   address_does m n (Decides place check) k env u c ls cq size good room = here
 
@@ -98,7 +98,7 @@ module _ (setup : Setup) (p : Program) (body : ℕ → Actions) (b : Behind) (ca
   tell_does m n flag code k silent env u c i ls sa cq size room = here
   tell_does m n flag code k (told place) env u c i ls sa cq size room =
       let one = room refl in
-      does_one (acts u refl size (pushes went)) (grants {q = sends_all c i ls sa [] cq} (lt_true 0 setup.depths.ab (omega arith)) refl ends) (tt, tt)
+      does_one (acts u refl size (pushes went)) (grants {q = sends_all c i ls sa [] cq} (lt-ltb 0 setup.depths.ab (omega arith)) refl ends) (tt, tt)
 
   -- A's end of a group, up to the taking of E's message
   pub closes_a : (m : List ℕ) (n : ℕ) (g : List Part) (last : Last) (k : Actions) (env : Env) (u : World) (c : Counts) (ls : Loads) (cq : List ℕ) → length u.memory ≡ setup.memory → IsPlaced setup.memory last env → (is_store last ≡ true → 1 ≤ setup.depths.sa) → (any_part is_test g ≡ true → 1 ≤ setup.depths.ab)
@@ -145,7 +145,7 @@ module _ (setup : Setup) (p : Program) (body : ℕ → Actions) (b : Behind) (ca
   pub datum_does : (m : List ℕ) (at : Mark) (y : _) (k : Actions) (env : Env) (u : World) (c : Counts) (sa : List StoreAt) → length u.memory ≡ setup.memory → 1 ≤ setup.depths.sd
       → Does setup p false body m 1 0 0 (at_code (Do at (Datum y) k) env u) (held c [] sa [] [] [] []) [] (Arrives (at_code k env u)) (held c [] sa (value y env ∷ []) [] [] [])
   datum_does m at y k env u c sa size room =
-      does_one (acts u refl size (pushes went)) (grants {q = held c [] sa [] [] [] []} (lt_true 0 setup.depths.sd (omega arith)) refl ends) (tt, tt)
+      does_one (acts u refl size (pushes went)) (grants {q = held c [] sa [] [] [] []} (lt-ltb 0 setup.depths.sd (omega arith)) refl ends) (tt, tt)
 
   pub emit_does : (m : List ℕ) (at : Mark) (spelling : _) (x : _) (k : Actions) (env : Env) (u : World) (q : Queues) → length u.memory ≡ setup.memory
       → Does setup p false body m 1 0 0 (at_code (Do at (Emit spelling x) k) env u) q (spelled spelling (value x env) ++ []) (Arrives (at_code k env u)) q
@@ -156,10 +156,10 @@ module _ (setup : Setup) (p : Program) (body : ℕ → Actions) (b : Behind) (ca
   decide_does m at check k env u c size room e =
       let follows : Follows (deed p false (Probe check) u env) [] (Leaves env) = rw e went in
       let follows' : Follows (deed p false (Tell (Number 0)) u env) (Pushes Eb 0 ∷ []) (Leaves env) = pushes went in
-      does_both (does_one (acts u refl size follows) ends tt) (does_one (acts u refl size follows') (grants {q = held c [] [] [] [] [] []} (lt_true 0 setup.depths.eb (omega arith)) refl ends) (tt, tt))
+      does_both (does_one (acts u refl size follows) ends tt) (does_one (acts u refl size follows') (grants {q = held c [] [] [] [] [] []} (lt-ltb 0 setup.depths.eb (omega arith)) refl ends) (tt, tt))
 
   pub decide_halts : (m : List ℕ) (at : Mark) (check : Check) (k : Actions) (env : Env) (u : World) (c : Counts) (code : ℕ) → length u.memory ≡ setup.memory → 1 ≤ setup.depths.eb → fault p check u env ≡ Some code
       → Does setup p false body m 1 0 0 (at_code (Do at (Probe check) k) env u) (held c [] [] [] [] [] []) [] (Halted (WithTrap code)) (held c [] [] [] [] (code ∷ []) [])
   decide_halts m at check k env u c code size room e =
       let follows : Follows (deed p false (Probe check) u env) (Pushes Eb code ∷ []) (Quits (WithTrap code)) = rw e (pushes halts) in
-      stops (acts u refl size follows) (grants {q = held c [] [] [] [] [] []} (lt_true 0 setup.depths.eb (omega arith)) refl ends) (tt, tt)
+      stops (acts u refl size follows) (grants {q = held c [] [] [] [] [] []} (lt-ltb 0 setup.depths.eb (omega arith)) refl ends) (tt, tt)

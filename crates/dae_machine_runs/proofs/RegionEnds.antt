@@ -1,5 +1,6 @@
 -- How a region can end: without a jump out of it, and without a loop it ends.
-use Rattle.std.proofs.Common.{◌≡◌, ℕ, zero, suc, Bool, true, false, not, ◌&&◌, ◌||◌, length, Option, Some, None, if◌then◌else◌, refl}
+use Rattle.std.proofs.Common.{◌≡◌, ℕ, zero, suc, Bool, true, false, not, ◌||◌, length, Option, Some, None, if◌then◌else◌, refl}
+use Rattle.std.proofs.lemmas.Bool.{and_parts, or_parts}
 use Rattle.dae_base.specs.Words.{width_of}
 use Rattle.dae_meaning.specs.Worlds.{World, ticked}
 use Rattle.dae_meaning.specs.Results.{Result, At, Over, Next, Leaves, Skips, Returns, Halted, Trapped, Going, Astray, Run, ◌▷◌, ◌↻◌, turns, within}
@@ -33,18 +34,10 @@ NotGoing (Over (Trapped c) w) = Unit {0}
 NotGoing (Over Going w) = ⊥
 NotGoing (Over Astray w) = Unit {0}
 
-and_parts : (a b : Bool) → a && b ≡ true → (a ≡ true) × (b ≡ true)
-and_parts true b h = (refl, h)
-and_parts false b h = absurd (let e : false ≡ true = h in cc)
-
 or_not : (inside jump : Bool) → inside || not jump ≡ true → jump ≡ true → inside ≡ true
 or_not true jump h k = refl
 or_not false true h k = absurd (let e : false ≡ true = h in cc)
 or_not false false h k = k
-
-or_parts : (a b : Bool) → a || b ≡ false → (a ≡ false) × (b ≡ false)
-or_parts true b h = absurd (let e : true ≡ false = h in cc)
-or_parts false b h = (refl, h)
 
 fits_more : (a b : Bool) → (a ≡ true → b ≡ true) → (r : Result Env) → WayFits a r → WayFits b r
 fits_more a b h (At Next env w) y = tt

@@ -1,5 +1,6 @@
 -- Each region among a form's rounds is a branch or a loop that concerns one side alone.
 use Rattle.std.proofs.Common.{◌≡◌, ℕ, Bool, true, false, not, ◌&&◌, List, [], ◌∷◌, ◌++◌, Option, Some, None, if◌then◌else◌, refl}
+use Rattle.std.proofs.lemmas.Bool.{and_parts}
 use Rattle.dae_base.specs.declared.Place.{Place}
 use Rattle.dae_ir.specs.Code.{Done, Do, If, Loop, Each, every}
 use Rattle.dae_ir.specs.Form.{Form}
@@ -21,15 +22,11 @@ IsRegion c (Alone jump) = Unit {0}
 IsRegion c (Region true code) = IsOneSided (is_a_item c) code
 IsRegion c (Region false code) = IsOneSided (is_e_item c) code
 
-both_true : (a b : Bool) → a && b ≡ true → (a ≡ true) × (b ≡ true)
-both_true true b h = (refl, h)
-both_true false b h = absurd (let e : false ≡ true = h in cc)
-
 every_item : (f : Item → Bool) (h : Test → Bool) (code : Form) → every f h code ≡ true → Each (λ (item : Item). f item ≡ true) (λ (t : Test). Unit {0}) code
 every_item f h Done e = tt
-every_item f h (Do place item k) e = let b = both_true _ _ e in (b.0, every_item f h k b.1)
-every_item f h (If place t x y k) e = let b = both_true _ _ e in let b' = both_true _ _ b.1 in let b'' = both_true _ _ b'.1 in (tt, every_item f h x b'.0, every_item f h y b''.0, every_item f h k b''.1)
-every_item f h (Loop place x y k) e = let b = both_true _ _ e in let b' = both_true _ _ b.1 in (every_item f h x b.0, every_item f h y b'.0, every_item f h k b'.1)
+every_item f h (Do place item k) e = let b = and_parts _ _ e in (b.0, every_item f h k b.1)
+every_item f h (If place t x y k) e = let b = and_parts _ _ e in let b' = and_parts _ _ b.1 in let b'' = and_parts _ _ b'.1 in (tt, every_item f h x b'.0, every_item f h y b''.0, every_item f h k b''.1)
+every_item f h (Loop place x y k) e = let b = and_parts _ _ e in let b' = and_parts _ _ b.1 in (every_item f h x b.0, every_item f h y b'.0, every_item f h k b'.1)
 
 abbrev Chosen : Classes → Form → Option Bool → Type 0
 Chosen c code None = Unit {0}
@@ -42,8 +39,8 @@ module _ (c : Classes) (cap : ℕ) where
   chosen : (outside : Bool) (code : Form) → IsBlock code → Chosen c code (region outside c code)
   chosen outside code block = by (outside && is_a_region c code) refl (outside && is_e_region c code) refl where
     by : (a : Bool) → outside && is_a_region c code ≡ a → (e : Bool) → outside && is_e_region c code ≡ e → Chosen c code (if a then Some true else (if e then Some false else None))
-    by true h e i = let b = both_true _ _ (both_true _ _ h).1 in record { block = block; stays' = b.1; items = every_item (is_a_item c) (is_by_a c.s) code b.0 }
-    by false h true i = let b = both_true _ _ (both_true _ _ i).1 in record { block = block; stays' = b.1; items = every_item (is_e_item c) (λ t. not (is_by_a c.s t)) code b.0 }
+    by true h e i = let b = and_parts _ _ (and_parts _ _ h).1 in record { block = block; stays' = b.1; items = every_item (is_a_item c) (is_by_a c.s) code b.0 }
+    by false h true i = let b = and_parts _ _ (and_parts _ _ i).1 in record { block = block; stays' = b.1; items = every_item (is_e_item c) (λ t. not (is_by_a c.s t)) code b.0 }
     by false h false i = tt
 
   closed_ok : (g : List Part) (k : Rounds) → AreOk k → AreOk (closed g k)

@@ -1,6 +1,7 @@
 -- Regions land: one side's run of its region, and the message behind a region of A that holds a loop.
 use Rattle.std.proofs.Common.{◌≡◌, ℕ, suc, ◌+◌, ◌*◌, ◌≤◌, inl, inr, Bool, true, false, List, [], ◌∷◌, ◌++◌, length, refl, ap, sym, ◌∙◌, subst, append-nil, length-append, arith}
 use Rattle.std.proofs.Math.Nat.{mul-add, mul-suc}
+use Rattle.std.proofs.lemmas.Bool.{lt-ltb}
 use Rattle.dae_base.specs.declared.Place.{Place}
 use Rattle.dae_base.specs.declared.Side.TheVariants.{E}
 use Rattle.dae_base.specs.declared.Queue.TheVariants.{Ab}
@@ -37,7 +38,7 @@ use Rattle.dae_machine_rounds.specs.Order.{Round, none}
 use Rattle.dae_machine.specs.Walks.{state_of, Grants, ends, grants}
 use Rattle.dae_machine.proofs.LawsOfRuns.{ran_e}
 use Rattle.dae_machine.proofs.LawsOfRuns.{often-append}
-use Rattle.dae_machine_rounds.proofs.Laws.{loads_words, Does, did_a, did_e, does_both, does_one, does_same, held, resting, none_waits, lt_true, with_al, level, exits, IsSound, Stands, Arrived, Lands, one_each, Part, play, ends_with, rest_words, rest_empty, arrives, no_move}
+use Rattle.dae_machine_rounds.proofs.Laws.{loads_words, Does, did_a, did_e, does_both, does_one, does_same, held, resting, none_waits, with_al, level, exits, IsSound, Stands, Arrived, Lands, one_each, Part, play, ends_with, rest_words, rest_empty, arrives, no_move}
 use Rattle.dae_machine_runs.proofs.Sided.{exit, IsBlock, Still, Does_as}
 use Rattle.dae_machine_runs.proofs.RegionsA.{whole_region_a}
 use Rattle.dae_machine_runs.proofs.RegionsE.{region_e_does}
@@ -122,7 +123,7 @@ module _ (setup : Setup) (p : Program) (body_a body_e : ℕ → Actions) (most :
         let x' = with_al y.al_taken y.al_reserved (level stands.counts) in
         let size' : length w'.memory ≡ setup.memory = rw still.memory sound.size in
         let tells : Does setup p true body_a w.memory 1 0 0 (spot (point (Do (mark place ng) (Tell (Number 0)) ka) ba) env w' ca) (resting x') [] (Arrives (spot (point ka ba) env w' ca)) (held x' [] [] [] (0 ∷ []) [] []) =
-        does_one (acts w' refl size' (pushes went)) (grants {q = resting x'} (lt_true 0 setup.depths.ab (omega arith)) refl ends) (tt, tt) in
+        does_one (acts w' refl size' (pushes went)) (grants {q = resting x'} (lt-ltb 0 setup.depths.ab (omega arith)) refl ends) (tt, tt) in
         let follows : Follows (deed p false Hear w b.e) (Takes Ab 0 ∷ []) (Leaves' b.e) = takes 0 went in
         let hears : Does setup p false body_e w.memory 1 0 0 (spot (point (Do (mark place ng) Hear ke) be) b.e w ce) (held x' [] [] [] (0 ∷ []) [] []) [] (Arrives (spot (point ke be) b.e w ce)) (resting x') =
         does_one (acts w refl sound.size follows) (grants {q = held x' [] [] [] (0 ∷ []) [] []} refl refl ends) (omega arith, tt) in

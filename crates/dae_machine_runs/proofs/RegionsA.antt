@@ -2,6 +2,7 @@
 use Rattle.std.proofs.Common.{◌≡◌, ℕ, ◌+◌, ◌*◌, ◌≤◌, Bool, true, false, not, ◌&&◌, ◌||◌, List, [], ◌∷◌, ◌++◌, length, Option, Some, None, if◌then◌else◌, refl, ap, sym, ◌∙◌, subst, append-nil, arith}
 use Rattle.dae_base.specs.declared.Place.{Place}
 use Rattle.dae_base.specs.Words.{loaded, width_of}
+use Rattle.dae_base.proofs.Laws.{and_false}
 use Rattle.dae_machine.specs.Machine.{Setup}
 use Rattle.dae_meaning.specs.Worlds.{World, ticked, fetched}
 use Rattle.dae_meaning.specs.Results.{Result, At, Over, Next, Leaves, Skips, Returns, Astray, Run, ◌▷◌, within}
@@ -25,10 +26,6 @@ use Rattle.dae_core.specs.Queues.{Queues}
 use Rattle.dae_machine_rounds.specs.Spots.{Arrives, Behind, After, Body, Turn, point, left, skipped, Waiting, spot, breaks, continues}
 use Rattle.dae_machine_rounds.proofs.Laws.{LoadsWords, does_to, Does, here, Counts, Loads, resting, sending, words_for, HasRoom, Comes, parts_come, with_al, IsMessage, silent, message_is, rest_is}
 use Rattle.dae_machine_runs.proofs.Sided.{exit, still_itself, still_ticked, Reached, Does_as, List_does, Spare_does, spare_less, IsBlock, then_does, moved, branch_does, loop_does}
-
-pub and_false : (b : Bool) → (b && false) ≡ false
-and_false true = refl
-and_false false = refl
 
 -- one stretch and another and another
 pub bind_assoc : (r : Result Env) (f g : Run Env) → (r ▷ f) ▷ g ≡ r ▷ (λ env w. f env w ▷ g)

@@ -1,6 +1,7 @@
 -- E's run of a region of its own.
 use Rattle.std.proofs.Common.{◌≡◌, ℕ, ◌+◌, ◌*◌, Bool, true, false, not, ◌&&◌, List, [], ◌∷◌, ◌++◌, length, if◌then◌else◌, refl, ap, sym, ◌∙◌, subst, append-nil, add-zero, arith}
 use Rattle.dae_base.specs.declared.Place.{Place}
+use Rattle.dae_base.proofs.Laws.{and_false}
 use Rattle.dae_machine.specs.Machine.{Setup}
 use Rattle.dae_meaning.specs.Worlds.{World, ticked}
 use Rattle.dae_meaning.specs.Results.{Result, At, Next, Run, ◌▷◌}
@@ -25,7 +26,7 @@ use Rattle.dae_ir_pair.specs.Budget.{is_test, any_part}
 use Rattle.dae_machine_rounds.specs.Spots.{Arrives, Behind, After, Body, Turn, Point, point, left, skipped, Waiting, Spot, spot, breaks, continues}
 use Rattle.dae_machine_rounds.proofs.Laws.{LoadsWords, does_to, Does, here, resting, with_al, parts_taken, IsMessage, silent, message_is, emit_does}
 use Rattle.dae_machine_runs.proofs.Sided.{exit, Still, still_itself, still_ticked, still_on, Reached, Does_as, List_does, Spare_does, spare_less, IsBlock, then_does, moved, branch_does, loop_does}
-use Rattle.dae_machine_runs.proofs.RegionsA.{and_false, item_of, run_parts, parts_then}
+use Rattle.dae_machine_runs.proofs.RegionsA.{item_of, run_parts, parts_then}
 
 module _ (setup : Setup) (p : Program) (body : ℕ → Actions) (m : List ℕ) (calls : List Waiting) (of : ℕ → Classes) (c : Classes) (cap n : ℕ) (size : length m ≡ setup.memory) (words : LoadsWords m) where
   -- what E sets in its region, A doesn't need, and a load is for nobody

@@ -1,5 +1,6 @@
-// The worked rows of the machine and of what is below it: words from an assembler, images, queues, one processor, runs of
-// small images, and named texts and sinks. They stand here, so that the crates that they try are proved once.
+// Tests of dae_base, dae_io, dae_encode, dae_image, dae_queues, dae_core and dae_machine: printed pieces, named texts and
+// sinks, words from an assembler, images, queues, one processor, and runs of small images. They stand here, so that the
+// crates that they try are proved once.
 #![tactic(auto)]
 
 #[cfg(test)]

@@ -25,6 +25,10 @@ impl Ports for NoQueues {
 
     ghost take_uses_no_word = { λ q queue v w. refl };
 
+    ghost nothing_is_ready = { λ q. refl };
+
+    ghost nothing_changes = { λ q w. refl };
+
     fn offer(&self, access: QueueUse) -> Option<u32> {
         match access {
             QueueUse::Nothing => Some(0),

@@ -177,10 +177,10 @@ module _ {E : Type 0} (P : World → World → Type 0) (c : IsCourse P) where
 abbrev pub Prints : World → World → Type 0
 Prints w u = IsFront w.printed u.printed
 
-front_same : (xs : List ℕ) → IsFront xs xs
+pub front_same : (xs : List ℕ) → IsFront xs xs
 front_same xs = ([], sym (append-nil xs))
 
-front_on : (xs ys zs : List ℕ) → IsFront xs ys → IsFront ys zs → IsFront xs zs
+pub front_on : (xs ys zs : List ℕ) → IsFront xs ys → IsFront ys zs → IsFront xs zs
 front_on xs ys zs a b = (a.0 ++ b.0, b.1 ∙ ap (λ l. l ++ b.0) a.1 ∙ append_assoc xs a.0 b.0)
 
 pub prints : IsCourse Prints

@@ -469,9 +469,6 @@ bottom_at (gave_statement b) _ names ts st empty = tt
 bottom_step : (s : State) → IsBottomState s → After (step s)
 bottom_step (state d s names ts) h = bottom_at d s names ts h.0 h.1
 
-pub bottom_next : (s t : State) → step s ≡ Some t → IsBottomState s → IsBottomState t
-bottom_next s t e h = subst After e (bottom_step s h)
-
 -- ---- every run
 
 bottom_run : (turns : ℕ) (s : State) → IsBottomState s → IsBottomState (run turns s)

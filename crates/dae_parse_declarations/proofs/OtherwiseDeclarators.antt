@@ -1,5 +1,6 @@
 -- Where the machine goes by the token that stands next, where that is none of those that it looks for.
 use Rattle.std.proofs.Common.{◌≡◌, Bool, true, false, if◌then◌else◌, List, [], ◌∷◌, Option, Some, None, refl, sym, ap, subst, ◌∙◌}
+use Rattle.std.proofs.lemmas.Option.{same_Some}
 use Rattle.dae_base.specs.declared.Place.{Place}
 use Rattle.dae_tree.specs.declared.words.Keyword.{Keyword}
 use Rattle.dae_tree.specs.declared.words.Keyword.TheVariants as keywords
@@ -104,13 +105,10 @@ member_or_none d b lines ws before s names (_ ∷ ts) h k = refl
 
 -- ---- declarators
 
-some_same : {A : Type 0} → (a b : A) → Some a ≡ Some b → a ≡ b
-some_same a b e = cc
-
 -- a parenthesis or a bracket that stands next, with its place
 paren_stands : (ts : List Mark) → sign_at ts ≡ Some signs.LeftParen → (p : Place) × (ts ≡ sign signs.LeftParen p ∷ behind ts)
 paren_stands [] h = cc
-paren_stands (sign g p ∷ ts) h = (p, ap (λ (x : Sign). sign x p ∷ ts) (some_same g signs.LeftParen h))
+paren_stands (sign g p ∷ ts) h = (p, ap (λ (x : Sign). sign x p ∷ ts) (same_Some g signs.LeftParen h))
 paren_stands (part close_paren ∷ ts) h = cc
 paren_stands (part close_bracket ∷ ts) h = cc
 paren_stands (part close_brace ∷ ts) h = cc
@@ -121,7 +119,7 @@ paren_stands (_ ∷ ts) h = cc
 
 bracket_stands : (ts : List Mark) → sign_at ts ≡ Some signs.LeftBracket → (p : Place) × (ts ≡ sign signs.LeftBracket p ∷ behind ts)
 bracket_stands [] h = cc
-bracket_stands (sign g p ∷ ts) h = (p, ap (λ (x : Sign). sign x p ∷ ts) (some_same g signs.LeftBracket h))
+bracket_stands (sign g p ∷ ts) h = (p, ap (λ (x : Sign). sign x p ∷ ts) (same_Some g signs.LeftBracket h))
 bracket_stands (part close_paren ∷ ts) h = cc
 bracket_stands (part close_bracket ∷ ts) h = cc
 bracket_stands (part close_brace ∷ ts) h = cc

@@ -1,5 +1,5 @@
 -- The machine reads each tree of the grammar: statements and files.
-use Rattle.std.proofs.Common.{◌≡◌, true, false, List, [], ◌∷◌, ◌++◌, Option, Some, None, refl, sym, ap, subst, ◌∙◌, arith}
+use Rattle.std.proofs.Common.{◌≡◌, true, false, List, [], ◌∷◌, ◌++◌, Option, Some, None, refl, sym, subst, ◌∙◌, arith, append-nil}
 use Rattle.dae_base.specs.declared.Place.{Place}
 use Rattle.dae_tree.specs.declared.words.Keyword.TheVariants as keywords
 use Rattle.dae_tree.specs.declared.signs.Sign.TheVariants as signs
@@ -132,12 +132,8 @@ twice : {A : Type 0} (xs ys zs : List A) → onto (onto xs ys) zs ≡ onto ys (x
 twice [] ys zs = refl
 twice (x ∷ xs) ys zs = twice xs (x ∷ ys) zs
 
-append_nil : {A : Type 0} (xs : List A) → xs ++ [] ≡ xs
-append_nil [] = refl
-append_nil (x ∷ xs) = ap (λ ys. x ∷ ys) (append_nil xs)
-
 pub there_and_back : {A : Type 0} (xs : List A) → onto (onto xs []) [] ≡ xs
-there_and_back xs = twice xs [] [] ∙ append_nil xs
+there_and_back xs = twice xs [] [] ∙ append-nil xs
 
 abbrev inside : Place → List Declaration → Names → Inside
 inside p ds names = record { place = p; declarations = onto ds []; outside = names }

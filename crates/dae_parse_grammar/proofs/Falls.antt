@@ -31,9 +31,6 @@ either : (b : Bool) (m : ℕ) (x y : State) → measure x < m → measure y < m 
 either true m x y h k = h
 either false m x y h k = k
 
-abbrev total : List Mark → List Frame → ℕ → ℕ
-total ts s w = 12 * length ts + 2 * length s + w
-
 -- one token that must stand there
 falls_paren : (m w : ℕ) (ts : List Mark) (next : List Mark → State) → ((us : List Mark) → measure (next us) < 12 * suc (length us) + m + w) → Falls (12 * length ts + m + w) (at_paren ts next)
 falls_paren m w [] next h = tt

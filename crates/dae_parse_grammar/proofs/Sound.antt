@@ -1,6 +1,7 @@
 -- Each step keeps what holds of a state: expressions.
 use Rattle.std.proofs.Common.{◌≡◌, ℕ, ◌≤◌, leb, ◌&&◌, if◌then◌else◌, Bool, true, false, List, [], ◌∷◌, Option, Some, None, refl, sym, subst, arith}
 use Rattle.dae_base.specs.declared.Place.{Place}
+use Rattle.dae_base.proofs.Laws.{and_second, and_first}
 use Rattle.dae_tree.specs.declared.words.Keyword.TheVariants as keywords
 use Rattle.dae_tree.specs.declared.signs.Sign.{Sign}
 use Rattle.dae_tree.specs.declared.signs.Sign.TheVariants as signs
@@ -32,14 +33,6 @@ decide_state false x y h k = k refl
 
 pub leb_below : (a b : ℕ) → leb a b ≡ true → a ≤ b
 leb_below a b h = grind arith
-
-pub and_right : (a b : Bool) → a && b ≡ true → b ≡ true
-and_right true b h = h
-and_right false b h = absurd cc
-
-pub and_left : (a b : Bool) → a && b ≡ true → a ≡ true
-and_left true b h = refl
-and_left false b h = absurd cc
 
 awaited_least : (f : Frame) → 2 ≤ awaited f
 awaited_least (awaits_expression (behind_prefix p o l)) = operand_least o
@@ -96,7 +89,7 @@ hold_prefixed (Some o) p l s ts i st = (refl, refl, ((i, omega (arith, i, limit_
 hold_sign : (g : Sign) (p : Place) (l : ℕ) (s : List Frame) (ts : List Mark) → l ≡ limit s → IsStack s → Then (sign_sought g p l s (stack_names s) ts)
 hold_sign signs.LeftParen p l s ts i st =
     decide_state (begins_specifiers (stack_names s) ts && leb 3 l) _ _
-    (λ b. (refl, (refl, tt), ((i, leb_below 3 l (and_right (begins_specifiers (stack_names s) ts) (leb 3 l) b)), st)))
+    (λ b. (refl, (refl, tt), ((i, leb_below 3 l (and_second (begins_specifiers (stack_names s) ts) (leb 3 l) b)), st)))
     (λ b. (refl, refl, (i, st)))
 hold_sign g p l s ts i st = hold_prefixed (prefix_at g) p l s ts i st
 
@@ -132,7 +125,7 @@ hold_operated e l s [] i st = (refl, (omega (arith, i.0, i.1), i.2), st)
 hold_operated e l s (sign g p ∷ ts) i st =
     let o = operation g in
     decide (goes_on o e l) _ _
-    (λ b. hold_operate o e p l s ts i.0 (leb_below (reach o) l (and_left (leb (reach o) l) (leb (level e) (left_level o)) b)) (leb_below (level e) (left_level o) (and_right (leb (reach o) l) (leb (level e) (left_level o)) b)) i.2 st)
+    (λ b. hold_operate o e p l s ts i.0 (leb_below (reach o) l (and_first (leb (reach o) l) (leb (level e) (left_level o)) b)) (leb_below (level e) (left_level o) (and_second (leb (reach o) l) (leb (level e) (left_level o)) b)) i.2 st)
     (λ b. (refl, (omega (arith, i.0, i.1), i.2), st))
 hold_operated e l s (part comma ∷ ts) i st = decide (leb 16 l) _ _ (λ b. (refl, refl, ((i.0, leb_below 16 l b, i.2), st))) (λ b. (refl, (omega (arith, i.0, i.1), i.2), st))
 hold_operated e l s (_ ∷ ts) i st = (refl, (omega (arith, i.0, i.1), i.2), st)

@@ -1,6 +1,8 @@
 -- Each step keeps what holds of a state: specifiers and declarators.
 use Rattle.std.proofs.Common.{◌≡◌, ◌&&◌, not, Bool, true, false, List, [], ◌∷◌, Option, Some, None, refl, sym, ap, subst}
+use Rattle.std.proofs.lemmas.Bool.{not-true}
 use Rattle.dae_base.specs.declared.Place.{Place}
+use Rattle.dae_base.proofs.Laws.{and_first, and_second}
 use Rattle.dae_tree.specs.declared.words.Keyword.{Keyword}
 use Rattle.dae_tree.specs.declared.words.Keyword.TheVariants as keywords
 use Rattle.dae_tree.specs.declared.signs.Sign.TheVariants as signs
@@ -16,7 +18,7 @@ use Rattle.dae_parse_grammar.specs.Frames.{Body, Open, Frame, in_group, for_cast
 use Rattle.dae_parse_grammar.specs.Machine.{specifiers_end, word_taken, specified, body, body_opened, tag_taken, tag_alone, tag_followed, members_followed, enumerator_named, enumerator_followed, enumeration_closed, entry_followed, comma_followed, declaration_begun, specifiers_given, begins_parameters, parenthesis_declared, nothing_declared, bracket_declared, name_declared, declared, qualified, suffixed, sized, parameters_opened, closed_by, parameter_given, member_given, item_given, declarator_given, plain_item, parameters_onto}
 use Rattle.dae_parse_grammar.specs.Standing.{manner, stack_names, now_specifiers, now_lines, now_entries, after_entry, seen_now, SpecifiersHold, LinesHold, EntriesHold, MayStand, MustStand, IsBegun, IsBody, IsOpen, IsStack, IsGroupAhead, IsNeeded, IsSuffixAhead, HasAhead, IsDoing, Holds}
 use Rattle.dae_parse_grammar.proofs.Lists.{specifiers_hold, specifiers_now, members_hold, members_now, members_some, enumerators_hold, enumerators_now, enumerators_some, declarators_hold, declarators_now, declarators_some, parameters_hold, parameters_some}
-use Rattle.dae_parse_grammar.proofs.Sound.{Then, decide, and_left, and_right, stand_along, then_paren}
+use Rattle.dae_parse_grammar.proofs.Sound.{Then, decide, stand_along, then_paren}
 
 -- ---- specifiers
 
@@ -27,14 +29,10 @@ hold_end seen before s ts e h st =
     (λ b. (specifiers_now (stack_names s) before no_specifiers, specifiers_hold (stack_names s) before no_specifiers h (subst (λ (x : Seen). has_type x ≡ true) e b), st))
     (λ b. tt)
 
-not_true : (b : Bool) → not b ≡ true → b ≡ false
-not_true true h = absurd cc
-not_true false h = refl
-
 hold_word : (k : Keyword) (p : Place) (seen : Seen) (before : List Specifier) (s : List Frame) (ts : List Mark) → admits seen k ≡ true → seen ≡ seen_now before → SpecifiersHold (stack_names s) before → IsStack s
     → Holds (word_taken k p seen before s (now_specifiers before (stack_names s)) ts)
-hold_word keywords.Struct p seen before s ts a e h st = (refl, (e, h, not_true (has_type seen) a), st)
-hold_word keywords.Enum p seen before s ts a e h st = (refl, (e, h, not_true (has_type seen) a), st)
+hold_word keywords.Struct p seen before s ts a e h st = (refl, (e, h, not-true (has_type seen) a), st)
+hold_word keywords.Enum p seen before s ts a e h st = (refl, (e, h, not-true (has_type seen) a), st)
 hold_word keywords.Auto p seen before s ts a e h st = (refl, (ap (λ x. with_word x keywords.Auto) e, (h, (subst (λ (x : Seen). admits x keywords.Auto ≡ true) e a, refl))), st)
 hold_word keywords.Char p seen before s ts a e h st = (refl, (ap (λ x. with_word x keywords.Char) e, (h, (subst (λ (x : Seen). admits x keywords.Char ≡ true) e a, refl))), st)
 hold_word keywords.Const p seen before s ts a e h st = (refl, (ap (λ x. with_word x keywords.Const) e, (h, (subst (λ (x : Seen). admits x keywords.Const ≡ true) e a, refl))), st)
@@ -56,7 +54,7 @@ hold_specified seen before s [] e h st = hold_end seen before s [] e h st
 hold_specified seen before s (word k p ∷ ts) e h st = decide (admits seen k) _ _ (λ b. hold_word k p seen before s ts b e h st) (λ b. hold_end seen before s (word k p ∷ ts) e h st)
 hold_specified seen before s (name x ∷ ts) e h st =
     decide (not (has_type seen) && is_type (now_specifiers before (stack_names s)) x.number) _ _
-    (λ b. (refl, (ap with_whole e, (h, (subst (λ (y : Seen). has_type y ≡ false) e (not_true (has_type seen) (and_left (not (has_type seen)) (is_type (now_specifiers before (stack_names s)) x.number) b)), and_right (not (has_type seen)) (is_type (now_specifiers before (stack_names s)) x.number) b))), st))
+    (λ b. (refl, (ap with_whole e, (h, (subst (λ (y : Seen). has_type y ≡ false) e (not-true (has_type seen) (and_first (not (has_type seen)) (is_type (now_specifiers before (stack_names s)) x.number) b)), and_second (not (has_type seen)) (is_type (now_specifiers before (stack_names s)) x.number) b))), st))
     (λ b. hold_end seen before s (name x ∷ ts) e h st)
 hold_specified seen before s (t ∷ ts) e h st = hold_end seen before s (t ∷ ts) e h st
 

@@ -1,5 +1,6 @@
 -- Each step keeps what holds of a state: initialisers, declarations, statements, and every step.
-use Rattle.std.proofs.Common.{◌≡◌, Bool, true, false, List, [], ◌∷◌, Option, refl, sym, subst}
+use Rattle.std.proofs.Common.{Bool, true, false, List, [], ◌∷◌, Option, refl, sym, subst}
+use Rattle.std.proofs.lemmas.Bool.{false_from_ne_true}
 use Rattle.dae_base.specs.declared.Place.{Place}
 use Rattle.dae_tree.specs.declared.words.Keyword.{Keyword}
 use Rattle.dae_tree.specs.declared.words.Keyword.TheVariants as keywords
@@ -139,14 +140,10 @@ hold_returned p s [] st = (refl, refl, (tt, st))
 hold_returned p s (sign signs.Semicolon q ∷ ts) st = (refl, (tt, λ x. absurd cc), st)
 hold_returned p s (_ ∷ ts) st = (refl, refl, (tt, st))
 
-no_longer : (b : Bool) → (b ≡ true → ⊥) → b ≡ false
-no_longer true h = absurd (h refl)
-no_longer false h = refl
-
 hold_branched : (p q : Place) (e : Expression) (b : Statement) (s : List Frame) (ts : List Mark) → IsDoing (gave_statement b) (awaits_statement (then_branch p q e) ∷ s) (after e (stack_names s)) ts → IsStack (awaits_statement (then_branch p q e) ∷ s)
     → Then (branched p q e b s (after_statement b (after e (stack_names s))) ts)
 hold_branched p q e b s [] i st = (refl, ((st.0, i.0), λ x. tt), st.1)
-hold_branched p q e b s (part else_word ∷ ts) i st = (refl, tt, ((st.0, i.0, no_longer (takes_else b) i.1), st.1))
+hold_branched p q e b s (part else_word ∷ ts) i st = (refl, tt, ((st.0, i.0, false_from_ne_true (takes_else b) i.1), st.1))
 hold_branched p q e b s (part close_paren ∷ ts) i st = (refl, ((st.0, i.0), λ x. tt), st.1)
 hold_branched p q e b s (_ ∷ ts) i st = (refl, ((st.0, i.0), λ x. tt), st.1)
 

@@ -1,5 +1,5 @@
 -- Nodes that are records or have many parts, made of equal parts.
-use Rattle.std.proofs.Common.{◌≡◌, List, Option, Some, None}
+use Rattle.std.proofs.Common.{◌≡◌, List, Some, None}
 use Rattle.dae_base.specs.declared.Place.{Place}
 use Rattle.dae_tree.specs.declared.expressions.Name.{Name}
 use Rattle.dae_tree.specs.Trees as tree
@@ -22,14 +22,6 @@ parameter_of ws d = record { specifiers = ws; declarator = d }
 
 abbrev pub declaration_of : Place → tree.Specifiers → List tree.Item → tree.Declaration
 declaration_of p ws items = record { specifiers = ws; items = items; end = p }
-
-pub if_else_same : (p : Place) {q q' : Place} {a a' : tree.Expression} {s s' u u' : tree.Statement}
-    → q ≡ q' → a ≡ a' → s ≡ s' → u ≡ u' → tree.IfElse p q a s u ≡ tree.IfElse p q' a' s' u'
-if_else_same p e f g h = cc
-
-pub for_same : {p p' q q' r r' u u' : Place} {a a' b b' c c' : Option tree.Expression} {s s' : tree.Statement}
-    → p ≡ p' → q ≡ q' → a ≡ a' → r ≡ r' → b ≡ b' → u ≡ u' → c ≡ c' → s ≡ s' → tree.For p q a r b u c s ≡ tree.For p' q' a' r' b' u' c' s'
-for_same d e f g h i j k = cc
 
 pub defined_same : {ws ws' : tree.Specifiers} {d d' : tree.Declarator} {p p' : Place} {ds ds' : List tree.Declaration} {ss ss' : tree.Statements}
     → ws ≡ ws' → d ≡ d' → tree.Block p ds ss ≡ tree.Block p' ds' ss' → tree.Defined ws d p ds ss ≡ tree.Defined ws' d' p' ds' ss'

@@ -1,9 +1,10 @@
 -- Specifiers with one more behind them.
-use Rattle.std.proofs.Common.{◌≡◌, ℕ, Bool, true, false, ◌||◌, List, [], ◌∷◌, ◌++◌, Option, Some, None, refl, sym, ap, subst, ◌∙◌}
+use Rattle.std.proofs.Common.{◌≡◌, ℕ, ◌||◌, List, [], ◌∷◌, ◌++◌, Option, Some, None, refl, sym, ap, subst, ◌∙◌}
 use Rattle.std.specs.Prelude.{Vec}
 use Rattle.std.specs.Option.{unwrap_or}
 use Rattle.std.specs.declared.alloc.Global.{Global}
 use Rattle.dae_base.specs.declared.Place.{Place}
+use Rattle.dae_base.proofs.Laws.{or_nothing, or_along}
 use Rattle.dae_tree.specs.declared.words.Keyword.TheVariants as keywords
 use Rattle.dae_tree.specs.declared.expressions.Specifier.{Specifier}
 use Rattle.dae_tree.specs.Trees as tree
@@ -34,16 +35,8 @@ one w = tree.specifier_then w tree.no_specifiers
 last_joined : (before : List tree.Specifier) (w : tree.Specifier) → specifiers_onto (w ∷ before) tree.no_specifiers ≡ joined (specifiers_onto before tree.no_specifiers) (one w)
 last_joined before w = onto_joined before tree.no_specifiers (one w)
 
-or_false : (b : Bool) → b || false ≡ b
-or_false true = refl
-or_false false = refl
-
-or_along : (a b c : Bool) → a || (b || c) ≡ (a || b) || c
-or_along true b c = refl
-or_along false b c = refl
-
 typedef_joined : (ws : tree.Specifiers) (w : tree.Specifier) → has_typedef (joined ws (one w)) ≡ has_typedef ws || is_typedef_specifier w
-typedef_joined tree.no_specifiers w = or_false (is_typedef_specifier w)
+typedef_joined tree.no_specifiers w = or_nothing (is_typedef_specifier w)
 typedef_joined (tree.specifier_then v ws) w = ap (λ b. is_typedef_specifier v || b) (typedef_joined ws w) ∙ or_along (is_typedef_specifier v) (has_typedef ws) (is_typedef_specifier w)
 
 place_joined : (ws : tree.Specifiers) (w : tree.Specifier) → first_place (joined ws (one w)) ≡ Some (unwrap_or (first_place ws) (place_of_specifier w))

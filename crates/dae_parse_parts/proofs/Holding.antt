@@ -2,7 +2,7 @@
 use Rattle.std.proofs.Common.{◌≡◌, ℕ, zero, suc, ◌≤◌, ◌<◌, min, List, [], ◌∷◌, length, take, Option, Some, None, refl, sym, ap, subst, ◌∙◌, arith}
 use Rattle.std.specs.Prelude.{slice_get}
 use Rattle.dae_base.specs.declared.Place.{Place}
-use Rattle.dae_parse_grammar.specs.FirstPlaces.{Places, nowhere, over}
+use Rattle.dae_parse_grammar.specs.FirstPlaces.{Places, over}
 use Rattle.dae_parse_parts.specs.declared.reading.Read.{Read}
 use Rattle.dae_parse_parts.specs.Shown.{Lists, IsKept, Holds, IsFrom}
 
@@ -17,9 +17,6 @@ pub length_take : (n : ℕ) (xs : List Place) → length (take n xs) ≡ min n (
 length_take zero xs = omega arith
 length_take (suc n) [] = omega arith
 length_take (suc n) (x ∷ xs) = ap suc (length_take n xs) ∙ omega arith
-
-pub lists_nowhere : Lists [] nowhere
-lists_nowhere = record { short = omega arith; entries = λ i h. refl }
 
 entries_over : (xs : List Place) (f : Places) (p : Place) → Lists xs f → (i : ℕ) → i < 201 → slice_get (p ∷ take 200 xs) i ≡ over p f i
 entries_over xs f p h zero k = refl

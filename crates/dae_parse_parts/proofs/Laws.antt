@@ -51,12 +51,6 @@ shows_over view firsts place part whole a h made =
     let m = made (firsts a) h.holds in
     record { holds = m.0; seen = seen_from view part.tree whole.tree a h.seen m.1 }
 
-pub ap_two : {A B C : Type 0} (make : A → B → C) {x a : A} {y b : B} → x ≡ a → y ≡ b → make x y ≡ make a b
-ap_two make {x} {a} {y} {b} e d = ap (λ (z : _). make z y) e ∙ ap (make a) d
-
-pub ap_three : {A B C D : Type 0} (make : A → B → C → D) {x a : A} {y b : B} {z c : C} → x ≡ a → y ≡ b → z ≡ c → make x y z ≡ make a b c
-ap_three make {x} {a} {y} {b} {z} {c} e d f = ap_two (λ u v. make u v z) e d ∙ ap (make a b) f
-
 -- a tree that is made of that of a part
 pub shows_made : {T U A B : Type 0} (vu : U → B) (fu : B → Places) (view : T → A) (firsts : A → Places) (part : Read U) (tree : Option T) (b : B) (a : A) (u : U) (t : T)
     → Shows vu fu part b → fu b ≡ firsts a → part.tree ≡ Some u → tree ≡ Some t → (vu u ≡ b → view t ≡ a) → Shows view firsts (record { tree = tree; depths = part.depths }) a

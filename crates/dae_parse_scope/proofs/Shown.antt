@@ -2,7 +2,7 @@
 use Rattle.std.proofs.Common.{◌≡◌, ℕ, ◌+◌, ◌-◌, ◌<◌, ◌≤◌, List, [], ◌∷◌, ◌++◌, map, length, take, drop, get_or, reverse, subst, refl, ap, sym, ◌∙◌, append_assoc, append-nil, arith}
 use Rattle.std.proofs.lemmas.List.{take_rest, get_or-reverse, reverse-append, take-append-le, take-append-drop, take_more, length-take}
 use Rattle.dae_parse_scope.specs.declared.scope.Binding.{Binding}
-use Rattle.dae_parse_scope.specs.Scopes.{Scopes, bound_to, bound, closed, innermost}
+use Rattle.dae_parse_scope.specs.Scopes.{Scopes, bound, closed, innermost}
 use Rattle.dae_parse_scope.specs.Shown.{pair_of, shown, cuts, shown_outside, bound_all, Fall, AreWithin}
 
 pub shown_more : {B : Type 0} → (bs : List (Binding B)) (b : Binding B) → shown (bs ++ b ∷ []) ≡ pair_of b ∷ shown bs
@@ -46,11 +46,6 @@ closed_at bs k ks js e h =
 pub closed_shown : {B : Type 0} → (bs : List (Binding B)) (starts : List ℕ) (k : ℕ) → AreWithin (length bs) (starts ++ k ∷ [])
     → record { names = shown (take k bs); outside = shown_outside (take k bs) starts } ≡ closed (record { names = shown bs; outside = shown_outside bs (starts ++ k ∷ []) })
 closed_shown bs starts k h = closed_at bs k (reverse starts) (reverse (starts ++ k ∷ [])) (reverse-append starts (k ∷ [])) h
-
-pub type_at : {B : Type 0} → (bs : List (Binding B)) (k : ℕ) (b : Binding B) (n : ℕ) → k < length bs → b ≡ get_or bs k b → bound_to (shown (take (k + 1) bs)) n ≡ bound_to (pair_of b ∷ shown (take k bs)) n
-type_at bs k b n lt e =
-    let t : take (k + 1) bs ≡ take k bs ++ b ∷ [] = take_more bs k b lt ∙ ap (λ (c : Binding _). take k bs ++ c ∷ []) (sym e) in
-    ap (λ (xs : List (Binding _)). bound_to (shown xs) n) t ∙ ap (λ (xs : List _). bound_to xs n) (shown_more (take k bs) b)
 
 bound_append : {B : Type 0} → (bs cs : List (Binding B)) (names : List (ℕ × B)) → bound_all (bs ++ cs) names ≡ bound_all cs (bound_all bs names)
 bound_append [] cs names = refl

@@ -1,5 +1,6 @@
 -- What stands at the front, by a token's kind.
 use Rattle.std.proofs.Common.{◌≡◌, Bool, false, List, [], ◌∷◌, Option, Some, None, refl, sym, ap, ◌∙◌}
+use Rattle.std.proofs.lemmas.Option.{same_Some}
 use Rattle.dae_base.specs.declared.Place.{Place}
 use Rattle.dae_tree.specs.declared.words.Keyword.{Keyword}
 use Rattle.dae_tree.specs.declared.words.Keyword.TheVariants as keywords
@@ -49,25 +50,22 @@ no_name_sign signs.Comma p ts = refl
 no_name_sign signs.Colon p ts = refl
 no_name_sign _ p ts = refl
 
-some_same : {A : Type 0} → (a b : A) → Some a ≡ Some b → a ≡ b
-some_same a b e = cc
-
 pub sign_is : (k : Kind) (p : Place) (ts : List Mark) (g : Sign) → sign_at (mark_of k p ∷ ts) ≡ Some g → mark_of k p ≡ sign_mark g p
-sign_is (kinds.Sign h) p ts g e = ap (λ (s : Sign). sign_mark s p) (some_same h g (sym (sign_kept h p ts) ∙ e))
+sign_is (kinds.Sign h) p ts g e = ap (λ (s : Sign). sign_mark s p) (same_Some h g (sym (sign_kept h p ts) ∙ e))
 sign_is (kinds.Keyword k) p ts g e = let n = no_sign k p ts in cc
 sign_is (kinds.Name n) p ts g e = cc
 sign_is (kinds.Constant c) p ts g e = cc
 sign_is (kinds.Literal n) p ts g e = cc
 
 pub word_is : (k : Kind) (p : Place) (ts : List Mark) (w : Keyword) → word_at (mark_of k p ∷ ts) ≡ Some w → mark_of k p ≡ word_mark w p
-word_is (kinds.Keyword k) p ts w e = ap (λ (s : Keyword). word_mark s p) (some_same k w (sym (word_kept k p ts) ∙ e))
+word_is (kinds.Keyword k) p ts w e = ap (λ (s : Keyword). word_mark s p) (same_Some k w (sym (word_kept k p ts) ∙ e))
 word_is (kinds.Sign h) p ts w e = let n = no_word h p ts in cc
 word_is (kinds.Name n) p ts w e = cc
 word_is (kinds.Constant c) p ts w e = cc
 word_is (kinds.Literal n) p ts w e = cc
 
 pub name_is : (k : Kind) (p : Place) (ts : List Mark) (n : Name) → name_at (mark_of k p ∷ ts) ≡ Some n → mark_of k p ≡ name n
-name_is (kinds.Name m) p ts n e = ap name (some_same (record { place = p; number = m }) n e)
+name_is (kinds.Name m) p ts n e = ap name (same_Some (record { place = p; number = m }) n e)
 name_is (kinds.Sign h) p ts n e = let q = no_name_sign h p ts in cc
 name_is (kinds.Keyword k) p ts n e = let q = no_name_word k p ts in cc
 name_is (kinds.Constant c) p ts n e = cc

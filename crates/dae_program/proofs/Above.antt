@@ -1,17 +1,12 @@
 -- One outcome is below another, which has printed no less, and what keeps that.
-use Rattle.std.proofs.Common.{ℕ, Bool, true, false, List, [], ◌++◌, if◌then◌else◌, ap, sym, ◌∙◌, append_assoc, append-nil}
+use Rattle.std.proofs.Common.{ℕ, Bool, true, false, List, if◌then◌else◌}
 use Rattle.dae_meaning.specs.Worlds.{World}
 use Rattle.dae_meaning.specs.Results.{Result, At, Over, End, Going, Next, Leaves, Skips, Returns, Run, ◌▷◌, ◌↻◌, world_of}
 use Rattle.dae_meaning.specs.Alike.{IsFront}
 use Rattle.dae_meaning.specs.Variables.{Env}
+use Rattle.dae_meaning.proofs.Laws.{front_same, front_on}
 use Rattle.dae_program.specs.Outcomes.{Outcome, Gives, Ends, ◌⟫◌, ◌⊳◌, last_world}
 use Rattle.dae_program.specs.Switches.{leave_switch}
-
-pub front_same : (xs : List ℕ) → IsFront xs xs
-front_same xs = ([], sym (append-nil xs))
-
-pub front_on : (xs ys zs : List ℕ) → IsFront xs ys → IsFront ys zs → IsFront xs zs
-front_on xs ys zs a b = (a.0 ++ b.0, b.1 ∙ ap (λ l. l ++ b.0) a.1 ∙ append_assoc xs a.0 b.0)
 
 -- below, and the second only adds output
 pub data Above {X : Type 0} (xs : List ℕ) : Outcome X → Outcome X → Type 0 where

@@ -11,11 +11,12 @@ use Rattle.dae_meaning.specs.Operations.{spelled, misplaced}
 use Rattle.dae_meaning.specs.Variables.{Env, put}
 use Rattle.dae_meaning.specs.declared.Operator.{Operator}
 use Rattle.dae_meaning.specs.declared.Spelling.TheVariants.{Byte}
+use Rattle.dae_meaning.proofs.Laws.{front_same}
 use Rattle.dae_program.specs.Trees as tree
 use Rattle.dae_program.specs.Trees.{Expression, Target, Expressions, Setting, Statements, Arms, Program, Function}
 use Rattle.dae_program.specs.Outcomes.{Outcome, Gives, Object, Local, Placed, unless, access, store, read, write, with_written, last_world}
 use Rattle.dae_program.specs.Expressions.{Setup, operate, divides, decide, evaluate, object, arguments, return_to, with_printed}
-use Rattle.dae_program.proofs.Above.{front_same, same_above, bind_above, choice_above, Above, AboveResult, Giving, Ending, GoingTo, GoingOn, SameResult}
+use Rattle.dae_program.proofs.Above.{same_above, bind_above, choice_above, Above, AboveResult, Giving, Ending, GoingTo, GoingOn, SameResult}
 
 -- ---- what doesn't depend on the bound
 

@@ -4,12 +4,12 @@ use Rattle.std.proofs.lemmas.Bool.{cases_lt}
 use Rattle.dae_meaning.specs.Worlds.{World}
 use Rattle.dae_meaning.specs.Results.{End, Going}
 use Rattle.dae_meaning.specs.Alike.{IsFront}
+use Rattle.dae_meaning.proofs.Laws.{front_same, front_on}
 use Rattle.dae_program.specs.Calls.{call}
 use Rattle.dae_program.specs.Outcomes.{Outcome, last_world}
 use Rattle.dae_program.specs.Programs.{run, program_end, EndsSo}
 use Rattle.dae_program.specs.Turns.{IsBelow, Same, Fewer, EndsStay, OutputGrows, GoingBefore, OneEnd}
 use Rattle.dae_program.specs.Trees.{Program}
-use Rattle.dae_program.proofs.Above.{front_same, front_on}
 use Rattle.dae_program.proofs.Order.{turns_in_order}
 
 below_on : (r q t : Outcome ℕ) → IsBelow r q → IsBelow q t → IsBelow r t

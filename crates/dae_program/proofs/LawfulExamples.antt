@@ -10,7 +10,7 @@ use Rattle.dae_program.specs.declared.program.Slot.{Slot}
 use Rattle.dae_program.specs.declared.statements.Statement.{Statement}
 use Rattle.dae_program.specs.declared.statements.Statement.TheVariants as statement
 use Rattle.dae_program.specs.Lawful.{is_lawful}
-use Rattle.dae_program.proofs.Seen.{here}
+use Rattle.dae_program.proofs.SetFirstExamples.{here}
 
 -- the file's function 0 is function 1 of the program
 abbrev links : List Links

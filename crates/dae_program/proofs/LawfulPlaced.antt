@@ -1,8 +1,10 @@
 -- The objects of lawful trees lie in memory.
 use Rattle.std.proofs.Common.{◌≡◌, ℕ, ◌≤◌, Bool, true, false, ◌&&◌, List, [], ◌∷◌, Option, Some, None, refl, ap, sym, ◌∙◌, subst}
 use Rattle.std.specs.List.{list_all}
+use Rattle.std.proofs.lemmas.Bool.{leb-true, eqb-true}
 use Rattle.dae_base.specs.declared.Width.{Width}
 use Rattle.dae_base.specs.Words.{plus, size, width_of}
+use Rattle.dae_base.proofs.Laws.{and_first, and_second}
 use Rattle.dae_meaning.specs.Operations.{combined}
 use Rattle.dae_meaning.specs.declared.Operator.{Operator}
 use Rattle.dae_meaning.specs.declared.Operator.TheVariants.{Add, Subtract, Multiply, DivideSigned, DivideUnsigned, RemainderSigned, RemainderUnsigned, And, Or, Xor, ShiftLeft, ShiftRightSigned, ShiftRightUnsigned}
@@ -11,7 +13,7 @@ use Rattle.dae_program.specs.Lawful.{Bounds, is_good, fits_frame, adds, number_o
 use Rattle.dae_program.specs.Placed.{IsGood, IsInFrame, IsNamed, IsTested, IsPlaced, IsTargetPlaced, ArePlaced, IsSomePlaced, AreSettingsPlaced, AreSlotsPlaced, AreStatementsPlaced, AreArmsPlaced}
 use Rattle.dae_program.specs.Trees as tree
 use Rattle.dae_program.specs.Trees.{Expression, Target, Expressions, Setting, Statements, Arms}
-use Rattle.dae_program.proofs.Numbers.{first, second, within, equal, plus_plus, plus_zero, in_frame_by_numbers, aggregate_by_numbers}
+use Rattle.dae_program.proofs.Numbers.{plus_plus, plus_zero, in_frame_by_numbers, aggregate_by_numbers}
 
 -- ---- sums with a number
 
@@ -54,17 +56,17 @@ is_some_number (tree.Exit p x) test h = absurd (let c : false ≡ true = h in cc
 is_some_number (tree.Abort p) test h = absurd (let c : false ≡ true = h in cc)
 
 good : (width : Width) (x memory : ℕ) → is_good width x memory ≡ true → IsGood width x memory
-good width x memory h = (equal _ 0 (first _ _ h), within 16 x (first _ _ (second _ _ h)), within _ memory (second _ _ (second _ _ h)))
+good width x memory h = (eqb-true _ 0 (and_first _ _ h), leb-true 16 x (and_first _ _ (and_second _ _ h)), leb-true _ memory (and_second _ _ (and_second _ _ h)))
 
 -- in a memory that isn't longer than addresses reach
 module _ (b : Bounds) (small : b.memory ≤ 4294967296) where
   in_frame : (width : Width) (offset : ℕ) → fits_frame width offset b.frame ≡ true → IsInFrame b.memory b.frame width offset
-  in_frame width offset h = in_frame_by_numbers b.memory b.frame width offset small (equal _ 0 (first _ _ h)) (within _ b.frame (second _ _ h))
+  in_frame width offset h = in_frame_by_numbers b.memory b.frame width offset small (eqb-true _ 0 (and_first _ _ h)) (leb-true _ b.frame (and_second _ _ h))
 
   pub slots_placed : (slots : List (Option Slot)) → list_all (is_sound_slot b.frame) slots ≡ true → AreSlotsPlaced b.address b.memory b.frame slots
   slots_placed [] h = tt
   slots_placed (None ∷ slots) h = slots_placed slots h
-  slots_placed (Some slot ∷ slots) h = (in_frame slot.width slot.offset (second _ _ (first _ _ h)), slots_placed slots (second _ _ h))
+  slots_placed (Some slot ∷ slots) h = (in_frame slot.width slot.offset (and_second _ _ (and_first _ _ h)), slots_placed slots (and_second _ _ h))
 
   -- g adds k
   abbrev AddsNumber : ℕ → (ℕ → ℕ) → Type 0
@@ -77,9 +79,9 @@ module _ (b : Bounds) (small : b.memory ≤ 4294967296) where
   named width k (tree.Address number offset) h g a = subst (λ (x : ℕ). IsGood width x b.memory) (sym (a (b.address number) offset)) (good width _ b.memory h)
   named width k (tree.Frame p offset) h g a = λ top f. subst (λ (x : ℕ). IsGood width x b.memory) (sym (a top offset)) (in_frame width (plus offset k) h top f)
   named width k (tree.Binary p operator x y) h g a =
-      let n = is_some_number y (λ j. is_named b width (plus j k) x) (second _ _ h) in
-      (n.0, n.1, named width (plus n.0 k) x n.2 (λ z. g (combined operator z n.0)) (one_more operator k n.0 g (first _ _ h) a))
-  named width k (tree.Conditional p x y z) h g a = (named width k y (first _ _ h) g a, named width k z (second _ _ h) g a)
+      let n = is_some_number y (λ j. is_named b width (plus j k) x) (and_second _ _ h) in
+      (n.0, n.1, named width (plus n.0 k) x n.2 (λ z. g (combined operator z n.0)) (one_more operator k n.0 g (and_first _ _ h) a))
+  named width k (tree.Conditional p x y z) h g a = (named width k y (and_first _ _ h) g a, named width k z (and_second _ _ h) g a)
   named width k (tree.Comma x y) h g a = named width k y h g a
   named width k (tree.Number j) h g a = absurd (let c : false ≡ true = h in cc)
   named width k (tree.Variable p v) h g a = absurd (let c : false ≡ true = h in cc)
@@ -107,30 +109,30 @@ module _ (b : Bounds) (small : b.memory ≤ 4294967296) where
     placed (tree.Address number offset) h = tt
     placed (tree.Frame p offset) h = tt
     placed (tree.Variable p v) h = tt
-    placed (tree.Read p kind checked x) h = (checked_or_named checked (width_of kind) x (first _ _ h), placed x (second _ _ h))
+    placed (tree.Read p kind checked x) h = (checked_or_named checked (width_of kind) x (and_first _ _ h), placed x (and_second _ _ h))
     placed (tree.Convert p kind x) h = placed x h
     placed (tree.Not p x) h = placed x h
-    placed (tree.Binary p operator x y) h = (placed x (first _ _ h), placed y (second _ _ h))
-    placed (tree.Compare p comparison turned x y) h = (placed x (first _ _ h), placed y (second _ _ h))
-    placed (tree.And p x y) h = (placed x (first _ _ h), placed y (second _ _ h))
-    placed (tree.Or p x y) h = (placed x (first _ _ h), placed y (second _ _ h))
-    placed (tree.Conditional p x y z) h = (placed x (first _ _ h), placed y (first _ _ (second _ _ h)), placed z (second _ _ (second _ _ h)))
-    placed (tree.Comma x y) h = (placed x (first _ _ h), placed y (second _ _ h))
-    placed (tree.Assign p kind t x) h = (target_placed (width_of kind) t (first _ _ h), placed x (second _ _ h))
-    placed (tree.Update p kind t operator x) h = (target_placed (width_of kind) t (first _ _ h), placed x (second _ _ h))
-    placed (tree.Step p kind t change new) h = target_placed (width_of kind) t (first _ _ h)
-    placed (tree.Call p f xs) h = all_placed xs (second _ _ h)
+    placed (tree.Binary p operator x y) h = (placed x (and_first _ _ h), placed y (and_second _ _ h))
+    placed (tree.Compare p comparison turned x y) h = (placed x (and_first _ _ h), placed y (and_second _ _ h))
+    placed (tree.And p x y) h = (placed x (and_first _ _ h), placed y (and_second _ _ h))
+    placed (tree.Or p x y) h = (placed x (and_first _ _ h), placed y (and_second _ _ h))
+    placed (tree.Conditional p x y z) h = (placed x (and_first _ _ h), placed y (and_first _ _ (and_second _ _ h)), placed z (and_second _ _ (and_second _ _ h)))
+    placed (tree.Comma x y) h = (placed x (and_first _ _ h), placed y (and_second _ _ h))
+    placed (tree.Assign p kind t x) h = (target_placed (width_of kind) t (and_first _ _ h), placed x (and_second _ _ h))
+    placed (tree.Update p kind t operator x) h = (target_placed (width_of kind) t (and_first _ _ h), placed x (and_second _ _ h))
+    placed (tree.Step p kind t change new) h = target_placed (width_of kind) t (and_first _ _ h)
+    placed (tree.Call p f xs) h = all_placed xs (and_second _ _ h)
     placed (tree.Putchar p x) h = placed x h
     placed (tree.Exit p x) h = placed x h
     placed (tree.Abort p) h = tt
 
     target_placed : (width : Width) (t : Target) → is_sound_target b width t ≡ true → IsTargetPlaced b.address b.memory b.frame width t
     target_placed width (tree.InVariable v) h = tt
-    target_placed width (tree.AtAddress checked x) h = (checked_or_named checked width x (first _ _ h), placed x (second _ _ h))
+    target_placed width (tree.AtAddress checked x) h = (checked_or_named checked width x (and_first _ _ h), placed x (and_second _ _ h))
 
     all_placed : (xs : Expressions) → are_sound b xs ≡ true → ArePlaced b.address b.memory b.frame xs
     all_placed tree.no_expressions h = tt
-    all_placed (tree.expression_then x xs) h = (placed x (first _ _ h), all_placed xs (second _ _ h))
+    all_placed (tree.expression_then x xs) h = (placed x (and_first _ _ h), all_placed xs (and_second _ _ h))
 
   some_placed : (x : Option Expression) → is_sound_some b x ≡ true → IsSomePlaced b.address b.memory b.frame x
   some_placed None h = tt
@@ -138,28 +140,28 @@ module _ (b : Bounds) (small : b.memory ≤ 4294967296) where
 
   items_placed : (items : List Setting) → are_sound_items b items ≡ true → AreSettingsPlaced b.address b.memory b.frame items
   items_placed [] h = tt
-  items_placed (item ∷ items) h = (in_frame item.width item.offset (second _ _ (first _ _ h)), placed item.value (first _ _ (second _ _ h)), items_placed items (second _ _ (second _ _ h)))
+  items_placed (item ∷ items) h = (in_frame item.width item.offset (and_second _ _ (and_first _ _ h)), placed item.value (and_first _ _ (and_second _ _ h)), items_placed items (and_second _ _ (and_second _ _ h)))
 
   mutual
     pub statements_placed : (t : Statements) → are_sound_statements b t ≡ true → AreStatementsPlaced b.address b.memory b.frame t
     statements_placed tree.Done h = tt
-    statements_placed (tree.Evaluate p x k) h = (placed x (first _ _ h), statements_placed k (second _ _ h))
-    statements_placed (tree.Initialise p offset size items k) h = (aggregate_by_numbers b.memory b.frame size offset small (within _ b.frame (second _ _ (first _ _ h))), items_placed items (first _ _ (second _ _ h)), statements_placed k (second _ _ (second _ _ h)))
-    statements_placed (tree.Print p xs pieces k) h = (all_placed xs (first _ _ h), statements_placed k (second _ _ h))
+    statements_placed (tree.Evaluate p x k) h = (placed x (and_first _ _ h), statements_placed k (and_second _ _ h))
+    statements_placed (tree.Initialise p offset size items k) h = (aggregate_by_numbers b.memory b.frame size offset small (leb-true _ b.frame (and_second _ _ (and_first _ _ h))), items_placed items (and_first _ _ (and_second _ _ h)), statements_placed k (and_second _ _ (and_second _ _ h)))
+    statements_placed (tree.Print p xs pieces k) h = (all_placed xs (and_first _ _ h), statements_placed k (and_second _ _ h))
     statements_placed (tree.If p x t u k) h =
-        let more = second (is_sound b x) (are_sound_statements b t && (are_sound_statements b u && are_sound_statements b k)) h in
-        let last = second (are_sound_statements b t) (are_sound_statements b u && are_sound_statements b k) more in
-        (placed x (first _ _ h), statements_placed t (first _ _ more), statements_placed u (first _ _ last), statements_placed k (second _ _ last))
+        let more = and_second (is_sound b x) (are_sound_statements b t && (are_sound_statements b u && are_sound_statements b k)) h in
+        let last = and_second (are_sound_statements b t) (are_sound_statements b u && are_sound_statements b k) more in
+        (placed x (and_first _ _ h), statements_placed t (and_first _ _ more), statements_placed u (and_first _ _ last), statements_placed k (and_second _ _ last))
     statements_placed (tree.Loop p e body step k) h =
-        let more = second (is_sound_some b e) (are_sound_statements b body && (is_sound_some b step && are_sound_statements b k)) h in
-        let last = second (are_sound_statements b body) (is_sound_some b step && are_sound_statements b k) more in
-        (some_placed e (first _ _ h), statements_placed body (first _ _ more), some_placed step (first _ _ last), statements_placed k (second _ _ last))
-    statements_placed (tree.Do p body x k) h = (statements_placed body (first _ _ h), placed x (first _ _ (second _ _ h)), statements_placed k (second _ _ (second _ _ h)))
-    statements_placed (tree.Switch p x arms k) h = (placed x (first _ _ (first _ _ h)), arms_placed arms (first _ _ (second _ _ h)), statements_placed k (second _ _ (second _ _ h)))
+        let more = and_second (is_sound_some b e) (are_sound_statements b body && (is_sound_some b step && are_sound_statements b k)) h in
+        let last = and_second (are_sound_statements b body) (is_sound_some b step && are_sound_statements b k) more in
+        (some_placed e (and_first _ _ h), statements_placed body (and_first _ _ more), some_placed step (and_first _ _ last), statements_placed k (and_second _ _ last))
+    statements_placed (tree.Do p body x k) h = (statements_placed body (and_first _ _ h), placed x (and_first _ _ (and_second _ _ h)), statements_placed k (and_second _ _ (and_second _ _ h)))
+    statements_placed (tree.Switch p x arms k) h = (placed x (and_first _ _ (and_first _ _ h)), arms_placed arms (and_first _ _ (and_second _ _ h)), statements_placed k (and_second _ _ (and_second _ _ h)))
     statements_placed (tree.Break p k) h = statements_placed k h
     statements_placed (tree.Continue p k) h = statements_placed k h
-    statements_placed (tree.Return p x k) h = (some_placed x (first _ _ h), statements_placed k (second _ _ h))
+    statements_placed (tree.Return p x k) h = (some_placed x (and_first _ _ h), statements_placed k (and_second _ _ h))
 
     arms_placed : (arms : Arms) → are_sound_arms b arms ≡ true → AreArmsPlaced b.address b.memory b.frame arms
     arms_placed tree.no_arms h = tt
-    arms_placed (tree.arm_then labels t rest) h = (statements_placed t (first _ _ (second _ _ h)), arms_placed rest (second _ _ (second _ _ h)))
+    arms_placed (tree.arm_then labels t rest) h = (statements_placed t (and_first _ _ (and_second _ _ h)), arms_placed rest (and_second _ _ (and_second _ _ h)))

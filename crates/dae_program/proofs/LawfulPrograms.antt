@@ -1,9 +1,12 @@
 -- Programs in memory that are lawful keep the rules.
-use Rattle.std.proofs.Common.{◌≡◌, ◌≢◌, ℕ, zero, suc, ◌+◌, ◌-◌, ◌%◌, ◌^◌, ◌<◌, ◌≤◌, Bool, true, false, not, ◌&&◌, nat_eq, List, [], ◌∷◌, ◌++◌, length, replicate, Option, Some, None, refl, ap, sym, subst, arith, length-append}
+use Rattle.std.proofs.Common.{◌≡◌, ◌≢◌, ℕ, ◌+◌, ◌-◌, ◌%◌, ◌^◌, ◌<◌, ◌≤◌, Bool, true, false, not, ◌&&◌, nat_eq, List, [], ◌∷◌, ◌++◌, length, replicate, Option, Some, None, refl, sym, subst, arith, length-append}
 use Rattle.std.proofs.lemmas.List.{length-replicate}
 use Rattle.std.proofs.lemmas.Bool.Decides.{nat_tests}
 use Rattle.std.specs.Prelude.{nat_le, slice_get}
 use Rattle.std.specs.List.{list_all}
+use Rattle.std.proofs.lemmas.Option.{slice_get_within}
+use Rattle.std.proofs.lemmas.Bool.{leb-true, eqb-true}
+use Rattle.dae_base.proofs.Laws.{passes_at, and_first, and_second}
 use Rattle.dae_program.specs.declared.program.Function.{Function}
 use Rattle.dae_program.specs.declared.program.Links.{Links}
 use Rattle.dae_program.specs.declared.program.Program.{Program}
@@ -15,25 +18,10 @@ use Rattle.dae_program.specs.Resolved.{function_in, callee_in, number_or, variab
 use Rattle.dae_program.specs.Scope.{AreStatementsIn, AreSlotsIn}
 use Rattle.dae_program.specs.Trees as tree
 use Rattle.dae_program.proofs.Straying.{named_never_stray}
-use Rattle.dae_program.proofs.Numbers.{first, second, within, equal}
 use Rattle.dae_program.proofs.LawfulScope.{statements_in, slots_in}
 use Rattle.dae_program.proofs.LawfulPlaced.{statements_placed, slots_placed}
 
 -- ---- lists
-
-abbrev or_else : {A : Type 0} → A → Option A → A
-or_else y None = y
-or_else y (Some x) = x
-
-at : {A : Type 0} (test : A → Bool) (xs : List A) (k : ℕ) (x : A) → list_all test xs ≡ true → slice_get xs k ≡ Some x → test x ≡ true
-at test [] k x h e = absurd (let c : None ≡ Some x = e in cc)
-at test (y ∷ ys) zero x h e = subst (λ z. test z ≡ true) (ap (or_else y) e) (first _ _ h)
-at test (y ∷ ys) (suc k) x h e = at test ys k x (second _ _ h) e
-
-there : {A : Type 0} (xs : List A) (k : ℕ) (x : A) → slice_get xs k ≡ Some x → k < length xs
-there [] k x e = absurd (let c : None ≡ Some x = e in cc)
-there (y ∷ ys) zero x e = omega arith
-there (y ∷ ys) (suc k) x e = let h = there ys k x e in omega arith
 
 no_items : {A : Type 0} (xs : List A) → nat_eq (length xs) 0 ≡ true → xs ≡ []
 no_items [] h = refl
@@ -52,35 +40,35 @@ module _ (memory variables : ℕ) (counts : ℕ → Option ℕ) (returns : Bool)
   bounds = record { variables = variables; parameters = counts; address = f.address; memory = memory; frame = f.frame }
 
   numbers : (nat_eq (f.frame % 4) 0 && nat_le (1 + length f.parameters) variables) ≡ true
-  numbers = first _ _ (first _ _ h)
+  numbers = and_first _ _ (and_first _ _ h)
 
   parts : (list_all (is_sound_slot f.frame) f.parameters && are_sound_statements bounds f.body) ≡ true
-  parts = second (nat_eq (f.frame % 4) 0 && nat_le (1 + length f.parameters) variables) _ (first _ (are_inside false false returns f.body) h)
+  parts = and_second (nat_eq (f.frame % 4) 0 && nat_le (1 + length f.parameters) variables) _ (and_first _ (are_inside false false returns f.body) h)
 
   body_in : AreStatementsIn variables f.body
-  body_in = statements_in bounds f.body (second _ _ parts)
+  body_in = statements_in bounds f.body (and_second _ _ parts)
 
   parameters_below : 1 + length f.parameters ≤ variables
-  parameters_below = within _ variables (second _ _ numbers)
+  parameters_below = leb-true _ variables (and_second _ _ numbers)
 
   parameters_in : AreSlotsIn f.parameters
-  parameters_in = slots_in f.frame f.parameters (first _ _ parts)
+  parameters_in = slots_in f.frame f.parameters (and_first _ _ parts)
 
   body_placed : memory ≤ 4294967296 → KeepsFrame memory f
   body_placed small = record {
-    aligned = equal _ 0 (first _ _ numbers);
-    parameters = slots_placed bounds small f.parameters (first _ _ parts);
-    statements = statements_placed bounds small f.body (second _ _ parts);
+    aligned = eqb-true _ 0 (and_first _ _ numbers);
+    parameters = slots_placed bounds small f.parameters (and_first _ _ parts);
+    statements = statements_placed bounds small f.body (and_second _ _ parts);
   }
 
 -- ---- programs
 
 module _ (p : Program) (limit : ℕ) (h : is_well_placed p.memory p.frames p.content p.links p.functions p.main ≡ true) where
   beginning : (is_lawful_memory p.memory p.frames (length p.content) && is_main p.memory p.links p.functions (slice_get p.functions p.main)) ≡ true
-  beginning = first _ _ h
+  beginning = and_first _ _ h
 
   lists : (list_all (spares p.main) p.links && list_all (is_lawful_in p.memory p.links p.functions true) p.functions) ≡ true
-  lists = second (is_lawful_memory p.memory p.frames (length p.content) && is_main p.memory p.links p.functions (slice_get p.functions p.main)) _ h
+  lists = and_second (is_lawful_memory p.memory p.frames (length p.content) && is_main p.memory p.links p.functions (slice_get p.functions p.main)) _ h
 
   abbrev function : Option Function → tree.Function
   function f = function_in (length p.functions) p.links f
@@ -89,7 +77,7 @@ module _ (p : Program) (limit : ℕ) (h : is_well_placed p.memory p.frames p.con
   counts f k = parameter_count (slice_get p.functions (let g = function (Some f) in g.callee k))
 
   lawful_at : (k : ℕ) (f : Function) → slice_get p.functions k ≡ Some f → is_lawful_body p.memory f.variables (counts f) true (function (Some f)) ≡ true
-  lawful_at k f e = at (is_lawful_in p.memory p.links p.functions true) p.functions k f (second _ _ lists) e
+  lawful_at k f e = passes_at (is_lawful_in p.memory p.links p.functions true) p.functions k f (and_second _ _ lists) e
 
   module _ (k : ℕ) where
     scope_at : (f : Option Function) → slice_get p.functions k ≡ f → AreStatementsIn (variables_in f) (let g = function f in g.body)
@@ -110,17 +98,17 @@ module _ (p : Program) (limit : ℕ) (h : is_well_placed p.memory p.frames p.con
 
   main_there : (f : Option Function) → slice_get p.functions p.main ≡ f → is_main p.memory p.links p.functions f ≡ true → p.main < length p.functions
   main_there None e i = absurd (let c : false ≡ true = i in cc)
-  main_there (Some f) e i = there p.functions p.main f e
+  main_there (Some f) e i = slice_get_within p.functions p.main f e
 
   none_else : length p.functions ≢ p.main
-  none_else e = too_many p.main (length p.functions) (main_there (slice_get p.functions p.main) refl (second _ _ beginning)) e
+  none_else e = too_many p.main (length p.functions) (main_there (slice_get p.functions p.main) refl (and_second _ _ beginning)) e
 
   callee_else : (links : Option Links) (file g : ℕ) → slice_get p.links file ≡ links → callee_in (length p.functions) links g ≢ p.main
   callee_else None file g e = none_else
   callee_else (Some links) file g e = by (slice_get links.functions g) refl where
     by : (x : Option ℕ) → slice_get links.functions g ≡ x → number_or (length p.functions) x ≢ p.main
     by None i = none_else
-    by (Some x) i = different x p.main (at (λ (f : ℕ). not (nat_eq f p.main)) links.functions g x (at (spares p.main) p.links file links (first _ _ lists) e) i)
+    by (Some x) i = different x p.main (passes_at (λ (f : ℕ). not (nat_eq f p.main)) links.functions g x (passes_at (spares p.main) p.links file links (and_first _ _ lists) e) i)
 
   alone_in : (f : Option Function) (g : ℕ) → (let h = function f in h.callee g) ≢ p.main
   alone_in None g = none_else
@@ -128,13 +116,13 @@ module _ (p : Program) (limit : ℕ) (h : is_well_placed p.memory p.frames p.con
 
   plain_in : (f : Option Function) → is_main p.memory p.links p.functions f ≡ true → (let g = function f in g.parameters) ≡ []
   plain_in None i = refl
-  plain_in (Some f) i = no_items f.parameters (first _ _ i)
+  plain_in (Some f) i = no_items f.parameters (and_first _ _ i)
 
   sizes : is_lawful_memory p.memory p.frames (length p.content) ≡ true
-  sizes = first _ _ beginning
+  sizes = and_first _ _ beginning
 
   ends : (p.frames % 4 ≡ 0) × (16 + length p.content ≤ p.frames) × (p.frames ≤ p.memory) × (p.memory ≤ 2 ^ 26)
-  ends = (equal _ 0 (first _ _ (first _ _ sizes)), within _ p.frames (second _ _ (first _ _ sizes)), within p.frames p.memory (first _ _ (second _ _ sizes)), within p.memory (2 ^ 26) (second _ _ (second _ _ sizes)))
+  ends = (eqb-true _ 0 (and_first _ _ (and_first _ _ sizes)), leb-true _ p.frames (and_second _ _ (and_first _ _ sizes)), leb-true p.frames p.memory (and_first _ _ (and_second _ _ sizes)), leb-true p.memory (2 ^ 26) (and_second _ _ (and_second _ _ sizes)))
 
   memory_length : length ((replicate 16 0 ++ p.content) ++ replicate (p.memory - (16 + length p.content)) 0) ≡ p.memory
   memory_length =
@@ -151,7 +139,7 @@ module _ (p : Program) (limit : ℕ) (h : is_well_placed p.memory p.frames p.con
       parameters = λ f. parameters_at f (slice_get p.functions f) refl;
       slots = λ f. slots_at f (slice_get p.functions f) refl;
       main_alone = λ f. alone_in (slice_get p.functions f);
-      main_plain = plain_in (slice_get p.functions p.main) (second _ _ beginning);
+      main_plain = plain_in (slice_get p.functions p.main) (and_second _ _ beginning);
     };
     frames = λ f. frame_at f (let e = ends.3 in omega (arith, e)) (slice_get p.functions f) refl;
     begins = record {
@@ -165,9 +153,9 @@ module _ (p : Program) (limit : ℕ) (h : is_well_placed p.memory p.frames p.con
   }
 
 pub lawful_keep_rules : LawfulKeepRules
-lawful_keep_rules p limit h = rules p limit (first _ _ h)
+lawful_keep_rules p limit h = rules p limit (and_first _ _ h)
 
 pub never_strays : NeverStrays
 never_strays p limit n h =
-    let kept = rules p limit (first _ _ h) in
+    let kept = rules p limit (and_first _ _ h) in
     named_never_stray (program_of p limit) true n p.main (start p.memory p.frames p.content) (subst (λ (m : ℕ). KeepsFrames m (program_of p limit)) (sym kept.memory) kept.frames) kept.begins

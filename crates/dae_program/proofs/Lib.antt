@@ -7,11 +7,7 @@ mod AboveExpressions
 mod Order
 mod Ends
 mod Straying
-mod Seen
-mod ExpressionsExamples
-mod ObjectsExamples
-mod StatementsExamples
-mod CallsExamples
-mod PrintingExamples
-mod LawfulExamples
 mod SetFirstExamples
+mod LawfulExamples
+mod Cases
+pub mod LawsOfTrees

@@ -1,27 +1,9 @@
 -- Tests of numbers, and what they must say of objects, so that these are placed.
-use Rattle.std.proofs.Common.{◌≡◌, ℕ, zero, suc, ◌+◌, ◌%◌, ◌<◌, ◌≤◌, Bool, true, ◌&&◌, nat_eq, arith}
-use Rattle.std.proofs.lemmas.Bool.{and_parts}
-use Rattle.std.proofs.lemmas.Bool.Decides.{nat_tests}
-use Rattle.std.specs.Prelude.{nat_lt, nat_le}
+use Rattle.std.proofs.Common.{◌≡◌, ℕ, zero, suc, ◌+◌, ◌%◌, ◌≤◌, arith}
 use Rattle.dae_base.specs.Words.{plus, size}
 use Rattle.dae_base.specs.declared.Width.{Width}
 use Rattle.dae_base.specs.declared.Width.TheVariants.{B1, B2, B4}
 use Rattle.dae_program.specs.Placed.{IsFrame, AreGood, IsInFrame}
-
-pub first : (x y : Bool) → (x && y) ≡ true → x ≡ true
-first x y h = (and_parts x y h).0
-
-pub second : (x y : Bool) → (x && y) ≡ true → y ≡ true
-second x y h = (and_parts x y h).1
-
-pub below : (a b : ℕ) → nat_lt a b ≡ true → a < b
-below a b h = grind (arith, nat_tests)
-
-pub within : (a b : ℕ) → nat_le a b ≡ true → a ≤ b
-within a b h = grind (arith, nat_tests)
-
-pub equal : (a b : ℕ) → nat_eq a b ≡ true → a ≡ b
-equal a b h = grind (arith, nat_tests)
 
 pub plus_plus : (x y z : ℕ) → plus (plus x y) z ≡ plus x (plus y z)
 plus_plus x y z = omega arith

@@ -9,6 +9,7 @@ use Rattle.dae_meaning.specs.Alike.{IsFront}
 use Rattle.dae_meaning.specs.Operations.{spelled, misplaced}
 use Rattle.dae_meaning.specs.Variables.{Env, put, entered}
 use Rattle.dae_meaning.specs.declared.Spelling.TheVariants.{Byte}
+use Rattle.dae_meaning.proofs.Laws.{front_same, front_on}
 use Rattle.dae_program.specs.declared.statements.Piece.{Piece}
 use Rattle.dae_program.specs.declared.statements.Piece.TheVariants as piece
 use Rattle.dae_program.specs.declared.program.Slot.{Slot}
@@ -22,7 +23,7 @@ use Rattle.dae_program.specs.Initialising.{clear, set_items}
 use Rattle.dae_program.specs.Switches.{first_arm}
 use Rattle.dae_program.specs.Statements.{test, do_effects, loop, execute, execute_from}
 use Rattle.dae_program.specs.Calls.{keep_parameters, enter, no_room, result_of, call}
-use Rattle.dae_program.proofs.Above.{AboveRuns, front_same, front_on, over_grown, then_grown, loop_grown, then_over, loop_over, value_over, choice_over, leave_over, Above, AboveResult, Giving, Ending, GoingTo, GoingOn, SameResult, GoingResult}
+use Rattle.dae_program.proofs.Above.{AboveRuns, over_grown, then_grown, loop_grown, then_over, loop_over, value_over, choice_over, leave_over, Above, AboveResult, Giving, Ending, GoingTo, GoingOn, SameResult, GoingResult}
 use Rattle.dae_program.proofs.AboveExpressions.{unless_above, store_over, evaluate_above, arguments_above}
 
 -- ---- printing and clearing add output alone

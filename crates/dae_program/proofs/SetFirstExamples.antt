@@ -9,7 +9,8 @@ use Rattle.dae_program.specs.Trees as tree
 use Rattle.dae_program.specs.Trees.{Expression, Function, Statements}
 use Rattle.dae_program.specs.SetFirst.{is_set_first}
 
-abbrev here : Place
+-- a place for all nodes, since no meaning looks at places
+abbrev pub here : Place
 here = record { file = 0; line = 1; col = 1 }
 
 abbrev function : List (Option Slot) → Statements → Function

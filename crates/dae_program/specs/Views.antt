@@ -5,6 +5,7 @@ use Rattle.dae_program.specs.declared.expressions.Expression.{Expression}
 use Rattle.dae_program.specs.declared.expressions.Target.TheVariants as target
 use Rattle.dae_program.specs.declared.expressions.Target.{Target}
 use Rattle.dae_program.specs.declared.expressions.Expression.TheBlock.{Row_of-Expression, end_of-Expression, more_of-Expression}
+use Rattle.dae_program.specs.declared.statements.Arm.{Arm}
 use Rattle.dae_program.specs.declared.statements.Setting.{Setting}
 use Rattle.dae_program.specs.declared.statements.Statement.TheVariants as statement
 use Rattle.dae_program.specs.declared.statements.Statement.{Statement}
@@ -83,3 +84,7 @@ abbrev mutual
 abbrev pub view_statements : List Statement → tree.Statements
 view_statements [] = tree.Done
 view_statements (s ∷ ss) = statement_then s (view_statements ss)
+
+abbrev pub arms_of : List Arm → tree.Arms
+arms_of [] = tree.no_arms
+arms_of (arm ∷ arms) = tree.arm_then arm.labels.items (view_statements arm.statements.items) (arms_of arms)

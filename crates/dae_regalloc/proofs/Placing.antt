@@ -22,7 +22,7 @@ use Rattle.dae_regalloc.specs.Seen.{AreSeen, ArePlacesOf, ArePlacesOfStep}
 abbrev SeesOne : VariableSet → Spans → Spans → Type 0
 SeesOne here old new = (places : List VariableSet) → AreSeen places old → AreSeen (here ∷ places) new
 
-pub acted : (s : Step) (m : Mark) (a : Action) (leaves skips next : List Bool) (old new : Spans) (set here : List Bool) → s ≡ step.Act m a
+pub acted : (s : Step) (m : Mark) (a : Action) (leaves skips next : List ℕ) (old new : Spans) (set here : List ℕ) → s ≡ step.Act m a
     → ((n : VariableSet) → member set ≡ before a (member next) (ways n (member leaves) (member skips))) → member here ≡ with_all (member set) (sets a) → SeesOne (member here) old new
     → ArePlacesOfStep s old next leaves skips new set
 acted s m a leaves skips next old new set here is found at more b k n h =
@@ -34,7 +34,7 @@ acted s m a leaves skips next old new set here is found at more b k n h =
       live = lived;
     })
 
-pub branched : (s : Step) (m : Mark) (b : Branch) (p q : Vec Step Global) (leaves skips next : List Bool) (old mid last new : Spans) (one other set : List Bool) → s ≡ step.If m b p q
+pub branched : (s : Step) (m : Mark) (b : Branch) (p q : Vec Step Global) (leaves skips next : List ℕ) (old mid last new : Spans) (one other set : List ℕ) → s ≡ step.If m b p q
     → ArePlacesOf (actions_of q.items) (ways (member next) (member leaves) (member skips)) old mid other
     → ArePlacesOf (actions_of p.items) (ways (member next) (member leaves) (member skips)) mid last one
     → member set ≡ with_all (decided b) (with_all (member one) (member other)) → SeesOne (member set) last new
@@ -56,7 +56,7 @@ branched s m b p q leaves skips next old mid last new one other set is second fi
       live = lived;
     })
 
-pub looped : (s : Step) (m : Mark) (p q : Vec Step Global) (leaves skips next : List Bool) (old mid last new : Spans) (turned again set : List Bool) → s ≡ step.Loop m p q
+pub looped : (s : Step) (m : Mark) (p q : Vec Step Global) (leaves skips next : List ℕ) (old mid last new : Spans) (turned again set : List ℕ) → s ≡ step.Loop m p q
     → member turned ≡ turn (actions_of p.items) (actions_of q.items) (member next)
     → ArePlacesOf (actions_of q.items) (ways (member turned) (member next) (member turned)) old mid again
     → ArePlacesOf (actions_of p.items) (ways (member again) (member next) (member again)) mid last set
@@ -85,12 +85,12 @@ looped s m p q leaves skips next old mid last new turned again set is first step
 
 -- ---- a list of steps
 
-pub none_placed : (steps : List Step) (old : Spans) (next : List Bool) (lv sk : VariableSet) → ArePlacesOf (actions_of (drop (length steps) steps)) (ways (member next) lv sk) old old next
+pub none_placed : (steps : List Step) (old : Spans) (next : List ℕ) (lv sk : VariableSet) → ArePlacesOf (actions_of (drop (length steps) steps)) (ways (member next) lv sk) old old next
 none_placed steps old next lv sk =
     let none : drop (length steps) steps ≡ [] = drop_all (length steps) steps (omega arith) in
     rw none (record { seen = λ places seen. seen; live = refl })
 
-pub one_more : (steps : List Step) (j : ℕ) (s : Step) (leaves skips next : List Bool) (base old new : Spans) (set : List Bool) (n : VariableSet) → 0 < j → j ≤ length steps → s ≡ get_or steps (j - 1) s
+pub one_more : (steps : List Step) (j : ℕ) (s : Step) (leaves skips next : List ℕ) (base old new : Spans) (set : List ℕ) (n : VariableSet) → 0 < j → j ≤ length steps → s ≡ get_or steps (j - 1) s
     → ArePlacesOf (actions_of (drop j steps)) (ways n (member leaves) (member skips)) base old next
     → ArePlacesOfStep s old next leaves skips new set
     → ArePlacesOf (actions_of (drop (j - 1) steps)) (ways n (member leaves) (member skips)) base new set
@@ -100,12 +100,12 @@ one_more steps j s leaves skips next base old new set n some le is so_far h =
     rw here (h base (actions_of (drop j steps)) n so_far)
 
 -- the same of what is the same
-pub moved : (n n' lv lv' sk sk' : List Bool) (xs xs' : List Step) (old new : Spans) (set : List Bool) → n ≡ n' → lv ≡ lv' → sk ≡ sk' → xs ≡ xs'
+pub moved : (n n' lv lv' sk sk' : List ℕ) (xs xs' : List Step) (old new : Spans) (set : List ℕ) → n ≡ n' → lv ≡ lv' → sk ≡ sk' → xs ≡ xs'
     → ArePlacesOf (actions_of xs) (ways (member n) (member lv) (member sk)) old new set → ArePlacesOf (actions_of xs') (ways (member n') (member lv') (member sk')) old new set
 moved n n' lv lv' sk sk' xs xs' old new set a b c d h = rw (← a, ← b, ← c, ← d) h
 
 -- a whole function
-pub whole_placed : (old mid new : Spans) (parameters : ℕ) (c : Actions) (next lv sk set entry : List Bool) → member next ≡ none → member lv ≡ none → member sk ≡ none
+pub whole_placed : (old mid new : Spans) (parameters : ℕ) (c : Actions) (next lv sk set entry : List ℕ) → member next ≡ none → member lv ≡ none → member sk ≡ none
     → ArePlacesOf c (ways (member next) (member lv) (member sk)) old mid set → member entry ≡ with_all (member set) (parameters_of parameters) → SeesOne (member entry) mid new → AreSeen [] old
     → AreSeen (function_lives parameters c) new
 whole_placed old mid new parameters c next lv sk set entry a b d h e more seen =

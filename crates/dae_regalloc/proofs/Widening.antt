@@ -1,11 +1,12 @@
 -- What becomes of spans where a variable is seen.
-use Rattle.std.proofs.Common.{◌≡◌, ℕ, zero, suc, ◌+◌, ◌<◌, ◌≤◌, ◌⊎◌, inl, inr, Bool, true, false, List, [], ◌∷◌, ◌++◌, length, Option, Some, None, refl, ap, sym, ◌∙◌, subst, arith}
+use Rattle.std.proofs.Common.{◌≡◌, ℕ, zero, suc, ◌+◌, ◌<◌, ◌≤◌, ◌⊎◌, inl, inr, Bool, true, false, ◌||◌, List, [], ◌∷◌, ◌++◌, length, take, get_or, Option, Some, None, refl, ap, sym, ◌∙◌, subst, arith}
 use Rattle.std.specs.Prelude.{nat_eq, nat_lt, slice_get, slice_set, if◌then◌else◌}
 use Rattle.std.specs.List.{AllByRecursion}
 use Rattle.std.proofs.lemmas.Bool.Decides.{nat_tests}
 use Rattle.std.proofs.lemmas.Option.{same_Some, slice_get_within}
 use Rattle.dae_ir.specs.Classes.{VariableSet}
 use Rattle.dae_select_live.specs.Members.{member}
+use Rattle.dae_select_live.proofs.Laws.{member_more}
 use Rattle.dae_regalloc.specs.declared.Span.{Span}
 use Rattle.dae_regalloc.specs.declared.spans.Spans.{Spans}
 use Rattle.dae_regalloc.specs.Scan.{AreInOrder}
@@ -219,17 +220,26 @@ begun_further old new v s is first last none numbers spans places long = record 
 
 -- ---- one after the other
 
-pub live_below : (flags : List Bool) (v : ℕ) → member flags v ≡ true → v < length flags
-live_below [] v e = absurd cc
-live_below (b ∷ flags) zero e = omega arith
-live_below (b ∷ flags) (suc v) e = (let lt = live_below flags v e in omega arith)
-
-pub below_or_last : (u n : ℕ) → u < n + 1 → (u < n) ⊎ (u ≡ n)
-below_or_last u n lt = by (nat_lt u n) refl
+-- one variable more of a list
+pub taken_either : (vs : List ℕ) (i u : ℕ) → i < length vs → member (take (i + 1) vs) u ≡ true → (member (take i vs) u ≡ true) ⊎ (u ≡ get_or vs i 0)
+taken_either vs i u lt e = by (member (take i vs) u) (nat_eq u (get_or vs i 0)) refl refl (sym (member_more vs i u lt) ∙ e)
   where
-    by : (b : Bool) → nat_lt u n ≡ b → (u < n) ⊎ (u ≡ n)
-    by true t = inl (grind (arith, nat_tests))
-    by false t = inr (grind (arith, nat_tests))
+    by : (a b : Bool) → member (take i vs) u ≡ a → nat_eq u (get_or vs i 0) ≡ b → a || b ≡ true → (member (take i vs) u ≡ true) ⊎ (u ≡ get_or vs i 0)
+    by true b t h g = inl t
+    by false true t h g = inr (grind (arith, nat_tests))
+    by false false t h g = absurd cc
+
+or_true : (b : Bool) → b || true ≡ true
+or_true true = refl
+or_true false = refl
+
+pub taken_kept : (vs : List ℕ) (i u : ℕ) → i < length vs → member (take i vs) u ≡ true → member (take (i + 1) vs) u ≡ true
+taken_kept vs i u lt e = member_more vs i u lt ∙ ap (λ (b : Bool). b || nat_eq u (get_or vs i 0)) e
+
+pub taken_here : (vs : List ℕ) (i u : ℕ) → i < length vs → u ≡ get_or vs i 0 → member (take (i + 1) vs) u ≡ true
+taken_here vs i u lt e =
+    let same : nat_eq u (get_or vs i 0) ≡ true = grind (arith, nat_tests) in
+    member_more vs i u lt ∙ ap (λ (b : Bool). member (take i vs) u || b) same ∙ or_true (member (take i vs) u)
 
 pub further_none : (P : ℕ → Type 0) (old : Spans) → ((v : ℕ) → P v → ⊥) → IsFurther P old old
 further_none P old none = record { places = refl; few = λ n le below. le; numbered = λ nd. nd; kept = λ nd v place le held. held; held = λ nd v h. absurd (none v h); ends = λ nd place v end. inl end }

@@ -72,12 +72,12 @@ pub record IsFurther (seen : ℕ → Type 0) (old new : Spans) : Type 0 where
   pub few : (n : ℕ) → length old.numbers ≤ n → ((v : ℕ) → seen v → v < n) → length new.numbers ≤ n
 
 -- behind the places that are seen those of the actions are seen, and these variables are live before the actions
-pub record ArePlacesOf (actions : Actions) (x : Ways) (old new : Spans) (set : List Bool) : Type 0 where
+pub record ArePlacesOf (actions : Actions) (x : Ways) (old new : Spans) (set : List ℕ) : Type 0 where
   pub seen : (places : List VariableSet) → AreSeen places old → AreSeen (lives actions x ++ places) new
   pub live : member set ≡ live actions x
 
 -- with a step before whatever was seen
-abbrev pub ArePlacesOfStep : Step → Spans → List Bool → List Bool → List Bool → Spans → List Bool → Type 0
+abbrev pub ArePlacesOfStep : Step → Spans → List ℕ → List ℕ → List ℕ → Spans → List ℕ → Type 0
 ArePlacesOfStep step old next leaves skips new set =
     (first : Spans) (k : Actions) (n : VariableSet)
     → ArePlacesOf k (ways n (member leaves) (member skips)) first old next → ArePlacesOf (step_onto step k) (ways n (member leaves) (member skips)) first new set

@@ -1,6 +1,6 @@
 // The spans of variables over the places seen so far.
 
-ghost use Rattle.std.specs.Prelude.{◌≡◌, ℕ, ◌<◌, ◌∷◌, [], List, true, length, slice_get, slice_set, Some, OnOk, IfOk};
+ghost use Rattle.std.specs.Prelude.{◌≡◌, ℕ, ◌<◌, ◌∷◌, [], List, true, length, slice_get, slice_set, Some, OnOk};
 ghost use Rattle.dae_ir.specs.Classes.{VariableSet};
 ghost use Rattle.dae_select_live.specs.Members.{member};
 ghost use Rattle.dae_regalloc.specs.Seen.{widened, number_in, with_number, IsFurther, AreSeen};
@@ -17,13 +17,6 @@ pub struct Spans {
     pub spans: Vec<Span>,
     pub numbers: Numbers,
     pub places: u32,
-}
-
-/// The variable of a number.
-fn variable_at(number: usize) -> Result<u32, AllocError>
-    ensures { IfOk result (λ variable. variable ≡ number) }
-{
-    u32::try_from(number).map_err(|_| AllocError)
 }
 
 impl Spans {
@@ -77,11 +70,8 @@ impl Spans {
     fn see_variables(&mut self, set: &LiveSet) -> Result<(), AllocError>
         ensures { OnOk result (IsFurther (λ v. member set.now v ≡ true) self.old self.new) }
     {
-        for number in 0..set.bound() {
-            let variable = variable_at(number)?;
-            if set.contains(variable) {
-                self.see_variable(variable)?;
-            }
+        for variable in set.variables() {
+            self.see_variable(*variable)?;
         }
         Ok(())
     }

@@ -1,5 +1,5 @@
 -- The code of steps before other code.
-use Rattle.std.proofs.Common.{◌≡◌, ℕ, zero, suc, Option, Some, None, ◌+◌, ◌-◌, ◌<◌, ◌≤◌, Bool, true, false, ◌||◌, List, [], ◌∷◌, length, drop, get_or, refl, ap, sym, subst, ◌∙◌, arith, length-append}
+use Rattle.std.proofs.Common.{◌≡◌, ℕ, zero, suc, Option, Some, None, ◌+◌, ◌-◌, ◌<◌, ◌≤◌, Bool, true, false, ◌||◌, List, [], ◌∷◌, length, drop, get_or, refl, ap, sym, subst, ◌∙◌, ◌++◌, arith, length-append, append_assoc}
 use Rattle.std.specs.Prelude.{Vec, slice_get, if◌then◌else◌}
 use Rattle.std.proofs.lemmas.List.{drop_all}
 use Rattle.std.specs.declared.alloc.Global.{Global}
@@ -27,14 +27,14 @@ use Rattle.dae_select.specs.Grown.{Grown, no_code, glue, acting, in_front}
 use Rattle.dae_select.specs.Placed.{multiples_after, is_placed_step, placed_flags, multiples_at}
 use Rattle.dae_select.specs.Growing.{marked_code, IsCodeOf, standing_after, standing_between, step_before, standing_before, IsTakenBy, IsTakenByStep, IsStepCode}
 use Rattle.dae_select.proofs.InFront.{front_of_none, front_assoc, nothing_marked}
-use Rattle.dae_select.specs.declared.walking.Exits.{Exits}
+use Rattle.dae_select.specs.declared.making.Exits.{Exits}
 
 module _ (short : Bool) (plan : Plan) (variables : ℕ → ℕ) (f : ℕ) where
   -- so many words behind an action, and its exits
   longer : (rest base : Grown) (more : ℕ) → length (in_front rest base).code + more ≡ length rest.code + (length base.code + more)
   longer rest base more = (let e = length-append rest.code base.code in omega arith)
 
-  pub acted : (exits : Exits) (placed : Bool) (s : Step) (m : Mark) (a : Action) (first last : Standing) (old : Grown) (next : List Bool) (new : Grown) (set : List Bool) → s ≡ step.Act m a
+  pub acted : (exits : Exits) (placed : Bool) (s : Step) (m : Mark) (a : Action) (first last : Standing) (old : Grown) (next : List ℕ) (new : Grown) (set : List ℕ) → s ≡ step.Act m a
       → new ≡ in_front (acting m.place (block_code plan variables f placed first a last (member next) (jump_over short (length old.code + exits.leaves)) (jump_over short (length old.code + exits.skips)))) old
       → ((n : VariableSet) → member set ≡ before a (member next) (ways n (member exits.leaves_live) (member exits.skips_live)))
       → IsStepCode short plan variables f placed first last exits s old next new set
@@ -73,7 +73,7 @@ module _ (short : Bool) (plan : Plan) (variables : ℕ → ℕ) (f : ℕ) where
   led true all first past second old over is whole empty = (let no_words = empty refl in omega arith)
   led false all first past second old over is whole empty = omega arith
 
-  pub branched : (exits : Exits) (placed : Bool) (g g' : Standing) (s : Step) (m : Mark) (b : Branch) (p q : Vec Step Global) (old : Grown) (next : List Bool) (set one other : List Bool) (c1 c2 c3 c4 : Grown) → s ≡ step.If m b p q
+  pub branched : (exits : Exits) (placed : Bool) (g g' : Standing) (s : Step) (m : Mark) (b : Branch) (p q : Vec Step Global) (old : Grown) (next : List ℕ) (set one other : List ℕ) (c1 c2 c3 c4 : Grown) → s ≡ step.If m b p q
       → IsCodeOf short plan variables f Settled unknown old exits.leaves exits.skips (ways (member next) (member exits.leaves_live) (member exits.skips_live)) (actions_of q.items) c1 other
       → c2 ≡ in_front (glue (past_code short (does_nothing (actions_of p.items) || does_nothing (actions_of q.items)) (length c1.code - length old.code))) c1
       → IsCodeOf short plan variables f Settled unknown c2 exits.leaves exits.skips (ways (member next) (member exits.leaves_live) (member exits.skips_live)) (actions_of p.items) c3 one
@@ -128,7 +128,7 @@ module _ (short : Bool) (plan : Plan) (variables : ℕ → ℕ) (f : ℕ) where
   four : (a b j r base : Grown) → in_front a (in_front b (in_front j (in_front r base))) ≡ in_front (in_front a (in_front b (in_front j r))) base
   four a b j r base = sym (front_assoc a _ base ∙ ap (λ (g : Grown). in_front a g) (front_assoc b _ base ∙ ap (λ (g : Grown). in_front b g) (front_assoc j r base)))
 
-  pub looped : (exits : Exits) (placed : Bool) (g g' : Standing) (s : Step) (m : Mark) (p q : Vec Step Global) (old : Grown) (next turned again set : List Bool) (c1 c2 new : Grown) → s ≡ step.Loop m p q
+  pub looped : (exits : Exits) (placed : Bool) (g g' : Standing) (s : Step) (m : Mark) (p q : Vec Step Global) (old : Grown) (next turned again set : List ℕ) (c1 c2 new : Grown) → s ≡ step.Loop m p q
       → member turned ≡ turn (actions_of p.items) (actions_of q.items) (member next)
       → IsCodeOf short plan variables f Settled unknown no_code (jump_words short) 0 (ways (member turned) (member next) (member turned)) (actions_of q.items) c1 again
       → IsCodeOf short plan variables f Settled unknown no_code (length c1.code + jump_words short) 0 (ways (member again) (member next) (member again)) (actions_of p.items) c2 set
@@ -164,12 +164,12 @@ module _ (short : Bool) (plan : Plan) (variables : ℕ → ℕ) (f : ℕ) where
 
   -- ---- a list of steps
 
-  pub none_done : (g : Standing) (known : VariableSet) (steps : List Step) (base : Grown) (leaves skips : ℕ) (next : List Bool) (lv sk : VariableSet) → IsCodeOf short plan variables f g known base leaves skips (ways (member next) lv sk) (actions_of (drop (length steps) steps)) base next
+  pub none_done : (g : Standing) (known : VariableSet) (steps : List Step) (base : Grown) (leaves skips : ℕ) (next : List ℕ) (lv sk : VariableSet) → IsCodeOf short plan variables f g known base leaves skips (ways (member next) lv sk) (actions_of (drop (length steps) steps)) base next
   none_done g known steps base leaves skips next lv sk =
       let none : drop (length steps) steps ≡ [] = drop_all (length steps) steps (omega arith) in
       rw none (record { code = refl; live = refl })
 
-  pub one_more : (exits : Exits) (known : VariableSet) (placed : Bool) (steps : List Step) (j : ℕ) (s : Step) (base old : Grown) (next : List Bool) (new : Grown) (set : List Bool) (n : VariableSet) (g g' : Standing) → 0 < j → j ≤ length steps → s ≡ get_or steps (j - 1) s
+  pub one_more : (exits : Exits) (known : VariableSet) (placed : Bool) (steps : List Step) (j : ℕ) (s : Step) (base old : Grown) (next : List ℕ) (new : Grown) (set : List ℕ) (n : VariableSet) (g g' : Standing) → 0 < j → j ≤ length steps → s ≡ get_or steps (j - 1) s
       → g' ≡ standing_after s (actions_of (drop j steps)) (ways n (member exits.leaves_live) (member exits.skips_live))
       → IsCodeOf short plan variables f g' (multiples_after s known) base exits.leaves exits.skips (ways n (member exits.leaves_live) (member exits.skips_live)) (actions_of (drop j steps)) old next
       → placed ≡ is_placed_step known s → IsStepCode short plan variables f placed g g' exits s old next new set
@@ -180,12 +180,12 @@ module _ (short : Bool) (plan : Plan) (variables : ℕ → ℕ) (f : ℕ) where
       rw here (h known base (actions_of (drop j steps)) n test stood so_far)
 
   -- the same of what is the same
-  pub moved_code : (st : Standing) (known : VariableSet) (base base' : Grown) (l l' k k' : ℕ) (n lv lv' sk sk' : List Bool) (xs xs' : List Step) (new : Grown) (set : List Bool) → base ≡ base' → l ≡ l' → k ≡ k' → lv ≡ lv' → sk ≡ sk' → xs ≡ xs'
+  pub moved_code : (st : Standing) (known : VariableSet) (base base' : Grown) (l l' k k' : ℕ) (n lv lv' sk sk' : List ℕ) (xs xs' : List Step) (new : Grown) (set : List ℕ) → base ≡ base' → l ≡ l' → k ≡ k' → lv ≡ lv' → sk ≡ sk' → xs ≡ xs'
       → IsCodeOf short plan variables f st known base l k (ways (member n) (member lv) (member sk)) (actions_of xs) new set → IsCodeOf short plan variables f st known base' l' k' (ways (member n) (member lv') (member sk')) (actions_of xs') new set
   moved_code st known base base' l l' k k' n lv lv' sk sk' xs xs' new set a b c d e g h = rw (← a, ← b, ← c, ← d, ← e, ← g) h
 
   -- a whole function's actions
-  pub bare : (old new : Grown) (next lv sk set : List Bool) (c : Actions) → old ≡ no_code → member next ≡ none → member lv ≡ none → member sk ≡ none
+  pub bare : (old new : Grown) (next lv sk set : List ℕ) (c : Actions) → old ≡ no_code → member next ≡ none → member lv ≡ none → member sk ≡ none
       → IsCodeOf short plan variables f Settled unknown old 0 0 (ways (member next) (member lv) (member sk)) c new set → (new ≡ marked_code short plan variables f Settled unknown c nowhere 0 0) × (member set ≡ live c nowhere)
   bare old new next lv sk set c a b d e h =
       let one = subst (λ (o : Grown). IsCodeOf short plan variables f Settled unknown o 0 0 (ways (member next) (member lv) (member sk)) c new set) a h in
@@ -193,10 +193,6 @@ module _ (short : Bool) (plan : Plan) (variables : ℕ → ℕ) (f : ℕ) where
       let three = subst (λ (n : VariableSet). IsCodeOf short plan variables f Settled unknown no_code 0 0 (ways none n (member sk)) c new set) d two in
       let h' = subst (λ (n : VariableSet). IsCodeOf short plan variables f Settled unknown no_code 0 0 (ways none none n) c new set) e three in
       (h'.code ∙ front_of_none _, h'.live)
-
--- the same of the same flag
-pub told_so : {short short' : Bool} (plan : Plan) (variables : ℕ → ℕ) (f : ℕ) (old new : Grown) (x : Ways) (c : Actions) (set : List Bool) → short ≡ short' → IsCodeOf short plan variables f Settled unknown old 0 0 x c new set → IsCodeOf short' plan variables f Settled unknown old 0 0 x c new set
-told_so plan variables f old new x c set e h = subst (λ (b : Bool). IsCodeOf b plan variables f Settled unknown old 0 0 x c new set) e h
 
 -- ---- how things stand
 
@@ -237,7 +233,7 @@ settled_end (Some (Loop' m i p j q)) x = refl
 pub stands_at_end : (steps : List Step) (o : Option Step) (x : Ways) → Settled ≡ standing_before o (actions_of (drop (length steps) steps)) x
 stands_at_end steps o x = (let none : drop (length steps) steps ≡ [] = drop_all (length steps) steps (omega arith) in rw none (settled_end o x))
 
-pub stands_before : (steps : List Step) (j : ℕ) (s : Step) (set : List Bool) (x : Ways) (g g' : Standing) → 0 < j → j ≤ length steps → s ≡ get_or steps (j - 1) s
+pub stands_before : (steps : List Step) (j : ℕ) (s : Step) (set : List ℕ) (x : Ways) (g g' : Standing) → 0 < j → j ≤ length steps → s ≡ get_or steps (j - 1) s
     → g' ≡ standing_after s (actions_of (drop j steps)) x → member set ≡ live (actions_of (drop j steps)) x → g ≡ standing_between (step_before steps (j - 1)) s (member set) g'
     → g ≡ standing_before (step_before steps (j - 1)) (actions_of (drop (j - 1) steps)) x
 stands_before steps j s set x g g' some le is stood lives e =
@@ -257,3 +253,13 @@ pub flag_of : (known : VariableSet) (steps : List Step) (i : ℕ) (s : Step) →
 flag_of known [] i s h is = absurd (omega arith)
 flag_of known (x ∷ xs) zero s h is = ap (λ (z : Step). Some (is_placed_step known z)) (sym is)
 flag_of known (x ∷ xs) (suc i) s h is = flag_of (multiples_after x known) xs i s (omega arith) is
+
+-- a flag more
+pub one_flag : (steps : List Step) (i : ℕ) (s : Step) (flags flags' all : List Bool) (known known' : VariableSet) (flag : Bool) → i < length steps → s ≡ get_or steps i s → flags' ≡ flags ++ flag ∷ []
+    → flag ≡ is_placed_step known s → known' ≡ multiples_after s known → flags ++ placed_flags known (drop i steps) ≡ all → flags' ++ placed_flags known' (drop (i + 1) steps) ≡ all
+one_flag steps i s flags flags' all known known' flag lt is e h g so_far =
+    let rest = drop (i + 1) steps in
+    let here : drop i steps ≡ s ∷ drop (i + 1) steps = drop_at steps i s lt is in
+    ap (λ (l : List Bool). l ++ placed_flags known' rest) e ∙ append_assoc flags (flag ∷ []) (placed_flags known' rest)
+    ∙ ap (λ (b : Bool). flags ++ (b ∷ placed_flags known' rest)) h ∙ ap (λ (m : VariableSet). flags ++ (is_placed_step known s ∷ placed_flags m rest)) g
+    ∙ ap (λ (l : List Step). flags ++ placed_flags known l) (sym here) ∙ so_far

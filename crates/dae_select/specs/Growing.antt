@@ -18,7 +18,7 @@ use Rattle.dae_select_blocks.specs.Sizes.{is_short}
 use Rattle.dae_select.specs.Grown.{Grown, no_code, glue, acting, in_front, from_front}
 use Rattle.dae_select.specs.Placed.{multiples_after, is_placed_step}
 use Rattle.dae_select.specs.declared.growing.PlacedWord.{PlacedWord}
-use Rattle.dae_select.specs.declared.walking.Exits.{Exits}
+use Rattle.dae_select.specs.declared.making.Exits.{Exits}
 
 -- the code of actions, block by block
 abbrev pub marked_code : Bool → Plan → (ℕ → ℕ) → ℕ → Standing → VariableSet → Actions → Ways → ℕ → ℕ → Grown
@@ -49,7 +49,7 @@ function_places plan variables f code =
 
 -- in front of this code stands the code of a function's actions, before which things stand so and these variables are multiples of
 -- four, and these variables are live before it. A Break's way from its end is so much longer than what stands there, and a Continue's
-pub record IsCodeOf (short : Bool) (plan : Plan) (variables : ℕ → ℕ) (f : ℕ) (standing : Standing) (known : VariableSet) (base : Grown) (leaves skips : ℕ) (x : Ways) (actions : Actions) (new : Grown) (set : List Bool) : Type 0 where
+pub record IsCodeOf (short : Bool) (plan : Plan) (variables : ℕ → ℕ) (f : ℕ) (standing : Standing) (known : VariableSet) (base : Grown) (leaves skips : ℕ) (x : Ways) (actions : Actions) (new : Grown) (set : List ℕ) : Type 0 where
   pub code : new ≡ in_front (marked_code short plan variables f standing known actions x (length base.code + leaves) (length base.code + skips)) base
   pub live : member set ≡ live actions x
 
@@ -87,7 +87,7 @@ standing_before None k x = Settled
 standing_before (Some step) k x = standing_after step k x
 
 -- with a step before whatever stands there, which may be a test of a place whose address is a multiple of four
-abbrev pub IsStepCode : Bool → Plan → (ℕ → ℕ) → ℕ → Bool → Standing → Standing → Exits → Step → Grown → List Bool → Grown → List Bool → Type 0
+abbrev pub IsStepCode : Bool → Plan → (ℕ → ℕ) → ℕ → Bool → Standing → Standing → Exits → Step → Grown → List ℕ → Grown → List ℕ → Type 0
 IsStepCode short plan variables f placed before after exits step old next new set =
     (known : VariableSet) (base : Grown) (k : Actions) (n : VariableSet)
     → placed ≡ is_placed_step known step

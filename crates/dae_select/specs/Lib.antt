@@ -4,3 +4,4 @@ pub mod Growing
 pub mod Grown
 pub mod Counting
 pub mod Placed
+pub mod Makings

@@ -1,9 +1,11 @@
 // The blocks of calls and returns, and the code that a function begins with.
 
-ghost use Rattle.std.specs.Prelude.{◌≡◌, ℕ, ◌+◌, ◌++◌, ◌∷◌, [], ◌<◌, ◌^◌, ◌%◌, Bool, true, false, ◌&&◌, List, length, slice_index, IfOk, OnOk};
+ghost use Rattle.std.specs.Prelude.{◌≡◌, ℕ, ◌+◌, ◌++◌, ◌∷◌, [], ◌<◌, ◌^◌, ◌%◌, Bool, ◌&&◌, nat_lt, length, slice_index, IfOk, OnOk};
 ghost use Rattle.dae_select_blocks.specs.Blocks.{waits_at, arguments_code, argument_code, is_register, save_code, restore_code, deeper_code, back_code, result_code, leave_code};
 ghost use Rattle.dae_select_blocks.specs.Code.{some_below, filtered, registers_in, call_code, entry_code};
-ghost use Rattle.dae_select.specs.Layouts.{is_a, plan_of, variables_of, AreSmall};
+ghost use Rattle.dae_select.specs.Layouts.{is_a, plan_of, AreSmall};
+ghost use Rattle.dae_select.specs.Makings.{plan_by, variables_by, IsSound};
+ghost use Rattle.dae_select_walks.specs.Live.{with_all};
 ghost use Rattle.dae_select.specs.Tables.{IsNear, AreNear};
 ghost use Rattle.dae_select_live.specs.Members.{member};
 ghost use Rattle.dae_select_walks.specs.Homes.{kept_at, home_in};
@@ -13,6 +15,7 @@ use crate::fetching::{
 };
 use crate::jumping::enter_code;
 use crate::layouts::Layouts;
+use crate::making::Making;
 use crate::numbers::{less_code, more_code};
 use dae_base::Side;
 use dae_encode::Inst;
@@ -52,69 +55,96 @@ fn waits_at(home: Home) -> u32
 
 fn argument_code(
     code: &mut Vec<Inst>,
-    layouts: &Layouts,
-    function: u32,
-    homes: &[Home],
+    making: &Making,
     callee: u32,
     argument: Argument,
 ) -> Result<(), AllocError>
-    requires near { AreNear homes.now }
-    requires homes { home_in homes.now ≡ (plan_of layouts.now).home function }
-    requires small { AreSmall layouts.now }
+    requires { IsSound making.now }
     ensures { OnOk result (code.new.items ≡ code.old.items
-        ++ argument_code (plan_of layouts.now) function callee argument) }
+        ++ argument_code (plan_by making.now) making.now.function callee argument) }
 {
-    fetch(code, homes, 5, argument.operand)?;
-    let place = waits_at(layouts.home(callee, argument.parameter));
-    let words = 19 + layouts.variables(function);
-    store_code(code, source(homes, 5, argument.operand), words + place)
+    fetch(code, making.homes, 5, argument.operand)?;
+    let place = waits_at(making.layouts.home(callee, argument.parameter));
+    let words = 19 + making.layouts.variables(making.function);
+    store_code(
+        code,
+        source(making.homes, 5, argument.operand),
+        words + place,
+    )
 }
 
 /// The arguments of a call go where the function that is called finds its parameters.
 fn arguments_code(
     code: &mut Vec<Inst>,
-    layouts: &Layouts,
-    function: u32,
-    homes: &[Home],
+    making: &Making,
     callee: u32,
     arguments: &[Argument],
 ) -> Result<(), AllocError>
-    requires near { AreNear homes.now }
-    requires homes { home_in homes.now ≡ (plan_of layouts.now).home function }
-    requires small { AreSmall layouts.now }
+    requires { IsSound making.now }
     ensures { OnOk result (code.new.items ≡ code.old.items
-        ++ arguments_code (plan_of layouts.now) function callee arguments.now) }
+        ++ arguments_code (plan_by making.now) making.now.function callee arguments.now) }
 {
     for index in (0..arguments.len()).rev() {
-        argument_code(code, layouts, function, homes, callee, arguments[index])?;
+        argument_code(code, making, callee, arguments[index])?;
     }
     Ok(())
 }
 
-fn is_live_in(homes: &[Home], live: &LiveSet, register: u8, variable: u32) -> bool
-    ensures { result
-        ≡ (member live.now variable && is_register register (home_in homes.now variable)) }
+/// The register of a home comes into a set of registers.
+fn hold_home(held: &mut LiveSet, home: Home) -> Result<(), AllocError>
+    ensures { OnOk result (member held.new
+        ≡ with_all (λ r. is_register r home) (member held.old)) }
 {
-    match home_of(homes, variable) {
-        Home::Register(other) => live.contains(variable) && register == other,
-        Home::Slot(_) => false,
+    match home {
+        Home::Register(register) => held.insert(u32::from(register)),
+        Home::Slot(_) => Ok(()),
     }
 }
 
-/// Whether a live variable is in the register.
-fn is_home_of(homes: &[Home], variables: u32, live: &LiveSet, register: u8) -> bool
-    ensures { result ≡ some_below variables (λ v.
-        member live.now v && is_register register (home_in homes.now v)) }
+/// The register in which a variable is, of those below so many, comes into a set of registers.
+fn hold(held: &mut LiveSet, homes: &[Home], variables: u32, variable: u32) -> Result<(), AllocError>
+    ensures { OnOk result (member held.new ≡ with_all (λ r.
+        nat_lt variable variables && is_register r (home_in homes.now variable))
+        (member held.old)) }
 {
-    for variable in 0..variables {
-        if is_live_in(homes, live, register, variable) {
-            return true;
+    if variable < variables {
+        hold_home(held, home_of(homes, variable))
+    } else {
+        Ok(())
+    }
+}
+
+/// The registers in which a live variable is, by one pass over the live variables.
+fn held_registers(
+    alloc: Global,
+    homes: &[Home],
+    variables: u32,
+    live: &LiveSet,
+) -> Result<LiveSet, AllocError>
+    ensures { IfOk result (λ held. member held ≡ (λ r. some_below variables (λ v.
+        member live.now v && is_register r (home_in homes.now v)))) }
+{
+    let mut held = LiveSet::new(alloc);
+    for variable in live.variables() {
+        hold(&mut held, homes, variables, *variable)?;
+    }
+    Ok(held)
+}
+
+fn registers_among(alloc: Global, held: &LiveSet, registers: &[u8]) -> Result<Vec<u8>, AllocError>
+    ensures { IfOk result (λ found. found.items ≡ filtered (member held.now) registers.now) }
+{
+    let mut found = Vec::new(alloc);
+    for register in registers {
+        if held.contains(u32::from(*register)) {
+            found.push(*register)?;
         }
     }
-    false
+    Ok(found)
 }
 
-fn registers_among(
+/// Those of some registers in which a live variable is.
+fn live_among(
     alloc: Global,
     homes: &[Home],
     variables: u32,
@@ -124,13 +154,8 @@ fn registers_among(
     ensures { IfOk result (λ found. found.items ≡ filtered (λ r. some_below variables (λ v.
         member live.now v && is_register r (home_in homes.now v))) registers.now) }
 {
-    let mut found = Vec::new(alloc);
-    for register in registers {
-        if is_home_of(homes, variables, live, *register) {
-            found.push(*register)?;
-        }
-    }
-    Ok(found)
+    let held = held_registers(alloc, homes, variables, live)?;
+    registers_among(alloc, &held, registers)
 }
 
 /// The registers in which a live variable is.
@@ -143,7 +168,7 @@ fn registers_in(
     ensures { IfOk result (λ registers. registers.items
         ≡ registers_in (home_in homes.now) variables (member live.now)) }
 {
-    registers_among(alloc, homes, variables, live, &HOME_REGISTERS)
+    live_among(alloc, homes, variables, live, &HOME_REGISTERS)
 }
 
 fn save_code(code: &mut Vec<Inst>, registers: &[u8]) -> Result<(), AllocError>
@@ -227,31 +252,27 @@ pub struct Callee {
 
 /// The block of a call, where these variables are live behind it, the result aside.
 pub fn call_code(
-    alloc: Global,
     code: &mut Vec<Inst>,
-    layouts: &Layouts,
-    function: u32,
-    homes: &[Home],
+    making: &Making,
     callee: Callee,
     arguments: &[Argument],
     live: &LiveSet,
 ) -> Result<(), AllocError>
-    requires near { AreNear homes.now }
-    requires homes { home_in homes.now ≡ (plan_of layouts.now).home function }
-    requires small { AreSmall layouts.now }
+    requires { IsSound making.now }
     ensures { OnOk result (code.new.items ≡ code.old.items
-        ++ call_code (plan_of layouts.now)
-        (variables_of layouts.now) function callee.result callee.function arguments.now
-        (member live.now)) }
+        ++ call_code (plan_by making.now) (variables_by making.now) making.now.function
+        callee.result callee.function arguments.now (member live.now)) }
 {
-    arguments_code(code, layouts, function, homes, callee.function, arguments)?;
-    let registers = registers_in(alloc, homes, layouts.variables(function), live)?;
+    let layouts = making.layouts;
+    let variables = layouts.variables(making.function);
+    arguments_code(code, making, callee.function, arguments)?;
+    let registers = registers_in(making.alloc, making.homes, variables, live)?;
     save_code(code, registers.as_slice())?;
-    deeper_code(code, layouts, function)?;
+    deeper_code(code, layouts, making.function)?;
     enter_code(code, layouts.entry(callee.function))?;
-    back_code(code, layouts, function)?;
+    back_code(code, layouts, making.function)?;
     restore_code(code, registers.as_slice())?;
-    result_code(code, homes, callee.result)
+    result_code(code, making.homes, callee.result)
 }
 
 /// The block of a return.
@@ -274,19 +295,14 @@ pub fn leave_code(
 }
 
 /// The code that a function begins with, where these variables are live behind it.
-pub fn entry_code(
-    alloc: Global,
-    code: &mut Vec<Inst>,
-    layouts: &Layouts,
-    function: u32,
-    homes: &[Home],
-    live: &LiveSet,
-) -> Result<(), AllocError>
-    requires { home_in homes.now ≡ (plan_of layouts.now).home function }
+pub fn entry_code(code: &mut Vec<Inst>, making: &Making, live: &LiveSet) -> Result<(), AllocError>
+    requires { IsSound making.now }
     ensures { OnOk result (code.new.items ≡ code.old.items
-        ++ entry_code (plan_of layouts.now) (variables_of layouts.now) function (member live.now)) }
+        ++ entry_code (plan_by making.now) (variables_by making.now) making.now.function
+        (member live.now)) }
 {
     code.push(Inst::Sw(2, 1, 0))?;
-    let registers = registers_in(alloc, homes, layouts.variables(function), live)?;
+    let variables = making.layouts.variables(making.function);
+    let registers = registers_in(making.alloc, making.homes, variables, live)?;
     restore_code(code, registers.as_slice())
 }

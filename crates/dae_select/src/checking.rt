@@ -3,12 +3,13 @@
 ghost use Rattle.std.specs.Prelude.{◌≡◌, ℕ, ◌+◌, ◌-◌, ◌++◌, ◌∷◌, [], ◌<◌, ◌^◌, nat_lt, if◌then◌else◌, OnOk};
 ghost use Rattle.dae_select_blocks.specs.Blocks.{fail_code, over, align_code, bounds_code, room_code, place_code, zero_code, depth_code, frames_room_code, call_room_code, frame_room_code, check_code};
 ghost use Rattle.dae_select_blocks.specs.Code.{placed_code};
-ghost use Rattle.dae_select.specs.Layouts.{is_a, plan_of, homes_at};
+ghost use Rattle.dae_select.specs.Layouts.{is_a};
+ghost use Rattle.dae_select.specs.Makings.{plan_by, IsSound};
 ghost use Rattle.dae_select_walks.specs.Homes.{home_in};
 ghost use Rattle.dae_select.specs.Tables.{AreNear};
 
 use crate::fetching::{fetch, number_code, source};
-use crate::layouts::Layouts;
+use crate::making::Making;
 use dae_base::{Side, Width};
 use dae_encode::Inst;
 use dae_ir::{Action, Check, Operand};
@@ -162,30 +163,22 @@ fn frame_room_code(code: &mut Vec<Inst>, memory: u32, own: u64) -> Result<(), Al
     }
 }
 
-/// The block of a check in a function with these homes.
-pub fn check_code(
-    code: &mut Vec<Inst>,
-    layouts: &Layouts,
-    function: u32,
-    homes: &[Home],
-    check: Check,
-) -> Result<(), AllocError>
-    requires near { AreNear homes.now }
-    requires homes { home_in homes.now ≡ (plan_of layouts.now).home function }
+/// The block of a check.
+pub fn check_code(code: &mut Vec<Inst>, making: &Making, check: Check) -> Result<(), AllocError>
+    requires { IsSound making.now }
     ensures { OnOk result (code.new.items ≡ code.old.items
-        ++ check_code (plan_of layouts.now) function check) }
+        ++ check_code (plan_by making.now) making.now.function check) }
 {
+    let layouts = making.layouts;
+    let own = layouts.frame(making.function);
     match check {
-        Check::Place(width, operand) => place_code(code, homes, width, operand),
-        Check::Zero(operand) => zero_code(code, layouts.side, homes, operand),
-        Check::Room(callee) => call_room_code(
-            code,
-            layouts.memory,
-            layouts.limit,
-            layouts.frame(function),
-            layouts.frame(callee),
-        ),
-        Check::Frame => frame_room_code(code, layouts.memory, layouts.frame(function)),
+        Check::Place(width, operand) => place_code(code, making.homes, width, operand),
+        Check::Zero(operand) => zero_code(code, layouts.side, making.homes, operand),
+        Check::Room(callee) => {
+            let next = layouts.frame(callee);
+            call_room_code(code, layouts.memory, layouts.limit, own, next)
+        }
+        Check::Frame => frame_room_code(code, layouts.memory, own),
         Check::Abort => fail_code(code, Side::A, 5),
     }
 }

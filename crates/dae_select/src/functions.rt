@@ -11,52 +11,38 @@ ghost use Rattle.dae_select_blocks.specs.Sizes.{is_short};
 ghost use Rattle.dae_select.specs.Grown.{no_code};
 ghost use Rattle.dae_select.specs.Growing.{marked_code, function_places};
 ghost use Rattle.dae_select.specs.Layouts.{plan_of, variables_of, AreSmall};
+ghost use Rattle.dae_select.specs.Makings.{plan_by, variables_by, IsSound};
 
 use crate::calling::{entry_code, leave_code};
 use crate::counting::is_short;
 use crate::growing::{GrowingCode, PlacedWord};
 use crate::layouts::Layouts;
-use crate::walking::{Exits, list_code};
+use crate::making::{Exits, Making};
+use crate::walking::list_code;
 use dae_encode::Inst;
 use dae_ir::{Operand, Step};
 use dae_select_live::LiveSet;
 use std::alloc::{AllocError, Global};
 
 /// The code of a function's actions; and what is live before them.
-fn body_code(
-    alloc: Global,
-    code: &mut GrowingCode,
-    layouts: &Layouts,
-    function: u32,
-    body: &[Step],
-) -> Result<LiveSet, AllocError>
-    requires small { AreSmall layouts.now }
+fn body_code(code: &mut GrowingCode, making: &Making, body: &[Step]) -> Result<LiveSet, AllocError>
+    requires sound { IsSound making.now }
     requires empty { code.old ≡ no_code }
     ensures code { OnOk result (code.new
-        ≡ marked_code (is_short (actions_of body.now)) (plan_of layouts.now)
-        (variables_of layouts.now) function IsSettled unknown (actions_of body.now) nowhere 0 0) }
+        ≡ marked_code making.now.short (plan_by making.now) (variables_by making.now)
+        making.now.function IsSettled unknown (actions_of body.now) nowhere 0 0) }
     ensures live { IfOk result (λ set. member set ≡ live (actions_of body.now) nowhere) }
 {
-    let leaves = LiveSet::new(alloc);
-    let skips = LiveSet::new(alloc);
+    let leaves = LiveSet::new(making.alloc);
+    let skips = LiveSet::new(making.alloc);
     let exits = Exits {
         leaves_live: leaves,
         skips_live: skips,
         leaves: 0,
         skips: 0,
     };
-    let next = LiveSet::new(alloc);
-    list_code(
-        alloc,
-        code,
-        layouts,
-        function,
-        layouts.homes(function),
-        is_short(body),
-        body,
-        next,
-        &exits,
-    )
+    let next = LiveSet::new(making.alloc);
+    list_code(code, making, body, next, &exits)
 }
 
 /// The code of a function, how many of its words come before its actions, and the words at which actions begin.
@@ -86,10 +72,17 @@ pub fn function_code(
         (actions_of body.now)) }
 {
     let homes = layouts.homes(function);
+    let making = Making {
+        alloc,
+        layouts,
+        function,
+        homes,
+        short: is_short(body),
+    };
     let mut actions = GrowingCode::new(alloc);
-    let live = body_code(alloc, &mut actions, layouts, function, body)?;
+    let live = body_code(&mut actions, &making, body)?;
     let mut code = Vec::new(alloc);
-    entry_code(alloc, &mut code, layouts, function, homes, &live)?;
+    entry_code(&mut code, &making, &live)?;
     let entry = code.len();
     let places = actions.places(alloc, entry)?;
     code.extend_from_slice(actions.into_vec().as_slice())?;

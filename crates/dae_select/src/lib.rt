@@ -17,6 +17,7 @@ mod functions;
 mod growing;
 mod jumping;
 mod layouts;
+mod making;
 mod multiples;
 mod numbers;
 mod opening;

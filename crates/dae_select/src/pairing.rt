@@ -169,24 +169,32 @@ pub fn late_code(
     }
 }
 
-/// An operation on the word at the front of a queue, for which this variable stands, and something else.
-fn taken_binary(
-    code: &mut Vec<Inst>,
-    homes: &[Home],
+/// A word at the front of a queue, the variable that it stands for, and the register for what is computed with it.
+#[derive(Clone, Copy)]
+struct Taken {
     queue: u8,
     variable: u32,
     target: u8,
+}
+
+/// An operation on a word that is taken and something else.
+fn taken_binary(
+    code: &mut Vec<Inst>,
+    homes: &[Home],
+    taken: Taken,
     operator: Operator,
     left: Operand,
     right: Operand,
 ) -> Result<(), AllocError>
     requires near { AreNear homes.now }
-    requires once { reads_once variable (IsBinary operator left right) ≡ true }
+    requires once { reads_once taken.variable (IsBinary operator left right) ≡ true }
     ensures { OnOk result (code.new.items ≡ code.old.items
-        ++ value_code (with_home variable (IsRegister queue) (home_in homes.now)) target
-        (IsBinary operator left right)) }
+        ++ value_code (with_home taken.variable (IsRegister taken.queue) (home_in homes.now))
+        taken.target (IsBinary operator left right)) }
 {
-    if is_variable(left, variable) {
+    let queue = taken.queue;
+    let target = taken.target;
+    if is_variable(left, taken.variable) {
         let inst = match right {
             Operand::Number(number) => immediate(operator, target, queue, number),
             Operand::Variable(_) => None,
@@ -209,22 +217,22 @@ fn taken_binary(
     }
 }
 
-/// A test of the word at the front of a queue, for which this variable stands, and something else.
+/// A test of a word that is taken and something else.
 fn taken_test(
     code: &mut Vec<Inst>,
     homes: &[Home],
-    queue: u8,
-    variable: u32,
-    target: u8,
+    taken: Taken,
     test: Test,
 ) -> Result<(), AllocError>
     requires near { AreNear homes.now }
-    requires once { reads_once variable (IsHolds test) ≡ true }
+    requires once { reads_once taken.variable (IsHolds test) ≡ true }
     ensures { OnOk result (code.new.items ≡ code.old.items
-        ++ value_code (with_home variable (IsRegister queue) (home_in homes.now)) target
-        (IsHolds test)) }
+        ++ value_code (with_home taken.variable (IsRegister taken.queue) (home_in homes.now))
+        taken.target (IsHolds test)) }
 {
-    if is_variable(test.left, variable) {
+    let queue = taken.queue;
+    let target = taken.target;
+    if is_variable(test.left, taken.variable) {
         let number = match test.right {
             Operand::Number(number) => takes_number(test.comparison, number).then_some(number),
             Operand::Variable(_) => None,
@@ -259,15 +267,18 @@ fn early_code(
 {
     let home = home_of(homes, target);
     let register = register_or(5, home);
+    let taken = Taken {
+        queue,
+        variable,
+        target: register,
+    };
     match value {
         Value::Same(_) => code.extend_from_slice(&[Inst::Addi(register, queue, 0)])?,
         Value::Extended(kind, _) => extend(code, kind, register, queue)?,
         Value::Binary(operator, left, right) => {
-            taken_binary(
-                code, homes, queue, variable, register, operator, left, right,
-            )?;
+            taken_binary(code, homes, taken, operator, left, right)?;
         }
-        Value::Holds(test) => taken_test(code, homes, queue, variable, register, test)?,
+        Value::Holds(test) => taken_test(code, homes, taken, test)?,
         Value::FrameAddress(_) => (),
     }
     keep(code, home)

@@ -13,7 +13,7 @@ ghost use Rattle.dae_select_blocks.specs.Code.{does_nothing, past_code};
 ghost use Rattle.dae_select.specs.Grown.{glue, acting, in_front};
 ghost use Rattle.dae_select.specs.Growing.{IsCodeOf, IsStepCode, IsTakenBy, IsTakenByStep};
 ghost use Rattle.dae_select_walks.specs.declared.Standing.TheVariants.{Settled as IsSettled};
-ghost use Rattle.dae_select.specs.Layouts.{plan_of, variables_of, AreSmall};
+ghost use Rattle.dae_select.specs.Makings.{plan_by, variables_by, IsSound};
 ghost use Rattle.dae_select_walks.specs.Homes.{home_in};
 ghost use Rattle.dae_select.specs.Tables.{AreNear};
 
@@ -26,7 +26,7 @@ use crate::checking::{check_code, placed_code};
 use crate::fetching::{home_of, move_code};
 use crate::growing::GrowingCode;
 use crate::jumping::{branch_code, jump_back, jump_over, jump_words, past_code};
-use crate::layouts::Layouts;
+use crate::making::{Around, Exits, Fork, Making, Onward};
 use crate::multiples::{flag_at, placed_flags};
 use crate::pairing::{late_code, standing_between, taking_code};
 use dae_base::{LoadKind, Place};
@@ -34,16 +34,7 @@ use dae_encode::Inst;
 use dae_ir::{Action, Argument, Branch, Operand, Step};
 use dae_select_live::{LiveSet, live_at_turn, live_before_action, live_with_branch};
 use dae_select_walks::{Home, Standing};
-use std::alloc::{AllocError, Global};
-
-/// Where a Break goes and a Continue: what is live there, and how many words lie between the end of the code and there.
-#[derive(Drop)]
-pub struct Exits {
-    pub leaves_live: LiveSet,
-    pub skips_live: LiveSet,
-    pub leaves: u64,
-    pub skips: u64,
-}
+use std::alloc::AllocError;
 
 /// What is at the front of a queue goes to a variable.
 fn receive_code(
@@ -75,52 +66,41 @@ fn own_code(
 }
 
 fn called_code(
-    alloc: Global,
     code: &mut Vec<Inst>,
-    layouts: &Layouts,
-    function: u32,
-    homes: &[Home],
+    making: &Making,
     callee: Callee,
     arguments: &[Argument],
     live: &LiveSet,
 ) -> Result<(), AllocError>
-    requires near { AreNear homes.now }
-    requires homes { home_in homes.now ≡ (plan_of layouts.now).home function }
-    requires small { AreSmall layouts.now }
+    requires { IsSound making.now }
     ensures { OnOk result (code.new.items ≡ code.old.items
-        ++ call_code (plan_of layouts.now)
-        (variables_of layouts.now) function callee.result callee.function arguments.now (λ u.
+        ++ call_code (plan_by making.now) (variables_by making.now) making.now.function
+        callee.result callee.function arguments.now (λ u.
         member live.now u && not (is callee.result u))) }
 {
-    let mut kept = live.copy(alloc)?;
+    let mut kept = live.copy(making.alloc)?;
     kept.remove_known(callee.result);
-    call_code(
-        alloc, code, layouts, function, homes, callee, arguments, &kept,
-    )
+    call_code(code, making, callee, arguments, &kept)
 }
 
-/// The block of an action, behind which these variables are live, and from whose end it is `ahead` words and as many as the
-/// exits say to where a Break goes, and a Continue.
+/// The block of an action, from whose end it is `ahead` words and as many as the exits say to where a Break goes, and a
+/// Continue.
 fn action_code(
-    alloc: Global,
     code: &mut Vec<Inst>,
-    layouts: &Layouts,
-    function: u32,
-    homes: &[Home],
-    short: bool,
+    making: &Making,
     action: &Action,
-    live: &LiveSet,
+    onward: &Onward,
     ahead: u64,
-    exits: &Exits,
 ) -> Result<(), AllocError>
-    requires near { AreNear homes.now }
-    requires homes { home_in homes.now ≡ (plan_of layouts.now).home function }
-    requires small { AreSmall layouts.now }
+    requires { IsSound making.now }
     ensures { OnOk result (code.new.items ≡ code.old.items
-        ++ action_code (plan_of layouts.now) (variables_of layouts.now) function action.now
-        (member live.now) (jump_over short (ahead + exits.now.leaves)) (jump_over short
-        (ahead + exits.now.skips))) }
+        ++ action_code (plan_by making.now) (variables_by making.now) making.now.function
+        action.now (member onward.now.next.now)
+        (jump_over making.now.short (ahead + onward.now.exits.now.leaves))
+        (jump_over making.now.short (ahead + onward.now.exits.now.skips))) }
 {
+    let homes = making.homes;
+    let side = making.layouts.side;
     match action {
         Action::Set(variable, value) => set_code(code, homes, *variable, *value),
         Action::Issue(kind, operand) => issue_code(code, homes, *kind, 30, *operand),
@@ -133,128 +113,78 @@ fn action_code(
         Action::Emit(spelling, operand) => {
             system_code(code, homes, call_number(*spelling), *operand)
         }
-        Action::Probe(check) => check_code(code, layouts, function, homes, *check),
+        Action::Probe(check) => check_code(code, making, *check),
         Action::Tell(operand) => move_code(code, homes, 29, *operand),
-        Action::Hear => hear_code(code, layouts.side),
-        Action::Stop(status) => stop_code(code, layouts.side, homes, *status),
-        Action::Break => jump_over(code, short, ahead, exits.leaves),
-        Action::Continue => jump_over(code, short, ahead, exits.skips),
+        Action::Hear => hear_code(code, side),
+        Action::Stop(status) => stop_code(code, side, homes, *status),
+        Action::Break => jump_over(code, making.short, ahead, onward.exits.leaves),
+        Action::Continue => jump_over(code, making.short, ahead, onward.exits.skips),
         Action::Call(result, callee, arguments) => {
             let callee = Callee {
                 result: *result,
                 function: *callee,
             };
-            called_code(
-                alloc,
-                code,
-                layouts,
-                function,
-                homes,
-                callee,
-                arguments.as_slice(),
-                live,
-            )
+            called_code(code, making, callee, arguments.as_slice(), onward.next)
         }
         Action::Return(answer) => leave_code(code, homes, *answer),
     }
 }
 
-/// The block of an action, where things stand so before it and so behind it, as `action_code` has the rest; or of a test of a
-/// place whose address is a multiple of four.
+/// The block of an action, around which things stand so, as `action_code` has the rest; or of a test of a place whose address is
+/// a multiple of four.
 fn block_code(
-    alloc: Global,
     code: &mut Vec<Inst>,
-    layouts: &Layouts,
-    function: u32,
-    homes: &[Home],
-    short: bool,
-    placed: bool,
-    before: Standing,
+    making: &Making,
     action: &Action,
-    after: Standing,
-    live: &LiveSet,
+    around: Around,
+    onward: &Onward,
     ahead: u64,
-    exits: &Exits,
 ) -> Result<(), AllocError>
-    requires near { AreNear homes.now }
-    requires homes { home_in homes.now ≡ (plan_of layouts.now).home function }
-    requires small { AreSmall layouts.now }
-    requires taken { IsTakenBy after action.now }
+    requires sound { IsSound making.now }
+    requires taken { IsTakenBy around.after action.now }
     ensures { OnOk result (code.new.items ≡ code.old.items
-        ++ block_code (plan_of layouts.now) (variables_of layouts.now) function placed before
-        action.now after (member live.now) (jump_over short (ahead + exits.now.leaves))
-        (jump_over short (ahead + exits.now.skips))) }
+        ++ block_code (plan_by making.now) (variables_by making.now) making.now.function
+        around.placed around.before action.now around.after (member onward.now.next.now)
+        (jump_over making.now.short (ahead + onward.now.exits.now.leaves))
+        (jump_over making.now.short (ahead + onward.now.exits.now.skips))) }
 {
-    match (before, after) {
-        (Standing::Late(_, value), _) => late_code(code, homes, action, value),
+    match (around.before, around.after) {
+        (Standing::Late(_, value), _) => late_code(code, making.homes, action, value),
         (Standing::Early(_, _), _) => Ok(()),
         (Standing::Settled, Standing::Late(_, _)) => Ok(()),
         (Standing::Settled, Standing::Early(target, value)) => {
-            taking_code(code, homes, action, target, value)
+            taking_code(code, making.homes, action, target, value)
         }
-        (Standing::Settled, Standing::Settled) if placed => placed_code(code, homes, action),
-        (Standing::Settled, Standing::Settled) => action_code(
-            alloc, code, layouts, function, homes, short, action, live, ahead, exits,
-        ),
+        (Standing::Settled, Standing::Settled) if around.placed => {
+            placed_code(code, making.homes, action)
+        }
+        (Standing::Settled, Standing::Settled) => {
+            action_code(code, making, action, onward, ahead)
+        }
     }
 }
 
-/// What leads behind a second list that stands in front of the last `rest` words, where neither list is empty.
-fn put_past(
-    alloc: Global,
+fn put_action(
     code: &mut GrowingCode,
-    short: bool,
-    first_empty: bool,
-    second_empty: bool,
-    rest: usize,
-) -> Result<(), AllocError>
-    ensures { OnOk result (code.new
-        ≡ in_front (glue (past_code short (first_empty || second_empty)
-        (length code.old.code - rest))) code.old) }
-{
-    let mut block = Vec::new(alloc);
-    let words = code.len().saturating_sub(rest);
-    let none = first_empty || second_empty;
-    past_code(&mut block, short, none, words as u64)?;
-    code.put_before(block.as_slice())
-}
-
-fn put_jump_back(
-    alloc: Global,
-    code: &mut GrowingCode,
-    short: bool,
-    words: usize,
-    more: usize,
-) -> Result<(), AllocError>
-    ensures { OnOk result (code.new ≡ in_front (glue (jump_back short (words + more))) code.old) }
-{
-    let mut block = Vec::new(alloc);
-    jump_back(&mut block, short, words as u64, more as u64)?;
-    code.put_before(block.as_slice())
-}
-
-/// The block of a branch: to the last `behind` words, over a first list. Where that is empty, to the last `rest` words, over
-/// the second one.
-fn put_branch(
-    alloc: Global,
-    code: &mut GrowingCode,
-    homes: &[Home],
+    making: &Making,
     place: Place,
-    short: bool,
-    branch: Branch,
-    empty: bool,
-    rest: usize,
-    behind: usize,
+    action: &Action,
+    around: Around,
+    onward: &Onward,
 ) -> Result<(), AllocError>
-    requires { AreNear homes.now }
+    requires sound { IsSound making.now }
+    requires taken { IsTakenBy around.after action.now }
     ensures { OnOk result (code.new
-        ≡ in_front (acting place (branch_code (home_in homes.now) short branch empty
-        (length code.old.code - (if empty then rest else behind)))) code.old) }
+        ≡ in_front (acting place (block_code (plan_by making.now)
+        (variables_by making.now) making.now.function around.placed around.before action.now
+        around.after (member onward.now.next.now)
+        (jump_over making.now.short (length code.old.code + onward.now.exits.now.leaves))
+        (jump_over making.now.short (length code.old.code + onward.now.exits.now.skips))))
+        code.old) }
 {
-    let mut block = Vec::new(alloc);
-    let end = if empty { rest } else { behind };
-    let words = code.len().saturating_sub(end);
-    branch_code(&mut block, homes, short, branch, empty, words as u64)?;
+    let mut block = Vec::new(making.alloc);
+    let ahead = code.len() as u64;
+    block_code(&mut block, making, action, around, onward, ahead)?;
     code.put_action(place, block.as_slice())
 }
 
@@ -264,64 +194,75 @@ fn does_nothing(steps: &[Step]) -> bool
     steps.is_empty()
 }
 
-fn put_action(
-    alloc: Global,
+/// What leads behind a second list that stands in front of the last `rest` words, where neither list is empty.
+fn put_past(
     code: &mut GrowingCode,
-    layouts: &Layouts,
-    function: u32,
-    homes: &[Home],
-    place: Place,
-    short: bool,
-    placed: bool,
-    before: Standing,
-    action: &Action,
-    after: Standing,
-    live: &LiveSet,
-    exits: &Exits,
+    making: &Making,
+    first: &[Step],
+    second: &[Step],
+    rest: usize,
 ) -> Result<(), AllocError>
-    requires near { AreNear homes.now }
-    requires homes { home_in homes.now ≡ (plan_of layouts.now).home function }
-    requires small { AreSmall layouts.now }
-    requires taken { IsTakenBy after action.now }
     ensures { OnOk result (code.new
-        ≡ in_front (acting place (block_code (plan_of layouts.now)
-        (variables_of layouts.now) function placed before action.now after (member live.now)
-        (jump_over short (length code.old.code + exits.now.leaves))
-        (jump_over short (length code.old.code + exits.now.skips)))) code.old) }
+        ≡ in_front (glue (past_code making.now.short
+        (does_nothing (actions_of first.now) || does_nothing (actions_of second.now))
+        (length code.old.code - rest))) code.old) }
 {
-    let mut block = Vec::new(alloc);
-    let ahead = code.len() as u64;
-    block_code(
-        alloc, &mut block, layouts, function, homes, short, placed, before, action, after, live,
-        ahead, exits,
+    let mut block = Vec::new(making.alloc);
+    let words = code.len().saturating_sub(rest);
+    let none = does_nothing(first) || does_nothing(second);
+    past_code(&mut block, making.short, none, words as u64)?;
+    code.put_before(block.as_slice())
+}
+
+/// The block of a branch: to the last `behind` words, over a first list. Where that is empty, to the last `rest` words, over
+/// the second one.
+fn put_branch(
+    code: &mut GrowingCode,
+    making: &Making,
+    place: Place,
+    fork: Fork,
+    rest: usize,
+    behind: usize,
+) -> Result<(), AllocError>
+    requires { IsSound making.now }
+    ensures { OnOk result (code.new
+        ≡ in_front (acting place (branch_code (home_in making.now.homes.now) making.now.short
+        fork.branch fork.empty (length code.old.code - (if fork.empty then rest else behind))))
+        code.old) }
+{
+    let mut block = Vec::new(making.alloc);
+    let end = if fork.empty { rest } else { behind };
+    let words = code.len().saturating_sub(end);
+    let short = making.short;
+    branch_code(
+        &mut block,
+        making.homes,
+        short,
+        fork.branch,
+        fork.empty,
+        words as u64,
     )?;
     code.put_action(place, block.as_slice())
 }
 
 /// Where a loop's step leads: behind the loop and to the jump back.
-fn exits_of_step(
-    alloc: Global,
-    short: bool,
-    next: &LiveSet,
-    turn: &LiveSet,
-) -> Result<Exits, AllocError>
+fn exits_of_step(making: &Making, next: &LiveSet, turn: &LiveSet) -> Result<Exits, AllocError>
     ensures leaves_live { IfOk result (λ exits. exits.leaves_live ≡ next.now) }
     ensures skips_live { IfOk result (λ exits. exits.skips_live ≡ turn.now) }
-    ensures leaves { IfOk result (λ exits. exits.leaves ≡ jump_words short) }
+    ensures leaves { IfOk result (λ exits. exits.leaves ≡ jump_words making.now.short) }
     ensures skips { IfOk result (λ exits. exits.skips ≡ 0) }
 {
     Ok(Exits {
-        leaves_live: next.copy(alloc)?,
-        skips_live: turn.copy(alloc)?,
-        leaves: u64::from(jump_words(short)),
+        leaves_live: next.copy(making.alloc)?,
+        skips_live: turn.copy(making.alloc)?,
+        leaves: u64::from(jump_words(making.short)),
         skips: 0,
     })
 }
 
 /// Where a loop's body leads: over the step and the jump back, and to the step.
 fn exits_of_body(
-    alloc: Global,
-    short: bool,
+    making: &Making,
     next: LiveSet,
     again: &LiveSet,
     words: usize,
@@ -329,117 +270,86 @@ fn exits_of_body(
     requires { words + 2 < 2 ^ 64 }
     ensures leaves_live { IfOk result (λ exits. exits.leaves_live ≡ next) }
     ensures skips_live { IfOk result (λ exits. exits.skips_live ≡ again.now) }
-    ensures leaves { IfOk result (λ exits. exits.leaves ≡ words + jump_words short) }
+    ensures leaves { IfOk result (λ exits. exits.leaves ≡ words + jump_words making.now.short) }
     ensures skips { IfOk result (λ exits. exits.skips ≡ 0) }
 {
     Ok(Exits {
         leaves_live: next,
-        skips_live: again.copy(alloc)?,
-        leaves: words as u64 + u64::from(jump_words(short)),
+        skips_live: again.copy(making.alloc)?,
+        leaves: words as u64 + u64::from(jump_words(making.short)),
         skips: 0,
     })
 }
 
 /// The body of a loop, its step and the jump back come before other code.
 fn put_loop(
-    alloc: Global,
     code: &mut GrowingCode,
-    short: bool,
+    making: &Making,
     body: GrowingCode,
     step: GrowingCode,
 ) -> Result<(), AllocError>
     ensures { OnOk result (code.new
-        ≡ in_front body (in_front step (in_front (glue (jump_back short
+        ≡ in_front body (in_front step (in_front (glue (jump_back making.now.short
         (length body.code + length step.code))) code.old))) }
 {
-    put_jump_back(alloc, code, short, body.len(), step.len())?;
+    let mut block = Vec::new(making.alloc);
+    jump_back(
+        &mut block,
+        making.short,
+        body.len() as u64,
+        step.len() as u64,
+    )?;
+    code.put_before(block.as_slice())?;
     code.put_code(step)?;
     code.put_code(body)
 }
 
 #[cycle(code)]
 fn step_code(
-    alloc: Global,
     code: &mut GrowingCode,
-    layouts: &Layouts,
-    function: u32,
-    homes: &[Home],
-    short: bool,
-    placed: bool,
-    before: Standing,
+    making: &Making,
     step: &Step,
-    after: Standing,
+    around: Around,
     next: LiveSet,
     exits: &Exits,
 ) -> Result<LiveSet, AllocError>
-    requires near { AreNear homes.now }
-    requires homes { home_in homes.now ≡ (plan_of layouts.now).home function }
-    requires small { AreSmall layouts.now }
-    requires taken { IsTakenByStep after step.now }
+    requires sound { IsSound making.now }
+    requires taken { IsTakenByStep around.after step.now }
     ensures { IfOk result (λ set.
-        IsStepCode short (plan_of layouts.now) (variables_of layouts.now) function placed
-        before after exits.now step.now code.old next code.new set) }
+        IsStepCode making.now.short (plan_by making.now) (variables_by making.now)
+        making.now.function around.placed around.before around.after exits.now step.now code.old
+        next code.new set) }
 {
     match step {
         Step::Act(mark, action) => {
-            put_action(
-                alloc, code, layouts, function, homes, mark.place, short, placed, before, action,
-                after, &next, exits,
-            )?;
-            live_before_action(alloc, action, next, &exits.leaves_live, &exits.skips_live)
+            let onward = Onward { next: &next, exits };
+            put_action(code, making, mark.place, action, around, &onward)?;
+            let (leaves, skips) = (&exits.leaves_live, &exits.skips_live);
+            live_before_action(making.alloc, action, next, leaves, skips)
         }
         Step::If(mark, branch, p, q) => {
             let rest = code.len();
-            let second = list_code(
-                alloc,
-                code,
-                layouts,
-                function,
-                homes,
-                short,
-                q,
-                next.copy(alloc)?,
-                exits,
-            )?;
+            let second = list_code(code, making, q, next.copy(making.alloc)?, exits)?;
             let behind = code.len();
-            let empty = does_nothing(p);
-            put_past(alloc, code, short, empty, does_nothing(q), rest)?;
-            let first = list_code(alloc, code, layouts, function, homes, short, p, next, exits)?;
-            put_branch(
-                alloc, code, homes, mark.place, short, *branch, empty, rest, behind,
-            )?;
+            put_past(code, making, p, q, rest)?;
+            let first = list_code(code, making, p, next, exits)?;
+            let fork = Fork {
+                branch: *branch,
+                empty: does_nothing(p),
+            };
+            put_branch(code, making, mark.place, fork, rest, behind)?;
             live_with_branch(*branch, first, &second)
         }
         Step::Loop(_, body, step) => {
-            let turn = live_at_turn(alloc, body, step, &next)?;
-            let step_exits = exits_of_step(alloc, short, &next, &turn)?;
-            let mut again = GrowingCode::new(alloc);
-            let step_live = list_code(
-                alloc,
-                &mut again,
-                layouts,
-                function,
-                homes,
-                short,
-                step,
-                turn,
-                &step_exits,
-            )?;
+            let turn = live_at_turn(making.alloc, body, step, &next)?;
+            let step_exits = exits_of_step(making, &next, &turn)?;
+            let mut again = GrowingCode::new(making.alloc);
+            let step_live = list_code(&mut again, making, step, turn, &step_exits)?;
             let words = again.len();
-            let body_exits = exits_of_body(alloc, short, next, &step_live, words)?;
-            let mut turned = GrowingCode::new(alloc);
-            let live = list_code(
-                alloc,
-                &mut turned,
-                layouts,
-                function,
-                homes,
-                short,
-                body,
-                step_live,
-                &body_exits,
-            )?;
-            put_loop(alloc, code, short, turned, again)?;
+            let body_exits = exits_of_body(making, next, &step_live, words)?;
+            let mut turned = GrowingCode::new(making.alloc);
+            let live = list_code(&mut turned, making, body, step_live, &body_exits)?;
+            put_loop(code, making, turned, again)?;
             Ok(live)
         }
     }
@@ -448,36 +358,33 @@ fn step_code(
 /// The code of a list of actions comes before other code, where `next` is live behind the list; and what is live before it.
 #[cycle(code)]
 pub fn list_code(
-    alloc: Global,
     code: &mut GrowingCode,
-    layouts: &Layouts,
-    function: u32,
-    homes: &[Home],
-    short: bool,
+    making: &Making,
     steps: &[Step],
     next: LiveSet,
     exits: &Exits,
 ) -> Result<LiveSet, AllocError>
-    requires near { AreNear homes.now }
-    requires homes { home_in homes.now ≡ (plan_of layouts.now).home function }
-    requires small { AreSmall layouts.now }
+    requires { IsSound making.now }
     ensures { IfOk result (λ set.
-        IsCodeOf short (plan_of layouts.now)
-        (variables_of layouts.now) function IsSettled unknown code.old
+        IsCodeOf making.now.short (plan_by making.now)
+        (variables_by making.now) making.now.function IsSettled unknown code.old
         exits.now.leaves exits.now.skips (ways
         (member next) (member exits.now.leaves_live) (member exits.now.skips_live))
         (actions_of steps.now) code.new set) }
 {
-    let flags = placed_flags(alloc, steps)?;
+    let flags = placed_flags(making.alloc, steps)?;
     let mut set = next;
     let mut after = Standing::Settled;
     for index in (0..steps.len()).rev() {
         let step = &steps[index];
         let before = standing_between(steps, index, step, &set, after);
         let placed = flag_at(flags.as_slice(), index);
-        set = step_code(
-            alloc, code, layouts, function, homes, short, placed, before, step, after, set, exits,
-        )?;
+        let around = Around {
+            placed,
+            before,
+            after,
+        };
+        set = step_code(code, making, step, around, set, exits)?;
         after = before;
     }
     Ok(set)

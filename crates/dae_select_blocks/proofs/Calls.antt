@@ -2,6 +2,7 @@
 use Rattle.std.proofs.Common.{◌≡◌, ◌≢◌, ℕ, zero, suc, ◌+◌, ◌*◌, ◌^◌, ◌<◌, ◌≤◌, ◌⊎◌, inl, inr, Bool, true, false, ◌&&◌, ◌||◌, List, [], ◌∷◌, ◌++◌, refl, sym, ap, ◌∙◌, arith, append_assoc}
 use Rattle.std.specs.Prelude.{nat_eq, if◌then◌else◌}
 use Rattle.std.proofs.lemmas.Bool.Decides.{nat_tests}
+use Rattle.dae_base.proofs.Laws.{or_true}
 use Rattle.dae_encode.specs.declared.Inst.{Inst}
 use Rattle.dae_encode.specs.Processor.{Processor}
 use Rattle.dae_ir.specs.Classes.{VariableSet}
@@ -53,17 +54,13 @@ filtered_among f r (x ∷ xs) h = by (f x) (nat_eq r x) refl h (filtered_among f
     by true false e h later = later (rw e at h)
     by false false e h later = later h
 
-either : (b : Bool) → (b || true) ≡ true
-either true = refl
-either false = refl
-
 some_found : (n v : ℕ) (f : ℕ → Bool) → v < n → f v ≡ true → some_below n f ≡ true
 some_found zero v f l e = absurd (omega arith)
 some_found (suc n) v f l e = by (nat_eq v n) refl (some_found n v f)
   where
     by : (b : Bool) → nat_eq v n ≡ b → (v < n → f v ≡ true → some_below n f ≡ true) → (f n || some_below n f) ≡ true
     by true t later = let same : v ≡ n = grind (arith, nat_tests) in let e' : f n ≡ true = ap f (sym same) ∙ e in rw e' refl
-    by false t later = let l' : v < n = grind (arith, nat_tests) in rw (later l' e) (either (f n))
+    by false t later = let l' : v < n = grind (arith, nat_tests) in rw (later l' e) (or_true (f n))
 
 all_registers : (r : ℕ) → is_home_register r ≡ true → among r home_registers ≡ true
 all_registers r h = grind (arith, nat_tests)
@@ -150,7 +147,7 @@ module _ (s : Setting) (plan : Plan) (variables : ℕ → ℕ) (fine : Fits s pl
       let home : is_home_register r ≡ true = good r (grind (arith, nat_tests)) in
       let low = home_register r home in let l = kept_small r home in let k = kept_low r home in
       rw append_assoc (runs_word base r (kept_at r) (save_code rs ++ is) pointer (omega arith) low.1 (omega arith) fits small (λ c1 one.
-      runs_save base rs is (λ q h. good q (rw h (either (nat_eq q r)))) (one.registers 2 (omega arith) ∙ pointer) inside one.fits one.small (λ c2 rest.
+      runs_save base rs is (λ q h. good q (rw h (or_true (nat_eq q r)))) (one.registers 2 (omega arith) ∙ pointer) inside one.fits one.small (λ c2 rest.
       run c2 (record {
         kept = λ q a h. by c1 c2 one rest home q a (nat_eq q r) (among q rs) refl refl h;
         unkept = λ q a h. none c1 c2 one rest home q a (nat_eq q r) refl h;
@@ -183,7 +180,7 @@ module _ (s : Setting) (plan : Plan) (variables : ℕ → ℕ) (fine : Fits s pl
       let c1 : Contents = put r v c in
       let like = like_put r v c (small (base + kept_at r)) fits in
       rw append_assoc (runs_load s plan.private to base r (kept_at r) (restore_code rs ++ is) pointer (omega arith) (omega arith) low.1 (omega arith) fine.private (
-      runs_restore {c = put r (c.word (base + kept_at r)) c} base rs is (λ q h. good q (rw h (either (nat_eq q r)))) (like.registers 2 (omega arith) ∙ pointer) inside like.fits small (λ c2 rest.
+      runs_restore {c = put r (c.word (base + kept_at r)) c} base rs is (λ q h. good q (rw h (or_true (nat_eq q r)))) (like.registers 2 (omega arith) ∙ pointer) inside like.fits small (λ c2 rest.
       run c2 (record {
         words = rest.words;
         kept = λ q h. by c2 rest home q (nat_eq q r) (among q rs) refl refl h;
@@ -245,7 +242,7 @@ module _ (s : Setting) (plan : Plan) (variables : ℕ → ℕ) (fine : Fits s pl
       let w : ℕ = plan.words m.function + waits_at (plan.home g x.parameter) in
       let long = fine.words g in let in' = waits_inside (variables g) (plan.home g x.parameter) (fine.homes g x.parameter) in
       let r : ℕ = source (plan.home m.function) 5 x.operand in
-      rw (append_assoc, append_assoc) (runs_arguments g xs (fetch (plan.home m.function) 5 x.operand ++ (store_code r w ++ is)) h (λ u e. reads u (rw e (either (in_operand x.operand u)))) numbers.1 (λ u v a b. apart u v (rw a (either (nat_eq u x.parameter))) (rw b (either (nat_eq v x.parameter)))) inside (λ c1 gave.
+      rw (append_assoc, append_assoc) (runs_arguments g xs (fetch (plan.home m.function) 5 x.operand ++ (store_code r w ++ is)) h (λ u e. reads u (rw e (or_true (in_operand x.operand u)))) numbers.1 (λ u v a b. apart u v (rw a (or_true (nat_eq u x.parameter))) (rw b (or_true (nat_eq v x.parameter)))) inside (λ c1 gave.
       let h1 = gave.ready in let at_base = gave.based in
       runs_fetch s plan variables fine to 5 x.operand (store_code r w ++ is) (is_work 5 (omega arith) (omega arith)) h1 (λ u e. reads u (rw e refl)) numbers.0 (λ c2 like got.
       let h2 = ready_like s plan variables fine 5 (is_scratch plan 5 (omega arith) (omega arith)) like h1 in
@@ -263,5 +260,5 @@ module _ (s : Setting) (plan : Plan) (variables : ℕ → ℕ) (fine : Fits s pl
       by c1 c2 c3 gave like got one u true e k = let same : u ≡ x.parameter = grind (arith, nat_tests) in rw same (one.here ∙ got)
       by c1 c2 c3 gave like got one u false e k =
           let ne : u ≢ x.parameter = grind (arith, nat_tests) in
-          let far = waits_apart (variables g) (variables g) (plan.home g u) (plan.home g x.parameter) (fine.homes g u) (fine.homes g x.parameter) (apart u x.parameter (rw k (either (nat_eq u x.parameter))) (grind (arith, nat_tests)) ne) in
+          let far = waits_apart (variables g) (variables g) (plan.home g u) (plan.home g x.parameter) (fine.homes g u) (fine.homes g x.parameter) (apart u x.parameter (rw k (or_true (nat_eq u x.parameter))) (grind (arith, nat_tests)) ne) in
           one.others (h.agrees.base + (plan.words m.function + waits_at (plan.home g u))) (λ same. far (omega arith)) ∙ (like.words (h.agrees.base + (plan.words m.function + waits_at (plan.home g u))) ∙ gave.given u k)

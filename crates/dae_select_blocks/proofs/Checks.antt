@@ -9,6 +9,7 @@ use Rattle.dae_base.specs.Texts.{byte_text, decimal_text, hex_text}
 use Rattle.dae_base.specs.declared.Side.TheVariants.{A, E}
 use Rattle.dae_base.specs.declared.Width.{Width}
 use Rattle.dae_base.specs.declared.Width.TheVariants.{B1, B2, B4}
+use Rattle.dae_base.proofs.Laws.{plus_small}
 use Rattle.dae_encode.specs.declared.Inst.{Inst}
 use Rattle.dae_encode.specs.declared.Inst.TheVariants.{Addi, Andi, Beq, Bne, Bltu, Bgeu, Ecall}
 use Rattle.dae_encode.specs.declared.Halt.TheVariants.{Status, Trap}
@@ -33,7 +34,7 @@ use Rattle.dae_select_blocks.specs.Blocks.{check_code, source, fetch, number_cod
 use Rattle.dae_select_blocks.specs.Code.{placed_code}
 use Rattle.dae_select_blocks.specs.Fits.{Fits}
 use Rattle.dae_select_blocks.proofs.Plain.{computes, takes, pushes, put_other, branch_taken, branch_passed}
-use Rattle.dae_select_blocks.proofs.Frames.{plus_small, runs_number}
+use Rattle.dae_select_blocks.proofs.Frames.{runs_number}
 use Rattle.dae_select_blocks.proofs.Runs.{runs_quiet, runs_push, runs_take, runs_say, runs_halt, runs_over}
 use Rattle.dae_select_blocks.proofs.Agreement.{Ready, IsScratch, ready_like}
 use Rattle.dae_select_blocks.proofs.Operands.{like_put, runs_move}

@@ -6,6 +6,7 @@ use Rattle.std.proofs.lemmas.Option.{same_Some}
 use Rattle.dae_base.specs.Words.{plus, minus, word, signed, extended}
 use Rattle.dae_base.specs.declared.LoadKind.{LoadKind}
 use Rattle.dae_base.specs.declared.LoadKind.TheVariants.{I8, U8, I16, U16, I32}
+use Rattle.dae_base.proofs.Laws.{plus_small}
 use Rattle.dae_encode.specs.declared.Inst.{Inst}
 use Rattle.dae_encode.specs.declared.Inst.TheVariants.{Addi, Add, Sub, Slt, Sltu, Slti, Sltiu, Xori, Andi, Slli, Srli, Srai}
 use Rattle.dae_encode.specs.Instructions.{flag, shift_left, shift_right, shift_signed}
@@ -34,7 +35,7 @@ use Rattle.dae_select_blocks.specs.Fits.{Fits}
 use Rattle.dae_select_blocks.specs.Wanted.{IsNumber, AreNumbers}
 use Rattle.dae_select_blocks.proofs.Halves.{immediate_word, immediate_signed}
 use Rattle.dae_select_blocks.proofs.Plain.{computes, Computed, computes_word}
-use Rattle.dae_select_blocks.proofs.Frames.{runs_number, plus_small}
+use Rattle.dae_select_blocks.proofs.Frames.{runs_number}
 use Rattle.dae_select_blocks.proofs.Runs.{Runs, runs_quiet}
 use Rattle.dae_select_blocks.proofs.Agreement.{Ready, IsScratch, Like, ready_like, home_register}
 use Rattle.dae_select_blocks.proofs.Operands.{IsWork, like_put, like_itself, home_plain, runs_fetch, runs_move}

@@ -3,6 +3,7 @@ use Rattle.std.proofs.Common.{◌≡◌, ◌≢◌, ℕ, ◌+◌, ◌*◌, ◌%�
 use Rattle.std.specs.Prelude.{if◌then◌else◌, nat_eq, pos, negsuc, ℤ}
 use Rattle.std.proofs.lemmas.Bool.Decides.{nat_tests}
 use Rattle.dae_base.specs.Words.{plus, minus, word}
+use Rattle.dae_base.proofs.Laws.{plus_small}
 use Rattle.dae_encode.specs.declared.Inst.{Inst}
 use Rattle.dae_encode.specs.declared.Inst.TheVariants.{Add, Sub, Addi}
 use Rattle.dae_encode.specs.Processor.{Processor}
@@ -15,7 +16,7 @@ use Rattle.dae_select_walks.proofs.LawsOfWalks.{put}
 use Rattle.dae_select_blocks.specs.Blocks.{lower, is_immediate, number_code, more_code, less_code, deeper_code, back_code}
 use Rattle.dae_select_blocks.proofs.Plain.{computes, put_same, put_other}
 use Rattle.dae_select_blocks.proofs.Halves.{immediate_word}
-use Rattle.dae_select_blocks.proofs.Frames.{runs_number, plus_small}
+use Rattle.dae_select_blocks.proofs.Frames.{runs_number}
 use Rattle.dae_select_blocks.proofs.Runs.{Runs, runs_quiet}
 use Rattle.dae_select_blocks.proofs.Operands.{like_put}
 

@@ -6,6 +6,7 @@ use Rattle.dae_base.specs.Words.{plus, minus, word, signed, extended}
 use Rattle.dae_base.specs.declared.LoadKind.{LoadKind}
 use Rattle.dae_base.specs.declared.LoadKind.TheVariants.{I8, U8, I16, U16, I32}
 use Rattle.dae_base.specs.declared.Queue.{Queue}
+use Rattle.dae_base.proofs.Laws.{plus_small}
 use Rattle.dae_encode.specs.declared.QueueUse.TheVariants.{Take as Takes}
 use Rattle.dae_encode.specs.declared.Form.TheVariants.{Computes}
 use Rattle.dae_encode.specs.declared.Inst.{Inst}
@@ -39,7 +40,6 @@ use Rattle.dae_select_blocks.specs.Code.{either_one, reads_once, with_home, earl
 use Rattle.dae_select_blocks.specs.Fits.{Fits}
 use Rattle.dae_select_blocks.specs.Wanted.{IsNumber, AreNumbers}
 use Rattle.dae_select_blocks.proofs.Halves.{immediate_word, immediate_signed}
-use Rattle.dae_select_blocks.proofs.Frames.{plus_small}
 use Rattle.dae_select_blocks.proofs.Plain.{plain_read, computes, put_same, put_other, put_twice}
 use Rattle.dae_select_blocks.proofs.Runs.{Runs, runs_nothing, runs_quiet, runs_take}
 use Rattle.dae_select_blocks.proofs.Agreement.{Ready, ready_like, ready_gets}

@@ -3,6 +3,7 @@ use Rattle.std.proofs.Common.{◌≡◌, ◌≢◌, ℕ, zero, suc, ◌+◌, ◌
 use Rattle.std.specs.Prelude.{nat_eq, if◌then◌else◌, pos}
 use Rattle.std.proofs.lemmas.Bool.Decides.{nat_tests}
 use Rattle.dae_base.specs.Words.{plus, word}
+use Rattle.dae_base.proofs.Laws.{plus_small}
 use Rattle.dae_encode.specs.declared.QueueUse.TheVariants.{Nothing}
 use Rattle.dae_encode.specs.declared.Inst.TheVariants.{Lui, Jalr}
 use Rattle.dae_encode.specs.Processor.{Processor}
@@ -26,7 +27,7 @@ use Rattle.dae_select_blocks.specs.Fits.{Fits}
 use Rattle.dae_select_blocks.specs.Wanted.{AreGiven, gives, IsLinked}
 use Rattle.dae_select_blocks.proofs.Halves.{halves}
 use Rattle.dae_select_blocks.proofs.Plain.{plain_computes, stores_word}
-use Rattle.dae_select_blocks.proofs.Frames.{plus_small, upper_small}
+use Rattle.dae_select_blocks.proofs.Frames.{upper_small}
 use Rattle.dae_select_blocks.proofs.Runs.{Runs, runs_nothing, runs_quiet}
 use Rattle.dae_select_blocks.proofs.Agreement.{Ready, kept_small, waiting_same}
 use Rattle.dae_select_blocks.proofs.Operands.{like_put}

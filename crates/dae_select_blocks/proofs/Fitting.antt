@@ -1,7 +1,7 @@
 -- The blocks of values, accesses and branches have instructions whose fields their words can hold.
 use Rattle.std.proofs.Common.{◌≡◌, ℕ, ◌+◌, ◌-◌, ◌%◌, ◌^◌, ◌<◌, Bool, true, false, List, [], ◌∷◌, ◌++◌, Option, Some, None, refl, subst, arith, pos, negsuc, ◌*◌}
 use Rattle.std.specs.Prelude.{nat_lt, nat_eq, if◌then◌else◌}
-use Rattle.std.proofs.lemmas.Option.{same_Some}
+use Rattle.std.proofs.lemmas.Option.{same_Some, cond_some}
 use Rattle.dae_ir.specs.declared.form.Check.{Check}
 use Rattle.dae_ir.specs.declared.form.Check.TheVariants.{Place, Zero, Room, Frame, Abort}
 use Rattle.dae_ir.specs.declared.stream.Action.{Action}
@@ -33,7 +33,7 @@ use Rattle.dae_select_walks.specs.Homes.{IsHome}
 use Rattle.dae_select_blocks.specs.Blocks.{lower, is_immediate, number_code, register_or, source, fetch, move_code, operation_code, exponent, power_code, immediate_code, commutes, exchanged_code, behind_or, combine_registers, binary_code, extend_code, compare_code, takes_number, compare_number_code, compare_registers, compare_operands, test_code, frame_code, value_code, issue_code, address_code, take_code, fail_code, over, align_code, bounds_code, room_code, check_code, system_code, hear_code, stop_code, leave_code, result_code, branch_inst, opposite, one_way, goes_by, goes_code, frames_room_code, tell_number_code, against_zero, immediate_of}
 use Rattle.dae_select_blocks.specs.Code.{placed_code, branch_code, told_code}
 use Rattle.dae_select_blocks.proofs.Ranges.{move_fit, AllFit, fit_append, fit_either, lower_fits, addi_fits, addi_small, lw_small, add_fits, number_fits, register_fits, fetch_fits, move_fits, keep_fits, over_fits}
-use Rattle.dae_select_blocks.proofs.Values.{power_of_two, is_some_where}
+use Rattle.dae_select_blocks.proofs.Values.{power_of_two}
 
 three_fit : (o : Operator) (t x y : ℕ) → t < 32 → x < 32 → y < 32 → InRange (operation_code o t x y)
 unfolding InRange layout
@@ -61,16 +61,16 @@ power_fits (Some k) t x i low a b e = subst InRange (same_Some (Slli t x (pos k)
 
 immediate_fits : (o : Operator) (t x n : ℕ) (i : Inst) → t < 32 → x < 32 → immediate_code o t x n ≡ Some i → InRange i
 unfolding InRange layout
-immediate_fits Plus t x n i a b e = subst InRange (is_some_where (is_immediate n) (Addi t x (lower n)) i e).1 (a, b, lower_fits n)
-immediate_fits Subtract t x n i a b e = subst InRange (is_some_where (is_immediate (minus 0 n)) (Addi t x (lower (minus 0 n))) i e).1 (a, b, lower_fits (minus 0 n))
+immediate_fits Plus t x n i a b e = subst InRange (cond_some (is_immediate n) (Addi t x (lower n)) i e).1 (a, b, lower_fits n)
+immediate_fits Subtract t x n i a b e = subst InRange (cond_some (is_immediate (minus 0 n)) (Addi t x (lower (minus 0 n))) i e).1 (a, b, lower_fits (minus 0 n))
 immediate_fits Multiply t x n i a b e = power_fits (exponent n) t x i (λ k is. (power_of_two n k is).0) a b e
 immediate_fits DivideSigned t x n i a b e = absurd (let none : None ≡ Some i = e in cc)
 immediate_fits DivideUnsigned t x n i a b e = absurd (let none : None ≡ Some i = e in cc)
 immediate_fits RemainderSigned t x n i a b e = absurd (let none : None ≡ Some i = e in cc)
 immediate_fits RemainderUnsigned t x n i a b e = absurd (let none : None ≡ Some i = e in cc)
-immediate_fits Both t x n i a b e = subst InRange (is_some_where (is_immediate n) (Andi t x (lower n)) i e).1 (a, b, lower_fits n)
-immediate_fits Either t x n i a b e = subst InRange (is_some_where (is_immediate n) (Ori t x (lower n)) i e).1 (a, b, lower_fits n)
-immediate_fits Differ t x n i a b e = subst InRange (is_some_where (is_immediate n) (Xori t x (lower n)) i e).1 (a, b, lower_fits n)
+immediate_fits Both t x n i a b e = subst InRange (cond_some (is_immediate n) (Andi t x (lower n)) i e).1 (a, b, lower_fits n)
+immediate_fits Either t x n i a b e = subst InRange (cond_some (is_immediate n) (Ori t x (lower n)) i e).1 (a, b, lower_fits n)
+immediate_fits Differ t x n i a b e = subst InRange (cond_some (is_immediate n) (Xori t x (lower n)) i e).1 (a, b, lower_fits n)
 immediate_fits ShiftLeft t x n i a b e = subst InRange (same_Some (Slli t x (pos (n % 32))) i e) (a, b, (omega (arith, ints), omega (arith, ints)))
 immediate_fits ShiftRightSigned t x n i a b e = subst InRange (same_Some (Srai t x (pos (n % 32))) i e) (a, b, (omega (arith, ints), omega (arith, ints)))
 immediate_fits ShiftRightUnsigned t x n i a b e = subst InRange (same_Some (Srli t x (pos (n % 32))) i e) (a, b, (omega (arith, ints), omega (arith, ints)))

@@ -3,6 +3,7 @@ use Rattle.std.proofs.Common.{◌≡◌, ◌≢◌, ℕ, ◌+◌, ◌*◌, ◌%�
 use Rattle.std.specs.Prelude.{nat_lt, nat_eq, if◌then◌else◌, pos}
 use Rattle.std.proofs.lemmas.Bool.Decides.{nat_tests}
 use Rattle.dae_base.specs.Words.{plus, word}
+use Rattle.dae_base.proofs.Laws.{plus_small}
 use Rattle.dae_encode.specs.declared.Inst.{Inst}
 use Rattle.dae_encode.specs.declared.Inst.TheVariants.{Lui, Addi, Add, Lw, Sw}
 use Rattle.dae_encode.specs.Processor.{Processor}
@@ -15,9 +16,6 @@ use Rattle.dae_select_blocks.specs.Blocks.{upper, lower, is_immediate, number_co
 use Rattle.dae_select_blocks.proofs.Halves.{halves, halves_to, word_upper, word_whole, immediate_word}
 use Rattle.dae_select_blocks.proofs.Plain.{computes, loads_word, stores_word, put_same, put_other, put_twice, put_itself}
 use Rattle.dae_select_blocks.proofs.Runs.{Runs, runs_quiet}
-
-pub plus_small : (x y : ℕ) → plus x y < 2 ^ 32
-plus_small x y = omega arith
 
 pub upper_small : (n : ℕ) → word (upper n) < 2 ^ 32
 upper_small n = rw (word_upper n) (omega arith)

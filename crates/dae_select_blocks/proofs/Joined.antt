@@ -3,6 +3,7 @@ use Rattle.std.proofs.Common.{◌≡◌, ◌≢◌, ℕ, ◌+◌, ◌*◌, ◌^�
 use Rattle.std.specs.Prelude.{pos}
 use Rattle.dae_base.specs.Words.{plus, word}
 use Rattle.dae_base.specs.declared.Side.TheVariants.{E}
+use Rattle.dae_base.proofs.Laws.{plus_small}
 use Rattle.dae_encode.specs.declared.Inst.{Inst}
 use Rattle.dae_encode.specs.declared.Inst.TheVariants.{Addi}
 use Rattle.dae_encode.specs.declared.Halt.TheVariants.{Status}
@@ -30,7 +31,6 @@ use Rattle.dae_select_blocks.specs.Code.{registers_in, entry_code, finish_code, 
 use Rattle.dae_select_blocks.specs.Fits.{Fits}
 use Rattle.dae_select_blocks.specs.Wanted.{IsLinked, IsPlanOf}
 use Rattle.dae_select_blocks.proofs.Plain.{computes}
-use Rattle.dae_select_blocks.proofs.Frames.{plus_small}
 use Rattle.dae_select_blocks.proofs.Runs.{Runs, runs_quiet, runs_halt, code_take, code_drop}
 use Rattle.dae_select_blocks.proofs.Computing.{plus_zero}
 use Rattle.dae_select_blocks.proofs.Whole.{Stood, Done'}

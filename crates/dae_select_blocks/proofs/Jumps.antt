@@ -4,6 +4,7 @@ use Rattle.std.specs.Prelude.{nat_eq, nat_lt, int_lt, if◌then◌else◌, slice
 use Rattle.std.proofs.lemmas.Bool.Decides.{nat_tests}
 use Rattle.dae_base.specs.Words.{plus, word, signed}
 use Rattle.dae_base.specs.declared.Queue.{Queue}
+use Rattle.dae_base.proofs.Laws.{plus_small}
 use Rattle.dae_encode.specs.declared.QueueUse.{QueueUse}
 use Rattle.dae_encode.specs.declared.QueueUse.TheVariants.{Nothing, Take as Takes}
 use Rattle.dae_encode.specs.declared.Inst.{Inst}
@@ -37,7 +38,6 @@ use Rattle.dae_ir.specs.declared.stream.Branch.TheVariants.{Silent, Tells, Hears
 use Rattle.dae_select_blocks.specs.Fits.{Fits}
 use Rattle.dae_select_blocks.proofs.Halves.{halves_to, near_ahead, near_back}
 use Rattle.dae_select_blocks.proofs.Plain.{plain_computes, plain_read, put_nowhere, Computed, pushes_word}
-use Rattle.dae_select_blocks.proofs.Frames.{plus_small}
 use Rattle.dae_select_blocks.proofs.Agreement.{Ready, ready_like}
 use Rattle.dae_select_blocks.proofs.Operands.{like_put}
 use Rattle.dae_select_blocks.specs.Wanted.{IsNumber}

@@ -3,6 +3,7 @@ use Rattle.std.proofs.Common.{◌≡◌, ◌≢◌, ℕ, zero, suc, ◌+◌, ◌
 use Rattle.std.specs.Prelude.{nat_eq, pos}
 use Rattle.std.proofs.lemmas.Bool.Decides.{nat_tests}
 use Rattle.dae_base.specs.Words.{plus, word}
+use Rattle.dae_base.proofs.Laws.{plus_small}
 use Rattle.dae_encode.specs.declared.QueueUse.TheVariants.{Nothing}
 use Rattle.dae_encode.specs.declared.Inst.{Inst}
 use Rattle.dae_encode.specs.declared.Inst.TheVariants.{Jalr, Lw, Addi}
@@ -27,7 +28,6 @@ use Rattle.dae_select_blocks.specs.Code.{registers_in}
 use Rattle.dae_select_blocks.specs.Fits.{Fits}
 use Rattle.dae_select_blocks.specs.Wanted.{IsWantedResult}
 use Rattle.dae_select_blocks.proofs.Plain.{plain_computes, put_nowhere, computes, loads_word}
-use Rattle.dae_select_blocks.proofs.Frames.{plus_small}
 use Rattle.dae_select_blocks.proofs.Runs.{Runs, runs_nothing, runs_quiet, code_take, code_drop}
 use Rattle.dae_select_blocks.proofs.Agreement.{Ready, IsScratch, ready_like, frame_inside, waiting_same}
 use Rattle.dae_select_blocks.proofs.Operands.{like_put, runs_move}

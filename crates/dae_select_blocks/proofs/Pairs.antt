@@ -2,9 +2,11 @@
 use Rattle.std.proofs.Common.{◌≡◌, ◌≢◌, ℕ, ◌+◌, ◌^◌, ◌<◌, ◌≤◌, Bool, true, false, not, ◌&&◌, ◌||◌, List, [], length, refl, sym, ◌∙◌, subst, arith}
 use Rattle.std.specs.Prelude.{nat_lt, nat_eq, if◌then◌else◌, Some}
 use Rattle.std.proofs.lemmas.Bool.Decides.{nat_tests}
+use Rattle.std.proofs.lemmas.Bool.{and_parts}
 use Rattle.dae_base.specs.declared.Queue.{Queue}
 use Rattle.dae_base.specs.declared.Queue.TheVariants.{Sd}
 use Rattle.dae_base.specs.declared.Side.TheVariants.{E}
+use Rattle.dae_base.proofs.Laws.{and_not, or_true}
 use Rattle.dae_encode.specs.declared.QueueUse.TheVariants.{Take as Takes}
 use Rattle.dae_encode.specs.declared.Form.TheVariants.{Computes}
 use Rattle.dae_encode.specs.Uses.{queue_use}
@@ -46,20 +48,11 @@ use Rattle.dae_select_blocks.proofs.Simple.{Around, around, simple_done}
 
 -- ---- which pairs there are
 
-and_true : (b c : Bool) → (b && c) ≡ true → (b ≡ true) × (c ≡ true)
-and_true true c e = (refl, e)
-and_true false c e = absurd cc
-
-both_true : (b c : Bool) → (b && not c) ≡ true → (b ≡ true) × (c ≡ false)
-both_true true true e = absurd cc
-both_true true false e = (refl, refl)
-both_true false c e = absurd cc
-
 -- what moves a variable on sets another one to it, or sends it
 pub passed_on : (P : Action → Type 0) (t : ℕ) (y : Value) (a : Action) → passes_on t y a ≡ true → ((s : ℕ) → P (Compute s (Same (Variable t)))) → (written_last y ≡ true → P (Datum (Variable t))) → P a
 passed_on P t y (Compute s (Same (Variable u))) e h g = let same : t ≡ u = grind (arith, nat_tests) in subst (λ (n : ℕ). P (Compute s (Same (Variable n)))) same (h s)
 passed_on P t y (Datum (Variable u)) e h g =
-    let two = and_true (nat_eq u t) (written_last y) e in
+    let two = and_parts (nat_eq u t) (written_last y) e in
     let first = two.0 in let same : t ≡ u = grind (arith, nat_tests) in subst (λ (n : ℕ). P (Datum (Variable n))) same (g two.1)
 passed_on P t y (Compute s (Same (Number n))) e h g = absurd cc
 passed_on P t y (Compute s (Extended kind x)) e h g = absurd cc
@@ -91,14 +84,14 @@ module _ (P : Action → Actions → Standing → Type 0) (x : Ways)
     (loaded : (v : ℕ) (m : Mark) (d : ℕ) (y : Value) (k : Actions) → standing_behind (Compute d y) k x ≡ Settled → reads_once v y ≡ true → (nat_eq v d || not (live k x v)) ≡ true → P (Receive v) (Do m (Compute d y) k) (Early d y))
     (copied : (v : ℕ) (m : Mark) (d : ℕ) (y : Value) (k : Actions) → standing_behind (Compute d y) k x ≡ Settled → reads_once v y ≡ true → (nat_eq v d || not (live k x v)) ≡ true → P (Accept v) (Do m (Compute d y) k) (Early d y)) where
   set_late : (t : ℕ) (y : Value) (m : Mark) (b : Action) (k : Actions) → standing_behind b k x ≡ Settled → (c : Bool) → (passes_on t y b && not (live k x t)) ≡ c → P (Compute t y) (Do m b k) (if c then Late t y else Settled)
-  set_late t y m b k e true is = let two = both_true (passes_on t y b) (live k x t) is in late t y m b k e two.0 two.1
+  set_late t y m b k e true is = let two = and_not (passes_on t y b) (live k x t) is in late t y m b k e two.0 two.1
   set_late t y m b k e false is = settled (Compute t y) (Do m b k)
 
   taken : (a : Action) (v : ℕ) (m : Mark) (b : Action) (k : Actions) → ((d : ℕ) (y : Value) → b ≡ Compute d y → reads_once v y ≡ true → (nat_eq v d || not (live k x v)) ≡ true → P a (Do m b k) (Early d y)) → P a (Do m b k) (taken_standing v b (live k x))
   taken a v m (Compute d y) k early = by (reads_once v y && (nat_eq v d || not (live k x v))) refl
     where
       by : (c : Bool) → (reads_once v y && (nat_eq v d || not (live k x v))) ≡ c → P a (Do m (Compute d y) k) (if c then Early d y else Settled)
-      by true is = let two = and_true (reads_once v y) (nat_eq v d || not (live k x v)) is in early d y refl two.0 two.1
+      by true is = let two = and_parts (reads_once v y) (nat_eq v d || not (live k x v)) is in early d y refl two.0 two.1
       by false is = settled a (Do m (Compute d y) k)
   taken a v m (Issue kind y) k early = settled a (Do m (Issue kind y) k)
   taken a v m (Own u kind y) k early = settled a (Do m (Own u kind y) k)
@@ -194,10 +187,6 @@ unset t v u env live' dead l = by (nat_eq u t) refl
     by true e = let same : u ≡ t = grind (arith, nat_tests) in absurd (let bad : live' t ≡ true = subst (λ (n : ℕ). live' n ≡ true) same l in cc)
     by false e = refl
 
-either : (b : Bool) → (b || true) ≡ true
-either true = refl
-either false = refl
-
 -- what is live round the block that does both
 late_around : (home : ℕ → Home) (t d : ℕ) (y : Value) (live' : VariableSet) (x : Ways) → live' t ≡ false → AreApart home (with_all (before (Compute d (Same (Variable t))) live' x) (sets (Compute d (Same (Variable t))))) →
     Around home (Compute d y) (before (Compute t y) (before (Compute d (Same (Variable t))) live' x) x) live'
@@ -205,7 +194,7 @@ late_around home t d y live' x dead apart =
     let r = around home (Compute d (Same (Variable t))) live' x (λ u. refl) apart in
     record {
       reads = λ u e. rw e refl;
-      stays = λ u l e. (let ne : nat_eq u t ≡ false = other u l (nat_eq u t) refl in rw (l, e, ne) (either (in_value y u)));
+      stays = λ u l e. (let ne : nat_eq u t ≡ false = other u l (nat_eq u t) refl in rw (l, e, ne) (or_true (in_value y u)));
       apart = λ u v e. r.apart u v e;
     }
   where

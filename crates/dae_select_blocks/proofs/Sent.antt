@@ -3,6 +3,7 @@ use Rattle.std.proofs.Common.{◌≡◌, ℕ, ◌+◌, ◌^◌, ◌<◌, Bool, t
 use Rattle.std.specs.Prelude.{nat_lt, if◌then◌else◌}
 use Rattle.dae_base.specs.Words.{plus, word}
 use Rattle.dae_base.specs.declared.Queue.{Queue}
+use Rattle.dae_base.proofs.Laws.{plus_small}
 use Rattle.dae_encode.specs.declared.QueueUse.TheVariants.{Push as Pushes}
 use Rattle.dae_encode.specs.declared.Form.TheVariants.{Computes}
 use Rattle.dae_encode.specs.declared.Inst.{Inst}
@@ -31,7 +32,7 @@ use Rattle.dae_select_blocks.specs.Fits.{Fits}
 use Rattle.dae_select_blocks.specs.Wanted.{IsNumber, AreNumbers}
 use Rattle.dae_select_blocks.proofs.Halves.{immediate_word}
 use Rattle.dae_select_blocks.proofs.Plain.{plain_read, put_nowhere}
-use Rattle.dae_select_blocks.proofs.Frames.{runs_number, plus_small}
+use Rattle.dae_select_blocks.proofs.Frames.{runs_number}
 use Rattle.dae_select_blocks.proofs.Runs.{Runs, runs_push}
 use Rattle.dae_select_blocks.proofs.Agreement.{Ready, ready_like}
 use Rattle.dae_select_blocks.proofs.Operands.{like_put, runs_move}

@@ -5,7 +5,7 @@ use Rattle.std.proofs.Math.Nat.{div-le_self, mod-le, mul_comm}
 use Rattle.std.specs.Int.{int_shr}
 use Rattle.std.proofs.lemmas.Bool.Decides.{nat_tests}
 use Rattle.std.proofs.lemmas.Nat.{or_of_32, xor_of_32, and_le_l, and_mask, and_comm, or_comm, xor_comm}
-use Rattle.std.proofs.lemmas.Option.{same_Some}
+use Rattle.std.proofs.lemmas.Option.{same_Some, cond_some}
 use Rattle.dae_base.specs.Words.{plus, minus, times, word, signed, extended}
 use Rattle.dae_base.specs.declared.LoadKind.TheVariants.{I8, I16}
 use Rattle.dae_encode.specs.declared.Inst.{Inst}
@@ -85,11 +85,6 @@ operation_fits ShiftRightUnsigned x y a b = omega (arith, div-le_self x (2 ^ (y 
 
 -- ---- operations on a register and a number
 
--- what is there only where a test holds
-pub is_some_where : {X : Type 0} (b : Bool) (x y : X) → (if b then Some x else None) ≡ Some y → (b ≡ true) × (x ≡ y)
-is_some_where true x y e = (refl, same_Some x y e)
-is_some_where false x y e = absurd (let none : None ≡ Some y = e in cc)
-
 exponent_is : (above n k : ℕ) → exponent_below above n ≡ Some k → (k < above) × (n ≡ 2 ^ k)
 exponent_is zero n k e = absurd cc
 exponent_is (suc a) n k e = by (λ f. exponent_is a n k f) (nat_eq n (2 ^ a)) refl e
@@ -123,10 +118,10 @@ power_with (Some k) t x n i is e =
 pub immediate_does : (o : Operator) (t x n : ℕ) (i : Inst) → n < 2 ^ 32 → immediate_code o t x n ≡ Some i → DoesWith i t x (λ a. combined o a n)
 unfolding combined
 immediate_does Plus t x n i h e =
-    let two = is_some_where (is_immediate n) (Addi t x (lower n)) i e in
+    let two = cond_some (is_immediate n) (Addi t x (lower n)) i e in
     subst (λ (j : Inst). DoesWith j t x (λ a. plus a n)) two.1 (record { function = (λ a. plus a (word (lower n))); does = refl; same = λ a. rw (immediate_word n h two.0) refl })
 immediate_does Subtract t x n i h e =
-    let two = is_some_where (is_immediate (minus 0 n)) (Addi t x (lower (minus 0 n))) i e in
+    let two = cond_some (is_immediate (minus 0 n)) (Addi t x (lower (minus 0 n))) i e in
     subst (λ (j : Inst). DoesWith j t x (λ a. minus a n)) two.1
     (record { function = (λ a. plus a (word (lower (minus 0 n)))); does = refl; same = λ a. rw (immediate_word (minus 0 n) (omega arith) two.0) (omega arith) })
 immediate_does Multiply t x n i h e = power_with (exponent n) t x n i (power_of_two n) e
@@ -135,13 +130,13 @@ immediate_does DivideUnsigned t x n i h e = absurd (let none : None ≡ Some i =
 immediate_does RemainderSigned t x n i h e = absurd (let none : None ≡ Some i = e in cc)
 immediate_does RemainderUnsigned t x n i h e = absurd (let none : None ≡ Some i = e in cc)
 immediate_does Both t x n i h e =
-    let two = is_some_where (is_immediate n) (Andi t x (lower n)) i e in
+    let two = cond_some (is_immediate n) (Andi t x (lower n)) i e in
     subst (λ (j : Inst). DoesWith j t x (λ a. bit_and a n)) two.1 (record { function = (λ a. bit_and a (word (lower n))); does = refl; same = λ a. rw (immediate_word n h two.0) refl })
 immediate_does Either t x n i h e =
-    let two = is_some_where (is_immediate n) (Ori t x (lower n)) i e in
+    let two = cond_some (is_immediate n) (Ori t x (lower n)) i e in
     subst (λ (j : Inst). DoesWith j t x (λ a. bit_or a n)) two.1 (record { function = (λ a. bit_or a (word (lower n))); does = refl; same = λ a. rw (immediate_word n h two.0) refl })
 immediate_does Differ t x n i h e =
-    let two = is_some_where (is_immediate n) (Xori t x (lower n)) i e in
+    let two = cond_some (is_immediate n) (Xori t x (lower n)) i e in
     subst (λ (j : Inst). DoesWith j t x (λ a. bit_xor a n)) two.1 (record { function = (λ a. bit_xor a (word (lower n))); does = refl; same = λ a. rw (immediate_word n h two.0) refl })
 immediate_does ShiftLeft t x n i h e =
     let by_low : word (pos (n % 32)) % 32 ≡ n % 32 = omega arith in

@@ -1,6 +1,6 @@
 -- What is live before a step, from what is live before the lists in it.
-use Rattle.std.proofs.Common.{◌≡◌, ℕ, ◌+◌, ◌-◌, ◌<◌, ◌≤◌, List, ◌∷◌, length, drop, get_or, drop-cons, add-one, suc, refl, ap, sym, ◌∙◌, arith}
-use Rattle.std.specs.Prelude.{Vec}
+use Rattle.std.proofs.Common.{◌≡◌, ℕ, zero, ◌+◌, ◌-◌, ◌<◌, ◌≤◌, Bool, true, false, ◌||◌, List, [], ◌∷◌, length, take, drop, get_or, drop-cons, add-one, suc, refl, ap, sym, ◌∙◌, arith}
+use Rattle.std.specs.Prelude.{Vec, nat_eq}
 use Rattle.std.specs.declared.alloc.Global.{Global}
 use Rattle.std.proofs.lemmas.List.{drop_all}
 use Rattle.dae_ir.specs.Code.{Done, If, Loop}
@@ -12,6 +12,7 @@ use Rattle.dae_ir.specs.declared.stream.Branch.{Branch}
 use Rattle.dae_ir.specs.declared.stream.Step.{Step, If', Loop', Row_of-Step, end_of-Step, more_of-Step, items-the_row-Step, items_hidden-the_row-Step-0}
 use Rattle.dae_ir.specs.declared.stream.Step.TheVariants as step
 use Rattle.dae_select_walks.specs.Live.{Ways, ways, live, before, none, with_all, decided}
+use Rattle.dae_select_live.specs.Members.{member}
 use mathlib.Core.Former.{Count}
 
 -- ---- the lists inside a step
@@ -82,3 +83,21 @@ live_one_more steps j s x set new some le is so_far h =
     let back : j - 1 + 1 ≡ j = omega arith in
     let here : drop (j - 1) steps ≡ s ∷ drop (j - 1 + 1) steps = drop_at steps (j - 1) s (omega arith) is in
     sym (h (actions_of (drop j steps)) so_far ∙ (let e : drop (j - 1) steps ≡ s ∷ drop j steps = here ∙ ap (λ (n : ℕ). s ∷ drop n steps) back in ap (λ (l : List Step). live (actions_of l) x) (sym e)))
+
+-- ---- one variable more of a list
+
+or_last : (b : Bool) → b || false ≡ false || b
+or_last true = refl
+or_last false = refl
+
+or_more : (a b c : Bool) → a || (b || c) ≡ (a || b) || c
+or_more true b c = refl
+or_more false b c = refl
+
+pub member_more : (vs : List ℕ) (i u : ℕ) → i < length vs → member (take (i + 1) vs) u ≡ member (take i vs) u || nat_eq u (get_or vs i 0)
+member_more vs i u lt = rw add-one (by vs i lt)
+  where
+    by : (vs : List ℕ) (i : ℕ) → i < length vs → member (take (suc i) vs) u ≡ member (take i vs) u || nat_eq u (get_or vs i 0)
+    by [] i lt = absurd (omega arith)
+    by (v ∷ vs) zero lt = or_last (nat_eq u v)
+    by (v ∷ vs) (suc i) lt = ap (λ (b : Bool). nat_eq u v || b) (by vs i (omega arith)) ∙ or_more (nat_eq u v) (member (take i vs) u) (nat_eq u (get_or vs i 0))

@@ -1,3 +1,3 @@
-mod Flags
+mod Rising
 pub mod Laws
 mod Several

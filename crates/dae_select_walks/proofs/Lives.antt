@@ -1,20 +1,14 @@
 -- What is live grows with what is live behind, and each variable by itself. So round a loop one pass finds all.
-use Rattle.std.proofs.Common.{◌≡◌, ℕ, Bool, true, false, not, ◌&&◌, ◌||◌, refl, sym}
+use Rattle.std.proofs.Common.{◌≡◌, ℕ, Bool, true, false, not, ◌&&◌, ◌||◌, refl}
 use Rattle.std.proofs.Math.Path.{fun_ext}
+use Rattle.std.proofs.lemmas.Bool.{or_left, or_right}
+use Rattle.dae_base.proofs.Laws.{same_tests}
 use Rattle.dae_ir.specs.Code.{Done, Do, If, Loop}
 use Rattle.dae_ir.specs.Classes.{VariableSet}
 use Rattle.dae_ir.specs.Streams.{Actions}
 use Rattle.dae_ir.specs.declared.stream.Action.{Action}
 use Rattle.dae_ir.specs.declared.stream.Action.TheVariants.{Stop, Break, Continue, Return}
 use Rattle.dae_select_walks.specs.Live.{none, reads, sets, decided, Ways, ways, behind, after, live, turn, step_ways, body_ways}
-
-or_left : (a b : Bool) → a ≡ true → (a || b) ≡ true
-or_left true b h = refl
-or_left false b h = absurd cc
-
-or_right : (a b : Bool) → b ≡ true → (a || b) ≡ true
-or_right true b h = refl
-or_right false b h = h
 
 or_map : (a b c d : Bool) → (a ≡ true → c ≡ true) → (b ≡ true → d ≡ true) → (a || b) ≡ true → (c || d) ≡ true
 or_map true b c d f g h = or_left c d (f refl)
@@ -52,15 +46,9 @@ live_grows (Loop m body step k) u x y w h =
     let again : live step (ways none (live k x) none) u ≡ true → live step (ways none (live k y) none) u ≡ true = live_grows step u (ways none (live k x) none) (ways none (live k y) none) (record { next = λ e. e; leaves = leave; skips = λ e. e }) in
     live_grows body u (ways (live step (ways none (live k x) none)) (live k x) (live step (ways none (live k x) none))) (ways (live step (ways none (live k y) none)) (live k y) (live step (ways none (live k y) none))) (record { next = again; leaves = leave; skips = again }) h
 
-equal : (a b : Bool) → (a ≡ true → b ≡ true) → (b ≡ true → a ≡ true) → a ≡ b
-equal true true f g = refl
-equal true false f g = sym (f refl)
-equal false true f g = g refl
-equal false false f g = refl
-
 -- round the loop nothing more comes in
 pub turn_again : (body step : Actions) (k : VariableSet) → live body (body_ways body step k) ≡ turn body step k
-turn_again body step k = fun_ext (λ u. equal (live body (body_ways body step k) u) (turn body step k u) (found u (turn body step k u) refl) (more u))
+turn_again body step k = fun_ext (λ u. same_tests (live body (body_ways body step k) u) (turn body step k u) (found u (turn body step k u) refl) (more u))
   where
     first : Ways
     first = ways (live step (ways none k none)) k (live step (ways none k none))

@@ -2,6 +2,7 @@
 use Rattle.std.proofs.Common.{◌≡◌, ℕ, ◌*◌, ◌/◌, ◌%◌, ◌^◌, Bool, true, false, not, ◌&&◌, ◌||◌, Option, Some, None, refl, sym, ap, ◌∙◌, subst, arith, mul_assoc, mul_comm}
 use Rattle.std.specs.Prelude.{nat_eq, if◌then◌else◌}
 use Rattle.std.proofs.lemmas.Bool.Decides.{nat_tests}
+use Rattle.std.proofs.lemmas.Bool.{and_parts}
 use Rattle.dae_base.specs.Words.{plus, minus, times}
 use Rattle.dae_ir.specs.Classes.{VariableSet}
 use Rattle.dae_ir.specs.Form.{Program, value, computed, fault}
@@ -19,10 +20,6 @@ use Rattle.dae_meaning.specs.declared.Operator.{Operator}
 use Rattle.dae_meaning.specs.declared.Operator.TheVariants.{Add, Subtract, Multiply, DivideSigned, DivideUnsigned, RemainderSigned, RemainderUnsigned, And, Or, Xor, ShiftLeft, ShiftRightSigned, ShiftRightUnsigned}
 use Rattle.dae_select_walks.specs.Multiples.{AreMultiples, LeavesOnly, is_multiple, keeps_multiples, makes_multiple, multiples_behind}
 
-and_true : (b c : Bool) → (b && c) ≡ true → (b ≡ true) × (c ≡ true)
-and_true true c e = (refl, e)
-and_true false c e = absurd cc
-
 -- ---- values
 
 pub is_one : (known : VariableSet) (env : Env) (x : Operand) → AreMultiples known env → is_multiple known x ≡ true → value x env % 4 ≡ 0
@@ -38,8 +35,8 @@ times_one a b h =
 
 combined_one : (o : Operator) (a b : ℕ) (p q : Bool) → (p ≡ true → a % 4 ≡ 0) → (q ≡ true → b % 4 ≡ 0) → keeps_multiples o p q ≡ true → combined o a b % 4 ≡ 0
 unfolding combined
-combined_one Add a b p q h k e = let two = and_true p q e in let i = h two.0 in let j = k two.1 in omega (arith, i, j)
-combined_one Subtract a b p q h k e = let two = and_true p q e in let i = h two.0 in let j = k two.1 in omega (arith, i, j)
+combined_one Add a b p q h k e = let two = and_parts p q e in let i = h two.0 in let j = k two.1 in omega (arith, i, j)
+combined_one Subtract a b p q h k e = let two = and_parts p q e in let i = h two.0 in let j = k two.1 in omega (arith, i, j)
 combined_one Multiply a b true q h k e = times_one a b (h refl)
 combined_one Multiply a b false q h k e = subst (λ (n : ℕ). n % 2 ^ 32 % 4 ≡ 0) (mul_comm b a) (times_one b a (k e))
 combined_one DivideSigned a b p q h k e = absurd cc
@@ -65,7 +62,7 @@ computed_one known frame env (FrameAddress offset) h e = absurd cc
 
 -- a variable that gets any word
 forgotten : (known : VariableSet) (env : Env) (v y : ℕ) → AreMultiples known env → AreMultiples (λ u. known u && not (nat_eq u v)) (put true v y env)
-forgotten known env v y h u e = let two = and_true (known u) (not (nat_eq u v)) e in by (nat_eq u v) two.0 two.1
+forgotten known env v y h u e = let two = and_parts (known u) (not (nat_eq u v)) e in by (nat_eq u v) two.0 two.1
   where
     by : (c : Bool) → known u ≡ true → not c ≡ true → (if (true && c) then y else env u) % 4 ≡ 0
     by true k n = absurd cc

@@ -1,5 +1,7 @@
 -- What is live by the pass over the code is what some path reads before it sets it.
-use Rattle.std.proofs.Common.{◌≡◌, ℕ, Bool, true, false, not, ◌&&◌, ◌||◌, ◌⊎◌, inl, inr, refl}
+use Rattle.std.proofs.Common.{◌≡◌, ℕ, true, false, not, ◌&&◌, ◌||◌, inl, inr, refl}
+use Rattle.std.proofs.lemmas.Bool.{or_left, or_right, or_cases}
+use Rattle.dae_base.proofs.Laws.{and_not}
 use Rattle.dae_ir.specs.Code.{Done, Do, If, Loop}
 use Rattle.dae_meaning.specs.Results.{Way, Next, Leaves, Skips, Returns}
 use Rattle.dae_ir.specs.Classes.{VariableSet}
@@ -10,18 +12,6 @@ use Rattle.dae_ir.specs.declared.stream.Action.{Action}
 use Rattle.dae_ir.specs.declared.stream.Action.TheVariants.{Stop, Break, Continue, Return}
 use Rattle.dae_select_walks.specs.Live.{Ways, ways, behind, none, reads, sets, decided, after, live, turn}
 use Rattle.dae_select_walks.specs.Paths.{way_of, IsInner, IsOut, Passes, Ends, Goes, Jumps, First, Second, OutFirst, OutSecond, Turns, Rounds, OutOfBody, OutOfStep, Again, Reads, Here, Later, Decides, InFirst, InSecond, BehindFirst, BehindSecond, InBody, InStep, NextTurn, BehindLoop, at_way, IsLive, Inside, Outside}
-
-or_left : (a b : Bool) → a ≡ true → (a || b) ≡ true
-or_left true b h = refl
-or_left false b h = absurd cc
-
-or_right : (a b : Bool) → b ≡ true → (a || b) ≡ true
-or_right true b h = refl
-or_right false b h = h
-
-either : (a b : Bool) → (a || b) ≡ true → (a ≡ true) ⊎ (b ≡ true)
-either true b h = inl refl
-either false b h = inr h
 
 -- what is live behind an action that goes on, and where one jumps
 next_after : (a : Action) (k : VariableSet) (x : Ways) (u : ℕ) → way_of a ≡ Next → after a k x u ≡ k u
@@ -87,11 +77,6 @@ path_live x (Outside way p h) = passes_live x p h
 
 -- ---- what is live has a path
 
-both : (a b : Bool) → (a && not b) ≡ true → (a ≡ true) × (b ≡ false)
-both true true h = absurd cc
-both true false h = (refl, refl)
-both false b h = absurd cc
-
 -- behind an action that goes on
 goes_on : {u : ℕ} {k : Actions} {x : Ways} (m : Mark) (a : Action) → way_of a ≡ Next → sets a u ≡ false → IsLive u k x → IsLive u (Do m a k) x
 goes_on m a e n (Inside r) = Inside (Later e n r)
@@ -146,13 +131,13 @@ in_body m (Outside Returns f h) again later = absurd cc
 
 pub live_path : (code : Actions) (x : Ways) (u : ℕ) → live code x u ≡ true → IsLive u code x
 live_path Done x u h = Outside Next Ends h
-live_path (Do m a k) x u h = elim (either (reads a u) (after a (live k x) x u && not (sets a u)) h) [
+live_path (Do m a k) x u h = elim (or_cases (reads a u) (after a (live k x) x u && not (sets a u)) h) [
   | inl e ↦ Inside (Here e)
-  | inr e ↦ (let z = both (after a (live k x) x u) (sets a u) e in acted m a z.1 z.0 (live_path k x u))
+  | inr e ↦ (let z = and_not (after a (live k x) x u) (sets a u) e in acted m a z.1 z.0 (live_path k x u))
 ]
-live_path (If m b p q k) x u h = elim (either (decided b u) (live p (behind (live k x) x) u || live q (behind (live k x) x) u) h) [
+live_path (If m b p q k) x u h = elim (or_cases (decided b u) (live p (behind (live k x) x) u || live q (behind (live k x) x) u) h) [
   | inl e ↦ Inside (Decides e)
-  | inr e ↦ elim (either (live p (behind (live k x) x) u) (live q (behind (live k x) x) u) e) [
+  | inr e ↦ elim (or_cases (live p (behind (live k x) x) u) (live q (behind (live k x) x) u) e) [
     | inl e ↦ in_first m b (live_path p (behind (live k x) x) u e) (live_path k x u)
     | inr e ↦ in_second m b (live_path q (behind (live k x) x) u e) (live_path k x u)
   ]

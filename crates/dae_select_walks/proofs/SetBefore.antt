@@ -2,6 +2,8 @@
 use Rattle.std.proofs.Common.{◌≡◌, ℕ, Bool, true, false, not, ◌&&◌, ◌||◌, List, [], ◌∷◌, Option, Some, None, refl, arith, ◌⊎◌, inl, inr}
 use Rattle.std.specs.Prelude.{nat_eq}
 use Rattle.std.proofs.lemmas.Bool.Decides.{nat_tests}
+use Rattle.std.proofs.lemmas.Bool.{or_right, and_from, or_cases}
+use Rattle.dae_base.proofs.Laws.{and_first, and_second}
 use Rattle.dae_ir.specs.Code.{Done, Do, If, Loop}
 use Rattle.dae_ir.specs.Classes.{VariableSet, has, has_value, has_check}
 use Rattle.dae_ir.specs.Streams.{Actions}
@@ -86,14 +88,6 @@ branch_set d Hears u h e = absurd cc
 
 -- ---- what is set stays so
 
-or_right : (a b : Bool) → b ≡ true → (a || b) ≡ true
-or_right true b h = refl
-or_right false b h = h
-
-and_both : (a b : Bool) → a ≡ true → b ≡ true → (a && b) ≡ true
-and_both true b h k = k
-and_both false b h k = absurd cc
-
 some_more : (v : Option ℕ) (d : VariableSet) (u : ℕ) → d u ≡ true → with_some v d u ≡ true
 some_more None d u h = h
 some_more (Some v) d u h = or_right (nat_eq u v) (d u) h
@@ -114,7 +108,7 @@ code_more : (d : VariableSet) (code : Actions) (u : ℕ) → d u ≡ true → as
 code_more d Done u h = h
 code_more d (Do m a k) u h = code_more (after_action d a) k u (action_more d a u h)
 code_more d (If m b p q k) u h =
-    code_more (λ v. assured stream_flow d p v && assured stream_flow d q v) k u (and_both (assured stream_flow d p u) (assured stream_flow d q u) (code_more d p u h) (code_more d q u h))
+    code_more (λ v. assured stream_flow d p v && assured stream_flow d q v) k u (and_from (assured stream_flow d p u) (assured stream_flow d q u) (code_more d p u h) (code_more d q u h))
 code_more d (Loop m body step k) u h = code_more d k u h
 
 -- what an action adds is what it sets, but where it doesn't go on
@@ -126,18 +120,6 @@ unset v u b h k = by (nat_eq u v) h k
     by false h k = h
 
 -- ---- what is live was set
-
-either : (a b : Bool) → (a || b) ≡ true → (a ≡ true) ⊎ (b ≡ true)
-either true b h = inl refl
-either false b h = inr h
-
-and_first : (a b : Bool) → (a && b) ≡ true → a ≡ true
-and_first true b h = refl
-and_first false b h = absurd cc
-
-and_second : (a b : Bool) → (a && b) ≡ true → b ≡ true
-and_second true b h = h
-and_second false b h = absurd cc
 
 split' : (a b c : Bool) → (a || (b && c)) ≡ true → (a ≡ true) ⊎ ((b ≡ true) × (c ≡ true))
 split' true b c h = inl refl
@@ -167,11 +149,11 @@ live_set (Do m a k) d x first next leaves skips u h =
     ]
 live_set (If m b p q k) d x first next leaves skips u h =
     let d' : VariableSet = λ v. assured stream_flow d p v && assured stream_flow d q v in
-    let more : (v : ℕ) → d v ≡ true → d' v ≡ true = λ v l. and_both (assured stream_flow d p v) (assured stream_flow d q v) (code_more d p v l) (code_more d q v l) in
+    let more : (v : ℕ) → d v ≡ true → d' v ≡ true = λ v l. and_from (assured stream_flow d p v) (assured stream_flow d q v) (code_more d p v l) (code_more d q v l) in
     let out : (v : ℕ) → live k x v ≡ true → d' v ≡ true = live_set k d' x first.3 next (λ v l. more v (leaves v l)) (λ v l. more v (skips v l)) in
-    elim (either (decided b u) (live p (behind (live k x) x) u || live q (behind (live k x) x) u) h) [
+    elim (or_cases (decided b u) (live p (behind (live k x) x) u || live q (behind (live k x) x) u) h) [
       | inl e ↦ branch_set d b u first.0 e
-      | inr e ↦ elim (either (live p (behind (live k x) x) u) (live q (behind (live k x) x) u) e) [
+      | inr e ↦ elim (or_cases (live p (behind (live k x) x) u) (live q (behind (live k x) x) u) e) [
         | inl e ↦ live_set p d (behind (live k x) x) first.1 (λ v l. and_first (assured stream_flow d p v) (assured stream_flow d q v) (out v l)) leaves skips u e
         | inr e ↦ live_set q d (behind (live k x) x) first.2 (λ v l. and_second (assured stream_flow d p v) (assured stream_flow d q v) (out v l)) leaves skips u e
       ]

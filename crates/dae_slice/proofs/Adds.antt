@@ -1,5 +1,5 @@
 -- What graphs keep besides, put together.
-use Rattle.std.proofs.Common.{◌≡◌, ◌↔◌, Bool, true, false, ◌&&◌, refl, ◌∙◌}
+use Rattle.std.proofs.Common.{◌↔◌, true, refl, ◌∙◌}
 use Rattle.dae_slice.specs.Graphs.{Family, IsLike, Adds}
 use Rattle.dae_slice.specs.declared.graph.Graph.{Graph}
 
@@ -29,15 +29,3 @@ adds_as P Q a b e h = record {
 }
 
 -- ---- tests that are both true
-
-pub both_true : (a b : Bool) → a ≡ true → b ≡ true → a && b ≡ true
-both_true true b e f = f
-both_true false b e f = cc
-
-pub first_true : (a b : Bool) → a && b ≡ true → a ≡ true
-first_true true b e = refl
-first_true false b e = cc
-
-pub second_true : (a b : Bool) → a && b ≡ true → b ≡ true
-second_true true b e = e
-second_true false b e = cc

@@ -1,19 +1,16 @@
 -- The links of a call's arguments, from one on.
-use Rattle.std.proofs.Common.{◌≡◌, ◌↔◌, ℕ, ◌+◌, ◌<◌, ◌≤◌, true, List, ◌∷◌, length, drop, get_or, drop-cons, add-one}
-use Rattle.std.proofs.lemmas.List.{drop_all}
+use Rattle.std.proofs.Common.{◌≡◌, ◌↔◌, ℕ, ◌+◌, ◌<◌, ◌≤◌, true, List, length, drop, get_or}
+use Rattle.std.proofs.lemmas.List.{drop_all, drop_more}
 use Rattle.dae_ir.specs.Classes.{has, ArgumentsKept, CallKept}
 use Rattle.dae_ir.specs.declared.form.Operand.{Operand}
 use Rattle.dae_slice.specs.Graphs.{Family, Keeps, IsLike, Adds}
 use Rattle.dae_slice.specs.declared.graph.Graph.{Graph}
-use Rattle.dae_slice.proofs.Adds.{like_same, like_both, adds_both, adds_as}
+use Rattle.dae_slice.proofs.Adds.{like_both, adds_both, adds_as}
 
 -- with R what is still to be added, and with P all
 pub record Reaches (P R : Family → Type 0) (old new : Graph) : Type 0 where
   pub like : IsLike old new
   pub keeps : (c : Family) → (Keeps new c × R c) ↔ (Keeps old c × P c)
-
-pub reach_first : (P : Family → Type 0) (g : Graph) → Reaches P P g g
-reach_first P g = record { like = like_same g; keeps = λ c. (λ k. k, λ k. k) }
 
 -- R is Q and the next R
 pub reach_next : (P R Q S : Family → Type 0) (a b c : Graph) → ((s : Family) → R s ↔ (Q s × S s)) → Reaches P R a b → Adds Q b c → Reaches P S a c
@@ -31,9 +28,6 @@ reach_last P R a b all h = record {
   keeps = λ s. (λ x. (h.keeps s).0 (x, all s), λ x. ((h.keeps s).1 x).0);
 }
 
-drop_here : {X : Type 0} (list : List X) (i : ℕ) (d : X) → i < length list → drop i list ≡ get_or list i d ∷ drop (i + 1) list
-drop_here list i d lt = rw add-one (drop-cons list i d lt)
-
 abbrev pub From : ℕ → ℕ → ℕ → List Operand → Family → Type 0
 From callee f k xs c = ArgumentsKept (c callee) (c f) k xs
 
@@ -43,7 +37,7 @@ pub argument_linked : (callee f i : ℕ) (xs : List Operand) (d : Operand) (a b 
     → Reaches (From callee f 1 xs) (From callee f (i + 1 + 1) (drop (i + 1) xs)) a c
 argument_linked callee f i xs d a b c lt h k =
     reach_next (From callee f 1 xs) (From callee f (i + 1) (drop i xs)) (λ s. s callee (i + 1) ≡ true → has (s f) (get_or xs i d) ≡ true) (From callee f (i + 1 + 1) (drop (i + 1) xs)) a b c
-    (λ s. rw (drop_here xs i d lt) (λ p. (p.0, p.1), λ p. (p.0, p.1))) h k
+    (λ s. rw (drop_more xs i d lt) (λ p. (p.0, p.1), λ p. (p.0, p.1))) h k
 
 pub arguments_linked : (callee f i : ℕ) (xs : List Operand) (a b : Graph) → length xs ≤ i
     → Reaches (From callee f 1 xs) (From callee f (i + 1) (drop i xs)) a b → Adds (From callee f 1 xs) a b

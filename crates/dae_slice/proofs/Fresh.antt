@@ -1,11 +1,10 @@
 -- Graphs without links.
-use Rattle.std.proofs.Common.{◌≡◌, ℕ, zero, suc, ◌+◌, ◌<◌, Bool, false, nat_lt, List, [], ◌∷◌, ◌++◌, length, length-append, take, get_or, refl, ◌∙◌, arith}
+use Rattle.std.proofs.Common.{◌≡◌, ℕ, zero, suc, ◌+◌, ◌<◌, Bool, false, nat_lt, List, [], ◌∷◌, ◌++◌, length, take, get_or, refl, ◌∙◌, arith}
 use Rattle.std.specs.Prelude.{slice_get, Option, is_some, Vec}
 use Rattle.std.specs.List.{AllByRecursion, AllZip}
 use Rattle.std.specs.declared.alloc.Global.{Global}
 use Rattle.std.proofs.lemmas.Bool.Decides.{nat_tests}
 use Rattle.std.proofs.lemmas.List.{take_more}
-use Rattle.dae_slice.proofs.Lists.{all_join}
 use Rattle.dae_ir.specs.declared.form.Function.{Function}
 use Rattle.dae_slice.specs.Graphs.{vertex_in, is_needed, sources, variables_of, IsNew, IsNewRow, IsFresh}
 use Rattle.dae_slice.specs.declared.graph.Vertex.{Vertex}
@@ -47,12 +46,6 @@ fresh functions g rows none = record {
     work = rw none tt;
   };
 }
-
-pub row_more : (xs new : List Vertex) (x : Vertex) (n : ℕ) → IsNewRow n xs → new ≡ xs ++ x ∷ [] → x.needed ≡ false → x.sources.items ≡ [] → IsNewRow (n + 1) new
-row_more xs new x n h e needed sources = rw e (record {
-  length = rw (length-append xs (x ∷ [])) (let l = h.length in omega arith);
-  new = all_join IsNew xs (x ∷ []) h.new (record { needed = needed; sources = sources }, tt);
-})
 
 zip_push : {A B : Type 0} (R : A → B → Type 0) (xs : List A) (ys : List B) (x : A) (y : B) → AllZip R xs ys → R x y → AllZip R (xs ++ x ∷ []) (ys ++ y ∷ [])
 zip_push R [] [] x y h k = (k, tt)

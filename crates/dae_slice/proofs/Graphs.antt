@@ -5,11 +5,12 @@ use Rattle.std.specs.Vec.{with_item}
 use Rattle.std.specs.declared.alloc.Global.{Global}
 use Rattle.std.proofs.lemmas.Bool.{cases_eq}
 use Rattle.std.proofs.lemmas.Option.{slice_get_within}
+use Rattle.dae_base.proofs.Laws.{all_join}
 use Rattle.dae_slice.specs.Graphs.{Family, vertex_in, vertex, exists, is_needed, AreIn, VertexKept, Keeps, Adds, Settles, pending, links_of, links_of_row}
 use Rattle.dae_slice.specs.declared.graph.Node.{Node}
 use Rattle.dae_slice.specs.declared.graph.Vertex.{Vertex}
 use Rattle.dae_slice.specs.declared.graph.Graph.{Graph}
-use Rattle.dae_slice.proofs.Lists.{get_set_here, get_set_other, get_read, all_join, all_front, all_back}
+use Rattle.dae_slice.proofs.Lists.{get_set_here, get_set_other, get_read, all_front, all_back}
 
 abbrev pub Rows : Type 0
 Rows = List (Vec Vertex Global)

@@ -20,10 +20,6 @@ get_read [] i x lt e = absurd (omega arith)
 get_read (y ∷ ys) zero x lt e = ap Some (sym e)
 get_read (y ∷ ys) (suc i) x lt e = get_read ys i x (omega arith) e
 
-pub all_join : {X : Type 0} (P : X → Type 0) (xs ys : List X) → AllByRecursion P xs → AllByRecursion P ys → AllByRecursion P (xs ++ ys)
-all_join P [] ys h k = k
-all_join P (x ∷ xs) ys h k = (h.0, all_join P xs ys h.1 k)
-
 pub all_front : {X : Type 0} (P : X → Type 0) (xs ys : List X) → AllByRecursion P (xs ++ ys) → AllByRecursion P xs
 all_front P [] ys h = tt
 all_front P (x ∷ xs) ys h = (h.0, all_front P xs ys h.1)

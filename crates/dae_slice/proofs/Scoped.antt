@@ -2,7 +2,7 @@
 use Rattle.std.proofs.Common.{◌≡◌, ℕ, zero, suc, ◌+◌, ◌<◌, ◌≤◌, true, nat_lt, List, [], ◌∷◌, length, refl, subst, arith}
 use Rattle.std.specs.Prelude.{slice_get, Option, Some, None}
 use Rattle.std.specs.List.{AllByRecursion}
-use Rattle.std.proofs.lemmas.Bool.Decides.{nat_tests}
+use Rattle.std.proofs.lemmas.Bool.{lt-ltb, and_from}
 use Rattle.dae_ir.specs.Code.{Each, Done, Do, If, Loop}
 use Rattle.dae_ir.specs.Form.{Form, form_of}
 use Rattle.dae_ir.specs.Programs.{body_in}
@@ -21,7 +21,6 @@ use Rattle.dae_slice.specs.Graphs.{variables_of, in_range}
 use Rattle.dae_slice.specs.Links.{ItemKept, ConditionKept, CodeKept, HasTargets, CodeHasTargets}
 use Rattle.dae_slice.specs.declared.items.Sought.{Sought}
 use Rattle.dae_slice.specs.declared.items.Sought.TheVariants.{Addresses, Needs}
-use Rattle.dae_slice.proofs.Adds.{both_true}
 
 -- of the items and tests of one kind, each is of another
 pub each_weaker : {I J : Item → Type 0} {P Q : Test → Type 0} → ((x : Item) → I x → J x) → ((t : Test) → P t → Q t) → (code : Form) → Each I P code → Each J Q code
@@ -29,9 +28,6 @@ each_weaker f h Done e = tt
 each_weaker f h (Do place x k) e = (f x e.0, each_weaker f h k e.1)
 each_weaker f h (If place t p q k) e = (h t e.0, each_weaker f h p e.1, each_weaker f h q e.2, each_weaker f h k e.3)
 each_weaker f h (Loop place p q k) e = (each_weaker f h p e.0, each_weaker f h q e.1, each_weaker f h k e.2)
-
-below : (v n : ℕ) → v < n → nat_lt v n ≡ true
-below v n lt = grind (arith, nat_tests)
 
 -- ---- in one function of n variables
 
@@ -41,12 +37,12 @@ module _ (c : VariableSet) (n : ℕ) (all : (v : ℕ) → v < n → c v ≡ true
   operand_in (Number k) h = refl
 
   pub test_in : (t : Test) → TestIn n t → has_test c t ≡ true
-  test_in t h = both_true _ _ (operand_in t.left h.0) (operand_in t.right h.1)
+  test_in t h = and_from _ _ (operand_in t.left h.0) (operand_in t.right h.1)
 
   value_in : (x : Value) → ValueIn n x → has_value c x ≡ true
   value_in (Same x) h = operand_in x h
   value_in (Extended kind x) h = operand_in x h
-  value_in (Binary operator x y) h = both_true _ _ (operand_in x h.0) (operand_in y h.1)
+  value_in (Binary operator x y) h = and_from _ _ (operand_in x h.0) (operand_in y h.1)
   value_in (Holds t) h = test_in t h
   value_in (FrameAddress offset) h = refl
 
@@ -70,7 +66,7 @@ module _ (functions : List Function) (scoped : AllByRecursion (FunctionIn functi
       by_function None e h = absurd h
       by_function (Some function) e h =
           let less = (function_at (FunctionIn functions) functions g function scoped e).parameters in
-          below k function.variables (omega arith)
+          lt-ltb k function.variables (omega arith)
 
   module _ (f n : ℕ) (some : 0 < n) (all : (v : ℕ) → v < n → in_range functions f v ≡ true) where
     call_in : (v g : ℕ) (xs : List Operand) → TakesArguments (slice_get functions g) (length xs) → AllByRecursion (IsIn n) xs → CallKept (in_range functions g) (in_range functions f) v xs
@@ -136,7 +132,7 @@ module _ (functions : List Function) (scoped : AllByRecursion (FunctionIn functi
   OfBody P o = P (body_in o)
 
   all_in : (f : ℕ) (function : Function) → slice_get functions f ≡ Some function → (v : ℕ) → v < function.variables → in_range functions f v ≡ true
-  all_in f function e v lt = rw e (below v function.variables lt)
+  all_in f function e v lt = rw e (lt-ltb v function.variables lt)
 
   pub targets_there : (f : ℕ) → CodeHasTargets (in_range functions) f (body_in (slice_get functions f))
   targets_there f = by_function (slice_get functions f) refl

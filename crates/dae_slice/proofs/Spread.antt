@@ -1,18 +1,16 @@
 -- Graphs in which some marks have been spread.
-use Rattle.std.proofs.Common.{◌≡◌, ◌↔◌, ℕ, true, [], ◌∷◌, ◌++◌, refl, ◌∙◌}
+use Rattle.std.proofs.Common.{◌≡◌, ◌↔◌, ℕ, true, [], ◌∷◌, ◌++◌, ◌∙◌}
+use Rattle.dae_base.proofs.Laws.{all_join}
 use Rattle.dae_slice.specs.Graphs.{Family, exists, marked, AreIn, Keeps, IsSettled, Settles, IsLeastKept}
 use Rattle.dae_slice.specs.declared.graph.Node.{Node}
 use Rattle.dae_slice.specs.declared.graph.Graph.{Graph}
-use Rattle.dae_slice.proofs.Lists.{all_join, all_front, all_back}
+use Rattle.dae_slice.proofs.Lists.{all_front, all_back}
 
 -- the same is kept, and what is marked has handed on its links
 pub record SpreadsFrom (old new : Graph) : Type 0 where
   pub exists : (f v : ℕ) → exists new f v ≡ exists old f v
   pub keeps : (c : Family) → Keeps new c ↔ Keeps old c
   pub settled : IsSettled new
-
-pub spread_first : (g : Graph) → IsSettled g → SpreadsFrom g g
-spread_first g s = record { exists = λ f v. refl; keeps = λ c. (λ k. k, λ k. k); settled = s }
 
 -- one variable has been taken from the work
 module _ (old now taken : Graph) (n : Node) (so_far : SpreadsFrom old now) (rows : taken.rows ≡ now.rows) (work : now.work.items ≡ taken.work.items ++ n ∷ []) where

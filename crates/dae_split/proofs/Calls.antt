@@ -3,6 +3,7 @@ use Rattle.std.proofs.Common.{◌≡◌, ℕ, ◌+◌, ◌<◌, List, length, ge
 use Rattle.std.specs.Prelude.{Vec}
 use Rattle.std.specs.declared.alloc.Global.{Global}
 use Rattle.dae_base.specs.declared.Place.{Place}
+use Rattle.dae_base.proofs.Laws.{drop_at}
 use Rattle.dae_ir.specs.Code.{Done, If, Loop}
 use Rattle.dae_ir.specs.Form.{Form, before, form_of}
 use Rattle.dae_ir.specs.declared.form.Function.{Function}
@@ -10,7 +11,6 @@ use Rattle.dae_ir.specs.declared.form.Test.{Test}
 use Rattle.dae_ir.specs.declared.form.Statement.{Statement, Simple, If', Loop'}
 use Rattle.dae_ir.specs.declared.form.Statement.TheVariants as statement
 use Rattle.dae_split.specs.Making.{CallsFit}
-use Rattle.dae_split.proofs.Lists.{from_item}
 use Rattle.dae_ir.proofs.Laws.{before_if, before_loop}
 
 module _ (fs : List Function) where
@@ -33,7 +33,7 @@ module _ (fs : List Function) where
 
   pub calls_from : (body : List Statement) (i : ℕ) (s : Statement) → i < length body → s ≡ get_or body i s → CallsFit fs (form_of (drop i body)) → CallsFit fs (before s Done) × CallsFit fs (form_of (drop (i + 1) body))
   calls_from body i s lt is h =
-      calls_before s (form_of (drop (i + 1) body)) (subst (λ (l : List Statement). CallsFit fs (form_of l)) (from_item body i s lt is) h)
+      calls_before s (form_of (drop (i + 1) body)) (subst (λ (l : List Statement). CallsFit fs (form_of l)) (drop_at body i s lt is) h)
 
   -- the same calls, at a slice of the items
   pub calls_at : (xs ys : List Statement) → xs ≡ ys → CallsFit fs (form_of ys) → CallsFit fs (form_of xs)

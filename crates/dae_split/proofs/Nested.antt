@@ -21,12 +21,6 @@ loop_in_if m t p q s k e = ap (λ (x : Statement). has_loop (before x k)) e ∙ 
 
 -- ---- what fits
 
-and_then : (a b c d : Bool) → ((a && b) && (c && d)) ≡ ((a && c) && (b && d))
-and_then false b c d = refl
-and_then true false false d = refl
-and_then true false true d = refl
-and_then true true c d = refl
-
 three_and : (t p q k x y z : Bool) → ((t && (p && (q && k))) && (x && (y && z))) ≡ ((t && ((p && x) && (q && y))) && (k && z))
 three_and false p q k x y z = refl
 three_and true false q k x y z = refl

@@ -1,11 +1,10 @@
 -- Steps that grow at their end.
 use Rattle.std.proofs.Common.{◌≡◌, ℕ, ◌+◌, ◌<◌, ◌≤◌, List, [], ◌∷◌, ◌++◌, length, get_or, drop, refl, ap, sym, ◌∙◌}
-use Rattle.std.proofs.lemmas.List.{drop_all}
+use Rattle.std.proofs.lemmas.List.{drop_all, drop_more}
 use Rattle.dae_ir.specs.Streams.{Actions, onto, step_onto, parts}
 use Rattle.dae_ir.specs.declared.stream.Part.{Part}
 use Rattle.dae_ir.specs.declared.stream.Step.{Step}
 use Rattle.dae_split.specs.Making.{Adds}
-use Rattle.dae_split.proofs.Lists.{from_index}
 
 pub onto_push : (xs : List Step) (s : Step) (k : Actions) → onto (xs ++ s ∷ []) k ≡ onto xs (step_onto s k)
 onto_push [] s k = refl
@@ -20,7 +19,7 @@ AddsUpTo f g i start now = (k : Actions) → onto now (parts f (drop i g) k) ≡
 
 pub parts_preserved : (f : Part → Actions → Actions) (g : List Part) (i : ℕ) (d : Part) (start now next : List Step) → i < length g → Adds (f (get_or g i d)) now next → AddsUpTo f g i start now → AddsUpTo f g (i + 1) start next
 parts_preserved f g i d start now next lt h so_far k =
-    h (parts f (drop (i + 1) g) k) ∙ ap (λ (l : List Part). onto now (parts f l k)) (sym (from_index g i d lt)) ∙ so_far k
+    h (parts f (drop (i + 1) g) k) ∙ ap (λ (l : List Part). onto now (parts f l k)) (sym (drop_more g i d lt)) ∙ so_far k
 
 pub parts_done : (f : Part → Actions → Actions) (g : List Part) (i : ℕ) (start now : List Step) → length g ≤ i → AddsUpTo f g i start now → Adds (parts f g) start now
 parts_done f g i start now le so_far k = ap (λ (l : List Part). onto now (parts f l k)) (sym (drop_all i g le)) ∙ so_far k

@@ -1,5 +1,5 @@
 -- What a side does of an If or a Loop: one that both do, one in a region of its own, or none of it.
-use Rattle.std.proofs.Common.{◌≡◌, ℕ, Bool, true, false, not, List, [], Option, Some, None, refl, ap, sym, ◌∙◌, subst}
+use Rattle.std.proofs.Common.{◌≡◌, ℕ, Bool, true, false, List, [], Option, Some, None, refl, ap, sym, ◌∙◌, subst}
 use Rattle.dae_base.specs.declared.Place.{Place}
 use Rattle.dae_ir.specs.Code.{Done, If, Loop}
 use Rattle.dae_ir.specs.Form.{Form}
@@ -18,10 +18,6 @@ use Rattle.dae_split.specs.Making.{Adds, projected, Makes, stands_in, is_outside
 abbrev with_step : Bool → (Actions → Actions) → Actions → Actions
 with_step true f k = f k
 with_step false f k = k
-
-pub not_false : (b : Bool) → not b ≡ false → b ≡ true
-not_false true e = refl
-not_false false e = cc
 
 -- inside of a region there are no others
 pub none_inside : (outside : Bool) (c : Classes) (code : Form) → outside ≡ false → region outside c code ≡ None

@@ -1,6 +1,7 @@
 -- The steps of a list of statements, as far as it is walked.
 use Rattle.std.proofs.Common.{◌≡◌, ℕ, ◌+◌, ◌<◌, ◌≤◌, Bool, true, false, List, [], length, get_or, drop, refl, ap, sym, ◌∙◌}
 use Rattle.std.proofs.lemmas.List.{drop_all}
+use Rattle.dae_base.proofs.Laws.{drop_at}
 use Rattle.dae_ir.specs.Code.{Done}
 use Rattle.dae_ir.specs.Form.{Form, before, form_of}
 use Rattle.dae_ir.specs.Classes.{Classes}
@@ -10,7 +11,6 @@ use Rattle.dae_ir.specs.declared.form.Statement.{Statement}
 use Rattle.dae_ir.specs.declared.stream.Part.{Part}
 use Rattle.dae_ir.specs.declared.stream.Step.{Step}
 use Rattle.dae_split.specs.Making.{projected, Makes}
-use Rattle.dae_split.proofs.Lists.{from_item}
 
 projected_end : (outside by_a : Bool) (of : ℕ → Classes) (c : Classes) (cap n : ℕ) → projected outside by_a of c cap n Done ≡ Done
 projected_end true by_a of c cap n = refl
@@ -23,7 +23,7 @@ module _ (outside by_a : Bool) (of : ℕ → Classes) (c : Classes) (cap : ℕ) 
       → Makes (projected outside by_a of c cap) [] 0 ns nn (rounds c cap outside (form_of (drop (i + 1) body)) ng) (rounds c cap outside (form_of body) [])
   one_more s ng lt is step =
       step (form_of (drop (i + 1) body))
-      ∙ ap (λ (l : List Statement). onto os (projected outside by_a of c cap on (rounds c cap outside (form_of l) og))) (sym (from_item body i s lt is))
+      ∙ ap (λ (l : List Statement). onto os (projected outside by_a of c cap on (rounds c cap outside (form_of l) og))) (sym (drop_at body i s lt is))
       ∙ so_far
 
   pub all_made : length body ≤ i → ((o : Bool) (k : Rounds) → Makes (projected o by_a of c cap) os on ns nn k (closed og k))

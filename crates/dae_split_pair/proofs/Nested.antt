@@ -1,33 +1,30 @@
 -- Loops around nested statements, and the names in them.
-use Rattle.std.proofs.Common.{◌≡◌, ◌↔◌, Bool, true, false, ◌&&◌, refl, ap, subst, sym, ◌∙◌}
+use Rattle.std.proofs.Common.{◌≡◌, ◌↔◌, Bool, true, false, ◌&&◌, ap, subst, sym, ◌∙◌}
 use Rattle.std.specs.Prelude.{Vec, IsTrue}
 use Rattle.std.specs.declared.alloc.Global.{Global}
 use Rattle.dae_base.specs.declared.Place.{Place}
+use Rattle.dae_base.proofs.Laws.{and_along}
 use Rattle.dae_ir.specs.Code.{Each, Done, If, Loop}
 use Rattle.dae_ir.specs.Form.{Form, before, form_of}
 use Rattle.dae_ir.specs.Rounds.{stays}
-use Rattle.dae_ir.specs.Scope.{closes, never_returns}
+use Rattle.dae_ir.specs.Scope.{never_returns}
 use Rattle.dae_ir.specs.declared.form.Item.{Item}
 use Rattle.dae_ir.specs.declared.form.Statement.{Statement}
 use Rattle.dae_ir.specs.declared.form.Statement.TheVariants as statement
 use Rattle.dae_ir.specs.declared.form.Test.{Test}
 use Rattle.dae_ir.proofs.Laws.{before_if, before_loop}
 
-both_first : (a b c : Bool) → (a && (b && c)) ≡ ((a && b) && c)
-both_first true b c = refl
-both_first false b c = refl
-
 pub stays_in_if : (inside : Bool) (m : Place) (t : Test) (p q : Vec Statement Global) (s : Statement) (k : Form) → s ≡ statement.If m t p q
     → stays inside (before s k) ≡ ((stays inside (form_of p.items) && stays inside (form_of q.items)) && stays inside k)
 stays_in_if inside m t p q s k e =
     ap (λ (x : Statement). stays inside (before x k)) e ∙ ap (stays inside) (before_if m t p q k)
-    ∙ both_first (stays inside (form_of p.items)) (stays inside (form_of q.items)) (stays inside k)
+    ∙ and_along (stays inside (form_of p.items)) (stays inside (form_of q.items)) (stays inside k)
 
 pub stays_in_loop : (inside : Bool) (m : Place) (p q : Vec Statement Global) (s : Statement) (k : Form) → s ≡ statement.Loop m p q
     → stays inside (before s k) ≡ ((stays true (form_of p.items) && stays true (form_of q.items)) && stays inside k)
 stays_in_loop inside m p q s k e =
     ap (λ (x : Statement). stays inside (before x k)) e ∙ ap (stays inside) (before_loop m p q k)
-    ∙ both_first (stays true (form_of p.items)) (stays true (form_of q.items)) (stays inside k)
+    ∙ and_along (stays true (form_of p.items)) (stays true (form_of q.items)) (stays inside k)
 
 module _ (I : Item → Type 0) (J : Test → Type 0) where
   pub each_in_if : (m : Place) (t : Test) (p q : Vec Statement Global) (s : Statement) → s ≡ statement.If m t p q
@@ -61,16 +58,10 @@ pub returns_in_if : (m : Place) (t : Test) (p q : Vec Statement Global) (s : Sta
     → never_returns (before s k) ≡ ((never_returns (form_of p.items) && never_returns (form_of q.items)) && never_returns k)
 returns_in_if m t p q s k e =
     ap (λ (x : Statement). never_returns (before x k)) e ∙ ap never_returns (before_if m t p q k)
-    ∙ both_first (never_returns (form_of p.items)) (never_returns (form_of q.items)) (never_returns k)
+    ∙ and_along (never_returns (form_of p.items)) (never_returns (form_of q.items)) (never_returns k)
 
 pub returns_in_loop : (m : Place) (p q : Vec Statement Global) (s : Statement) (k : Form) → s ≡ statement.Loop m p q
     → never_returns (before s k) ≡ ((never_returns (form_of p.items) && never_returns (form_of q.items)) && never_returns k)
 returns_in_loop m p q s k e =
     ap (λ (x : Statement). never_returns (before x k)) e ∙ ap never_returns (before_loop m p q k)
-    ∙ both_first (never_returns (form_of p.items)) (never_returns (form_of q.items)) (never_returns k)
-
-pub closes_in_if : (m : Place) (t : Test) (p q : Vec Statement Global) (s : Statement) (k : Form) → s ≡ statement.If m t p q → closes (before s k) ≡ closes k
-closes_in_if m t p q s k e = ap (λ (x : Statement). closes (before x k)) e ∙ ap closes (before_if m t p q k)
-
-pub closes_in_loop : (m : Place) (p q : Vec Statement Global) (s : Statement) (k : Form) → s ≡ statement.Loop m p q → closes (before s k) ≡ closes k
-closes_in_loop m p q s k e = ap (λ (x : Statement). closes (before x k)) e ∙ ap closes (before_loop m p q k)
+    ∙ and_along (never_returns (form_of p.items)) (never_returns (form_of q.items)) (never_returns k)

@@ -1,6 +1,8 @@
-// The worked rows of the split: small forms with their classes, streams and budgets.
+// Tests of dae_slice, dae_split, dae_budget and dae_split_pair: small forms with their classes, streams and budgets.
 #![tactic(auto)]
 
+#[cfg(test)]
+mod budget;
 #[cfg(test)]
 mod decouple;
 #[cfg(test)]

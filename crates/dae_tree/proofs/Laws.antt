@@ -3,6 +3,7 @@ use Rattle.std.proofs.Common.{◌≡◌, true, List, [], ◌∷◌, refl, sym, a
 use Rattle.std.specs.Prelude.{Box, Vec, Option, Bool}
 use Rattle.std.specs.declared.alloc.Global.{Global}
 use Rattle.dae_base.specs.declared.Place.{Place}
+use Rattle.dae_base.proofs.Laws.{ap_two, ap_three}
 use Rattle.dae_tree.specs.declared.expressions.Name.{Name}
 use Rattle.dae_tree.specs.declared.expressions.Expression.{Expression}
 use Rattle.dae_tree.specs.declared.expressions.Expression.TheVariants as code
@@ -29,12 +30,6 @@ use Rattle.dae_tree.specs.Grammar.{IsSpecifiers}
 use Rattle.dae_tree.specs.Names.{Names}
 use Rattle.dae_tree.specs.Words.{has_type, seen_after, seen_behind}
 use Rattle.dae_tree.specs.declared.seen.Seen.{Seen}
-
-ap_two : {A B C : Type 0} (make : A → B → C) {x a : A} {y b : B} → x ≡ a → y ≡ b → make x y ≡ make a b
-ap_two make {x} {a} {y} {b} e d = ap (λ (z : _). make z y) e ∙ ap (make a) d
-
-ap_three : {A B C D : Type 0} (make : A → B → C → D) {x a : A} {y b : B} {z c : C} → x ≡ a → y ≡ b → z ≡ c → make x y z ≡ make a b c
-ap_three make {x} {a} {y} {b} {z} {c} e d f = ap_two (λ u v. make u v z) e d ∙ ap (make a b) f
 
 row_expressions : (n : _) (row : Row_of-Expression n) → view_expressions row ≡ views (items-the_row-Expression n row)
 row_expressions n end_of-Expression = refl

@@ -23,8 +23,7 @@ use Rattle.dae_types_rules.specs.Sites.{Site, place}
 use Rattle.dae_types_rules.specs.Table.{asked, breaks}
 use Rattle.dae_types_rules.specs.Plan.{Plan, pure, Gives, Fails, ask_all, ask_in, check_of, ◌>>=◌}
 use Rattle.dae_types_plans.specs.Steps.{settles_name}
-use Rattle.dae_types_file_plans.specs.Statements.{typedef_at}
-use Rattle.dae_types_file_plans.specs.Files.{Product, definition_at, end_sites, plan_defined, plan_external, plan_externals, plan_file, second_at, some_of}
+use Rattle.dae_types_file_plans.specs.Files.{Product, definition_at, end_sites, plan_defined, plan_external, plan_externals, plan_file, some_of}
 use Rattle.dae_types_externals.specs.Parts.{plan_definition, plan_end}
 
 -- ---- a name that is noted
@@ -40,15 +39,6 @@ pub settled_fails : {A : Type 0} (e : CheckError) (n : Option Name) (m : Plan A)
 settled_fails e n m s h = subst (λ y. Fails e y) (sym (settled n m s)) h
 
 -- ---- the name of a type
-
-pub typedef_gives : {X : Type 0} (see : X → Tables × Unit {0}) (r : Result X CheckError) (p : Place) (b g : Bool) (n : Option Name) (m : Plan NamedType) (s : Tables) (x : Tables × NamedType) → check_of m s ≡ Ok x → Gives see r (check_of (typedef_at p b g n (pure x.1)) x.0) → Gives see r (check_of (typedef_at p b g n m) s)
-typedef_gives see r p b g None m s x h k = rw h k
-typedef_gives see r p b g (Some n) m s x h k = rw h k
-
-pub typedef_fails : (e : CheckError) (p : Place) (b g : Bool) (n : Option Name) (m : Plan NamedType) (s : Tables) → Fails e (check_of m s) → Fails e (check_of (typedef_at p b g n m) s)
-typedef_fails errors.Memory p b g n m s h = h
-typedef_fails (errors.Rule f) p b g None m s h = rw h refl
-typedef_fails (errors.Rule f) p b g (Some n) m s h = rw h refl
 
 -- ---- definitions
 
@@ -67,13 +57,6 @@ pub definition_fails : (e : CheckError) (n : Option Name) (p : Place) (b d : Boo
 definition_fails errors.Memory n p b d m s h = h
 definition_fails (errors.Rule f) None p b d m s h = rw h refl
 definition_fails (errors.Rule f) (Some n) p b d m s h = rw h refl
-
-pub second_gives : {X : Type 0} (see : X → Tables × Option ℕ) (r : Result X CheckError) (p : Place) (m : Plan (Option ℕ)) (s : Tables) (x : Tables × Option ℕ) → check_of m s ≡ Ok x → Gives see r (check_of (second_at p (pure x.1)) x.0) → Gives see r (check_of (second_at p m) s)
-second_gives see r p m s x h k = rw h k
-
-pub second_fails : (e : CheckError) (p : Place) (m : Plan (Option ℕ)) (s : Tables) → Fails e (check_of m s) → Fails e (check_of (second_at p m) s)
-second_fails errors.Memory p m s h = h
-second_fails (errors.Rule f) p m s h = rw h refl
 
 -- ---- the end of a file
 

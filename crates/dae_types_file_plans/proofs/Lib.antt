@@ -1,4 +1,0 @@
-mod Accepted
-mod Refused
-mod RefusedLater
-mod Written

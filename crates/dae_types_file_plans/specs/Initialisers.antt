@@ -131,10 +131,6 @@ landing_sites p f (Some z) = []
 abbrev pub landing_at : Place → Option ℕ → Filling → Typed → Plan Landing
 landing_at p n f x = node (λ s y. landing_sites p f (next_slot s f.rest)) (λ s y. (s, lands s n x f)) nothing
 
-abbrev pub size_in : Shape → Option ℕ
-size_in (shape.Array t count) = count
-size_in _ = None
-
 -- the bytes of a literal, without the zero byte at its end
 abbrev pub literal_bytes : Tables → Option ℕ → List ℕ
 literal_bytes s None = []

@@ -51,9 +51,6 @@ evaluate p e = program.Evaluate p e program.Done
 
 -- ---- local declarations (C90 6.5, 6.7.1 and 6.5.7)
 
-abbrev pub type_number : NamedType → ℕ
-type_number x = x.type_id
-
 -- a typedef of a name
 abbrev pub with_typedef : Option Name → ℕ → Tables → Tables
 with_typedef None t s = s
@@ -328,10 +325,6 @@ abbrev pub switch_of : Place → Plan Typed → Plan (List Armed) → Plan progr
 switch_of p value arms = does (λ s x. (s, program.Switch p x.0.tree (arms_of x.1) program.Done)) (both value arms)
 
 -- ---- statements
-
-abbrev pub optional_tree : Option Typed → Option program.Expression
-optional_tree None = None
-optional_tree (Some x) = Some x.tree
 
 abbrev pub plan_optional : Option Expression → Plan (Option program.Expression)
 plan_optional None = pure None

@@ -1,6 +1,7 @@
 -- A part on top of a stack, the part at its bottom, and lists of one initialiser.
-use Rattle.std.proofs.Common.{arith, ◌≡◌, ℕ, List, [], ◌∷◌, ◌++◌, Bool, true, false, length, nat_eq, refl, ap, ◌∙◌, Option, Some, None, slice_get, ◌&&◌}
+use Rattle.std.proofs.Common.{arith, ◌≡◌, ℕ, List, [], ◌∷◌, ◌++◌, Bool, true, false, length, nat_eq, refl, ap, ◌∙◌, Option, Some, slice_get, ◌&&◌}
 use Rattle.std.proofs.lemmas.Bool.Decides.{nat_tests}
+use Rattle.std.proofs.lemmas.Option.{same_Some}
 use Rattle.dae_tree.specs.FileViews.{view_initialiser, views_initialisers}
 use Rattle.dae_tree.specs.declared.statements.Initialiser.{Initialiser}
 use Rattle.dae_types_file_plans.specs.Initialisers.{Rest, Once, Elements, Members, begun_in, is_literal, is_one, is_one_literal}
@@ -28,12 +29,9 @@ begun_stacked (x ∷ xs) r rest n = begun_stacked xs (view_rest x) (r ∷ rest) 
 abbrev begun_of : RestInMemory → ℕ → ℕ
 begun_of x n = begun_in (view_rest x ∷ []) n
 
-one_item : {A : Type 0} (x y : A) → Some x ≡ Some y → x ≡ y
-one_item x y h = ap (λ z. elim z [ None ↦ x | Some w ↦ w ]) h
-
 pub begun_at_the_bottom : (xs : List RestInMemory) (x : RestInMemory) (n : ℕ) → slice_get xs 0 ≡ Some x → begun_in (view_stack xs) n ≡ begun_of x n
 begun_at_the_bottom [] x n h = absurd cc
-begun_at_the_bottom (y ∷ xs) x n h = begun_stacked xs (view_rest y) [] n ∙ ap (λ z. begun_of z n) (one_item y x h)
+begun_at_the_bottom (y ∷ xs) x n h = begun_stacked xs (view_rest y) [] n ∙ ap (λ z. begun_of z n) (same_Some y x h)
 
 pub one_of_length : (xs : List Initialiser) → nat_eq (length xs) 1 ≡ is_one (views_initialisers xs)
 one_of_length [] = refl
@@ -42,5 +40,5 @@ one_of_length (x ∷ y ∷ xs) = grind (arith, nat_tests)
 
 pub first_literal : (xs : List Initialiser) (x : Initialiser) → slice_get xs 0 ≡ Some x → is_one_literal (views_initialisers xs) ≡ is_one (views_initialisers xs) && is_literal (view_initialiser x)
 first_literal [] x h = absurd cc
-first_literal (y ∷ []) x h = ap (λ z. is_literal (view_initialiser z)) (one_item y x h)
+first_literal (y ∷ []) x h = ap (λ z. is_literal (view_initialiser z)) (same_Some y x h)
 first_literal (y ∷ z ∷ xs) x h = refl

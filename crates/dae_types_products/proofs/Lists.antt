@@ -1,5 +1,5 @@
 -- Lists of products, of what objects hold and of functions, one item longer.
-use Rattle.std.proofs.Common.{◌≡◌, ℕ, List, [], ◌∷◌, ◌++◌, Result, Ok, Err, refl, ap, sym, subst, ◌∙◌}
+use Rattle.std.proofs.Common.{◌≡◌, ℕ, List, [], ◌∷◌, ◌++◌, Result, Ok, Err, refl, ap, sym, subst, ◌∙◌, append-nil}
 use Rattle.dae_program.specs.declared.statements.Setting.{Setting}
 use Rattle.dae_program.specs.Views.{view_settings}
 use Rattle.dae_base.specs.declared.Place.{Place}
@@ -16,10 +16,6 @@ use Rattle.dae_types_products.specs.declared.products.Body.{Body as BodyInMemory
 use Rattle.dae_types_products.specs.Products.{view_product, view_products}
 use Rattle.dae_types_products.specs.declared.sorting.Sorted.{Sorted}
 use Rattle.dae_types_products.specs.Functions.{IsSorted, view_function, view_placed, written_all, written_by, written_of}
-
-append_none : {A : Type 0} (xs : List A) → xs ++ [] ≡ xs
-append_none [] = refl
-append_none (x ∷ xs) = ap (λ ys. x ∷ ys) (append_none xs)
 
 pub products_append : (xs ys : List ProductInMemory) → view_products (xs ++ ys) ≡ view_products xs ++ view_products ys
 products_append [] ys = refl
@@ -67,34 +63,31 @@ pub sorted_declaration : (products : List Product) (x y : Sorted) (d : FileDecla
 sorted_declaration products x y d is a b c =
     record {
       declarations = a ∙ ap (λ ds. ds ++ d ∷ []) is.declarations ∙ sym (declarations_append products (Declares d ∷ []));
-      contents = ap view_data b ∙ is.contents ∙ sym (append_none (contents_in products)) ∙ sym (contents_append products (Declares d ∷ []));
-      bodies = λ s spellings. ap (written_all s spellings) c ∙ is.bodies s spellings ∙ sym (append_none (written_in s spellings products)) ∙ sym (written_append s spellings products (Declares d ∷ []));
+      contents = ap view_data b ∙ is.contents ∙ sym (append-nil (contents_in products)) ∙ sym (contents_append products (Declares d ∷ []));
+      bodies = λ s spellings. ap (written_all s spellings) c ∙ is.bodies s spellings ∙ sym (append-nil (written_in s spellings products)) ∙ sym (written_append s spellings products (Declares d ∷ []));
     }
 
 pub sorted_content : (products : List Product) (x y : Sorted) (d : Datum) → IsSorted products x → y.declarations.items ≡ x.declarations.items → y.contents.items ≡ x.contents.items ++ d ∷ [] → y.bodies.items ≡ x.bodies.items → IsSorted (products ++ Data d.object (view_settings d.settings) ∷ []) y
 sorted_content products x y d is a b c =
     let z = Data d.object (view_settings d.settings) in
     record {
-      declarations = a ∙ is.declarations ∙ sym (append_none (declarations_in products)) ∙ sym (declarations_append products (z ∷ []));
+      declarations = a ∙ is.declarations ∙ sym (append-nil (declarations_in products)) ∙ sym (declarations_append products (z ∷ []));
       contents = ap view_data b ∙ data_append x.contents.items (d ∷ []) ∙ ap (λ cs. cs ++ view_data (d ∷ [])) is.contents ∙ sym (contents_append products (z ∷ []));
-      bodies = λ s spellings. ap (written_all s spellings) c ∙ is.bodies s spellings ∙ sym (append_none (written_in s spellings products)) ∙ sym (written_append s spellings products (z ∷ []));
+      bodies = λ s spellings. ap (written_all s spellings) c ∙ is.bodies s spellings ∙ sym (append-nil (written_in s spellings products)) ∙ sym (written_append s spellings products (z ∷ []));
     }
 
 pub sorted_body : (products : List Product) (x y : Sorted) (b : BodyInMemory) → IsSorted products x → y.declarations.items ≡ x.declarations.items → y.contents.items ≡ x.contents.items → y.bodies.items ≡ x.bodies.items ++ b ∷ [] → IsSorted (products ++ view_product (product.Body b) ∷ []) y
 sorted_body products x y b is e f g =
     let z = view_product (product.Body b) in
     record {
-      declarations = e ∙ is.declarations ∙ sym (append_none (declarations_in products)) ∙ sym (declarations_append products (z ∷ []));
-      contents = ap view_data f ∙ is.contents ∙ sym (append_none (contents_in products)) ∙ sym (contents_append products (z ∷ []));
+      declarations = e ∙ is.declarations ∙ sym (append-nil (declarations_in products)) ∙ sym (declarations_append products (z ∷ []));
+      contents = ap view_data f ∙ is.contents ∙ sym (append-nil (contents_in products)) ∙ sym (contents_append products (z ∷ []));
       bodies = λ s spellings. ap (written_all s spellings) g ∙ all_append s spellings x.bodies.items (b ∷ []) ∙ ap (λ fs. fs ++ written_all s spellings (b ∷ [])) (is.bodies s spellings) ∙ sym (written_append s spellings products (z ∷ []));
     }
 
 -- products in memory, one more
 pub sorted_further : (xs ys : List ProductInMemory) (x : ProductInMemory) (y : Sorted) → ys ≡ xs ++ x ∷ [] → IsSorted (view_products xs ++ view_product x ∷ []) y → IsSorted (view_products ys) y
 sorted_further xs ys x y is h = subst (λ (zs : List Product). IsSorted zs y) (sym (products_append xs (x ∷ [])) ∙ ap view_products (sym is)) h
-
-pub sorted_nothing : (x : Sorted) → x.declarations.items ≡ [] → x.contents.items ≡ [] → x.bodies.items ≡ [] → IsSorted [] x
-sorted_nothing x a b c = record { declarations = a; contents = ap view_data b; bodies = λ s spellings. ap (written_all s spellings) c }
 
 -- ---- typed functions, with one more
 

@@ -1,10 +1,11 @@
 -- Going along a function's parameters and local objects with where they are kept.
-use Rattle.std.proofs.Common.{◌≡◌, ℕ, zero, suc, ◌+◌, ◌<◌, ◌≤◌, arith, List, [], ◌∷◌, ◌++◌, drop, length, max, refl, ap, sym, subst, ◌∙◌}
+use Rattle.std.proofs.Common.{◌≡◌, ℕ, zero, suc, ◌+◌, ◌<◌, ◌≤◌, arith, List, [], ◌∷◌, ◌++◌, drop, length, max, refl, ap, sym, subst, ◌∙◌, append-nil}
 use Rattle.std.proofs.Math.ListN.{get_or}
 use Rattle.std.proofs.Math.Nat.{max-zero}
 use Rattle.std.proofs.lemmas.List.{drop_more, drop_all}
 use Rattle.dae_program.specs.declared.program.Slot.{Slot}
 use Rattle.std.specs.Prelude.{Option}
+use Rattle.dae_base.proofs.Laws.{append_further}
 use Rattle.dae_types_kinds.specs.declared.tables.Local.{Local}
 use Rattle.dae_types_kinds.specs.declared.tables.Storage.{Storage}
 use Rattle.dae_types_kinds.specs.Tables.{Tables}
@@ -41,20 +42,12 @@ slots_without_storages s zero xs = refl
 slots_without_storages s (suc n) [] = refl
 slots_without_storages s (suc n) (x ∷ xs) = refl
 
-append_none : {A : Type 0} (xs : List A) → xs ++ [] ≡ xs
-append_none [] = refl
-append_none (x ∷ xs) = ap (λ ys. x ∷ ys) (append_none xs)
-
 -- none are left to be stored
 pub slots_done : (s : Tables) (n : ℕ) (xs : List Local) (rest : List Storage) (done total : List (Option Slot)) → rest ≡ [] → done ++ slots_of s n xs rest ≡ total → total ≡ done
-slots_done s n xs rest done total r h = sym h ∙ ap (λ ys. done ++ slots_of s n xs ys) r ∙ ap (λ zs. done ++ zs) (slots_without_storages s n xs) ∙ append_none done
+slots_done s n xs rest done total r h = sym h ∙ ap (λ ys. done ++ slots_of s n xs ys) r ∙ ap (λ zs. done ++ zs) (slots_without_storages s n xs) ∙ append-nil done
 
 pub slots_ended : (s : Tables) (n : ℕ) (xs : List Local) (i : ℕ) (rest : List Storage) (done total : List (Option Slot)) → length xs ≤ i → done ++ slots_of s n (drop i xs) rest ≡ total → total ≡ done
-slots_ended s n xs i rest done total l h = sym h ∙ ap (λ ys. done ++ slots_of s n ys rest) (drop_all i xs l) ∙ ap (λ zs. done ++ zs) (slots_without_locals s n rest) ∙ append_none done
-
-append_further : {A : Type 0} (xs : List A) (y : A) (ys : List A) → (xs ++ y ∷ []) ++ ys ≡ xs ++ y ∷ ys
-append_further [] y ys = refl
-append_further (x ∷ xs) y ys = ap (λ zs. x ∷ zs) (append_further xs y ys)
+slots_ended s n xs i rest done total l h = sym h ∙ ap (λ ys. done ++ slots_of s n ys rest) (drop_all i xs l) ∙ ap (λ zs. done ++ zs) (slots_without_locals s n rest) ∙ append-nil done
 
 pub slots_further : (s : Tables) (left n : ℕ) (xs : List Local) (i : ℕ) (d : Local) (y : Storage) (rest others : List Storage) (done next total : List (Option Slot)) (slot : Option Slot) → i < length xs → left ≡ suc n → rest ≡ y ∷ others → slot ≡ slot_of s (get_or xs i d) y → next ≡ done ++ slot ∷ [] → done ++ slots_of s left (drop i xs) rest ≡ total → next ++ slots_of s n (drop (i + 1) xs) others ≡ total
 slots_further s left n xs i d y rest others done next total slot h more r is e t =

@@ -5,6 +5,7 @@ use Rattle.std.proofs.lemmas.Slice.Eq.{bytes_eq-Decides}
 use Rattle.std.specs.Prelude.{slice_get, not}
 use Rattle.std.specs.List.{list_any}
 use Rattle.std.specs.Str.{bytes_eq}
+use Rattle.dae_base.proofs.Laws.{and_first, and_second}
 use Rattle.dae_types_kinds.specs.declared.tables.Entity.{Entity}
 use Rattle.dae_types_kinds.specs.declared.tables.Entity.TheVariants as entity
 use Rattle.dae_types_kinds.specs.declared.tables.Object.{Object}
@@ -12,7 +13,6 @@ use Rattle.dae_types_kinds.specs.declared.tables.Routine.{Routine}
 use Rattle.dae_types_typed.specs.declared.files.FileParts.{FileParts}
 use Rattle.dae_types_typed.specs.Linkage.{name_in, object_name, routine_name, same_name}
 use Rattle.dae_types_sound.specs.Distinct.{is_new, with_name, are_new, with_names, object_names, routine_names, have_own_names}
-use Rattle.dae_types_sound.proofs.Numbers.{first, second}
 
 any_behind : (p : List ℕ → Bool) (xs ys : List (List ℕ)) → list_any p xs ≡ true → list_any p (xs ++ ys) ≡ true
 any_behind p [] ys h = absurd (false≢true h)
@@ -34,17 +34,17 @@ not_again : (done : List (List ℕ)) (xs : List (Option (List ℕ))) (i : ℕ) (
 not_again done [] i x h g a = absurd cc
 not_again done (y ∷ ys) zero x h g a =
     let e : y ≡ Some x = cc in
-    let n : not (list_any (bytes_eq x) done) ≡ true = subst (λ z. is_new done z ≡ true) e (first _ _ h) in
+    let n : not (list_any (bytes_eq x) done) ≡ true = subst (λ z. is_new done z ≡ true) e (and_first _ _ h) in
     false≢true (subst (λ b. not b ≡ true) a n)
-not_again done (y ∷ ys) (suc i) x h g a = not_again (with_name done y) ys i x (second _ _ h) g (still_any (bytes_eq x) done y a)
+not_again done (y ∷ ys) (suc i) x h g a = not_again (with_name done y) ys i x (and_second _ _ h) g (still_any (bytes_eq x) done y a)
 
 apart : (done : List (List ℕ)) (xs : List (Option (List ℕ))) (i j : ℕ) (x y : List ℕ) → are_new done xs ≡ true → slice_get xs i ≡ Some (Some x) → slice_get xs j ≡ Some (Some y) → bytes_eq y x ≡ true → i < j → ⊥
 apart done [] i j x y h g k e l = absurd cc
 apart done (z ∷ zs) i zero x y h g k e l = absurd (omega (arith, l))
 apart done (z ∷ zs) zero (suc j) x y h g k e l =
     let q : z ≡ Some x = cc in
-    not_again (with_name done z) zs j y (second _ _ h) k (subst (λ o. list_any (bytes_eq y) (with_name done o) ≡ true) (sym q) (any_last (bytes_eq y) done x e))
-apart done (z ∷ zs) (suc i) (suc j) x y h g k e l = apart (with_name done z) zs i j x y (second _ _ h) g k e (omega (arith, l))
+    not_again (with_name done z) zs j y (and_second _ _ h) k (subst (λ o. list_any (bytes_eq y) (with_name done o) ≡ true) (sym q) (any_last (bytes_eq y) done x e))
+apart done (z ∷ zs) (suc i) (suc j) x y h g k e l = apart (with_name done z) zs i j x y (and_second _ _ h) g k e (omega (arith, l))
 
 flip : (x y : List ℕ) → bytes_eq x y ≡ true → bytes_eq y x ≡ true
 flip x y h = let e : x ≡ y = grind (arith, bytes_eq-Decides x y) in subst (λ z. bytes_eq z x ≡ true) e (subst (λ z. bytes_eq x z ≡ true) (sym e) h)
@@ -65,7 +65,7 @@ all_names f = object_names f f.objects ++ routine_names f f.routines
 
 both_new : (done : List (List ℕ)) (xs ys : List (Option (List ℕ))) → are_new done xs ≡ true → are_new (with_names done xs) ys ≡ true → are_new done (xs ++ ys) ≡ true
 both_new done [] ys h g = g
-both_new done (x ∷ xs) ys h g = and_from (is_new done x) (are_new (with_name done x) (xs ++ ys)) (first _ _ h) (both_new (with_name done x) xs ys (second _ _ h) g)
+both_new done (x ∷ xs) ys h g = and_from (is_new done x) (are_new (with_name done x) (xs ++ ys)) (and_first _ _ h) (both_new (with_name done x) xs ys (and_second _ _ h) g)
 
 object_at_front : (f : FileParts) (os : List Object) (ys : List (Option (List ℕ))) (n : ℕ) (x : List ℕ) → object_name f (slice_get os n) ≡ Some x → (slice_get (object_names f os ++ ys) n ≡ Some (Some x)) × (n < length os)
 object_at_front f [] ys n x h = absurd cc
@@ -107,7 +107,7 @@ pub own_names : (f : FileParts) → have_own_names f ≡ true → (x y : Entity)
 own_names f h x y g = by (name_in f x) (name_in f y) refl refl g
   where
     all : are_new [] (all_names f) ≡ true
-    all = both_new [] (object_names f f.objects) (routine_names f f.routines) (first (are_new [] (object_names f f.objects)) (are_new (with_names [] (object_names f f.objects)) (routine_names f f.routines)) h) (second (are_new [] (object_names f f.objects)) (are_new (with_names [] (object_names f f.objects)) (routine_names f f.routines)) h)
+    all = both_new [] (object_names f f.objects) (routine_names f f.routines) (and_first (are_new [] (object_names f f.objects)) (are_new (with_names [] (object_names f f.objects)) (routine_names f f.routines)) h) (and_second (are_new [] (object_names f f.objects)) (are_new (with_names [] (object_names f f.objects)) (routine_names f f.routines)) h)
 
     by : (a b : Option (List ℕ)) → name_in f x ≡ a → name_in f y ≡ b → same_name a b ≡ true → x ≡ y
     by None b p q k = absurd (false≢true k)

@@ -1,10 +1,11 @@
 -- What fits its file is sound, wherever the file's objects are put.
 use Rattle.std.proofs.Common.{◌≡◌, ℕ, ◌+◌, ◌-◌, ◌%◌, ◌^◌, ◌≤◌, Bool, true, false, ◌&&◌, List, [], ◌∷◌, length, Option, Some, None, refl, sym, subst, arith}
-use Rattle.std.proofs.lemmas.Bool.{false≢true, and_from}
+use Rattle.std.proofs.lemmas.Bool.{false≢true, and_from, leb-true}
 use Rattle.std.specs.Prelude.{slice_get, nat_eq, nat_le, not, ◌||◌}
 use Rattle.std.specs.List.{list_all}
 use Rattle.dae_base.specs.declared.Width.{Width}
 use Rattle.dae_base.specs.Words.{plus, width_of}
+use Rattle.dae_base.proofs.Laws.{and_first, and_second}
 use Rattle.dae_types_kinds.specs.declared.tables.Entity.TheVariants as entity
 use Rattle.dae_types_kinds.specs.declared.types.Layout.{Layout}
 use Rattle.dae_types_kinds.specs.Types.{layout_at}
@@ -22,7 +23,7 @@ use Rattle.dae_types_sound.specs.declared.extents.Extent.{Extent}
 use Rattle.dae_types_sound.specs.declared.extents.FileNames.{FileNames}
 use Rattle.dae_types_sound.specs.declared.extents.Jumps.{Jumps}
 use Rattle.dae_types_sound.specs.Fit.{has_bytes, is_in_object, names_bytes, is_checked_or_fit, known_count, parameters_at, is_fit, is_fit_target, are_fit, is_fit_some, is_fit_item, is_fit_aggregate, are_fit_statements, are_fit_arms, loop_jumps, switch_jumps, extent_of, body_jumps, has_parameters, is_fit_function}
-use Rattle.dae_types_sound.proofs.Numbers.{first, second, within, good_within}
+use Rattle.dae_types_sound.proofs.Numbers.{good_within}
 
 -- the names are those that a file uses
 pub record AreUsed (f : FileParts) (n : FileNames) : Type 0 where
@@ -39,14 +40,14 @@ module _ (f : FileParts) (n : FileNames) (are : AreUsed f n) (x : Extent) (memor
   b = record { variables = x.variables; parameters = parameters; address = address; memory = memory; frame = x.frame }
 
   in_object : (width : Width) (object k : ℕ) → is_in_object n width object k ≡ true → is_good width (plus (address object) k) memory ≡ true
-  in_object width object k h = by (slice_get n.objects (object - n.literals)) refl (second _ _ h)
+  in_object width object k h = by (slice_get n.objects (object - n.literals)) refl (and_second _ _ h)
     where
       by : (o : Option (Option Layout)) → slice_get n.objects (object - n.literals) ≡ o → has_bytes width k o ≡ true → is_good width (plus (address object) k) memory ≡ true
       by None e g = absurd (false≢true g)
       by (Some None) e g = absurd (false≢true g)
       by (Some (Some l)) e g =
           let used = are.objects (object - n.literals) l e in
-          let low : n.literals ≤ object = within n.literals object (first _ _ h) in
+          let low : n.literals ≤ object = leb-true n.literals object (and_first _ _ h) in
           let literals = are.literals in
           let place : length f.literals + (object - n.literals) ≡ object = omega (arith, literals, low) in
           let r = room (object - n.literals) used.0 in
@@ -56,8 +57,8 @@ module _ (f : FileParts) (n : FileNames) (are : AreUsed f n) (x : Extent) (memor
   named : (width : Width) (k : ℕ) (e : Expression) → names_bytes n x width k e ≡ true → is_named b width k e ≡ true
   named width k (tree.Address object offset) h = in_object width object (plus offset k) h
   named width k (tree.Frame p offset) h = h
-  named width k (tree.Binary p operator a c) h = and_from (adds operator) (if_number (number_of c) (λ j. is_named b width (plus j k) a)) (first _ _ h) (by_number (number_of c) (λ j. names_bytes n x width (plus j k) a) (λ j. is_named b width (plus j k) a) (λ j g. named width (plus j k) a g) (second _ _ h))
-  named width k (tree.Conditional p a c d) h = and_from (is_named b width k c) (is_named b width k d) (named width k c (first _ _ h)) (named width k d (second _ _ h))
+  named width k (tree.Binary p operator a c) h = and_from (adds operator) (if_number (number_of c) (λ j. is_named b width (plus j k) a)) (and_first _ _ h) (by_number (number_of c) (λ j. names_bytes n x width (plus j k) a) (λ j. is_named b width (plus j k) a) (λ j g. named width (plus j k) a g) (and_second _ _ h))
+  named width k (tree.Conditional p a c d) h = and_from (is_named b width k c) (is_named b width k d) (named width k c (and_first _ _ h)) (named width k d (and_second _ _ h))
   named width k (tree.Comma a c) h = named width k c h
   named width k (tree.Number j) h = h
   named width k (tree.Variable p v) h = h
@@ -95,32 +96,32 @@ module _ (f : FileParts) (n : FileNames) (are : AreUsed f n) (x : Extent) (memor
     sound (tree.Address object offset) h = h
     sound (tree.Frame p offset) h = h
     sound (tree.Variable p v) h = h
-    sound (tree.Read p kind checked a) h = and_from (is_checked_or_named b checked (width_of kind) a) (is_sound b a) (checked_or checked (width_of kind) a (first _ _ h)) (sound a (second _ _ h))
+    sound (tree.Read p kind checked a) h = and_from (is_checked_or_named b checked (width_of kind) a) (is_sound b a) (checked_or checked (width_of kind) a (and_first _ _ h)) (sound a (and_second _ _ h))
     sound (tree.Convert p kind a) h = sound a h
     sound (tree.Not p a) h = sound a h
-    sound (tree.Binary p operator a c) h = and_from (is_sound b a) (is_sound b c) (sound a (first _ _ h)) (sound c (second _ _ h))
-    sound (tree.Compare p comparison turned a c) h = and_from (is_sound b a) (is_sound b c) (sound a (first _ _ h)) (sound c (second _ _ h))
-    sound (tree.And p a c) h = and_from (is_sound b a) (is_sound b c) (sound a (first _ _ h)) (sound c (second _ _ h))
-    sound (tree.Or p a c) h = and_from (is_sound b a) (is_sound b c) (sound a (first _ _ h)) (sound c (second _ _ h))
+    sound (tree.Binary p operator a c) h = and_from (is_sound b a) (is_sound b c) (sound a (and_first _ _ h)) (sound c (and_second _ _ h))
+    sound (tree.Compare p comparison turned a c) h = and_from (is_sound b a) (is_sound b c) (sound a (and_first _ _ h)) (sound c (and_second _ _ h))
+    sound (tree.And p a c) h = and_from (is_sound b a) (is_sound b c) (sound a (and_first _ _ h)) (sound c (and_second _ _ h))
+    sound (tree.Or p a c) h = and_from (is_sound b a) (is_sound b c) (sound a (and_first _ _ h)) (sound c (and_second _ _ h))
     sound (tree.Conditional p a c d) h =
-        let more = second (is_fit n x a) (is_fit n x c && is_fit n x d) h in
-        and_from (is_sound b a) (is_sound b c && is_sound b d) (sound a (first _ _ h)) (and_from (is_sound b c) (is_sound b d) (sound c (first _ _ more)) (sound d (second _ _ more)))
-    sound (tree.Comma a c) h = and_from (is_sound b a) (is_sound b c) (sound a (first _ _ h)) (sound c (second _ _ h))
-    sound (tree.Assign p kind t a) h = and_from (is_sound_target b (width_of kind) t) (is_sound b a) (sound_target (width_of kind) t (first _ _ h)) (sound a (second _ _ h))
-    sound (tree.Update p kind t operator a) h = and_from (is_sound_target b (width_of kind) t) (is_sound b a) (sound_target (width_of kind) t (first _ _ h)) (sound a (second _ _ h))
-    sound (tree.Step p kind t change new) h = and_from (is_sound_target b (width_of kind) t) (is_word change) (sound_target (width_of kind) t (first _ _ h)) (second _ _ h)
-    sound (tree.Call p g xs) h = and_from (takes (parameters g) (count xs)) (are_sound b xs) (taken g (count xs) (first _ _ h)) (all_sound xs (second _ _ h))
+        let more = and_second (is_fit n x a) (is_fit n x c && is_fit n x d) h in
+        and_from (is_sound b a) (is_sound b c && is_sound b d) (sound a (and_first _ _ h)) (and_from (is_sound b c) (is_sound b d) (sound c (and_first _ _ more)) (sound d (and_second _ _ more)))
+    sound (tree.Comma a c) h = and_from (is_sound b a) (is_sound b c) (sound a (and_first _ _ h)) (sound c (and_second _ _ h))
+    sound (tree.Assign p kind t a) h = and_from (is_sound_target b (width_of kind) t) (is_sound b a) (sound_target (width_of kind) t (and_first _ _ h)) (sound a (and_second _ _ h))
+    sound (tree.Update p kind t operator a) h = and_from (is_sound_target b (width_of kind) t) (is_sound b a) (sound_target (width_of kind) t (and_first _ _ h)) (sound a (and_second _ _ h))
+    sound (tree.Step p kind t change new) h = and_from (is_sound_target b (width_of kind) t) (is_word change) (sound_target (width_of kind) t (and_first _ _ h)) (and_second _ _ h)
+    sound (tree.Call p g xs) h = and_from (takes (parameters g) (count xs)) (are_sound b xs) (taken g (count xs) (and_first _ _ h)) (all_sound xs (and_second _ _ h))
     sound (tree.Putchar p a) h = sound a h
     sound (tree.Exit p a) h = sound a h
     sound (tree.Abort p) h = h
 
     sound_target : (width : Width) (t : Target) → is_fit_target n x width t ≡ true → is_sound_target b width t ≡ true
     sound_target width (tree.InVariable v) h = h
-    sound_target width (tree.AtAddress checked a) h = and_from (is_checked_or_named b checked width a) (is_sound b a) (checked_or checked width a (first _ _ h)) (sound a (second _ _ h))
+    sound_target width (tree.AtAddress checked a) h = and_from (is_checked_or_named b checked width a) (is_sound b a) (checked_or checked width a (and_first _ _ h)) (sound a (and_second _ _ h))
 
     all_sound : (xs : Expressions) → are_fit n x xs ≡ true → are_sound b xs ≡ true
     all_sound tree.no_expressions h = h
-    all_sound (tree.expression_then a xs) h = and_from (is_sound b a) (are_sound b xs) (sound a (first _ _ h)) (all_sound xs (second _ _ h))
+    all_sound (tree.expression_then a xs) h = and_from (is_sound b a) (are_sound b xs) (sound a (and_first _ _ h)) (all_sound xs (and_second _ _ h))
 
   sound_some : (e : Option Expression) → is_fit_some n x e ≡ true → is_sound_some b e ≡ true
   sound_some None h = h
@@ -129,143 +130,143 @@ module _ (f : FileParts) (n : FileNames) (are : AreUsed f n) (x : Extent) (memor
   sound_items : (items : List Setting) → list_all (is_fit_item n x) items ≡ true → are_sound_items b items ≡ true
   sound_items [] h = h
   sound_items (item ∷ items) h =
-      let here = first (is_fit_item n x item) (list_all (is_fit_item n x) items) h in
-      and_from (is_word item.offset && fits_frame item.width item.offset x.frame) (is_sound b item.value && are_sound_items b items) (first _ _ here)
-      (and_from (is_sound b item.value) (are_sound_items b items) (sound item.value (second _ _ here)) (sound_items items (second _ _ h)))
+      let here = and_first (is_fit_item n x item) (list_all (is_fit_item n x) items) h in
+      and_from (is_word item.offset && fits_frame item.width item.offset x.frame) (is_sound b item.value && are_sound_items b items) (and_first _ _ here)
+      (and_from (is_sound b item.value) (are_sound_items b items) (sound item.value (and_second _ _ here)) (sound_items items (and_second _ _ h)))
 
   -- ---- statements
 
   mutual
     pub sound_statements : (j : Jumps) (t : Statements) → are_fit_statements n x j t ≡ true → are_sound_statements b t ≡ true
     sound_statements j tree.Done h = h
-    sound_statements j (tree.Evaluate p e k) h = and_from (is_sound b e) (are_sound_statements b k) (sound e (first _ _ h)) (sound_statements j k (second _ _ h))
+    sound_statements j (tree.Evaluate p e k) h = and_from (is_sound b e) (are_sound_statements b k) (sound e (and_first _ _ h)) (sound_statements j k (and_second _ _ h))
     sound_statements j (tree.Initialise p offset bytes items k) h =
-        let here = first (is_fit_aggregate x offset bytes && list_all (is_fit_item n x) items) (are_fit_statements n x j k) h in
-        and_from (is_fit_aggregate x offset bytes) (are_sound_items b items && are_sound_statements b k) (first _ _ here)
-        (and_from (are_sound_items b items) (are_sound_statements b k) (sound_items items (second _ _ here)) (sound_statements j k (second _ _ h)))
-    sound_statements j (tree.Print p xs pieces k) h = and_from (are_sound b xs) (are_sound_statements b k) (all_sound xs (first _ _ (first _ _ h))) (sound_statements j k (second _ _ h))
+        let here = and_first (is_fit_aggregate x offset bytes && list_all (is_fit_item n x) items) (are_fit_statements n x j k) h in
+        and_from (is_fit_aggregate x offset bytes) (are_sound_items b items && are_sound_statements b k) (and_first _ _ here)
+        (and_from (are_sound_items b items) (are_sound_statements b k) (sound_items items (and_second _ _ here)) (sound_statements j k (and_second _ _ h)))
+    sound_statements j (tree.Print p xs pieces k) h = and_from (are_sound b xs) (are_sound_statements b k) (all_sound xs (and_first _ _ (and_first _ _ h))) (sound_statements j k (and_second _ _ h))
     sound_statements j (tree.If p e t u k) h =
-        let here = first (is_fit n x e && (are_fit_statements n x j t && are_fit_statements n x j u)) (are_fit_statements n x j k) h in
-        let more = second (is_fit n x e) (are_fit_statements n x j t && are_fit_statements n x j u) here in
-        and_from (is_sound b e) (are_sound_statements b t && (are_sound_statements b u && are_sound_statements b k)) (sound e (first _ _ here))
-        (and_from (are_sound_statements b t) (are_sound_statements b u && are_sound_statements b k) (sound_statements j t (first _ _ more))
-        (and_from (are_sound_statements b u) (are_sound_statements b k) (sound_statements j u (second _ _ more)) (sound_statements j k (second _ _ h))))
+        let here = and_first (is_fit n x e && (are_fit_statements n x j t && are_fit_statements n x j u)) (are_fit_statements n x j k) h in
+        let more = and_second (is_fit n x e) (are_fit_statements n x j t && are_fit_statements n x j u) here in
+        and_from (is_sound b e) (are_sound_statements b t && (are_sound_statements b u && are_sound_statements b k)) (sound e (and_first _ _ here))
+        (and_from (are_sound_statements b t) (are_sound_statements b u && are_sound_statements b k) (sound_statements j t (and_first _ _ more))
+        (and_from (are_sound_statements b u) (are_sound_statements b k) (sound_statements j u (and_second _ _ more)) (sound_statements j k (and_second _ _ h))))
     sound_statements j (tree.Loop p test body step k) h =
-        let here = first (is_fit_some n x test && (are_fit_statements n x (loop_jumps j) body && is_fit_some n x step)) (are_fit_statements n x j k) h in
-        let more = second (is_fit_some n x test) (are_fit_statements n x (loop_jumps j) body && is_fit_some n x step) here in
-        and_from (is_sound_some b test) (are_sound_statements b body && (is_sound_some b step && are_sound_statements b k)) (sound_some test (first _ _ here))
-        (and_from (are_sound_statements b body) (is_sound_some b step && are_sound_statements b k) (sound_statements (loop_jumps j) body (first _ _ more))
-        (and_from (is_sound_some b step) (are_sound_statements b k) (sound_some step (second _ _ more)) (sound_statements j k (second _ _ h))))
+        let here = and_first (is_fit_some n x test && (are_fit_statements n x (loop_jumps j) body && is_fit_some n x step)) (are_fit_statements n x j k) h in
+        let more = and_second (is_fit_some n x test) (are_fit_statements n x (loop_jumps j) body && is_fit_some n x step) here in
+        and_from (is_sound_some b test) (are_sound_statements b body && (is_sound_some b step && are_sound_statements b k)) (sound_some test (and_first _ _ here))
+        (and_from (are_sound_statements b body) (is_sound_some b step && are_sound_statements b k) (sound_statements (loop_jumps j) body (and_first _ _ more))
+        (and_from (is_sound_some b step) (are_sound_statements b k) (sound_some step (and_second _ _ more)) (sound_statements j k (and_second _ _ h))))
     sound_statements j (tree.Do p body test k) h =
-        let here = first (are_fit_statements n x (loop_jumps j) body && is_fit n x test) (are_fit_statements n x j k) h in
-        and_from (are_sound_statements b body) (is_sound b test && are_sound_statements b k) (sound_statements (loop_jumps j) body (first _ _ here))
-        (and_from (is_sound b test) (are_sound_statements b k) (sound test (second _ _ here)) (sound_statements j k (second _ _ h)))
+        let here = and_first (are_fit_statements n x (loop_jumps j) body && is_fit n x test) (are_fit_statements n x j k) h in
+        and_from (are_sound_statements b body) (is_sound b test && are_sound_statements b k) (sound_statements (loop_jumps j) body (and_first _ _ here))
+        (and_from (is_sound b test) (are_sound_statements b k) (sound test (and_second _ _ here)) (sound_statements j k (and_second _ _ h)))
     sound_statements j (tree.Switch p e arms k) h =
-        let here = first ((is_fit n x e && is_word (count_arms arms)) && are_fit_arms n x (switch_jumps j) arms) (are_fit_statements n x j k) h in
-        let head = first (is_fit n x e && is_word (count_arms arms)) (are_fit_arms n x (switch_jumps j) arms) here in
+        let here = and_first ((is_fit n x e && is_word (count_arms arms)) && are_fit_arms n x (switch_jumps j) arms) (are_fit_statements n x j k) h in
+        let head = and_first (is_fit n x e && is_word (count_arms arms)) (are_fit_arms n x (switch_jumps j) arms) here in
         and_from (is_sound b e && is_word (count_arms arms)) (are_sound_arms b arms && are_sound_statements b k)
-        (and_from (is_sound b e) (is_word (count_arms arms)) (sound e (first _ _ head)) (second _ _ head))
-        (and_from (are_sound_arms b arms) (are_sound_statements b k) (sound_arms (switch_jumps j) arms (second _ _ here)) (sound_statements j k (second _ _ h)))
-    sound_statements j (tree.Break p k) h = sound_statements j k (second _ _ h)
-    sound_statements j (tree.Continue p k) h = sound_statements j k (second _ _ h)
-    sound_statements j (tree.Return p e k) h = and_from (is_sound_some b e) (are_sound_statements b k) (sound_some e (second _ _ (first _ _ h))) (sound_statements j k (second _ _ h))
+        (and_from (is_sound b e) (is_word (count_arms arms)) (sound e (and_first _ _ head)) (and_second _ _ head))
+        (and_from (are_sound_arms b arms) (are_sound_statements b k) (sound_arms (switch_jumps j) arms (and_second _ _ here)) (sound_statements j k (and_second _ _ h)))
+    sound_statements j (tree.Break p k) h = sound_statements j k (and_second _ _ h)
+    sound_statements j (tree.Continue p k) h = sound_statements j k (and_second _ _ h)
+    sound_statements j (tree.Return p e k) h = and_from (is_sound_some b e) (are_sound_statements b k) (sound_some e (and_second _ _ (and_first _ _ h))) (sound_statements j k (and_second _ _ h))
 
     sound_arms : (j : Jumps) (arms : Arms) → are_fit_arms n x j arms ≡ true → are_sound_arms b arms ≡ true
     sound_arms j tree.no_arms h = h
     sound_arms j (tree.arm_then labels t rest) h =
-        let here = first (list_all is_label_word labels && are_fit_statements n x j t) (are_fit_arms n x j rest) h in
-        and_from (list_all is_label_word labels) (are_sound_statements b t && are_sound_arms b rest) (first _ _ here)
-        (and_from (are_sound_statements b t) (are_sound_arms b rest) (sound_statements j t (second _ _ here)) (sound_arms j rest (second _ _ h)))
+        let here = and_first (list_all is_label_word labels && are_fit_statements n x j t) (are_fit_arms n x j rest) h in
+        and_from (list_all is_label_word labels) (are_sound_statements b t && are_sound_arms b rest) (and_first _ _ here)
+        (and_from (are_sound_statements b t) (are_sound_arms b rest) (sound_statements j t (and_second _ _ here)) (sound_arms j rest (and_second _ _ h)))
 
 -- jumps stand where they may, also where a return may stand besides
 module _ (n : FileNames) (x : Extent) where
   mutual
     pub inside : (j : Jumps) (returns : Bool) → (j.returns ≡ true → returns ≡ true) → (t : Statements) → are_fit_statements n x j t ≡ true → are_inside j.breaks j.continues returns t ≡ true
     inside j r i tree.Done h = h
-    inside j r i (tree.Evaluate p e k) h = inside j r i k (second _ _ h)
-    inside j r i (tree.Initialise p offset bytes items k) h = inside j r i k (second _ _ h)
-    inside j r i (tree.Print p xs pieces k) h = inside j r i k (second _ _ h)
+    inside j r i (tree.Evaluate p e k) h = inside j r i k (and_second _ _ h)
+    inside j r i (tree.Initialise p offset bytes items k) h = inside j r i k (and_second _ _ h)
+    inside j r i (tree.Print p xs pieces k) h = inside j r i k (and_second _ _ h)
     inside j r i (tree.If p e t u k) h =
-        let here = first (is_fit n x e && (are_fit_statements n x j t && are_fit_statements n x j u)) (are_fit_statements n x j k) h in
-        let more = second (is_fit n x e) (are_fit_statements n x j t && are_fit_statements n x j u) here in
-        and_from (are_inside j.breaks j.continues r t) (are_inside j.breaks j.continues r u && are_inside j.breaks j.continues r k) (inside j r i t (first _ _ more))
-        (and_from (are_inside j.breaks j.continues r u) (are_inside j.breaks j.continues r k) (inside j r i u (second _ _ more)) (inside j r i k (second _ _ h)))
+        let here = and_first (is_fit n x e && (are_fit_statements n x j t && are_fit_statements n x j u)) (are_fit_statements n x j k) h in
+        let more = and_second (is_fit n x e) (are_fit_statements n x j t && are_fit_statements n x j u) here in
+        and_from (are_inside j.breaks j.continues r t) (are_inside j.breaks j.continues r u && are_inside j.breaks j.continues r k) (inside j r i t (and_first _ _ more))
+        (and_from (are_inside j.breaks j.continues r u) (are_inside j.breaks j.continues r k) (inside j r i u (and_second _ _ more)) (inside j r i k (and_second _ _ h)))
     inside j r i (tree.Loop p test body step k) h =
-        let here = first (is_fit_some n x test && (are_fit_statements n x (loop_jumps j) body && is_fit_some n x step)) (are_fit_statements n x j k) h in
-        let more = second (is_fit_some n x test) (are_fit_statements n x (loop_jumps j) body && is_fit_some n x step) here in
-        and_from (are_inside true true r body) (are_inside j.breaks j.continues r k) (inside (loop_jumps j) r i body (first _ _ more)) (inside j r i k (second _ _ h))
+        let here = and_first (is_fit_some n x test && (are_fit_statements n x (loop_jumps j) body && is_fit_some n x step)) (are_fit_statements n x j k) h in
+        let more = and_second (is_fit_some n x test) (are_fit_statements n x (loop_jumps j) body && is_fit_some n x step) here in
+        and_from (are_inside true true r body) (are_inside j.breaks j.continues r k) (inside (loop_jumps j) r i body (and_first _ _ more)) (inside j r i k (and_second _ _ h))
     inside j r i (tree.Do p body test k) h =
-        let here = first (are_fit_statements n x (loop_jumps j) body && is_fit n x test) (are_fit_statements n x j k) h in
-        and_from (are_inside true true r body) (are_inside j.breaks j.continues r k) (inside (loop_jumps j) r i body (first _ _ here)) (inside j r i k (second _ _ h))
+        let here = and_first (are_fit_statements n x (loop_jumps j) body && is_fit n x test) (are_fit_statements n x j k) h in
+        and_from (are_inside true true r body) (are_inside j.breaks j.continues r k) (inside (loop_jumps j) r i body (and_first _ _ here)) (inside j r i k (and_second _ _ h))
     inside j r i (tree.Switch p e arms k) h =
-        let here = first ((is_fit n x e && is_word (count_arms arms)) && are_fit_arms n x (switch_jumps j) arms) (are_fit_statements n x j k) h in
-        and_from (are_arms_inside j.continues r arms) (are_inside j.breaks j.continues r k) (arms_inside (switch_jumps j) r refl i arms (second _ _ here)) (inside j r i k (second _ _ h))
-    inside j r i (tree.Break p k) h = and_from j.breaks (are_inside j.breaks j.continues r k) (first _ _ h) (inside j r i k (second _ _ h))
-    inside j r i (tree.Continue p k) h = and_from j.continues (are_inside j.breaks j.continues r k) (first _ _ h) (inside j r i k (second _ _ h))
-    inside j r i (tree.Return p e k) h = and_from r (are_inside j.breaks j.continues r k) (i (first _ _ (first _ _ h))) (inside j r i k (second _ _ h))
+        let here = and_first ((is_fit n x e && is_word (count_arms arms)) && are_fit_arms n x (switch_jumps j) arms) (are_fit_statements n x j k) h in
+        and_from (are_arms_inside j.continues r arms) (are_inside j.breaks j.continues r k) (arms_inside (switch_jumps j) r refl i arms (and_second _ _ here)) (inside j r i k (and_second _ _ h))
+    inside j r i (tree.Break p k) h = and_from j.breaks (are_inside j.breaks j.continues r k) (and_first _ _ h) (inside j r i k (and_second _ _ h))
+    inside j r i (tree.Continue p k) h = and_from j.continues (are_inside j.breaks j.continues r k) (and_first _ _ h) (inside j r i k (and_second _ _ h))
+    inside j r i (tree.Return p e k) h = and_from r (are_inside j.breaks j.continues r k) (i (and_first _ _ (and_first _ _ h))) (inside j r i k (and_second _ _ h))
 
     arms_inside : (j : Jumps) (returns : Bool) → j.breaks ≡ true → (j.returns ≡ true → returns ≡ true) → (arms : Arms) → are_fit_arms n x j arms ≡ true → are_arms_inside j.continues returns arms ≡ true
     arms_inside j r e i tree.no_arms h = h
     arms_inside j r e i (tree.arm_then labels t rest) h =
-        let here = first (list_all is_label_word labels && are_fit_statements n x j t) (are_fit_arms n x j rest) h in
-        and_from (are_inside true j.continues r t) (are_arms_inside j.continues r rest) (subst (λ z. are_inside z j.continues r t ≡ true) e (inside j r i t (second _ _ here))) (arms_inside j r e i rest (second _ _ h))
+        let here = and_first (list_all is_label_word labels && are_fit_statements n x j t) (are_fit_arms n x j rest) h in
+        and_from (are_inside true j.continues r t) (are_arms_inside j.continues r rest) (subst (λ z. are_inside z j.continues r t ≡ true) e (inside j r i t (and_second _ _ here))) (arms_inside j r e i rest (and_second _ _ h))
 
   mutual
     pub print_bytes : (j : Jumps) (t : Statements) → are_fit_statements n x j t ≡ true → prints_bytes t ≡ true
     print_bytes j tree.Done h = h
-    print_bytes j (tree.Evaluate p e k) h = print_bytes j k (second _ _ h)
-    print_bytes j (tree.Initialise p offset bytes items k) h = print_bytes j k (second _ _ h)
-    print_bytes j (tree.Print p xs pieces k) h = and_from (list_all is_byte pieces) (prints_bytes k) (second _ _ (first _ _ h)) (print_bytes j k (second _ _ h))
+    print_bytes j (tree.Evaluate p e k) h = print_bytes j k (and_second _ _ h)
+    print_bytes j (tree.Initialise p offset bytes items k) h = print_bytes j k (and_second _ _ h)
+    print_bytes j (tree.Print p xs pieces k) h = and_from (list_all is_byte pieces) (prints_bytes k) (and_second _ _ (and_first _ _ h)) (print_bytes j k (and_second _ _ h))
     print_bytes j (tree.If p e t u k) h =
-        let here = first (is_fit n x e && (are_fit_statements n x j t && are_fit_statements n x j u)) (are_fit_statements n x j k) h in
-        let more = second (is_fit n x e) (are_fit_statements n x j t && are_fit_statements n x j u) here in
-        and_from (prints_bytes t) (prints_bytes u && prints_bytes k) (print_bytes j t (first _ _ more)) (and_from (prints_bytes u) (prints_bytes k) (print_bytes j u (second _ _ more)) (print_bytes j k (second _ _ h)))
+        let here = and_first (is_fit n x e && (are_fit_statements n x j t && are_fit_statements n x j u)) (are_fit_statements n x j k) h in
+        let more = and_second (is_fit n x e) (are_fit_statements n x j t && are_fit_statements n x j u) here in
+        and_from (prints_bytes t) (prints_bytes u && prints_bytes k) (print_bytes j t (and_first _ _ more)) (and_from (prints_bytes u) (prints_bytes k) (print_bytes j u (and_second _ _ more)) (print_bytes j k (and_second _ _ h)))
     print_bytes j (tree.Loop p test body step k) h =
-        let here = first (is_fit_some n x test && (are_fit_statements n x (loop_jumps j) body && is_fit_some n x step)) (are_fit_statements n x j k) h in
-        let more = second (is_fit_some n x test) (are_fit_statements n x (loop_jumps j) body && is_fit_some n x step) here in
-        and_from (prints_bytes body) (prints_bytes k) (print_bytes (loop_jumps j) body (first _ _ more)) (print_bytes j k (second _ _ h))
+        let here = and_first (is_fit_some n x test && (are_fit_statements n x (loop_jumps j) body && is_fit_some n x step)) (are_fit_statements n x j k) h in
+        let more = and_second (is_fit_some n x test) (are_fit_statements n x (loop_jumps j) body && is_fit_some n x step) here in
+        and_from (prints_bytes body) (prints_bytes k) (print_bytes (loop_jumps j) body (and_first _ _ more)) (print_bytes j k (and_second _ _ h))
     print_bytes j (tree.Do p body test k) h =
-        let here = first (are_fit_statements n x (loop_jumps j) body && is_fit n x test) (are_fit_statements n x j k) h in
-        and_from (prints_bytes body) (prints_bytes k) (print_bytes (loop_jumps j) body (first _ _ here)) (print_bytes j k (second _ _ h))
+        let here = and_first (are_fit_statements n x (loop_jumps j) body && is_fit n x test) (are_fit_statements n x j k) h in
+        and_from (prints_bytes body) (prints_bytes k) (print_bytes (loop_jumps j) body (and_first _ _ here)) (print_bytes j k (and_second _ _ h))
     print_bytes j (tree.Switch p e arms k) h =
-        let here = first ((is_fit n x e && is_word (count_arms arms)) && are_fit_arms n x (switch_jumps j) arms) (are_fit_statements n x j k) h in
-        and_from (arms_print_bytes arms) (prints_bytes k) (arms_bytes (switch_jumps j) arms (second _ _ here)) (print_bytes j k (second _ _ h))
-    print_bytes j (tree.Break p k) h = print_bytes j k (second _ _ h)
-    print_bytes j (tree.Continue p k) h = print_bytes j k (second _ _ h)
-    print_bytes j (tree.Return p e k) h = print_bytes j k (second _ _ h)
+        let here = and_first ((is_fit n x e && is_word (count_arms arms)) && are_fit_arms n x (switch_jumps j) arms) (are_fit_statements n x j k) h in
+        and_from (arms_print_bytes arms) (prints_bytes k) (arms_bytes (switch_jumps j) arms (and_second _ _ here)) (print_bytes j k (and_second _ _ h))
+    print_bytes j (tree.Break p k) h = print_bytes j k (and_second _ _ h)
+    print_bytes j (tree.Continue p k) h = print_bytes j k (and_second _ _ h)
+    print_bytes j (tree.Return p e k) h = print_bytes j k (and_second _ _ h)
 
     arms_bytes : (j : Jumps) (arms : Arms) → are_fit_arms n x j arms ≡ true → arms_print_bytes arms ≡ true
     arms_bytes j tree.no_arms h = h
     arms_bytes j (tree.arm_then labels t rest) h =
-        let here = first (list_all is_label_word labels && are_fit_statements n x j t) (are_fit_arms n x j rest) h in
-        and_from (prints_bytes t) (arms_print_bytes rest) (print_bytes j t (second _ _ here)) (arms_bytes j rest (second _ _ h))
+        let here = and_first (list_all is_label_word labels && are_fit_statements n x j t) (are_fit_arms n x j rest) h in
+        and_from (prints_bytes t) (arms_print_bytes rest) (print_bytes j t (and_second _ _ here)) (arms_bytes j rest (and_second _ _ h))
 
 -- ---- functions
 
 module _ (f : FileParts) (n : FileNames) (are : AreUsed f n) (memory : ℕ) (address : ℕ → ℕ) (parameters : ℕ → Option ℕ) (small : memory ≤ 2 ^ 26) (room : HaveRoom f memory address) (callable : AreCallable f parameters) where
   lawful : (t : TypedFunction) (returns : Bool) → is_fit_function f n t ≡ true → (not (is_called_main f t.routine) ≡ true → returns ≡ true) → is_lawful_body memory t.variables parameters returns (function_at address t) ≡ true
   lawful t returns h i =
-      let head = first (has_parameters f t) ((not (is_called_main f t.routine) || nat_eq (length t.parameters) 0) && are_fit_statements n (extent_of t) (body_jumps (not (is_called_main f t.routine))) (view_statements t.body)) h in
-      let more = second (nat_eq (length t.parameters) (length (parameter_types (tables_of f) t.routine))) ((nat_eq (t.frame % 4) 0 && nat_le (1 + length t.parameters) t.variables) && list_all (is_sound_slot t.frame) t.parameters) head in
-      let body = second _ _ (second (has_parameters f t) ((not (is_called_main f t.routine) || nat_eq (length t.parameters) 0) && are_fit_statements n (extent_of t) (body_jumps (not (is_called_main f t.routine))) (view_statements t.body)) h) in
+      let head = and_first (has_parameters f t) ((not (is_called_main f t.routine) || nat_eq (length t.parameters) 0) && are_fit_statements n (extent_of t) (body_jumps (not (is_called_main f t.routine))) (view_statements t.body)) h in
+      let more = and_second (nat_eq (length t.parameters) (length (parameter_types (tables_of f) t.routine))) ((nat_eq (t.frame % 4) 0 && nat_le (1 + length t.parameters) t.variables) && list_all (is_sound_slot t.frame) t.parameters) head in
+      let body = and_second _ _ (and_second (has_parameters f t) ((not (is_called_main f t.routine) || nat_eq (length t.parameters) 0) && are_fit_statements n (extent_of t) (body_jumps (not (is_called_main f t.routine))) (view_statements t.body)) h) in
       let sound' = sound_statements f n are (extent_of t) memory address parameters small room callable (body_jumps (not (is_called_main f t.routine))) (view_statements t.body) body in
       and_from
       ((nat_eq (t.frame % 4) 0 && nat_le (1 + length t.parameters) t.variables) && (list_all (is_sound_slot t.frame) t.parameters && are_sound_statements (b f n are (extent_of t) memory address parameters small room callable) (view_statements t.body)))
       (are_inside false false returns (view_statements t.body))
-      (and_from (nat_eq (t.frame % 4) 0 && nat_le (1 + length t.parameters) t.variables) (list_all (is_sound_slot t.frame) t.parameters && are_sound_statements (b f n are (extent_of t) memory address parameters small room callable) (view_statements t.body)) (first _ _ more)
-      (and_from (list_all (is_sound_slot t.frame) t.parameters) (are_sound_statements (b f n are (extent_of t) memory address parameters small room callable) (view_statements t.body)) (second _ _ more) sound'))
+      (and_from (nat_eq (t.frame % 4) 0 && nat_le (1 + length t.parameters) t.variables) (list_all (is_sound_slot t.frame) t.parameters && are_sound_statements (b f n are (extent_of t) memory address parameters small room callable) (view_statements t.body)) (and_first _ _ more)
+      (and_from (list_all (is_sound_slot t.frame) t.parameters) (are_sound_statements (b f n are (extent_of t) memory address parameters small room callable) (view_statements t.body)) (and_second _ _ more) sound'))
       (inside n (extent_of t) (body_jumps (not (is_called_main f t.routine))) returns i (view_statements t.body) body)
 
   sound_function : (t : TypedFunction) → is_fit_function f n t ≡ true → is_sound_function f memory address parameters t ≡ true
   sound_function t h =
       let main = is_called_main f t.routine in
-      let rest = second (has_parameters f t) ((not (is_called_main f t.routine) || nat_eq (length t.parameters) 0) && are_fit_statements n (extent_of t) (body_jumps (not (is_called_main f t.routine))) (view_statements t.body)) h in
-      let count' = first _ _ (first (has_parameters f t) ((not (is_called_main f t.routine) || nat_eq (length t.parameters) 0) && are_fit_statements n (extent_of t) (body_jumps (not (is_called_main f t.routine))) (view_statements t.body)) h) in
+      let rest = and_second (has_parameters f t) ((not (is_called_main f t.routine) || nat_eq (length t.parameters) 0) && are_fit_statements n (extent_of t) (body_jumps (not (is_called_main f t.routine))) (view_statements t.body)) h in
+      let count' = and_first _ _ (and_first (has_parameters f t) ((not (is_called_main f t.routine) || nat_eq (length t.parameters) 0) && are_fit_statements n (extent_of t) (body_jumps (not (is_called_main f t.routine))) (view_statements t.body)) h) in
       and_from
       (nat_eq (length t.parameters) (length (parameter_types (tables_of f) t.routine)) && is_lawful_body memory t.variables parameters true (function_at address t))
       (not main || (nat_eq (length t.parameters) 0 && is_lawful_body memory t.variables parameters false (function_at address t)))
       (and_from (nat_eq (length t.parameters) (length (parameter_types (tables_of f) t.routine))) (is_lawful_body memory t.variables parameters true (function_at address t)) count' (lawful t true h (λ e. refl)))
-      (by main refl (first _ _ rest))
+      (by main refl (and_first _ _ rest))
     where
       by : (m : Bool) → is_called_main f t.routine ≡ m → (not m || nat_eq (length t.parameters) 0) ≡ true → (not m || (nat_eq (length t.parameters) 0 && is_lawful_body memory t.variables parameters false (function_at address t))) ≡ true
       by false e g = refl
@@ -274,4 +275,4 @@ module _ (f : FileParts) (n : FileNames) (are : AreUsed f n) (memory : ℕ) (add
   pub sound_functions : (ts : List TypedFunction) → list_all (is_fit_function f n) ts ≡ true → list_all (is_sound_function f memory address parameters) ts ≡ true
   sound_functions [] h = h
   sound_functions (t ∷ ts) h =
-      and_from (is_sound_function f memory address parameters t) (list_all (is_sound_function f memory address parameters) ts) (sound_function t (first _ _ h)) (sound_functions ts (second _ _ h))
+      and_from (is_sound_function f memory address parameters t) (list_all (is_sound_function f memory address parameters) ts) (sound_function t (and_first _ _ h)) (sound_functions ts (and_second _ _ h))

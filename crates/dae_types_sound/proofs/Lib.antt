@@ -5,5 +5,4 @@ mod Small
 pub mod Steps
 mod Distinct
 pub mod Noted
-pub mod Views
 pub mod Whole

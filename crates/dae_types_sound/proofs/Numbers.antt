@@ -1,35 +1,14 @@
 -- Alignment, and parts of tests.
-use Rattle.std.proofs.Common.{◌≡◌, ℕ, ◌+◌, ◌*◌, ◌/◌, ◌%◌, ◌^◌, ◌≤◌, ◌<◌, Bool, true, ◌&&◌, ap, sym, ◌∙◌, arith}
-use Rattle.std.proofs.lemmas.Bool.{and_parts, and_from}
-use Rattle.std.proofs.lemmas.Bool.Decides.{nat_tests}
+use Rattle.std.proofs.Common.{◌≡◌, ℕ, ◌+◌, ◌*◌, ◌/◌, ◌%◌, ◌^◌, ◌≤◌, true, ◌&&◌, ap, sym, ◌∙◌, arith}
+use Rattle.std.proofs.lemmas.Bool.{and_from, eqb-true, leb-true, eq-eqb, le-leb}
 use Rattle.std.proofs.lemmas.Nat.{div-add-mod', mul-mod_second}
-use Rattle.std.specs.Prelude.{nat_eq, nat_le, nat_lt}
+use Rattle.std.specs.Prelude.{nat_eq, nat_le}
 use Rattle.dae_base.specs.Words.{plus, size}
 use Rattle.dae_base.specs.declared.Width.{Width}
 use Rattle.dae_base.specs.declared.Width.TheVariants.{B1, B2, B4}
+use Rattle.dae_base.proofs.Laws.{and_first, and_second}
 use Rattle.dae_types_kinds.specs.declared.types.Layout.{Layout}
 use Rattle.dae_program.specs.Lawful.{is_good}
-
-pub first : (a b : Bool) → (a && b) ≡ true → a ≡ true
-first a b h = (and_parts a b h).0
-
-pub second : (a b : Bool) → (a && b) ≡ true → b ≡ true
-second a b h = (and_parts a b h).1
-
-pub equal : (m n : ℕ) → nat_eq m n ≡ true → m ≡ n
-equal m n h = grind (arith, nat_tests)
-
-pub within : (m n : ℕ) → nat_le m n ≡ true → m ≤ n
-within m n h = grind (arith, nat_tests)
-
-pub below : (m n : ℕ) → nat_lt m n ≡ true → m < n
-below m n h = grind (arith, nat_tests)
-
-pub eq_test : (m n : ℕ) → m ≡ n → nat_eq m n ≡ true
-eq_test m n h = grind (arith, nat_tests)
-
-pub le_test : (m n : ℕ) → m ≤ n → nat_le m n ≡ true
-le_test m n h = grind (arith, nat_tests)
 
 -- a multiple of a multiple
 multiple : (a b s : ℕ) → a % b ≡ 0 → b % s ≡ 0 → a % s ≡ (a / b * 0) % s
@@ -53,9 +32,9 @@ sum_aligned B4 a k h g = omega (arith, h, g)
 -- an access within an object that has room is a good one
 pub good_within : (width : Width) (a k memory : ℕ) (l : Layout) → a % l.align ≡ 0 → 16 ≤ a → a + l.size ≤ memory → memory ≤ 2 ^ 26 → ((nat_eq (l.align % size width) 0 && nat_eq (k % size width) 0) && nat_le (k + size width) l.size) ≡ true → is_good width (plus a k) memory ≡ true
 good_within width a k memory l aligned low fits small h =
-    let suits = first (nat_eq (l.align % size width) 0 && nat_eq (k % size width) 0) (nat_le (k + size width) l.size) h in
-    let room : k + size width ≤ l.size = within (k + size width) l.size (second (nat_eq (l.align % size width) 0 && nat_eq (k % size width) 0) (nat_le (k + size width) l.size) h) in
+    let suits = and_first (nat_eq (l.align % size width) 0 && nat_eq (k % size width) 0) (nat_le (k + size width) l.size) h in
+    let room : k + size width ≤ l.size = leb-true (k + size width) l.size (and_second (nat_eq (l.align % size width) 0 && nat_eq (k % size width) 0) (nat_le (k + size width) l.size) h) in
     let whole : plus a k ≡ a + k = omega (arith, room, fits, small) in
-    let even : (a + k) % size width ≡ 0 = sum_aligned width a k (aligned_to width a l.align aligned (equal _ 0 (first _ _ suits))) (equal _ 0 (second _ _ suits)) in
-    rw whole (and_from (nat_eq ((a + k) % size width) 0) (nat_le 16 (a + k) && nat_le (a + k + size width) memory) (eq_test _ 0 even)
-    (and_from (nat_le 16 (a + k)) (nat_le (a + k + size width) memory) (le_test 16 (a + k) (omega (arith, low))) (le_test (a + k + size width) memory (omega (arith, room, fits)))))
+    let even : (a + k) % size width ≡ 0 = sum_aligned width a k (aligned_to width a l.align aligned (eqb-true _ 0 (and_first _ _ suits))) (eqb-true _ 0 (and_second _ _ suits)) in
+    rw whole (and_from (nat_eq ((a + k) % size width) 0) (nat_le 16 (a + k) && nat_le (a + k + size width) memory) (eq-eqb _ 0 even)
+    (and_from (nat_le 16 (a + k)) (nat_le (a + k + size width) memory) (le-leb 16 (a + k) (omega (arith, low))) (le-leb (a + k + size width) memory (omega (arith, room, fits)))))

@@ -1,6 +1,6 @@
 -- What reads set variables alone by flags does so by sets.
 use Rattle.std.proofs.Common.{◌≡◌, ℕ, zero, suc, ◌+◌, inl, inr, Bool, true, false, ◌&&◌, ◌||◌, List, [], ◌∷◌, length, Option, Some, None, refl, ap, sym, ◌∙◌, subst, arith}
-use Rattle.std.proofs.lemmas.Bool.{cases_eq, false≢true, and_parts, and_from, or_left, or_right}
+use Rattle.std.proofs.lemmas.Bool.{cases_eq, false≢true, and_parts, and_from, or_left, or_right, eq-eqb}
 use Rattle.std.specs.Prelude.{slice_set, nat_eq, is_some, if◌then◌else◌}
 use Rattle.dae_meaning.specs.Variables.{VariableSet, with_set, all_set, parameters_set}
 use Rattle.dae_program.specs.SetFirst.{both, with_target, set_behind, set_behind_target, set_behind_all, set_behind_some, is_old_set, reads_set, reads_set_target, all_read_set, some_reads_set, set_behind_items, items_read_set, set_behind_statements, statements_read_set, arms_read_set, is_set_first}
@@ -9,7 +9,6 @@ use Rattle.dae_types_typed.specs.declared.files.TypedFunction.{TypedFunction}
 use Rattle.dae_types_typed.specs.Sound.{function_at}
 use Rattle.dae_program.specs.Trees as tree
 use Rattle.dae_program.specs.Trees.{Expression, Target, Expressions, Setting, Statements, Arms}
-use Rattle.dae_types_sound.proofs.Numbers.{eq_test}
 use Rattle.dae_types_sound.specs.Reads.{flagged, Flagged, ◌⊳⊳◌, read_variable, all_flags, meet, both_ways, aside, reading, reading_target, reading_old, setting_target, reading_all, reading_some, reading_items, reading_statements, reading_arms, flags_from, first_flags, is_reading_body}
 
 -- by flags no more is set
@@ -50,7 +49,7 @@ kept (b ∷ d) (suc v) (suc w) other = kept d v w (λ e. other (ap suc e))
 
 set_there : (d : List Bool) (v w : ℕ) → flagged (slice_set d v true) w ≡ true → (nat_eq w v || flagged d w) ≡ true
 set_there d v w h = elim (cases_eq w v) [
-  | inl e ↦ or_left (nat_eq w v) (flagged d w) (eq_test w v e)
+  | inl e ↦ or_left (nat_eq w v) (flagged d w) (eq-eqb w v e)
   | inr other ↦ or_right (nat_eq w v) (flagged d w) (sym (kept d v w other) ∙ h)
 ]
 

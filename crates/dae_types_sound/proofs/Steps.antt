@@ -1,5 +1,5 @@
 -- Steps of loops over statements, flags and parameters.
-use Rattle.std.proofs.Common.{◌≡◌, ℕ, zero, suc, ◌+◌, ◌-◌, ◌<◌, ◌≤◌, Bool, true, false, ◌&&◌, List, [], ◌∷◌, ◌++◌, length, drop, get_or, Option, Some, None, refl, ap, sym, ◌∙◌, arith}
+use Rattle.std.proofs.Common.{◌≡◌, ℕ, zero, suc, ◌+◌, ◌-◌, ◌<◌, ◌≤◌, Bool, true, ◌&&◌, List, [], ◌∷◌, ◌++◌, length, drop, get_or, Option, Some, None, refl, ap, sym, ◌∙◌, arith}
 use Rattle.std.proofs.lemmas.List.{drop_all}
 use Rattle.std.specs.Prelude.{nat_eq, nat_lt, nat_le, Vec}
 use Rattle.std.proofs.lemmas.Bool.Decides.{nat_tests}
@@ -16,28 +16,27 @@ use Rattle.dae_types_plans.specs.Steps.{parameters_from}
 use Rattle.dae_types_sound.specs.Names.{shorter, used_count, used_counts}
 use Rattle.std.specs.List.{list_all}
 use Rattle.std.specs.declared.alloc.Global.{Global}
-use Rattle.dae_base.proofs.Laws.{drop_at}
+use Rattle.dae_base.proofs.Laws.{drop_at, and_along, and_nothing}
 use Rattle.dae_base.specs.declared.Place.{Place}
 use Rattle.dae_program.specs.declared.expressions.Expression.{Expression}
 use Rattle.dae_program.specs.declared.statements.Arm.{Arm}
 use Rattle.dae_program.specs.declared.statements.Statement.{Statement}
 use Rattle.dae_program.specs.declared.statements.Statement.TheVariants as statement
-use Rattle.dae_program.specs.Lawful.{is_byte, is_word, is_label_word}
+use Rattle.dae_program.specs.Lawful.{is_byte, is_word}
 use Rattle.dae_program.specs.Switches.{count_arms}
 use Rattle.dae_program.specs.Trees as tree
-use Rattle.dae_program.specs.Views.{row_then, statement_then, view, view_arms, view_expressions, view_settings, view_some, view_statements}
-use Rattle.dae_types_sound.specs.Arms.{arms_of}
+use Rattle.dae_program.specs.Views.{row_then, statement_then, view, view_arms, view_expressions, view_settings, view_some, view_statements, arms_of}
+use Rattle.dae_program.proofs.LawsOfTrees.{statements_at, arms_at, view_if, view_loop, view_do, view_switch}
 use Rattle.dae_types_sound.specs.declared.extents.Extent.{Extent}
 use Rattle.dae_types_sound.specs.declared.extents.FileNames.{FileNames}
 use Rattle.dae_types_sound.specs.declared.extents.Jumps.{Jumps}
 use Rattle.dae_types_sound.specs.Fit.{is_fit, is_fit_some, is_fit_item, is_fit_aggregate, are_fit, are_fit_statements, are_fit_arms, loop_jumps, switch_jumps}
-use Rattle.dae_types_sound.specs.Reads.{Flagged, ◌⊳⊳◌, aside, both_ways, meet, flags_from, first_flags, reading, reading_some, reading_statements, reading_arms}
-use Rattle.dae_types_sound.proofs.Views.{view_if, view_loop, view_do, view_switch, and_true}
+use Rattle.dae_types_sound.specs.Reads.{◌⊳⊳◌, aside, both_ways, meet, flags_from, first_flags, reading, reading_some, reading_statements, reading_arms}
 
 -- ---- statements
 
 and_tail : (a c : Bool) → (a && c) ≡ ((a && true) && c)
-and_tail a c = ap (λ b. b && c) (sym (and_true a))
+and_tail a c = ap (λ b. b && c) (sym (and_nothing a))
 
 fit_first : (n : FileNames) (x : Extent) (j : Jumps) (s : Statement) (k : tree.Statements) → are_fit_statements n x j (statement_then s k) ≡ (are_fit_statements n x j (statement_then s tree.Done) && are_fit_statements n x j k)
 fit_first n x j (statement.Evaluate p e) k = and_tail (is_fit n x (view e)) (are_fit_statements n x j k)
@@ -51,44 +50,29 @@ fit_first n x j (statement.Break p) k = and_tail (j.breaks) (are_fit_statements 
 fit_first n x j (statement.Continue p) k = and_tail (j.continues) (are_fit_statements n x j k)
 fit_first n x j (statement.Return p e) k = and_tail (j.returns && is_fit_some n x (view_some e)) (are_fit_statements n x j k)
 
-statements_at : (xs : List Statement) (i : ℕ) (x : Statement) → i < length xs → x ≡ get_or xs i x → view_statements (drop i xs) ≡ statement_then x (view_statements (drop (i + 1) xs))
-statements_at xs i x lt is = ap view_statements (drop_at xs i x lt is)
-
-arms_at : (xs : List Arm) (i : ℕ) (x : Arm) → i < length xs → x ≡ get_or xs i x → arms_of (drop i xs) ≡ tree.arm_then x.labels.items (view_statements x.statements.items) (arms_of (drop (i + 1) xs))
-arms_at xs i x lt is = ap arms_of (drop_at xs i x lt is)
-
 pub statement_fit : (n : FileNames) (x : Extent) (j : Jumps) (xs : List Statement) (i : ℕ) (s : Statement) (b : Bool) → i < length xs → s ≡ get_or xs i s → are_fit_statements n x j (view_statements (drop i xs)) ≡ are_fit_statements n x j (view_statements xs) → b ≡ are_fit_statements n x j (statement_then s tree.Done) → (b && are_fit_statements n x j (view_statements (drop (i + 1) xs))) ≡ are_fit_statements n x j (view_statements xs)
 statement_fit n x j xs i s b lt is h e =
     ap (λ c. c && are_fit_statements n x j (view_statements (drop (i + 1) xs))) e ∙ sym (fit_first n x j s (view_statements (drop (i + 1) xs))) ∙ sym (ap (are_fit_statements n x j) (statements_at xs i s lt is)) ∙ h
 
-pub arm_fit : (n : FileNames) (x : Extent) (j : Jumps) (xs : List Arm) (i : ℕ) (arm : Arm) (t u : Bool) → i < length xs → arm ≡ get_or xs i arm → are_fit_arms n x j (arms_of (drop i xs)) ≡ are_fit_arms n x j (arms_of xs) → t ≡ list_all is_label_word arm.labels.items → u ≡ are_fit_statements n x j (view_statements arm.statements.items) → ((t && (u && true)) && are_fit_arms n x j (arms_of (drop (i + 1) xs))) ≡ are_fit_arms n x j (arms_of xs)
-arm_fit n x j xs i arm t u lt is h e g =
-    ap (λ c. (t && c) && are_fit_arms n x j (arms_of (drop (i + 1) xs))) (and_true u ∙ g) ∙ ap (λ c. (c && are_fit_statements n x j (view_statements arm.statements.items)) && are_fit_arms n x j (arms_of (drop (i + 1) xs))) e
-    ∙ sym (ap (are_fit_arms n x j) (arms_at xs i arm lt is)) ∙ h
-
 pub if_fit : (n : FileNames) (x : Extent) (j : Jumps) (p : Place) (a : Expression) (s t : Vec Statement Global) (u v w : Bool) → u ≡ is_fit n x (view a) → v ≡ are_fit_statements n x j (view_statements s.items) → w ≡ are_fit_statements n x j (view_statements t.items) → (u && (v && w)) ≡ are_fit_statements n x j (statement_then (statement.If p a s t) tree.Done)
 if_fit n x j p a s t u v w d e f =
     ap (λ z. z && (v && w)) d ∙ ap (λ z. is_fit n x (view a) && (z && w)) e ∙ ap (λ z. is_fit n x (view a) && (are_fit_statements n x j (view_statements s.items) && z)) f
-    ∙ sym (and_true (is_fit n x (view a) && (are_fit_statements n x j (view_statements s.items) && are_fit_statements n x j (view_statements t.items)))) ∙ sym (ap (are_fit_statements n x j) (view_if p a s t tree.Done))
+    ∙ sym (and_nothing (is_fit n x (view a) && (are_fit_statements n x j (view_statements s.items) && are_fit_statements n x j (view_statements t.items)))) ∙ sym (ap (are_fit_statements n x j) (view_if p a s t tree.Done))
 
 pub loop_fit : (n : FileNames) (x : Extent) (j : Jumps) (p : Place) (test : Option Expression) (s : Vec Statement Global) (step : Option Expression) (u v w : Bool) → u ≡ is_fit_some n x (view_some test) → v ≡ are_fit_statements n x (loop_jumps j) (view_statements s.items) → w ≡ is_fit_some n x (view_some step) → (u && (v && w)) ≡ are_fit_statements n x j (statement_then (statement.Loop p test s step) tree.Done)
 loop_fit n x j p test s step u v w d e f =
     ap (λ z. z && (v && w)) d ∙ ap (λ z. is_fit_some n x (view_some test) && (z && w)) e ∙ ap (λ z. is_fit_some n x (view_some test) && (are_fit_statements n x (loop_jumps j) (view_statements s.items) && z)) f
-    ∙ sym (and_true (is_fit_some n x (view_some test) && (are_fit_statements n x (loop_jumps j) (view_statements s.items) && is_fit_some n x (view_some step)))) ∙ sym (ap (are_fit_statements n x j) (view_loop p test s step tree.Done))
+    ∙ sym (and_nothing (is_fit_some n x (view_some test) && (are_fit_statements n x (loop_jumps j) (view_statements s.items) && is_fit_some n x (view_some step)))) ∙ sym (ap (are_fit_statements n x j) (view_loop p test s step tree.Done))
 
 pub do_fit : (n : FileNames) (x : Extent) (j : Jumps) (p : Place) (s : Vec Statement Global) (test : Expression) (u v : Bool) → u ≡ are_fit_statements n x (loop_jumps j) (view_statements s.items) → v ≡ is_fit n x (view test) → (u && (v && true)) ≡ are_fit_statements n x j (statement_then (statement.Do p s test) tree.Done)
 do_fit n x j p s test u v d e =
-    ap (λ z. u && z) (and_true v ∙ e) ∙ ap (λ z. z && is_fit n x (view test)) d
-    ∙ sym (and_true (are_fit_statements n x (loop_jumps j) (view_statements s.items) && is_fit n x (view test))) ∙ sym (ap (are_fit_statements n x j) (view_do p s test tree.Done))
-
-regroup : (u v w : Bool) → (u && (v && w)) ≡ ((u && v) && w)
-regroup true v w = refl
-regroup false v w = refl
+    ap (λ z. u && z) (and_nothing v ∙ e) ∙ ap (λ z. z && is_fit n x (view test)) d
+    ∙ sym (and_nothing (are_fit_statements n x (loop_jumps j) (view_statements s.items) && is_fit n x (view test))) ∙ sym (ap (are_fit_statements n x j) (view_do p s test tree.Done))
 
 pub switch_fit : (n : FileNames) (x : Extent) (j : Jumps) (p : Place) (a : Expression) (arms : Vec Arm Global) (u v w : Bool) → u ≡ is_fit n x (view a) → v ≡ is_word (count_arms (arms_of arms.items)) → w ≡ are_fit_arms n x (switch_jumps j) (arms_of arms.items) → (u && (v && w)) ≡ are_fit_statements n x j (statement_then (statement.Switch p a arms) tree.Done)
 switch_fit n x j p a arms u v w d e f =
-    regroup u v w ∙ ap (λ z. (z && v) && w) d ∙ ap (λ z. (is_fit n x (view a) && z) && w) e ∙ ap (λ z. (is_fit n x (view a) && is_word (count_arms (arms_of arms.items))) && z) f
-    ∙ sym (and_true ((is_fit n x (view a) && is_word (count_arms (arms_of arms.items))) && are_fit_arms n x (switch_jumps j) (arms_of arms.items))) ∙ sym (ap (are_fit_statements n x j) (view_switch p a arms tree.Done))
+    and_along u v w ∙ ap (λ z. (z && v) && w) d ∙ ap (λ z. (is_fit n x (view a) && z) && w) e ∙ ap (λ z. (is_fit n x (view a) && is_word (count_arms (arms_of arms.items))) && z) f
+    ∙ sym (and_nothing ((is_fit n x (view a) && is_word (count_arms (arms_of arms.items))) && are_fit_arms n x (switch_jumps j) (arms_of arms.items))) ∙ sym (ap (are_fit_statements n x j) (view_switch p a arms tree.Done))
 
 -- ---- flags
 
@@ -116,12 +100,6 @@ flags_more p v n set new x lt e g h =
     ∙ ap (λ z. set ++ (nat_lt 0 v && nat_le v p) ∷ flags_from p z (n - (v + 1))) up ∙ sym (ap (λ z. set ++ flags_from p v z) more) ∙ h
 
 -- ---- reading
-
-pub reads_then : (r : Flagged) (e : List Bool) (k : tree.Statements) → r ≡ Some e → (r ⊳⊳ reading_statements k) ≡ reading_statements k e
-reads_then r e k h = ap (λ o. o ⊳⊳ reading_statements k) h
-
-pub reads_step : (xs : List Statement) (i : ℕ) (s : Statement) (all now new : List Bool) → i < length xs → s ≡ get_or xs i s → reading_statements (view_statements (drop i xs)) now ≡ reading_statements (view_statements xs) all → ((k : tree.Statements) → reading_statements (statement_then s k) now ≡ reading_statements k new) → reading_statements (view_statements (drop (i + 1) xs)) new ≡ reading_statements (view_statements xs) all
-reads_step xs i s all now new lt is h step = sym (step (view_statements (drop (i + 1) xs))) ∙ sym (ap (λ t. reading_statements t now) (statements_at xs i s lt is)) ∙ h
 
 pub arms_step : (xs : List Arm) (i : ℕ) (arm : Arm) (d turn : List Bool) → i < length xs → arm ≡ get_or xs i arm → reading_arms (arms_of (drop i xs)) d ≡ reading_arms (arms_of xs) d → reading_statements (view_statements arm.statements.items) d ≡ Some turn → reading_arms (arms_of (drop (i + 1) xs)) d ≡ reading_arms (arms_of xs) d
 arms_step xs i arm d turn lt is h g =

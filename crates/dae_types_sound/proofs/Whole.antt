@@ -3,6 +3,7 @@ use Rattle.std.proofs.Common.{◌≡◌, true, ◌&&◌, ◌||◌, List, [], ◌
 use Rattle.std.proofs.lemmas.Bool.{and_from}
 use Rattle.std.specs.Prelude.{nat_eq, not}
 use Rattle.std.specs.List.{list_all}
+use Rattle.dae_base.proofs.Laws.{and_first, and_second}
 use Rattle.dae_program.specs.Lawful.{prints_bytes}
 use Rattle.dae_program.specs.SetFirst.{is_set_first}
 use Rattle.dae_program.specs.Views.{view_statements}
@@ -18,7 +19,6 @@ use Rattle.dae_types_sound.specs.Reads.{is_reading_body}
 use Rattle.dae_types_sound.specs.Shapes.{are_laid_out, are_sound_shapes}
 use Rattle.dae_types_sound.proofs.Distinct.{own_names}
 use Rattle.dae_types_sound.proofs.Fitting.{print_bytes, sound_functions}
-use Rattle.dae_types_sound.proofs.Numbers.{first, second}
 use Rattle.dae_types_sound.proofs.Reading.{set_first}
 use Rattle.dae_types_sound.proofs.Small.{are_used, calls_sound, chains, elements_complete, layouts, numbers_equal, sound_declarations, uses_declared}
 
@@ -26,11 +26,11 @@ ready : (f : FileParts) (n : FileNames) (ts : List TypedFunction) → list_all (
 ready f n [] h g = h
 ready f n (t ∷ ts) h g =
     let main = is_called_main f t.routine in
-    let here = first (is_fit_function f n t) (list_all (is_fit_function f n) ts) h in
-    let body = second (not main || nat_eq (length t.parameters) 0) (are_fit_statements n (extent_of t) (body_jumps (not main)) (view_statements t.body)) (second (has_parameters f t) ((not main || nat_eq (length t.parameters) 0) && are_fit_statements n (extent_of t) (body_jumps (not main)) (view_statements t.body)) here) in
+    let here = and_first (is_fit_function f n t) (list_all (is_fit_function f n) ts) h in
+    let body = and_second (not main || nat_eq (length t.parameters) 0) (are_fit_statements n (extent_of t) (body_jumps (not main)) (view_statements t.body)) (and_second (has_parameters f t) ((not main || nat_eq (length t.parameters) 0) && are_fit_statements n (extent_of t) (body_jumps (not main)) (view_statements t.body)) here) in
     and_from (is_ready_function t) (list_all is_ready_function ts)
-    (and_from (is_set_first (function_at (λ n. 0) t)) (prints_bytes (view_statements t.body)) (set_first t (first _ _ g)) (print_bytes n (extent_of t) (body_jumps (not main)) (view_statements t.body) body))
-    (ready f n ts (second _ _ h) (second _ _ g))
+    (and_from (is_set_first (function_at (λ n. 0) t)) (prints_bytes (view_statements t.body)) (set_first t (and_first _ _ g)) (print_bytes n (extent_of t) (body_jumps (not main)) (view_statements t.body) body))
+    (ready f n ts (and_second _ _ h) (and_second _ _ g))
 
 pub sound_parts : (f : FileParts) → list_all (is_fit_function f (names_in f)) f.functions ≡ true → list_all is_reading_body f.functions ≡ true
     → are_laid_out (tables_of f) 0 f.structures ≡ true → are_sound_shapes (tables_of f) 0 f.shapes ≡ true → list_all (has_complete_type (tables_of f)) f.components ≡ true

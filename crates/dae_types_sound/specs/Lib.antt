@@ -1,4 +1,3 @@
-pub mod Arms
 pub mod Declarations
 pub mod Distinct
 pub mod Fit

@@ -171,7 +171,7 @@ fn is_fit_target(names: &FileNames, extent: Extent, width: Width, t: &Target) ->
 
 /// Whether a call fits, of a function that the file uses.
 #[cycle(fit)]
-#[tactic(auto, using(crate::proofs::Views::count_expressions))]
+#[tactic(auto, using(dae_program::proofs::LawsOfTrees::count_expressions))]
 fn is_fit_call(names: &FileNames, extent: Extent, function: u32, xs: &[Expression]) -> bool
     ensures { result ≡ is_fit_call names.now extent function (view_expressions xs.now) }
 {

@@ -5,8 +5,7 @@ ghost use Rattle.std.specs.List.{list_all};
 ghost use Rattle.dae_program.specs.Lawful.{is_byte, is_label_word, is_word};
 ghost use Rattle.dae_program.specs.Switches.{count_arms};
 ghost use Rattle.dae_program.specs.Trees.{Done};
-ghost use Rattle.dae_program.specs.Views.{statement_then, view_settings, view_statements};
-ghost use Rattle.dae_types_sound.specs.Arms.{arms_of};
+ghost use Rattle.dae_program.specs.Views.{statement_then, view_settings, view_statements, arms_of};
 ghost use Rattle.dae_types_sound.specs.Fit.{are_fit_arms, are_fit_statements, is_fit_aggregate, is_fit_item, loop_jumps, switch_jumps};
 
 use crate::expressions::{are_fit, fits_frame, is_fit, is_fit_some, is_word};
@@ -93,7 +92,7 @@ fn are_label_words(labels: &[Option<u32>]) -> bool
 }
 
 /// Whether the number of some arms is a word.
-#[tactic(auto, using(crate::proofs::Views::arms_counted))]
+#[tactic(auto, using(dae_program::proofs::LawsOfTrees::arms_counted))]
 fn is_count_word(arms: &[Arm]) -> bool
     ensures { result ≡ is_word (count_arms (arms_of arms.now)) }
 {
@@ -125,7 +124,7 @@ pub fn are_fit_statements(
 }
 
 #[cycle(fit_statements)]
-#[tactic(auto, using(crate::proofs::Views::and_true))]
+#[tactic(auto, using(dae_base::proofs::Laws::and_nothing))]
 fn is_fit_statement(names: &FileNames, extent: Extent, jumps: Jumps, s: &Statement) -> bool
     ensures { result ≡ are_fit_statements names.now extent jumps (statement_then s.now Done) }
 {

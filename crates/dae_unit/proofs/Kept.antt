@@ -11,7 +11,7 @@ use Rattle.std.specs.List.{list_any}
 use Rattle.std.specs.Map.{lookup}
 use Rattle.std.specs.Option.{unwrap_or}
 use Rattle.std.specs.Str.{bytes_eq}
-use Rattle.dae_base.proofs.Laws.{drop_at}
+use Rattle.dae_base.proofs.Laws.{drop_at, and_false, same_tests}
 use Rattle.dae_types_kinds.specs.declared.tables.Entity.{Entity}
 use Rattle.dae_types_kinds.specs.declared.tables.Entity.TheVariants as entity
 use Rattle.dae_types_typed.specs.declared.files.FileParts.{FileParts}
@@ -29,7 +29,7 @@ use Rattle.dae_unit.specs.Linkage.{is_one, entity_of, declares_same, defines, re
 use Rattle.dae_unit.specs.Meanings.{number_from}
 use Rattle.dae_unit.specs.Placing.{gives_room, is_first}
 use Rattle.dae_unit.proofs.Finding.{found_alike, none_found}
-use Rattle.dae_unit.proofs.Same.{same_bool, bytes_same, bytes_alike, entities_same, one_by_identity, nothing_is_one, equals_are_same}
+use Rattle.dae_unit.proofs.Same.{bytes_same, bytes_alike, entities_same, one_by_identity, nothing_is_one, equals_are_same}
 
 -- ---- what is noted
 
@@ -157,7 +157,7 @@ nothing_is_given files k e h (d ∷ ds) = rw (nothing_is_one files k e d.file (e
 -- ---- definitions of one name
 
 turned_bytes : (x y : List ℕ) → bytes_eq x y ≡ bytes_eq y x
-turned_bytes x y = same_bool (bytes_eq x y) (bytes_eq y x) (λ e. bytes_alike y x (sym (bytes_same x y e))) (λ e. bytes_alike x y (sym (bytes_same y x e)))
+turned_bytes x y = same_tests (bytes_eq x y) (bytes_eq y x) (λ e. bytes_alike y x (sym (bytes_same x y e))) (λ e. bytes_alike x y (sym (bytes_same y x e)))
 
 found_first : {X : Type 0} (b c : Bool) (x : X) (o p : Option X) → b ≡ c → o ≡ p → cond b (Some x) o ≡ cond c (Some x) p
 found_first b c x o p h g = rw (h, g) refl
@@ -180,13 +180,9 @@ pub no_definition_clashes : (files : List FileParts) (d : FileRow) → defines d
 unfolding clashes
 no_definition_clashes files d fails ds = sym (none_found (clashes files Definitions d) (λ x. rw fails refl) ds)
 
-and_no : (b : Bool) → (b && false) ≡ false
-and_no true = refl
-and_no false = refl
-
 pub no_name_clashes : (files : List FileParts) (d : FileRow) → name_of files d ≡ None → (ds : List FileRow) → None ≡ find (clashes files Definitions d) ds
 unfolding clashes
-no_name_clashes files d fails ds = sym (none_found (clashes files Definitions d) (λ x. rw fails (and_no (defines d && defines x))) ds)
+no_name_clashes files d fails ds = sym (none_found (clashes files Definitions d) (λ x. rw fails (and_false (defines d && defines x))) ds)
 
 -- a clash with a declaration stands before those behind it
 pub nearest_is_first : (files : List FileParts) (clash : Clash) (d : FileRow) (ds : List FileRow) → nearest d (find (clashes files clash d) ds) (first_clash files clash ds) ≡ first_clash files clash (d ∷ ds)

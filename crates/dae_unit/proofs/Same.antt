@@ -1,11 +1,12 @@
 -- Objects and functions are one exactly where one identity stands for both.
 use Rattle.std.proofs.Common.{◌≡◌, ◌≢◌, ◌⊎◌, ℕ, Bool, true, false, ◌&&◌, ◌||◌, not, inl, inr, List, [], ◌∷◌, ◌++◌, if◌then◌else◌, Option, Some, None, refl, sym, ap, subst, ◌∙◌, arith}
-use Rattle.std.proofs.lemmas.Bool.{false≢true, and_parts, or_cases}
+use Rattle.std.proofs.lemmas.Bool.{false≢true, and_parts, or_cases, false_from_ne_true, or_from, and_right}
 use Rattle.std.proofs.lemmas.Bool.Decides.{nat_tests}
 use Rattle.std.proofs.lemmas.Slice.Eq.{bytes_eq-Decides}
 use Rattle.std.specs.Prelude.{nat_eq}
 use Rattle.std.specs.List.{list_any}
 use Rattle.std.specs.Str.{bytes_eq}
+use Rattle.dae_base.proofs.Laws.{same_tests}
 use Rattle.indexmap.specs.IndexSet.{insert_key}
 use Rattle.dae_types_kinds.specs.declared.tables.Entity.{Entity}
 use Rattle.dae_types_kinds.specs.declared.tables.Entity.TheVariants as entity
@@ -17,18 +18,6 @@ use Rattle.dae_unit.specs.declared.identities.Identity.TheVariants.{Named, Objec
 use Rattle.dae_unit.specs.contracts.identities.IdentityPartialEq.TheImpl.{ghosts}
 use Rattle.dae_unit.specs.Identities.{IsIdentity, same_identity}
 use Rattle.dae_unit.specs.Linkage.{external_name, is_one}
-
-pub same_bool : (a b : Bool) → (a ≡ true → b ≡ true) → (b ≡ true → a ≡ true) → a ≡ b
-same_bool true b f g = sym (f refl)
-same_bool false true f g = g refl
-same_bool false false f g = refl
-
-no_bool : (a : Bool) → (a ≡ true → ⊥) → a ≡ false
-no_bool true h = absurd (h refl)
-no_bool false h = refl
-
-pub neither : (a b : Bool) → a ≡ false → b ≡ false → (a || b) ≡ false
-neither a b p q = rw (p, q) refl
 
 pub bytes_same : (x y : List ℕ) → bytes_eq x y ≡ true → x ≡ y
 bytes_same x y h = grind (arith, bytes_eq-Decides x y)
@@ -47,7 +36,7 @@ unlike_left (entity.Function n) y h = absurd (grind (arith, nat_tests))
 unlike_left x y h = refl
 
 unlike_right : (x y : Entity) → same_entity y y ≡ false → same_entity x y ≡ false
-unlike_right x y h = no_bool (same_entity x y) (λ e. false≢true (sym h ∙ subst (λ z. same_entity z y ≡ true) (entities_same x y e) e))
+unlike_right x y h = false_from_ne_true (same_entity x y) (λ e. false≢true (sym h ∙ subst (λ z. same_entity z y ≡ true) (entities_same x y e) e))
 
 no_left : (p q : Option (List ℕ)) → p ≡ None → same_name p q ≡ false
 no_left p q h = rw h refl
@@ -56,15 +45,11 @@ no_right : (p q : Option (List ℕ)) → q ≡ None → same_name p q ≡ false
 no_right None q h = refl
 no_right (Some x) q h = rw h refl
 
-no_and : (a b : Bool) → b ≡ false → (a && b) ≡ false
-no_and true b h = h
-no_and false b h = refl
-
 turned : (a b m n : ℕ) → (nat_eq a b && nat_eq m n) ≡ (nat_eq b a && nat_eq n m)
 turned a b m n = rw (flipped a b, flipped m n) refl
   where
     flipped : (x y : ℕ) → nat_eq x y ≡ nat_eq y x
-    flipped x y = same_bool (nat_eq x y) (nat_eq y x) (λ e. grind (arith, nat_tests)) (λ e. grind (arith, nat_tests))
+    flipped x y = same_tests (nat_eq x y) (nat_eq y x) (λ e. grind (arith, nat_tests)) (λ e. grind (arith, nat_tests))
 
 abbrev pub is_same_identity : (query row : Option Identity) → Bool
 is_same_identity None row = false
@@ -80,12 +65,12 @@ module _ (files : List FileParts) (j : ℕ) (x : Entity) (k : ℕ) (y : Entity) 
       ap (λ m. external_name files m x) file ∙ ap (external_name files k) (entities_same x y parts.1)
 
   other_names : external_name files j x ≢ external_name files k y → (nat_eq j k && same_entity x y) ≡ false
-  other_names h = no_bool (nat_eq j k && same_entity x y) (λ e. h (one_name e))
+  other_names h = false_from_ne_true (nat_eq j k && same_entity x y) (λ e. h (one_name e))
 
   by_names : (m n : List ℕ) → external_name files j x ≡ Some m → external_name files k y ≡ Some n →
       (same_name (external_name files j x) (external_name files k y) || (nat_eq j k && same_entity x y)) ≡ bytes_eq n m
   by_names m n p q =
-      same_bool (same_name (external_name files j x) (external_name files k y) || (nat_eq j k && same_entity x y)) (bytes_eq n m)
+      same_tests (same_name (external_name files j x) (external_name files k y) || (nat_eq j k && same_entity x y)) (bytes_eq n m)
       (λ e. bytes_alike n m (sym (one (or_cases (same_name (external_name files j x) (external_name files k y)) (nat_eq j k && same_entity x y) e))))
       (λ e. rw (p, q, bytes_alike m n (sym (bytes_same n m e))) refl)
     where
@@ -98,21 +83,21 @@ module _ (files : List FileParts) (j : ℕ) (x : Entity) (k : ℕ) (y : Entity) 
 
   pub one_by_identity : (a b : Option Identity) → IsIdentity files j x a → IsIdentity files k y b → is_one files j x k y ≡ is_same_identity a b
   unfolding is_one
-  one_by_identity None b h g = neither _ _ (no_left _ _ h.0) (no_and _ _ (unlike_left x y h.1))
-  one_by_identity (Some i) None h g = neither _ _ (no_right _ _ g.0) (no_and _ _ (unlike_right x y g.1))
+  one_by_identity None b h g = or_from _ _ (no_left _ _ h.0) (and_right _ _ (unlike_left x y h.1))
+  one_by_identity (Some i) None h g = or_from _ _ (no_right _ _ g.0) (and_right _ _ (unlike_right x y g.1))
   one_by_identity (Some (Named m)) (Some (Named n)) h g = by_names m.now n.now h g
-  one_by_identity (Some (Named m)) (Some (Object b n)) h g = neither _ _ (no_right _ _ g.0) (other_names (λ e. absurd cc))
-  one_by_identity (Some (Named m)) (Some (Function b n)) h g = neither _ _ (no_right _ _ g.0) (other_names (λ e. absurd cc))
-  one_by_identity (Some (Object a m)) (Some (Named n)) h g = neither _ _ (no_left _ _ h.0) (other_names (λ e. absurd cc))
-  one_by_identity (Some (Function a m)) (Some (Named n)) h g = neither _ _ (no_left _ _ h.0) (other_names (λ e. absurd cc))
+  one_by_identity (Some (Named m)) (Some (Object b n)) h g = or_from _ _ (no_right _ _ g.0) (other_names (λ e. absurd cc))
+  one_by_identity (Some (Named m)) (Some (Function b n)) h g = or_from _ _ (no_right _ _ g.0) (other_names (λ e. absurd cc))
+  one_by_identity (Some (Object a m)) (Some (Named n)) h g = or_from _ _ (no_left _ _ h.0) (other_names (λ e. absurd cc))
+  one_by_identity (Some (Function a m)) (Some (Named n)) h g = or_from _ _ (no_left _ _ h.0) (other_names (λ e. absurd cc))
   one_by_identity (Some (Object a m)) (Some (Object b n)) h g = rw (h.0, h.2, g.2, sym h.1, sym g.1) (turned a b m n)
   one_by_identity (Some (Function a m)) (Some (Function b n)) h g = rw (h.0, h.2, g.2, sym h.1, sym g.1) (turned a b m n)
-  one_by_identity (Some (Object a m)) (Some (Function b n)) h g = neither _ _ (no_left _ _ h.0) (no_and (nat_eq j k) (same_entity x y) (rw (h.2, g.2) refl))
-  one_by_identity (Some (Function a m)) (Some (Object b n)) h g = neither _ _ (no_left _ _ h.0) (no_and (nat_eq j k) (same_entity x y) (rw (h.2, g.2) refl))
+  one_by_identity (Some (Object a m)) (Some (Function b n)) h g = or_from _ _ (no_left _ _ h.0) (and_right (nat_eq j k) (same_entity x y) (rw (h.2, g.2) refl))
+  one_by_identity (Some (Function a m)) (Some (Object b n)) h g = or_from _ _ (no_left _ _ h.0) (and_right (nat_eq j k) (same_entity x y) (rw (h.2, g.2) refl))
 
 pub nothing_is_one : (files : List FileParts) (j : ℕ) (x : Entity) (k : ℕ) (y : Entity) → IsIdentity files j x None → is_one files j x k y ≡ false
 unfolding is_one
-nothing_is_one files j x k y h = neither _ _ (no_left _ _ h.0) (no_and _ _ (unlike_left x y h.1))
+nothing_is_one files j x k y h = or_from _ _ (no_left _ _ h.0) (and_right _ _ (unlike_left x y h.1))
 
 -- ---- the derived `==`
 

@@ -9,3 +9,4 @@ pub mod Contents
 pub mod Joining
 pub mod Outlines
 pub mod Joined
+pub mod Parameters

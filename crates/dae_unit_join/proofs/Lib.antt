@@ -14,5 +14,6 @@ mod Causes
 mod Uses
 mod Room
 mod Calls
+mod Sound
 mod Counts
 pub mod Whole

@@ -5,7 +5,7 @@ use Rattle.dae_program.specs.declared.program.Program.{Program}
 use Rattle.dae_program.specs.Lawful.{is_lawful}
 use Rattle.dae_types_typed.specs.declared.files.FileParts.{FileParts}
 use Rattle.dae_types_typed.specs.Sound.{IsSound}
-use Rattle.dae_file_sizes.specs.Small.{HasParameters}
+use Rattle.dae_unit.specs.Parameters.{HasParameters}
 use Rattle.dae_unit.specs.declared.joining.ProgramParts.{ProgramParts}
 use Rattle.dae_unit.specs.Joined.{Joins}
 

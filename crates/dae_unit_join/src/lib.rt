@@ -15,6 +15,4 @@ pub fn joined_is_lawful()
 /// In files without a broken rule that join, each function has the parameters of its type.
 pub fn joined_have_parameters()
     ensures { JoinedHaveParameters }
-{
-    dae_file_sizes::sound_have_parameters();
-}
+{}

@@ -2,4 +2,4 @@ use Rattle.dae_unit_join.proofs.Counts.{joined_have_parameters}
 use Rattle.dae_unit_join.proofs.joined_have_parameters.Goals as goal
 
 pub returns : goal.returns
-returns c = joined_have_parameters c.sound_have_parameters.ensures
+returns c = joined_have_parameters

@@ -9,7 +9,7 @@ use Rattle.dae_accept.proofs.accepting.accept.Goals as goal
 
 pub returns-clause-files : goal.returns-clause-files
 returns-clause-files c =
-    of_files c.starts_keep_literals.ensures (texts_in c.args.texts.now) c.args.memory c.in_ok-files.files.items c.in_ok-typed.typed.items c.in_ok-program.program
+    of_files (texts_in c.args.texts.now) c.args.memory c.in_ok-files.files.items c.in_ok-typed.typed.items c.in_ok-program.program
     c.in_ok-files.ensures (recursion_from_All IsFile c.in_ok-files.files.items (subst (All IsFile) c.as_slice.ensures.value c.see_files.ensures))
     (subst (λ files. AreTyped files c.in_ok-typed.typed.items) c.as_slice-2.ensures.value c.in_ok-typed.ensures)
     c.in_ok-program.ensures.parameters c.in_ok-program.ensures.ok

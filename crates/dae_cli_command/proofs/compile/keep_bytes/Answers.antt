@@ -1,6 +1,7 @@
 use Rattle.std.proofs.Common.{inl, inr, refl, subst}
 use Rattle.std.specs.Prelude.{List, ℕ}
 use Rattle.dae_cli_drive.specs.Puts.{GivesNotes, told}
+use Rattle.dae_cli_command.proofs.Keeping.{ends_so}
 use Rattle.dae_cli_command.proofs.compile.keep_bytes.Goals as goal
 
 pub returns-in-Ok-clause-gives : goal.returns-in-Ok-clause-gives
@@ -8,3 +9,6 @@ returns-in-Ok-clause-gives g c = inl (c.in-Ok.ensures.kept, rw c.requires at c.n
 
 pub returns-in-Err-clause-gives : goal.returns-in-Err-clause-gives
 returns-in-Err-clause-gives g c = inr (record { rose = c.in-Err.ensures.rose; last = c.in-Err.ensures.fault }, refl, refl)
+
+pub returns-in-Ok-clause-ends : goal.returns-in-Ok-clause-ends
+returns-in-Ok-clause-ends g c = ends_so c.noted.ensures

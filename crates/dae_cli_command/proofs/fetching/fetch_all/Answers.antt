@@ -12,7 +12,7 @@ returns-in_err-text-clause-err g c =
     let e = texts_from string_bytes c.args.names.now c.loop-name.name-index c.name-item.result (omega arith) c.name-item.is in
     let way = rw e at c.loop-name.invariant.way in
     let stop = rw c.as_str.ensures.value at c.in_err-text.ensures.err in
-    rw (p.1, p.2) (way_stops _ c.loop-name.invariant.held c.loop-name.invariant.counted way stop)
+    rw (p.1, p.2) (way_stops _ _ _ c.loop-name.invariant.held c.loop-name.invariant.counted way stop)
 
 pub loop-name-preserved : goal.loop-name-preserved
 loop-name-preserved g c =
@@ -29,6 +29,7 @@ loop-name-preserved g c =
       way = way_same next (ap (λ (k : ℕ). c.loop-name.left - k) (sym size)) (sym (ap texts_in pushed ∙ map-append (λ t. t.items) c.loop-name.texts.items (c.in_ok-text.text ∷ [])));
       held = λ name. c.fetch_one.ensures.held name ∙ c.loop-name.invariant.held name;
       counted = omega (arith, counted, more);
+      given = c.fetch_one.ensures.given ∙ c.loop-name.invariant.given;
     }
 
 pub returns-clause-ok : goal.returns-clause-ok

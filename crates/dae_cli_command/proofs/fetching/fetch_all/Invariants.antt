@@ -1,4 +1,4 @@
-use Rattle.std.proofs.Common.{◌≤◌, map, string_bytes, drop}
+use Rattle.std.proofs.Common.{◌≡◌, ◌≤◌, map, string_bytes, drop}
 use Rattle.dae_io.specs.Told.{TellsSame}
 use Rattle.dae_accept_sources.specs.Read.{texts_in}
 use Rattle.dae_cli_command.specs.Fetching.{most_source}
@@ -14,4 +14,5 @@ invariant-loop-name g l =
       way : IsOnWay (told l.fn.shelf) most_source (map string_bytes l.names) l.left (map string_bytes (drop l.name-index l.names)) (texts_in l.texts.items);
       held : TellsSame (told l.fn.shelf) (told l.shelf);
       counted : g.F.Shelf.count l.fn.shelf ≤ g.F.Shelf.count l.shelf;
+      given : g.F.Shelf.given l.shelf ≡ g.F.Shelf.given l.fn.shelf;
     }

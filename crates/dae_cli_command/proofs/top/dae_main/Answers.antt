@@ -1,4 +1,4 @@
-use Rattle.std.proofs.Common.{◌≡◌, inl, map, refl, subst}
+use Rattle.std.proofs.Common.{◌≡◌, inl, inr, map, refl, subst}
 use Rattle.std.specs.Prelude.{string_bytes}
 use Rattle.dae_cli_jobs.specs.declared.job.Job.{Job}
 use Rattle.dae_cli_jobs.specs.Words.{SpellsJob}
@@ -53,3 +53,25 @@ returns-in-None-clause-gives g c = (_, due_words c.in-None.ensures, c.noted.ensu
 
 pub returns-in-None-clause-held : goal.returns-in-None-clause-held
 returns-in-None-clause-held g c = inl (λ name. refl)
+
+pub returns-in-Some-Run-clause-kept : goal.returns-in-Some-Run-clause-kept
+returns-in-Some-Run-clause-kept g c = inl (record { given = c.run.ensures.given; told = c.run.ensures.held })
+
+pub returns-in-Some-Run-clause-unkept : goal.returns-in-Some-Run-clause-unkept
+returns-in-Some-Run-clause-unkept g c = λ zero six. c.run.ensures.held
+
+pub returns-in-Some-Exec-clause-kept : goal.returns-in-Some-Exec-clause-kept
+returns-in-Some-Exec-clause-kept g c = inl (record { given = c.exec.ensures.given; told = c.exec.ensures.held })
+
+pub returns-in-Some-Exec-clause-unkept : goal.returns-in-Some-Exec-clause-unkept
+returns-in-Some-Exec-clause-unkept g c = λ zero six. c.exec.ensures.held
+
+pub returns-in-Some-Compile-clause-kept : goal.returns-in-Some-Compile-clause-kept
+returns-in-Some-Compile-clause-kept g c =
+    inr (_, _, _, subst (λ (job : Job). SpellsJob (map string_bytes c.args.words.now) job) c.in-Some-Compile.field-0-is c.in-Some-Compile.ensures, c.compile_files.ensures.kept)
+
+pub returns-in-None-clause-kept : goal.returns-in-None-clause-kept
+returns-in-None-clause-kept g c = inl (record { given = refl; told = λ name. refl })
+
+pub returns-in-None-clause-unkept : goal.returns-in-None-clause-unkept
+returns-in-None-clause-unkept g c = λ zero six name. refl

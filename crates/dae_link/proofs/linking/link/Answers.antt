@@ -20,6 +20,8 @@ returns-clause-compiled c = λ ir tables cap classes is_pair is_budget. record {
   budget = is_budget;
   calls = is_pair.a.calls;
   made = is_made ir tables cap c.args.pair.now is_pair _ c.in_ok-a.a.private c.in_ok-e.e.private c.in_ok-a.ensures.code c.in_ok-e.ensures.code refl refl refl;
+  exact = exact c.args.pair.now c.args.budget _ _ c.requires.side_a c.requires.side_e c.in_ok-a.ensures.uses c.in_ok-e.ensures.uses (c.pair_uses.ensures ir tables cap c.args.pair.now c.args.budget is_pair is_budget);
+  registers = record { a = c.in_ok-a.ensures.registers; e = c.in_ok-e.ensures.registers };
   marks = has_marks c.args.pair.now _ _ _ c.in_ok-a.ensures.places c.in_ok-e.ensures.places
       (c.from_vec.ensures ∙ same_marks _ _ _ _ _ _ _ (same_room _ _ _ _ _ _ c.len.ensures c.len-2.ensures c.len-3.ensures) c.as_slice.ensures.value c.as_slice-2.ensures.value c.in_ok-lines.ensures.made);
 }
@@ -31,10 +33,6 @@ returns-clause-does c = λ ir tables cap ready classes is_pair is_budget.
 
 pub returns-clause-private : goal.returns-clause-private
 returns-clause-private c = record { a = (c.in_ok-a.a.private, refl, c.in_ok-a.ensures.frames); e = (c.in_ok-e.e.private, refl, c.in_ok-e.ensures.frames) }
-
-pub returns-clause-exact : goal.returns-clause-exact
-returns-clause-exact c = λ ir tables cap is_pair is_budget.
-    exact c.args.pair.now c.args.budget _ _ c.requires.side_a c.requires.side_e c.in_ok-a.ensures.uses c.in_ok-e.ensures.uses (c.pair_uses.ensures ir tables cap c.args.pair.now c.args.budget is_pair is_budget)
 
 pub returns-clause-short : goal.returns-clause-short
 returns-clause-short c = record { a = c.in_ok-a.ensures.short; e = c.in_ok-e.ensures.short }

@@ -6,6 +6,7 @@ use Rattle.dae_ir.specs.declared.stream.Step.{Step}
 use Rattle.dae_select_walks.specs.Homes.{AreHomes, home_in}
 use Rattle.dae_select_walks.specs.Live.{function_lives}
 use Rattle.dae_select_walks.specs.declared.Home.{Home}
+use Rattle.dae_regalloc.specs.Given.{AreFew, IsRegister}
 use Rattle.dae_regalloc.specs.Seen.{AreBelow}
 use Rattle.dae_link_sides.proofs.homes.layout_of.Goals as goal
 
@@ -24,6 +25,8 @@ returns-clause-layout c =
       inside = subst (λ (m : ℕ). AllByRecursion (AreBelow m) (function_lives parameters (actions_of c.args.function.now.body))) (sym same)
           (subst (λ (b : List Step). AllByRecursion (AreBelow (length homes)) (function_lives parameters (actions_of b))) c.as_slice.ensures c.in_ok-homes.ensures.inside);
       least = λ m below. (let few = c.in_ok-homes.ensures.few m (subst (λ (b : List Step). AllByRecursion (AreBelow m) (function_lives parameters (actions_of b))) (sym c.as_slice.ensures) below) in omega arith);
+      registers = subst (λ (hs : List Home). AreFew 18 (function_lives parameters (actions_of c.args.function.now.body)) → (v : ℕ) → IsRegister (home_in hs v)) (sym c.from_vec.ensures)
+          (subst (λ (b : List Step). AreFew 18 (function_lives parameters (actions_of b)) → (v : ℕ) → IsRegister (home_in homes v)) c.as_slice.ensures c.in_ok-homes.ensures.registers);
       frame = refl;
       entry = refl;
     }

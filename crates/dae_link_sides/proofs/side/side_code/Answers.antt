@@ -3,11 +3,13 @@ use Rattle.std.specs.List.{AllByRecursion}
 use Rattle.std.proofs.lemmas.List.{length-map}
 use Rattle.dae_encode.specs.Spelling.{InRange, encoded}
 use Rattle.dae_encode.specs.declared.Inst.{Inst}
+use Rattle.dae_select.specs.Layouts.{plan_of, variables_of}
 use Rattle.dae_select.specs.declared.growing.PlacedWord.{PlacedWord}
-use Rattle.dae_link_sides.specs.Sides.{HasUsesOf, IsCodeOf, at_places, code_at, places_by}
+use Rattle.dae_link_sides.specs.Sides.{HasUsesOf, IsCodeOf, at_places, code_at, opening_by, places_by}
 use Rattle.dae_link_sides.proofs.Settling.{private_within}
 use Rattle.dae_link_sides.proofs.Sizes.{functions_some}
 use Rattle.dae_link_sides.proofs.Sided.{code_fits, code_long, code_short, code_made}
+use Rattle.dae_link_sides.proofs.Registers.{registers_placed}
 use Rattle.dae_link_sides.proofs.Used.{code_used}
 use Rattle.dae_link_sides.proofs.side.side_code.Goals as goal
 
@@ -56,4 +58,13 @@ returns-clause-places c =
       all = at_places stream all;
       code = c.from_vec.ensures ∙ c.in_ok-encode_all.ensures.words ∙ ap (map encoded) (c.as_slice.ensures.value ∙ c.in_ok-code.ensures.code);
       begins = c.in_ok-code.ensures.places ∙ ap (λ (ps : List PlacedWord). ps ++ places_by (at_places stream all) stream) c.new-places.ensures.items;
+    }
+
+pub returns-clause-registers : goal.returns-clause-registers
+returns-clause-registers c =
+    let stream = c.args.stream.now in let all = c.in_ok-layouts.layouts in let unplaced = c.in_ok-layouts.ensures.layouts in
+    record {
+      all = at_places stream all;
+      code = c.from_vec.ensures ∙ c.in_ok-encode_all.ensures.words ∙ ap (map encoded) (c.as_slice.ensures.value ∙ c.in_ok-code.ensures.code);
+      each = registers_placed (plan_of all) (variables_of all) (length (opening_by all stream)) 0 stream.functions all.functions unplaced.functions;
     }

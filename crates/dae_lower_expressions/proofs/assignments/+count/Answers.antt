@@ -1,5 +1,5 @@
 use Rattle.dae_lower_expressions.proofs.Counting.{never_changed, both_changed, first_counted, next_counted, last_counted}
-use Rattle.dae_lower_expressions.proofs.Views.{by_call, view_at, view_end}
+use Rattle.dae_program.proofs.LawsOfTrees.{by_call, view_at, view_end}
 use Rattle.dae_lower_expressions.specs.Assignments.{assignments, target_assignments}
 use Rattle.dae_lower_maker.specs.Counting.{Changes, both, counts_of}
 use Rattle.dae_program.specs.Views.{view, view_target, view_expressions}

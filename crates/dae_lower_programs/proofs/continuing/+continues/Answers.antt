@@ -1,10 +1,9 @@
 use Rattle.std.proofs.Common.{◌∙◌, ap, sym, true, false, ◌||◌}
 use Rattle.dae_lower.specs.Lowering.{arms_continue, continues}
 use Rattle.dae_lower_programs.proofs.Searching.{arm_at, none_or, or_none, statement_at}
-use Rattle.dae_lower_programs.proofs.Views.{arms_end, statements_end, view_if, view_switch}
-use Rattle.dae_lower_programs.specs.Made.{arms_of}
+use Rattle.dae_program.proofs.LawsOfTrees.{arms_end, statements_end, view_if, view_switch}
 use Rattle.dae_program.specs.Trees.{Done}
-use Rattle.dae_program.specs.Views.{view_statements}
+use Rattle.dae_program.specs.Views.{view_statements, arms_of}
 use Rattle.dae_lower_programs.proofs.continuing.+continues.Goals as goal
 
 pub continues-returns-then-statement_continues : goal.continues-returns-then-statement_continues

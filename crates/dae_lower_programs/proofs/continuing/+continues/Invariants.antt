@@ -1,7 +1,6 @@
 use Rattle.std.proofs.Common.{◌≡◌, drop}
 use Rattle.dae_lower.specs.Lowering.{arms_continue, continues}
-use Rattle.dae_lower_programs.specs.Made.{arms_of}
-use Rattle.dae_program.specs.Views.{view_statements}
+use Rattle.dae_program.specs.Views.{view_statements, arms_of}
 use Rattle.dae_lower_programs.proofs.continuing.+continues.Given as goal
 
 abbrev pub invariant-arms_continue-loop-arm : goal.invariant-arms_continue-loop-arm

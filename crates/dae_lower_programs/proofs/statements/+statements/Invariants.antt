@@ -2,8 +2,7 @@ use Rattle.std.proofs.Common.{◌≡◌, drop}
 use Rattle.dae_lower.specs.Lowering.{arms_from, statements}
 use Rattle.dae_lower_expressions.specs.Lowered.{links_in, state_of}
 use Rattle.dae_lower_programs.proofs.Rows.{Leads}
-use Rattle.dae_lower_programs.specs.Made.{arms_of}
-use Rattle.dae_program.specs.Views.{view_statements}
+use Rattle.dae_program.specs.Views.{view_statements, arms_of}
 use Rattle.dae_lower_programs.proofs.statements.+statements.Given as goal
 
 abbrev pub invariant-make_statements-loop-s : goal.invariant-make_statements-loop-s

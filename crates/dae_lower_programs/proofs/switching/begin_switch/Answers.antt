@@ -1,7 +1,7 @@
 use Rattle.std.specs.Prelude.{None}
 use Rattle.dae_lower_expressions.specs.Lowered.{state_of}
 use Rattle.dae_lower_programs.proofs.Parted.{begun_whole}
-use Rattle.dae_lower_programs.specs.Made.{arms_of}
+use Rattle.dae_program.specs.Views.{arms_of}
 use Rattle.dae_lower_maker.specs.Making.{so_far}
 use Rattle.dae_program.specs.Switches.{arm_with, count_arms}
 use Rattle.dae_lower_programs.proofs.switching.begin_switch.Goals as goal

@@ -1,5 +1,6 @@
 use Rattle.std.proofs.Common.{[], Option, ap, ◌∙◌}
 use Rattle.dae_base.specs.declared.Place.{Place}
+use Rattle.dae_base.proofs.Laws.{ap_two}
 use Rattle.std.specs.Option.{unwrap_or}
 use Rattle.dae_parse_grammar.specs.Machine.{onto}
 use Rattle.dae_parse_nodes.proofs.Making.{declaration_of}
@@ -7,7 +8,7 @@ use Rattle.dae_parse_nodes.proofs.Specifying.{place_of_first}
 use Rattle.dae_tree.specs.FileViews.{view_declaration}
 use Rattle.dae_parse_grammar.specs.FirstPlaces.{firsts_declaration, both, over, firsts_specifiers, firsts_items}
 use Rattle.dae_parse_nodes.proofs.Listing.{shows_items}
-use Rattle.dae_parse_parts.proofs.Laws.{shows_over, shows_made, shows_absent, shows_pair, ap_two}
+use Rattle.dae_parse_parts.proofs.Laws.{shows_over, shows_made, shows_absent, shows_pair}
 use Rattle.dae_parse_nodes.proofs.declarations.declaration.Goals as goal
 use Rattle.dae_parse_nodes.proofs.declarations.declaration.Goals.{in-Some, in-None}
 

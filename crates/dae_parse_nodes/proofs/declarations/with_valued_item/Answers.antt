@@ -1,8 +1,9 @@
 use Rattle.std.proofs.Common.{Some, refl, ap}
+use Rattle.dae_base.proofs.Laws.{ap_two}
 use Rattle.dae_tree.specs.Trees as tree
 use Rattle.dae_parse_nodes.proofs.Listing.{shows_longer}
 use Rattle.dae_parse_nodes.proofs.Making.{valued_item}
-use Rattle.dae_parse_parts.proofs.Laws.{ap_two, shows_absent, shows_made, shows_pair}
+use Rattle.dae_parse_parts.proofs.Laws.{shows_absent, shows_made, shows_pair}
 use Rattle.dae_parse_nodes.specs.Parts.{firsts_item}
 use Rattle.dae_tree.specs.FileViews.{view_item}
 use Rattle.dae_parse_nodes.proofs.declarations.with_valued_item.Goals as goal

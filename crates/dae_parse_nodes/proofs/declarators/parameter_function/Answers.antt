@@ -1,5 +1,6 @@
 use Rattle.std.proofs.Common.{◌≡◌, refl, sym, ap, ◌∙◌}
 use Rattle.dae_base.specs.declared.Place.{Place}
+use Rattle.dae_base.proofs.Laws.{ap_two}
 use Rattle.dae_tree.specs.Trees as tree
 use Rattle.dae_parse_nodes.proofs.Declaring.{place_at_first, chosen_then, chosen_else}
 use Rattle.dae_parse_nodes.proofs.declarators.parameter_function.Goals.{then-bare, else-bare}
@@ -11,7 +12,7 @@ use Rattle.dae_tree.specs.Views.{view_declarator}
 use Rattle.dae_parse_grammar.specs.FirstPlaces.{firsts_declarator, both, over, firsts_parameters}
 use Rattle.dae_parse_nodes.proofs.Listing.{shows_parameters}
 use Rattle.dae_tree.proofs.Laws.{view_function}
-use Rattle.dae_parse_parts.proofs.Laws.{shows_over, shows_made, shows_absent, shows_pair, ap_two}
+use Rattle.dae_parse_parts.proofs.Laws.{shows_over, shows_made, shows_absent, shows_pair}
 use Rattle.dae_parse_nodes.proofs.declarators.parameter_function.Goals as goal
 use Rattle.dae_parse_nodes.proofs.declarators.parameter_function.Goals.{in-Some+in_ok-new-in-Some, in-None}
 

@@ -1,10 +1,11 @@
 use Rattle.std.proofs.Common.{refl, ap, ◌∙◌}
 use Rattle.dae_base.specs.declared.Place.{Place}
+use Rattle.dae_base.proofs.Laws.{ap_two}
 use Rattle.dae_tree.specs.Trees as tree
 use Rattle.dae_parse_nodes.proofs.Declaring.{place_at_first}
 use Rattle.dae_tree.specs.Views.{view, view_declarator}
 use Rattle.dae_parse_grammar.specs.FirstPlaces.{firsts_declarator, both, over, firsts}
-use Rattle.dae_parse_parts.proofs.Laws.{shows_over, shows_made, shows_absent, shows_pair, ap_two}
+use Rattle.dae_parse_parts.proofs.Laws.{shows_over, shows_made, shows_absent, shows_pair}
 use Rattle.dae_parse_nodes.proofs.declarators.sized_array.Goals as goal
 use Rattle.dae_parse_nodes.proofs.declarators.sized_array.Goals.{in-Some+in_ok-new-in-Some, in-None}
 

@@ -1,12 +1,13 @@
 use Rattle.std.proofs.Common.{Option, None, refl, sym, ap, ◌∙◌}
 use Rattle.dae_base.specs.declared.Place.{Place}
+use Rattle.dae_base.proofs.Laws.{ap_three, ap_two}
 use Rattle.dae_tree.specs.Lists as lists
 use Rattle.dae_parse_grammar.specs.Frames as frames
 use Rattle.std.specs.Prelude.{Bool, Ok, ◌||◌, if◌then◌else◌}
 use Rattle.dae_parse_nodes.proofs.Declaring.{void_of_parameters}
 use Rattle.dae_parse_nodes.proofs.Listing.{shows_longer}
 use Rattle.dae_parse_nodes.proofs.Making.{parameter_of}
-use Rattle.dae_parse_parts.proofs.Laws.{ap_three, ap_two, shows_absent, shows_made, shows_pair}
+use Rattle.dae_parse_parts.proofs.Laws.{shows_absent, shows_made, shows_pair}
 use Rattle.dae_parse_nodes.specs.Parts.{firsts_parameter, view_parameter}
 use Rattle.dae_parse_nodes.proofs.declarators.with_parameter.Goals as goal
 use Rattle.dae_parse_nodes.proofs.declarators.with_parameter.Goals.{in-Some, in-None}

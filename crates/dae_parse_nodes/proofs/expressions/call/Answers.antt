@@ -1,5 +1,6 @@
 use Rattle.std.proofs.Common.{◌≡◌, rules, refl, ap, ◌∙◌}
 use Rattle.dae_base.specs.declared.Place.{Place}
+use Rattle.dae_base.proofs.Laws.{ap_two}
 use Rattle.dae_tree.specs.declared.expressions.Expression.TheVariants as expression
 use Rattle.dae_tree.specs.Trees as tree
 use Rattle.dae_parse_grammar.specs.Machine.{arguments_onto}
@@ -7,7 +8,7 @@ use Rattle.dae_tree.specs.Views.{view}
 use Rattle.dae_parse_grammar.specs.FirstPlaces.{firsts, both, over, firsts_all}
 use Rattle.dae_parse_nodes.proofs.Listing.{shows_arguments}
 use Rattle.dae_tree.proofs.Laws.{view_call}
-use Rattle.dae_parse_parts.proofs.Laws.{shows_pair, ap_two}
+use Rattle.dae_parse_parts.proofs.Laws.{shows_pair}
 use Rattle.dae_parse_nodes.proofs.Operands.{operand_shown}
 use Rattle.dae_parse_nodes.proofs.expressions.call.Goals as goal
 

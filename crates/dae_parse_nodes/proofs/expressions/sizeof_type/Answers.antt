@@ -1,11 +1,12 @@
 use Rattle.std.proofs.Common.{refl, ap, ◌∙◌}
+use Rattle.dae_base.proofs.Laws.{ap_two}
 use Rattle.dae_tree.specs.Trees as tree
 use Rattle.dae_tree.specs.declared.expressions.TypeName.{TypeName}
 use Rattle.dae_tree.specs.Views.{view, views_specifiers, view_declarator}
 use Rattle.dae_parse_grammar.specs.FirstPlaces.{firsts}
 use Rattle.dae_tree.proofs.Laws.{view_sizeof_type}
 use Rattle.dae_parse_parts.specs.Shown.{in_box}
-use Rattle.dae_parse_parts.proofs.Laws.{shows_over, shows_made, shows_absent, shows_pair, ap_two}
+use Rattle.dae_parse_parts.proofs.Laws.{shows_over, shows_made, shows_absent, shows_pair}
 use Rattle.dae_parse_nodes.proofs.expressions.sizeof_type.Goals as goal
 use Rattle.dae_parse_nodes.proofs.expressions.sizeof_type.Goals.{in-Some+in_ok-name-in-Some+in_ok-new-in-Some, in-None}
 

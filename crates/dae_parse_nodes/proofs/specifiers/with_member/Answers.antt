@@ -1,11 +1,12 @@
 use Rattle.std.proofs.Common.{refl, ap}
+use Rattle.dae_base.proofs.Laws.{ap_two}
 use Rattle.dae_tree.specs.Trees as tree
 use Rattle.dae_tree.specs.Lists as lists
 use Rattle.dae_parse_grammar.specs.Frames as frames
 use Rattle.dae_parse_grammar.specs.Machine.{declarators_onto}
 use Rattle.dae_parse_nodes.proofs.Listing.{shows_declarators, shows_longer}
 use Rattle.dae_parse_nodes.proofs.Making.{line_of}
-use Rattle.dae_parse_parts.proofs.Laws.{ap_two, shows_absent, shows_made, shows_pair}
+use Rattle.dae_parse_parts.proofs.Laws.{shows_absent, shows_made, shows_pair}
 use Rattle.dae_parse_nodes.specs.Parts.{firsts_line, view_line}
 use Rattle.dae_parse_nodes.proofs.specifiers.with_member.Goals as goal
 use Rattle.dae_parse_nodes.proofs.specifiers.with_member.Goals.{in-Some, in-None}

@@ -1,8 +1,8 @@
 use Rattle.std.proofs.Common.{Option, Some, sym, ap, ◌∙◌}
 use Rattle.dae_base.specs.declared.Place.{Place}
+use Rattle.dae_base.proofs.Laws.{ap_two}
 use Rattle.dae_tree.specs.Trees as tree
 use Rattle.std.specs.Prelude.{Bool, ◌||◌}
-use Rattle.dae_parse_parts.proofs.Laws.{ap_two}
 use Rattle.dae_parse_nodes.proofs.Specifying.{place_last, shows_joined, typedef_last, void_first, void_last}
 use Rattle.std.specs.Option.{unwrap_or}
 use Rattle.dae_parse_grammar.specs.Machine.{specifiers_onto}

@@ -1,4 +1,5 @@
 use Rattle.std.proofs.Common.{◌≡◌, rules, [], refl, ap, ◌∙◌}
+use Rattle.dae_base.proofs.Laws.{ap_two}
 use Rattle.dae_tree.specs.declared.statements.Block.{Block}
 use Rattle.dae_tree.specs.declared.statements.Statement.TheVariants as statement
 use Rattle.dae_tree.specs.Trees as tree
@@ -8,7 +9,7 @@ use Rattle.dae_parse_grammar.specs.FirstPlaces.{firsts_statement}
 use Rattle.dae_parse_nodes.proofs.Listing.{shows_declarations}
 use Rattle.dae_parse_nodes.proofs.Listing.{shows_statements}
 use Rattle.dae_tree.proofs.Laws.{view_block}
-use Rattle.dae_parse_parts.proofs.Laws.{shows_pair, node_shown, ap_two}
+use Rattle.dae_parse_parts.proofs.Laws.{shows_pair, node_shown}
 use Rattle.dae_parse_nodes.proofs.statements.block.Goals as goal
 
 pub returns : goal.returns

@@ -3,7 +3,7 @@ use Rattle.dae_select.proofs.calling.argument_code.Goals as goal
 
 pub store_code-requires : goal.store_code-requires
 store_code-requires c =
-    let words = c.requires.small.words c.args.function in
+    let words = c.requires.small.words c.args.making.now.function in
     let variables = c.variables-words.ensures in
     let near = c.waits_at-place.ensures.near in
     omega arith

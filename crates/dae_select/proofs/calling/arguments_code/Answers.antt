@@ -1,5 +1,5 @@
 use Rattle.std.proofs.Common.{arith}
-use Rattle.dae_select.specs.Layouts.{plan_of}
+use Rattle.dae_select.specs.Makings.{plan_by}
 use Rattle.dae_select.proofs.Listed.{one_argument}
 use Rattle.dae_select.proofs.calling.arguments_code.Goals as goal
 
@@ -7,5 +7,5 @@ pub loop-index-preserved : goal.loop-index-preserved
 loop-index-preserved c =
     let some = c.loop-index-test.true in
     let le = c.loop-index.auto.index in
-    one_argument (plan_of c.args.layouts.now) c.args.function c.args.callee c.args.arguments.now c.loop-index.index _ c.args.code.now.items c.loop-index.code.items c.argument_code.new.code.items (omega arith) (omega arith)
+    one_argument (plan_by c.args.making.now) c.args.making.now.function c.args.callee c.args.arguments.now c.loop-index.index _ c.args.code.now.items c.loop-index.code.items c.argument_code.new.code.items (omega arith) (omega arith)
     c.loop-index.invariant c.in_ok-argument_code.ensures

@@ -3,4 +3,4 @@ use Rattle.dae_select.proofs.calling.registers_in.Goals as goal
 
 pub returns : goal.returns
 unfolding registers_in
-returns c = c.registers_among.ensures
+returns c = c.live_among.ensures

@@ -15,7 +15,7 @@ use Rattle.dae_select.specs.Grown.{Grown, no_code, glue, acting, in_front}
 use Rattle.dae_select_walks.specs.declared.Standing.TheVariants.{Settled}
 use Rattle.dae_select.specs.Placed.{multiples_after, is_placed_step, multiples_at}
 use Rattle.dae_select.specs.Growing.{IsCodeOf, step_before, standing_before}
-use Rattle.dae_select.specs.Layouts.{plan_of, variables_of}
+use Rattle.dae_select.specs.Makings.{plan_by, variables_by}
 use Rattle.dae_select.proofs.Sizes.{deepest, first_in_if, second_in_if, first_in_loop, second_in_loop, list_below, step_below}
 use Rattle.dae_select.proofs.Stacked.{acted, branched, looped, none_done, one_more, moved_code, before_is, stands_at_end, stands_before, taken_behind, multiples_next, flag_of}
 use Rattle.dae_select.proofs.walking.+code.Goals as goal
@@ -24,54 +24,53 @@ pub step_code-list_code-requires : goal.step_code-list_code-requires
 step_code-list_code-requires t c =
     let i = c.in-If in
     let below = list_below c.deref.result.now i.q.items c.args.step.now c.deref.ensures.value (second_in_if i.mark i.branch i.p i.q c.args.step.now i.is) in
-    (subst (λ (n : ℕ). 2 * deepest c.deref.result.now + 1 < n) c.decreases below, (c.requires.near, (c.requires.homes, c.requires.small)))
+    (subst (λ (n : ℕ). 2 * deepest c.deref.result.now + 1 < n) c.decreases below, c.requires.sound)
 
 pub step_code-list_code-requires-in-If : goal.step_code-list_code-requires-in-If
 step_code-list_code-requires-in-If t c =
     let i = c.in-If in
     let below = list_below c.deref-in-If-3.result.now i.p.items c.args.step.now c.deref-in-If-3.ensures.value (first_in_if i.mark i.branch i.p i.q c.args.step.now i.is) in
-    (subst (λ (n : ℕ). 2 * deepest c.deref-in-If-3.result.now + 1 < n) c.decreases below, (c.requires.near, (c.requires.homes, c.requires.small)))
+    (subst (λ (n : ℕ). 2 * deepest c.deref-in-If-3.result.now + 1 < n) c.decreases below, c.requires.sound)
 
 pub step_code-list_code-requires-in-Loop : goal.step_code-list_code-requires-in-Loop
 step_code-list_code-requires-in-Loop t c =
     let i = c.in-Loop in
     let below = list_below c.deref-in-Loop-3.result.now i.step.items c.args.step.now c.deref-in-Loop-3.ensures.value (second_in_loop i.field-0 i.body i.step c.args.step.now i.is) in
-    (subst (λ (n : ℕ). 2 * deepest c.deref-in-Loop-3.result.now + 1 < n) c.decreases below, (c.requires.near, (c.requires.homes, c.requires.small)))
+    (subst (λ (n : ℕ). 2 * deepest c.deref-in-Loop-3.result.now + 1 < n) c.decreases below, c.requires.sound)
 
 pub step_code-list_code-requires-in-Loop-2 : goal.step_code-list_code-requires-in-Loop-2
 step_code-list_code-requires-in-Loop-2 t c =
     let i = c.in-Loop in
     let below = list_below c.deref-in-Loop-4.result.now i.body.items c.args.step.now c.deref-in-Loop-4.ensures.value (first_in_loop i.field-0 i.body i.step c.args.step.now i.is) in
-    (subst (λ (n : ℕ). 2 * deepest c.deref-in-Loop-4.result.now + 1 < n) c.decreases below, (c.requires.near, (c.requires.homes, c.requires.small)))
+    (subst (λ (n : ℕ). 2 * deepest c.deref-in-Loop-4.result.now + 1 < n) c.decreases below, c.requires.sound)
 
 pub step_code-returns-in_ok-put_action-in-Act : goal.step_code-returns-in_ok-put_action-in-Act
 step_code-returns-in_ok-put_action-in-Act t c =
-    let a = c.args in let i = c.in-Act in
-    IfOk-weaker c.live_before_action.result _ _ (λ set h. acted a.short (plan_of a.layouts.now) (variables_of a.layouts.now) a.function a.exits.now a.placed a.step.now i.mark i.action a.before a.after a.code.now a.next c.put_action.new.code set i.is c.in_ok-put_action-in-Act.ensures h) c.live_before_action.ensures
+    let a = c.args in let m = a.making.now in let i = c.in-Act in
+    IfOk-weaker c.live_before_action.result _ _ (λ set h. acted m.short (plan_by m) (variables_by m) m.function a.exits.now a.around.placed a.step.now i.mark i.action a.around.before a.around.after a.code.now a.next c.put_action.new.code set i.is c.in_ok-put_action-in-Act.ensures h) c.live_before_action.ensures
 
 pub step_code-returns-in_ok-put_branch-in-If : goal.step_code-returns-in_ok-put_branch-in-If
 step_code-returns-in_ok-put_branch-in-If t c =
     let a = c.args in let i = c.in-If in
-    let S = a.short in let P = plan_of a.layouts.now in let V = variables_of a.layouts.now in let f = a.function in let x = a.exits.now in
+    let m = a.making.now in let S = m.short in let P = plan_by m in let V = variables_by m in let f = m.function in let x = a.exits.now in
     let first = c.in_ok-first-in-If.first in let second = c.in_ok-second-in-If.second in
     let c1 = c.list_code.new.code in let c2 = c.put_past.new.code in let c3 = c.list_code-in-If.new.code in
     let q = moved_code S P V f Settled unknown a.code.now a.code.now x.leaves x.leaves x.skips x.skips c.in_ok-copy-in-If.field-0 x.leaves_live x.leaves_live x.skips_live x.skips_live c.deref.result.now i.q.items c1 second refl refl refl refl refl c.deref.ensures.value c.in_ok-second-in-If.ensures in
-    let q' = subst (λ (n : List Bool). IsCodeOf S P V f Settled unknown a.code.now x.leaves x.skips (ways (member n) (member x.leaves_live) (member x.skips_live)) (actions_of i.q.items) c1 second) c.in_ok-copy-in-If.ensures q in
+    let q' = subst (λ (n : List ℕ). IsCodeOf S P V f Settled unknown a.code.now x.leaves x.skips (ways (member n) (member x.leaves_live) (member x.skips_live)) (actions_of i.q.items) c1 second) c.in_ok-copy-in-If.ensures q in
     let p = moved_code S P V f Settled unknown c2 c2 x.leaves x.leaves x.skips x.skips a.next x.leaves_live x.leaves_live x.skips_live x.skips_live c.deref-in-If-3.result.now i.p.items c3 first refl refl refl refl refl c.deref-in-If-3.ensures.value c.in_ok-first-in-If.ensures in
-    let none = c.does_nothing-empty.ensures ∙ ap (λ (l : List Step). does_nothing (actions_of l)) c.deref-in-If.ensures.value in
-    let none' = c.does_nothing.ensures ∙ ap (λ (l : List Step). does_nothing (actions_of l)) c.deref-in-If-2.ensures.value in
-    let past : Bool → Bool → ℕ → Grown = λ y z n. in_front (glue (past_code S (y || z) (length c1.code - n))) c1 in
-    let e2 = c.in_ok-put_past-in-If.ensures ∙ ap (λ (y : Bool). past y c.does_nothing.result c.len-rest.result) none ∙ ap (λ (z : Bool). past (does_nothing (actions_of i.p.items)) z c.len-rest.result) none'
-    ∙ ap (λ (n : ℕ). past (does_nothing (actions_of i.p.items)) (does_nothing (actions_of i.q.items)) n) c.len-rest.ensures in
+    let past : List Step → List Step → ℕ → Grown = λ y z n. in_front (glue (past_code S (does_nothing (actions_of y) || does_nothing (actions_of z)) (length c1.code - n))) c1 in
+    let e2 = c.in_ok-put_past-in-If.ensures ∙ ap (λ (y : List Step). past y c.deref-in-If-2.result.now c.len-rest.result) c.deref-in-If.ensures.value ∙ ap (λ (z : List Step). past i.p.items z c.len-rest.result) c.deref-in-If-2.ensures.value
+    ∙ ap (λ (n : ℕ). past i.p.items i.q.items n) c.len-rest.ensures in
+    let none = c.does_nothing.ensures ∙ ap (λ (l : List Step). does_nothing (actions_of l)) c.deref-in-If-4.ensures.value in
     let led : (ℕ → Home) → Bool → ℕ → ℕ → Grown = λ home y n o. in_front (acting i.mark.place (branch_code home S i.branch y (length c3.code - (if y then n else o)))) c3 in
-    let e4 = c.in_ok-put_branch-in-If.ensures ∙ ap (λ (home : ℕ → Home). led home c.does_nothing-empty.result c.len-rest.result c.len-behind.result) c.requires.homes ∙ ap (λ (y : Bool). led (P.home f) y c.len-rest.result c.len-behind.result) none
+    let e4 = c.in_ok-put_branch-in-If.ensures ∙ ap (λ (home : ℕ → Home). led home c.does_nothing.result c.len-rest.result c.len-behind.result) c.requires.sound.homes ∙ ap (λ (y : Bool). led (P.home f) y c.len-rest.result c.len-behind.result) none
     ∙ ap (λ (n : ℕ). led (P.home f) (does_nothing (actions_of i.p.items)) n c.len-behind.result) c.len-rest.ensures ∙ ap (λ (n : ℕ). led (P.home f) (does_nothing (actions_of i.p.items)) (length a.code.now.code) n) c.len-behind.ensures in
-    IfOk-weaker c.live_with_branch.result _ _ (λ set h. branched S P V f x a.placed a.before a.after a.step.now i.mark i.branch i.p i.q a.code.now a.next set first second c1 c2 c3 c.put_branch.new.code i.is q' e2 p e4 h) c.live_with_branch.ensures
+    IfOk-weaker c.live_with_branch.result _ _ (λ set h. branched S P V f x a.around.placed a.around.before a.around.after a.step.now i.mark i.branch i.p i.q a.code.now a.next set first second c1 c2 c3 c.put_branch.new.code i.is q' e2 p e4 h) c.live_with_branch.ensures
 
 pub step_code-returns-in_ok-put_loop-in-Loop : goal.step_code-returns-in_ok-put_loop-in-Loop
 step_code-returns-in_ok-put_loop-in-Loop t c =
     let a = c.args in let i = c.in-Loop in
-    let S = a.short in let P = plan_of a.layouts.now in let V = variables_of a.layouts.now in let f = a.function in let x = a.exits.now in
+    let m = a.making.now in let S = m.short in let P = plan_by m in let V = variables_by m in let f = m.function in let x = a.exits.now in
     let turned = c.in_ok-turn-in-Loop.turn in let again = c.in_ok-step_live-in-Loop.step_live in let set = c.in_ok-live-in-Loop.live in
     let s = c.in_ok-step_exits-in-Loop in let b = c.in_ok-body_exits-in-Loop in
     let c1 = c.list_code-in-Loop.new.code in let c2 = c.list_code-in-Loop-2.new.code in
@@ -81,7 +80,7 @@ step_code-returns-in_ok-put_loop-in-Loop t c =
     c.new-again.ensures s.ensures.leaves s.ensures.skips s.ensures.leaves_live s.ensures.skips_live c.deref-in-Loop-3.ensures.value c.in_ok-step_live-in-Loop.ensures in
     let body = moved_code S P V f Settled unknown c.new-turned.result no_code b.body_exits.leaves (length c1.code + jump_words S) b.body_exits.skips 0 again b.body_exits.leaves_live a.next b.body_exits.skips_live again c.deref-in-Loop-4.result.now i.body.items c2 set
     c.new-turned.ensures (b.ensures.leaves ∙ ap (λ (n : ℕ). n + jump_words S) c.len-words.ensures) b.ensures.skips b.ensures.leaves_live b.ensures.skips_live c.deref-in-Loop-4.ensures.value c.in_ok-live-in-Loop.ensures in
-    looped S P V f x a.placed a.before a.after a.step.now i.field-0 i.body i.step a.code.now a.next turned again set c1 c2 c.put_loop.new.code i.is first step body c.in_ok-put_loop-in-Loop.ensures
+    looped S P V f x a.around.placed a.around.before a.around.after a.step.now i.field-0 i.body i.step a.code.now a.next turned again set c1 c2 c.put_loop.new.code i.is first step body c.in_ok-put_loop-in-Loop.ensures
 
 pub list_code-step_code-requires : goal.list_code-step_code-requires
 list_code-step_code-requires t c =
@@ -93,13 +92,13 @@ list_code-step_code-requires t c =
     let k = actions_of (drop j a.steps.now) in
     let stood = c.loop-index.invariant.1 ∙ ap (λ (o : Option Step). standing_before o k x) (before_is a.steps.now j s (omega arith) (omega arith) c.index-steps-index.is) in
     let below = step_below a.steps.now (j - 1) s (omega arith) c.index-steps-index.is in
-    (subst (λ (n : ℕ). 2 * the_size s + 0 < n) c.decreases below, (c.requires.near, (c.requires.homes, (c.requires.small, taken_behind s k x c.loop-index.after stood))))
+    (subst (λ (n : ℕ). 2 * the_size s + 0 < n) c.decreases below, (c.requires, taken_behind s k x c.loop-index.after stood))
 
 pub list_code-loop-index-init : goal.list_code-loop-index-init
 list_code-loop-index-init t c =
     let a = c.args in
     let x = ways (member a.next) (member a.exits.now.leaves_live) (member a.exits.now.skips_live) in (
-      none_done a.short (plan_of a.layouts.now) (variables_of a.layouts.now) a.function Settled (multiples_at unknown a.steps.now (length a.steps.now)) a.steps.now a.code.now a.exits.now.leaves a.exits.now.skips a.next (member a.exits.now.leaves_live) (member a.exits.now.skips_live),
+      none_done a.making.now.short (plan_by a.making.now) (variables_by a.making.now) a.making.now.function Settled (multiples_at unknown a.steps.now (length a.steps.now)) a.steps.now a.code.now a.exits.now.leaves a.exits.now.skips a.next (member a.exits.now.leaves_live) (member a.exits.now.skips_live),
       stands_at_end a.steps.now (step_before a.steps.now (length a.steps.now)) x,
     )
 
@@ -115,12 +114,12 @@ list_code-loop-index-preserved t c =
     let back : j ≡ suc (j - 1) = omega arith in
     let next : multiples_at unknown a.steps.now j ≡ multiples_after s known =
     ap (multiples_at unknown a.steps.now) back ∙ multiples_next unknown a.steps.now (j - 1) s (omega arith) c.index-steps-index.is in
-    let so_far = subst (λ (m : VariableSet). IsCodeOf a.short (plan_of a.layouts.now) (variables_of a.layouts.now) a.function c.loop-index.after m a.code.now a.exits.now.leaves a.exits.now.skips x k c.loop-index.code c.loop-index.set) next c.loop-index.invariant.0 in
+    let so_far = subst (λ (m : VariableSet). IsCodeOf a.making.now.short (plan_by a.making.now) (variables_by a.making.now) a.making.now.function c.loop-index.after m a.code.now a.exits.now.leaves a.exits.now.skips x k c.loop-index.code c.loop-index.set) next c.loop-index.invariant.0 in
     let test : c.flag_at-placed.result ≡ is_placed_step known s =
     c.flag_at-placed.ensures ∙ ap (λ (flags : List Bool). unwrap_or (slice_get flags (j - 1)) false) (c.as_slice.ensures.value ∙ c.in_ok-flags.ensures)
     ∙ ap (λ (flag : Option Bool). unwrap_or flag false) (flag_of unknown a.steps.now (j - 1) s (omega arith) c.index-steps-index.is) in
     let stood = c.loop-index.invariant.1 ∙ ap (λ (o : Option Step). standing_before o k x) (before_is a.steps.now j s (omega arith) (omega arith) c.index-steps-index.is) in (
-      one_more a.short (plan_of a.layouts.now) (variables_of a.layouts.now) a.function a.exits.now known c.flag_at-placed.result a.steps.now j s a.code.now c.loop-index.code c.loop-index.set c.step_code.new.code c.in_ok-set.set (member a.next)
+      one_more a.making.now.short (plan_by a.making.now) (variables_by a.making.now) a.making.now.function a.exits.now known c.flag_at-placed.result a.steps.now j s a.code.now c.loop-index.code c.loop-index.set c.step_code.new.code c.in_ok-set.set (member a.next)
           c.standing_between-before.result c.loop-index.after (omega arith) (omega arith) c.index-steps-index.is stood so_far test c.in_ok-set.ensures,
       stands_before a.steps.now j s c.loop-index.set x c.standing_between-before.result c.loop-index.after (omega arith) (omega arith) c.index-steps-index.is stood so_far.live c.standing_between-before.ensures,
     )

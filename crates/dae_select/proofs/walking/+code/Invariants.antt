@@ -5,10 +5,10 @@ use Rattle.dae_select_walks.specs.Multiples.{unknown}
 use Rattle.dae_select.specs.Placed.{multiples_at}
 use Rattle.dae_select_live.specs.Members.{member}
 use Rattle.dae_select.specs.Growing.{IsCodeOf, step_before, standing_before}
-use Rattle.dae_select.specs.Layouts.{plan_of, variables_of}
+use Rattle.dae_select.specs.Makings.{plan_by, variables_by}
 use Rattle.dae_select.proofs.walking.+code.Given as goal
 
 abbrev pub invariant-list_code-loop-index : goal.invariant-list_code-loop-index
 invariant-list_code-loop-index l =
-    IsCodeOf l.short (plan_of l.layouts) (variables_of l.layouts) l.function l.after (multiples_at unknown l.steps l.index) l.fn.code l.exits.leaves l.exits.skips (ways (member l.fn.next) (member l.exits.leaves_live) (member l.exits.skips_live)) (actions_of (drop l.index l.steps)) l.code l.set
+    IsCodeOf l.making.short (plan_by l.making) (variables_by l.making) l.making.function l.after (multiples_at unknown l.steps l.index) l.fn.code l.exits.leaves l.exits.skips (ways (member l.fn.next) (member l.exits.leaves_live) (member l.exits.skips_live)) (actions_of (drop l.index l.steps)) l.code l.set
     × (l.after ≡ standing_before (step_before l.steps l.index) (actions_of (drop l.index l.steps)) (ways (member l.fn.next) (member l.exits.leaves_live) (member l.exits.skips_live)))

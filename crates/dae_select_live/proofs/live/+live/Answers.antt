@@ -1,6 +1,5 @@
-use Rattle.std.proofs.Common.{List, ap, ◌∙◌, arith}
+use Rattle.std.proofs.Common.{ℕ, List, ap, ◌∙◌, arith}
 use Rattle.std.proofs.lemmas.Result.{IfOk-weaker}
-use Rattle.std.specs.Prelude.{Bool}
 use Rattle.dae_ir.specs.Classes.{VariableSet}
 use Rattle.dae_ir.specs.Streams.{actions_of}
 use Rattle.dae_ir.specs.declared.stream.Step.{Step}
@@ -18,7 +17,7 @@ pub live_before_step-returns-in_ok-second-in-If : goal.live_before_step-returns-
 live_before_step-returns-in_ok-second-in-If t c =
     let leaves = member c.args.leaves.now in let skips = member c.args.skips.now in let i = c.in-If in
     let one = c.in_ok-first-in-If.ensures ∙ ap (λ (l : List Step). live (actions_of l) (ways (member c.in_ok-copy-in-If.field-0) leaves skips)) c.deref.ensures.value
-    ∙ ap (λ (flags : List Bool). live (actions_of i.p.items) (ways (member flags) leaves skips)) c.in_ok-copy-in-If.ensures in
+    ∙ ap (λ (vs : List ℕ). live (actions_of i.p.items) (ways (member vs) leaves skips)) c.in_ok-copy-in-If.ensures in
     let other = c.in_ok-second-in-If.ensures ∙ ap (λ (l : List Step). live (actions_of l) (ways (member c.args.next) leaves skips)) c.deref-in-If.ensures.value in
     IfOk-weaker c.live_with_branch.result _ _ (λ set h k n e. live_branched c.args.step.now i.field-0 i.branch i.p i.q k n leaves skips (member c.args.next) (member c.in_ok-first-in-If.first) (member c.in_ok-second-in-If.second) (member set)
     i.is e one other h) c.live_with_branch.ensures
@@ -31,7 +30,7 @@ live_before_step-returns-in_ok-copy-in-Loop t c =
     ∙ ap (λ (s : VariableSet). live (actions_of i.step.items) (ways s next (member c.new-nothing.result))) c.new.ensures ∙ ap (λ (s : VariableSet). live (actions_of i.step.items) (ways none next s)) c.new-nothing.ensures in
     IfOk-weaker c.live_before-in-Loop-2.result _ _ (λ set h k n e. live_looped c.args.step.now i.field-0 i.body i.step k n leaves skips next again (member set) i.is e first
     (h ∙ ap (λ (l : List Step). live (actions_of l) (ways (member c.in_ok-copy-in-Loop.field-0) next again)) c.deref-in-Loop-2.ensures.value
-    ∙ ap (λ (flags : List Bool). live (actions_of i.body.items) (ways (member flags) next again)) c.in_ok-copy-in-Loop.ensures)) c.live_before-in-Loop-2.ensures
+    ∙ ap (λ (vs : List ℕ). live (actions_of i.body.items) (ways (member vs) next again)) c.in_ok-copy-in-Loop.ensures)) c.live_before-in-Loop-2.ensures
 
 pub live_before-loop-index-preserved : goal.live_before-loop-index-preserved
 live_before-loop-index-preserved t c =

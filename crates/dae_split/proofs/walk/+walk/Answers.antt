@@ -1,4 +1,5 @@
 use Rattle.std.proofs.Common.{ℕ, ◌+◌, ◌*◌, ◌<◌, List, [], ap, ◌∙◌, subst, arith}
+use Rattle.std.proofs.lemmas.Bool.{not-false}
 use Rattle.dae_ir.specs.Code.{Done, If, Loop}
 use Rattle.dae_ir.specs.Form.{Form, before, form_of}
 use Rattle.dae_ir.specs.Classes.{classes_of}
@@ -9,7 +10,7 @@ use Rattle.dae_ir.specs.declared.form.Statement.{Statement}
 use Rattle.dae_split.specs.Making.{is_a, projected, stands_in, is_outside, tells_in}
 use Rattle.dae_split.proofs.Calls.{calls_in_if, calls_in_loop, calls_from, calls_at}
 use Rattle.dae_ir.proofs.Laws.{before_if, before_loop}
-use Rattle.dae_split.proofs.Shared.{not_false, if_made, loop_made, at_code}
+use Rattle.dae_split.proofs.Shared.{if_made, loop_made, at_code}
 use Rattle.dae_split.proofs.Sizes.{deepest, first_in_if, second_in_if, first_in_loop, second_in_loop, list_below, item_below}
 use Rattle.dae_split.proofs.Upto.{one_more, all_made}
 use Rattle.dae_split.proofs.walk.+walk.Goals as goal
@@ -67,7 +68,7 @@ add_statement-returns-in_ok-put-in-If-2-clause-made t c k =
     at_code (projected a.outside by_a of cl a.task.cap) cl a.task.cap a.outside old.steps.items c.put-in-If.new.steps.items old.number mid.number old.group.items _ (before a.statement.now k) (If i.place i.test (form_of i.p.items) (form_of i.q.items) k) (same k)
     (if_made by_a a.outside of cl a.task.cap i.place plan.result.stands plan.result.outside plan.result.tells old.steps.items mid.steps.items c.put_if.new.steps.items c.put-in-If.new.steps.items
     old.number mid.number old.group.items mid.group.items c.at-mark.result c.at-mark.ensures c.region_message-in-If.result c.region_message-in-If.ensures c.in_ok-close-in-If.ensures.group c.in_ok-close-in-If.ensures.made
-    (not_false plan.result.stands c.if-not-plan.false) c.in_ok-put-in-If-2.ensures
+    (not-false plan.result.stands c.if-not-plan.false) c.in_ok-put-in-If-2.ensures
     i.test (form_of i.p.items) (form_of i.q.items) c.branch-branch.result (onto c.in_ok-first-in-If.first.items Done) (onto c.in_ok-second-in-If.second.items Done)
     (plan.ensures.stands ∙ ap (λ (code : Form). stands_in by_a (region a.outside cl code)) (same Done))
     (plan.ensures.outside ∙ ap (λ (code : Form). is_outside a.outside (region a.outside cl code)) (same Done))
@@ -91,7 +92,7 @@ add_statement-returns-in_ok-put-in-Loop-2-clause-made t c k =
     at_code (projected a.outside by_a of cl a.task.cap) cl a.task.cap a.outside old.steps.items c.put-in-Loop.new.steps.items old.number mid.number old.group.items _ (before a.statement.now k) (Loop i.place (form_of i.body.items) (form_of i.step.items) k) (same k)
     (loop_made by_a a.outside of cl a.task.cap i.place plan.result.stands plan.result.outside plan.result.tells old.steps.items mid.steps.items c.put_loop.new.steps.items c.put-in-Loop.new.steps.items
     old.number mid.number old.group.items mid.group.items c.at-mark-in-Loop.result c.at-mark-in-Loop.ensures c.region_message-in-Loop.result c.region_message-in-Loop.ensures c.in_ok-close-in-Loop.ensures.group c.in_ok-close-in-Loop.ensures.made
-    (not_false plan.result.stands c.if-not-plan-2.false) c.in_ok-put-in-Loop-2.ensures
+    (not-false plan.result.stands c.if-not-plan-2.false) c.in_ok-put-in-Loop-2.ensures
     (form_of i.body.items) (form_of i.step.items) (onto c.in_ok-first-in-Loop.first.items Done) (onto c.in_ok-second-in-Loop.second.items Done)
     (plan.ensures.stands ∙ ap (λ (code : Form). stands_in by_a (region a.outside cl code)) (same Done))
     (plan.ensures.outside ∙ ap (λ (code : Form). is_outside a.outside (region a.outside cl code)) (same Done))

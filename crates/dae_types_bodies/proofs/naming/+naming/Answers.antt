@@ -1,7 +1,7 @@
 use Rattle.dae_program.specs.Views.{view}
 use Rattle.dae_types_file_plans.specs.Naming.{names_variable}
 use Rattle.std.proofs.Common.{◌≡◌}
-use Rattle.dae_types_bodies.proofs.Lists.{by_call}
+use Rattle.dae_program.proofs.LawsOfTrees.{by_call}
 use Rattle.dae_types_bodies.proofs.naming.+naming.Goals as goal
 
 pub names_variable-returns-in-Call : goal.names_variable-returns-in-Call

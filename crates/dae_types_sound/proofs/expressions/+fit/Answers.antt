@@ -1,7 +1,7 @@
 use Rattle.std.proofs.Common.{◌≡◌}
 use Rattle.dae_program.specs.Trees.{Expression}
 use Rattle.dae_types_sound.specs.Fit.{is_fit}
-use Rattle.dae_types_sound.proofs.Views.{by_call}
+use Rattle.dae_program.proofs.LawsOfTrees.{by_call}
 use Rattle.dae_types_sound.proofs.expressions.+fit.Goals as goal
 
 pub is_fit-returns-in-Call : goal.is_fit-returns-in-Call

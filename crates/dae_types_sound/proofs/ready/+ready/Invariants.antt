@@ -1,6 +1,5 @@
 use Rattle.std.proofs.Common.{◌≡◌, drop}
-use Rattle.dae_program.specs.Views.{view_statements}
-use Rattle.dae_types_sound.specs.Arms.{arms_of}
+use Rattle.dae_program.specs.Views.{view_statements, arms_of}
 use Rattle.dae_types_sound.specs.Reads.{reading_arms, reading_statements}
 use Rattle.dae_types_sound.proofs.ready.+ready.Given as goal
 

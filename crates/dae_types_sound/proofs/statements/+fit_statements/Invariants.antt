@@ -1,6 +1,5 @@
 use Rattle.std.proofs.Common.{◌≡◌, drop}
-use Rattle.dae_program.specs.Views.{view_statements}
-use Rattle.dae_types_sound.specs.Arms.{arms_of}
+use Rattle.dae_program.specs.Views.{view_statements, arms_of}
 use Rattle.dae_types_sound.specs.Fit.{are_fit_arms, are_fit_statements}
 use Rattle.dae_types_sound.proofs.statements.+fit_statements.Given as goal
 

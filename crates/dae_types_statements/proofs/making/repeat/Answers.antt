@@ -1,7 +1,7 @@
 use Rattle.std.proofs.Common.{subst}
 use Rattle.dae_program.specs.Trees.{Done}
 use Rattle.dae_types_bodies.specs.Written.{MakesStatements}
-use Rattle.dae_types_statements.proofs.Made.{view_loop}
+use Rattle.dae_program.proofs.LawsOfTrees.{view_loop}
 use Rattle.dae_types_statements.proofs.making.repeat.Goals as goal
 
 pub returns : goal.returns

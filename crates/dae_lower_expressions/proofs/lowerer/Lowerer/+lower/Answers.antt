@@ -12,7 +12,7 @@ use Rattle.dae_lower.specs.Lowering.{emit, ◌≫◌, nothing, only, one, or, as
 use Rattle.dae_lower_expressions.proofs.Chains.{leaf_lowered, nothing_lowered, then_lowered, dropped_lowered, given_lowered, both_lowered}
 use Rattle.dae_lower_expressions.proofs.Counting.{assigned_told, both_told}
 use Rattle.dae_lower_expressions.proofs.Nodes.{removed_lowered, truth_lowered, and_lowered, or_lowered, chosen_lowered, picked_lowered, block_made, step_lowered, update_lowered, IsPlain, IsTested, plain_lowered, tested_lowered, first_listed, next_listed, last_listed}
-use Rattle.dae_lower_expressions.proofs.Views.{by_call, view_at, view_end}
+use Rattle.dae_program.proofs.LawsOfTrees.{by_call, view_at, view_end}
 use Rattle.dae_lower_expressions.specs.Assignments.{assignments}
 use Rattle.dae_lower_expressions.specs.Lowered.{Lowers, state_of, links_in, used}
 use Rattle.dae_lower_expressions.specs.declared.leaves.Part.TheVariants.{Value, Effect}

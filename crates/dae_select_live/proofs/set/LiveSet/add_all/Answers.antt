@@ -1,41 +1,25 @@
-use Rattle.std.proofs.Common.{length, List, Bool, get_or, ap, ◌∙◌, arith}
-use Rattle.dae_select_live.proofs.Flags.{up_to_none, up_to_next, up_to_all}
+use Rattle.std.proofs.Common.{nat_eq, ◌≡◌, ◌+◌, ◌<◌, ◌∷◌, List, ℕ, drop, drop-cons, add-one, length, get_or, ap, sym, ◌∙◌, arith}
+use Rattle.std.proofs.lemmas.List.{drop_all}
+use Rattle.dae_select_walks.specs.Live.{with_all}
+use Rattle.dae_select_live.specs.Members.{member}
+use Rattle.dae_select_live.proofs.Rising.{one_comes_in, nothing_left}
 use Rattle.dae_select_live.proofs.set.LiveSet.add_all.Goals as goal
-
-pub loop-variable-init : goal.loop-variable-init
-loop-variable-init c =
-    let long = c.in_ok-grow.ensures.long in
-    let same = ap (λ (l : List Bool). length l) c.other.view_is in
-    let all = c.len.ensures in
-    record {
-      up_to = up_to_none c.args.self.now c.args.other.now c.grow.new.self c.in_ok-grow.ensures.same;
-      long = omega arith;
-    }
-
-pub add_where-requires : goal.add_where-requires
-add_where-requires c =
-    let long = c.loop-variable.invariant.long in
-    let same = ap (λ (l : List Bool). length l) c.other.view_is in
-    let lt = c.loop-variable-test.true in
-    let end = c.loop-variable.auto.variable-end in
-    omega arith
 
 pub loop-variable-preserved : goal.loop-variable-preserved
 loop-variable-preserved c =
-    let long = c.loop-variable.invariant.long in
-    let same = ap (λ (l : List Bool). length l) c.other.view_is in
-    let lt = c.loop-variable-test.true in
-    let end = c.loop-variable.auto.variable-end in
-    let kept = c.add_where.ensures.long in
-    record {
-      up_to = up_to_next c.args.self.now c.args.other.now c.loop-variable.self c.add_where.new.self c.loop-variable.variable c.index.result.now (omega arith)
-          (c.index.ensures ∙ ap (λ (l : List Bool). get_or l c.loop-variable.variable c.index.result.now) c.other.view_is) c.loop-variable.invariant.up_to c.add_where.ensures.member;
-      long = omega arith;
-    }
+    let other = c.args.other.now in let i = c.loop-variable.variable-index in
+    let v = get_or other i 0 in let lt = c.loop-variable-test.true in
+    let same = ap (λ (l : List ℕ). length l) c.variables-variable-items.ensures in
+    let inside : i < length other = omega arith in
+    let here : drop i other ≡ v ∷ drop (i + 1) other = rw (add-one, drop-cons other i 0) in
+    let set = c.in_ok-insert.ensures ∙ ap (λ (l : List ℕ). with_all (λ u. nat_eq u (get_or l i 0)) (member c.loop-variable.self)) c.variables-variable-items.ensures in
+    one_comes_in c.loop-variable.self c.insert.new.self (drop (i + 1) other) v set
+    ∙ ap (λ (l : List ℕ). with_all (member c.loop-variable.self) (member l)) (sym here) ∙ c.loop-variable.invariant
 
 pub returns : goal.returns
 returns c =
-    let same = ap (λ (l : List Bool). length l) c.other.view_is in
+    let other = c.args.other.now in let i = c.loop-variable.variable-index in
     let end = c.loop-variable-test.false in
-    let all = c.loop-variable.auto.variable-end in
-    up_to_all c.args.self.now c.args.other.now c.loop-variable.self c.loop-variable.variable (omega arith) c.loop-variable.invariant.up_to
+    let same = ap (λ (l : List ℕ). length l) c.variables-variable-items.ensures in
+    sym (nothing_left c.loop-variable.self)
+    ∙ ap (λ (l : List ℕ). with_all (member c.loop-variable.self) (member l)) (sym (drop_all i other (omega arith))) ∙ c.loop-variable.invariant

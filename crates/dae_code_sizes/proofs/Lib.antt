@@ -1,2 +1,0 @@
-mod Small
-mod SmallStatements

@@ -1,4 +1,0 @@
-mod From
-mod Trees
-mod Functions
-mod Sound

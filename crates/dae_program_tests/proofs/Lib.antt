@@ -1,0 +1,6 @@
+mod Seen
+mod ExpressionsExamples
+mod ObjectsExamples
+mod StatementsExamples
+mod CallsExamples
+mod PrintingExamples

@@ -1,0 +1,50 @@
+// What the code of a function is made from.
+
+use crate::layouts::Layouts;
+use dae_ir::Branch;
+use dae_select_live::LiveSet;
+use dae_select_walks::{Home, Standing};
+use std::alloc::Global;
+
+/// What the code of a function is made from: what is settled of its side, its number, the homes of its variables, and whether
+/// jumps in it are short.
+#[derive(Drop)]
+pub struct Making<'l> {
+    pub alloc: Global,
+    pub layouts: &'l Layouts,
+    pub function: u32,
+    pub homes: &'l [Home],
+    pub short: bool,
+}
+
+/// Where a Break goes and a Continue: what is live there, and how many words lie between the end of the code and there.
+#[derive(Drop)]
+pub struct Exits {
+    pub leaves_live: LiveSet,
+    pub skips_live: LiveSet,
+    pub leaves: u64,
+    pub skips: u64,
+}
+
+/// Where code goes on: what is live behind it, and its exits.
+#[derive(Drop)]
+pub struct Onward<'s> {
+    pub next: &'s LiveSet,
+    pub exits: &'s Exits,
+}
+
+/// How things stand around an action: whether it tests a place whose address is a multiple of four, and how things stand before
+/// it and behind it.
+#[derive(Clone, Copy)]
+pub struct Around {
+    pub placed: bool,
+    pub before: Standing,
+    pub after: Standing,
+}
+
+/// A branch, and whether its first list is empty.
+#[derive(Clone, Copy)]
+pub struct Fork {
+    pub branch: Branch,
+    pub empty: bool,
+}

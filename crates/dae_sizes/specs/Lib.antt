@@ -1,0 +1,10 @@
+pub mod Worth
+pub mod Weights
+pub mod Paid
+pub mod Bodies
+pub mod From
+pub mod Small
+pub mod Sources
+pub mod Promise
+pub mod Constants
+pub mod Written

@@ -1,0 +1,101 @@
+-- How small the functions, the form and the code of a program are beside the tokens of its files.
+use Rattle.std.specs.Prelude.{◌≡◌, ℕ, ◌+◌, ◌*◌, ◌≤◌, Bool, List, [], ◌∷◌}
+use Rattle.std.specs.List.{AllByRecursion}
+use Rattle.dae_tree.specs.Depth.{greatest_length}
+use Rattle.dae_tree.specs.Files.{Contents}
+use Rattle.dae_program.specs.Views.{view_statements}
+use Rattle.dae_program.specs.declared.program.Function.{Function}
+use Rattle.dae_program.specs.declared.program.Program.{Program}
+use Rattle.dae_types_typed.specs.declared.files.FileParts.{FileParts}
+use Rattle.dae_unit.specs.Meanings.{functions_from}
+use Rattle.dae_ir.specs.Classes.{Classes}
+use Rattle.dae_ir.specs.Form.{form_of}
+use Rattle.dae_ir.specs.Programs.{IsStreamOf}
+use Rattle.dae_ir.specs.Streams.{actions_of}
+use Rattle.dae_ir.specs.declared.form.Function.{Function as FormFunction}
+use Rattle.dae_ir.specs.declared.form.Ir.{Ir}
+use Rattle.dae_ir.specs.declared.stream.Stream.{Stream}
+use Rattle.dae_ir.specs.declared.stream.StreamFunction.{StreamFunction}
+use Rattle.dae_lower_formed.specs.Formed.{IsFormOf}
+use Rattle.dae_sizes.specs.Worth.{IsDefinition}
+use Rattle.dae_ir_pair.specs.Sizes.{burden}
+use Rattle.dae_ir_pair.specs.Sizes.{words_in}
+use Rattle.dae_sizes.specs.From.{AreFrom}
+use Rattle.dae_sizes.specs.Small.{tokens, text, HasFew, HasLittle}
+use Rattle.dae_sizes.specs.Sources.{Source, sources_in, AreTypedAs, AreUpTo, tokens_in, bytes_in}
+
+-- ---- the functions that files join to
+
+abbrev pub FunctionsAreFew : Type 0
+FunctionsAreFew =
+    (files : List Contents) (typed : List FileParts) → AreTypedAs files typed →
+    AreFrom (λ (x : Source) (f : Function). HasFew x.external f.variables f.parameters (view_statements f.body)) (sources_in files) (functions_from [] 0 typed)
+
+abbrev pub FunctionsAreLittle : Type 0
+FunctionsAreLittle =
+    (files : List Contents) (typed : List FileParts) → AreTypedAs files typed →
+    AreFrom (λ (x : Source) (f : Function). HasLittle x.literals x.external f.parameters (view_statements f.body)) (sources_in files) (functions_from [] 0 typed)
+
+-- ---- the form of a program of these functions
+
+pub record IsForm (files : List Contents) (ir : Ir) : Type 0 where
+  pub typed : List FileParts
+  pub from : AreTypedAs files typed
+  pub program : Program
+  pub functions : program.functions ≡ functions_from [] 0 typed
+  pub form : IsFormOf program ir
+
+-- a function has at most 4 variables for each token of its definition, and 7 fewer
+abbrev pub FormsAreFew : Type 0
+FormsAreFew =
+    (files : List Contents) (ir : Ir) → IsForm files ir →
+    AreFrom (λ (x : Source) (g : FormFunction). IsDefinition x.external × (7 + g.variables ≤ 4 * tokens x.external)) (sources_in files) ir.functions
+
+-- a frame of 19 words and one for each variable has at most 8 words for each token
+abbrev pub FramesAreSmall : Type 0
+FramesAreSmall =
+    (files : List Contents) (ir : Ir) → IsForm files ir →
+    AreFrom (λ (x : Source) (g : FormFunction). 19 + g.variables ≤ 8 * tokens x.external) (sources_in files) ir.functions
+
+-- and at most 8 items for each token and 4 for each byte of a literal, where a call counts one and a half more
+abbrev pub FormsAreLittle : Type 0
+FormsAreLittle =
+    (files : List Contents) (ir : Ir) → IsForm files ir →
+    AreFrom (λ (x : Source) (g : FormFunction). 28 + burden (form_of g.body) ≤ 16 * tokens x.external + 8 * text x.literals x.external) (sources_in files) ir.functions
+
+-- where no definition has more than n tokens, such a frame has at most 8 words for each of n
+abbrev pub FramesAreWithin : Type 0
+FramesAreWithin =
+    (files : List Contents) (ir : Ir) (n : ℕ) → IsForm files ir → AreUpTo n files →
+    AllByRecursion (λ (g : FormFunction). 19 + g.variables ≤ 8 * n) ir.functions
+
+-- the definitions of files that are typed have at most 8,192 tokens
+abbrev pub DefinitionsAreShort : Type 0
+DefinitionsAreShort = (files : List Contents) (typed : List FileParts) → AreTypedAs files typed → AreUpTo greatest_length files
+
+-- what the code of functions weighs, with 28 for each function
+abbrev pub burdens_of : List FormFunction → ℕ
+burdens_of [] = 0
+burdens_of (g ∷ gs) = 28 + burden (form_of g.body) + burdens_of gs
+
+-- that is at most 16 for each token of the files and 8 for each byte of their literals
+abbrev pub FormsAreWithin : Type 0
+FormsAreWithin = (files : List Contents) (ir : Ir) → IsForm files ir → burdens_of ir.functions ≤ 16 * tokens_in files + 8 * bytes_in files
+
+-- a stream has at most 224 words for each token of the definition and 112 for each byte of a literal, with the 25 that its
+-- function begins and ends with
+abbrev pub StreamsAreLittle : Type 0
+StreamsAreLittle =
+    (files : List Contents) (ir : Ir) (by_a : Bool) (of : ℕ → Classes) (cap : ℕ) (s : Stream) → IsForm files ir → IsStreamOf by_a of cap ir s →
+    AreFrom (λ (x : Source) (g : StreamFunction). words_in (actions_of g.body) + 25 ≤ 224 * tokens x.external + 112 * text x.literals x.external) (sources_in files) s.functions
+
+-- the words of functions, each with the 25 that it begins and ends with
+abbrev pub words_of : List StreamFunction → ℕ
+words_of [] = 0
+words_of (g ∷ gs) = words_in (actions_of g.body) + 25 + words_of gs
+
+-- a stream has at most 224 words for each token of the files, 112 for each byte of their literals, and 8
+abbrev pub StreamsAreWithin : Type 0
+StreamsAreWithin =
+    (files : List Contents) (ir : Ir) (by_a : Bool) (of : ℕ → Classes) (cap : ℕ) (s : Stream) → IsForm files ir → IsStreamOf by_a of cap ir s →
+    8 + words_of s.functions ≤ 224 * tokens_in files + 112 * bytes_in files + 8

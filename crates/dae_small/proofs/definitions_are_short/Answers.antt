@@ -1,5 +1,0 @@
-use Rattle.dae_small.proofs.Totals.{definitions_are_short}
-use Rattle.dae_small.proofs.definitions_are_short.Goals as goal
-
-pub returns : goal.returns
-returns c = definitions_are_short

@@ -1,5 +1,0 @@
-use Rattle.dae_small.proofs.Forms.{forms_are_few}
-use Rattle.dae_small.proofs.forms_are_few.Goals as goal
-
-pub returns : goal.returns
-returns c = forms_are_few c.forms_small.ensures c.functions_are_few.ensures

@@ -1,5 +1,0 @@
-use Rattle.dae_small.proofs.Totals.{forms_are_within}
-use Rattle.dae_small.proofs.forms_are_within.Goals as goal
-
-pub returns : goal.returns
-returns c = forms_are_within c.parts_pay.ensures c.forms_are_little.ensures

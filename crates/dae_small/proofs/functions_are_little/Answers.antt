@@ -1,5 +1,0 @@
-use Rattle.dae_small.proofs.Joined.{functions_are_little}
-use Rattle.dae_small.proofs.functions_are_little.Goals as goal
-
-pub returns : goal.returns
-returns c = functions_are_little c.code_is_little.ensures

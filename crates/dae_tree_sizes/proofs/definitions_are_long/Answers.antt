@@ -1,5 +1,0 @@
-use Rattle.dae_tree_sizes.proofs.Spelled.{definitions_are_long}
-use Rattle.dae_tree_sizes.proofs.definitions_are_long.Goals as goal
-
-pub returns : goal.returns
-returns c = definitions_are_long

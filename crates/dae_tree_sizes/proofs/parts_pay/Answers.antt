@@ -1,5 +1,0 @@
-use Rattle.dae_tree_sizes.proofs.Apart.{parts_pay}
-use Rattle.dae_tree_sizes.proofs.parts_pay.Goals as goal
-
-pub returns : goal.returns
-returns c = parts_pay

@@ -1,5 +1,0 @@
-use Rattle.dae_tree_sizes.proofs.Spelled.{tokens_pay}
-use Rattle.dae_tree_sizes.proofs.tokens_pay.Goals as goal
-
-pub returns : goal.returns
-returns c = tokens_pay

@@ -1,0 +1,5 @@
+mod Small
+mod Accepted
+mod Refused
+mod RefusedLater
+mod Written
