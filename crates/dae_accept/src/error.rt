@@ -13,7 +13,8 @@ use std::alloc::{AllocError, AllocFailed};
 
 /// Why texts have no program, in the order in which causes are told: the first cause why one has no tokens; why the
 /// tokens of one have no tree within the limits; a rule of types that is broken in one, with the place; why the
-/// files don't join; or memory is wanting, which alone is free. No other variant carries a want of memory.
+/// files don't join; or memory is wanting, which alone is free. No other variant carries a want of memory. A count past 2^32 and
+/// a file that isn't known to be sound are told as a want of memory too.
 #[derive(Drop)]
 pub enum CompileError {
     Lex(LexError),
@@ -58,6 +59,8 @@ impl From<CheckError> for CompileError {
         match e {
             CheckError::Rule(breach) => CompileError::Rule(breach),
             CheckError::Memory => CompileError::Memory,
+            CheckError::TooMany => CompileError::Memory,
+            CheckError::Unsound => CompileError::Memory,
         }
     }
 }

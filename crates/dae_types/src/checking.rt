@@ -3,7 +3,7 @@
 ghost use Rattle.std.specs.Prelude.{◌≡◌, Ok};
 ghost use Rattle.dae_types_rules.specs.Plan.{Gives};
 ghost use Rattle.dae_types_tables.specs.Seen.{tables};
-ghost use Rattle.dae_types.specs.Answers.{Answers, start_in};
+ghost use Rattle.dae_types.specs.Answers.{Answers, IsWant, start_in};
 
 use crate::assembling::assemble;
 use crate::names::{copy_all, numbers_in};
@@ -32,22 +32,33 @@ fn begin(alloc: Global, file: &File) -> Result<Checker, CheckError>
 }
 
 /// What the check of a file gives before it is known to be sound.
-#[tactic(auto, using(crate::proofs::Refusals::refused))]
+#[tactic(auto, using(crate::proofs::Refusals::refused, crate::proofs::Refusals::wanted))]
 fn check_parts(alloc: Global, file: &File) -> Result<FileParts, CheckError>
     ensures { Answers file.now result }
 {
     let mut checker = begin(alloc, file)?;
     files_are_checked();
     let products = file_products(alloc, &mut checker, file.externals())?;
-    let Ok(parts) = assemble(alloc, checker, products, file.names()) else {
-        return Err(CheckError::Memory);
-    };
-    Ok(parts)
+    match assemble(alloc, checker, products, file.names()) {
+        Ok(parts) => Ok(parts),
+        Err(error) => Err(want_in(error)),
+    }
+}
+
+/// What was wanting where a file was put together. No rule is asked there.
+fn want_in(error: CheckError) -> CheckError
+    ensures { IsWant result }
+{
+    match error {
+        CheckError::Memory => CheckError::Memory,
+        CheckError::TooMany => CheckError::TooMany,
+        CheckError::Unsound | CheckError::Rule(_) => CheckError::Unsound,
+    }
 }
 
 /// Checks the types of a file (C90 6.1.2, 6.2, 6.3, 6.5, 6.6 and 6.7). A file in which no rule is broken becomes a typed file;
-/// in another a rule that is broken is answered, with a place where it is. Both fail for want of memory alone, and so does a
-/// typed file for which the test of what a joiner relies on says no.
+/// in another a rule that is broken is answered, with a place where it is. Both may fail for want of memory, or where a number
+/// passes 2^32; and a file fails for which the test of what a joiner relies on says no.
 pub fn check(alloc: Global, file: &File) -> Result<TypedFile, CheckError>
     ensures { Answers file.now result }
 {
@@ -55,6 +66,6 @@ pub fn check(alloc: Global, file: &File) -> Result<TypedFile, CheckError>
     if is_sound(alloc, &parts)? {
         Ok(TypedFile::new(parts))
     } else {
-        Err(CheckError::Memory)
+        Err(CheckError::Unsound)
     }
 }

@@ -19,7 +19,7 @@ fn number_among(names: &[Items<u8>], name: &[u8]) -> Result<Option<u32>, CheckEr
         if other.as_slice() == name {
             return Ok(Some(number));
         }
-        number = number.checked_add(1).ok_or(CheckError::Memory)?;
+        number = number.checked_add(1).ok_or(CheckError::TooMany)?;
     }
     Ok(None)
 }

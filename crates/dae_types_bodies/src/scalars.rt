@@ -1,10 +1,10 @@
 // Local objects at their declarations: the statements that set them (C90 6.5.7). A scalar without an initialiser is 0, and one
-// whose own initialiser names it is 0 when its function is called.
+// whose own initialiser names it is 0 before.
 
-ghost use Rattle.std.specs.Prelude.{◌≡◌, Ok};
+ghost use Rattle.std.specs.Prelude.{◌≡◌, Ok, slice_get};
 ghost use Rattle.dae_program.specs.Views.{view, view_target};
 ghost use Rattle.dae_types_rules.specs.Plan.{Gives, pure};
-ghost use Rattle.dae_types_file_plans.specs.Statements.{assigned_to, begin_local, frame_offset, initialised_at, offset_of_local, names_stored, scalar_value_at, set_to, storage_target, taken_or_not, type_of_local, with_zero, zero_or_not};
+ghost use Rattle.dae_types_file_plans.specs.Statements.{assigned_to, begin_local, frame_offset, initialised_at, offset_of_local, names_stored, own_set, scalar_value_at, set_to, storage_target, taken_or_not, type_of_local};
 ghost use Rattle.dae_types_tables.specs.Seen.{tables};
 ghost use Rattle.dae_types_folding.specs.Views.{MakesTree, view_value};
 ghost use Rattle.dae_types_values.specs.Results.{one};
@@ -12,12 +12,13 @@ ghost use Rattle.dae_types_fills.specs.Fillings.{view_content};
 ghost use Rattle.dae_types_bodies.specs.Written.{GivesStatements, MakesStatements, as_statements};
 
 use crate::naming::names_variable;
+use crate::sequences::append;
 use dae_base::Place;
 use dae_program::{Expression, Statement, Target};
 use dae_types_fills::Content;
 use dae_types_folding::{Value, load_kind};
-use dae_types_kinds::{CheckError, Local, Rule, Storage};
-use dae_types_tables::{Checker, INT_ID, broken, is_scalar, is_structure};
+use dae_types_kinds::{CheckError, INT_ID, Local, Rule, Storage};
+use dae_types_tables::{Checker, broken, is_scalar, is_structure};
 use dae_types_values::{convert, fits};
 use std::alloc::Global;
 
@@ -94,36 +95,38 @@ fn names_stored(storage: Option<Storage>, e: &Expression) -> bool
     }
 }
 
-/// Notes that a local scalar is 0 when its function is called, where its own initialiser reads it.
-fn begin_zero(checker: &mut Checker, number: usize, is_read: bool)
-    ensures { tables checker.new ≡ with_zero number is_read (tables checker.old) }
+/// Gives a local scalar the value of its own initialiser; where that reads it, it is 0 before.
+fn set_by_own(
+    alloc: Global,
+    checker: &Checker,
+    place: Place,
+    number: usize,
+    value: Expression,
+) -> Result<Vec<Statement>, CheckError>
+    ensures { MakesStatements result
+        (own_set (names_stored (slice_get (tables checker.now).storages number) (view value))
+        place (tables checker.now) number (view value)) }
 {
-    if is_read {
-        let type_id = type_of_local(checker, number);
-        let taken = is_taken(checker.local(number));
-        checker.set_local(
-            number,
-            Local {
-                type_id,
-                taken,
-                begins_zero: true,
-            },
-        );
+    if !names_stored(checker.storage(number), &value) {
+        return set_to(alloc, checker, place, number, value);
     }
+    let zero = set_to(alloc, checker, place, number, Expression::Number(0))?;
+    let rest = set_to(alloc, checker, place, number, value)?;
+    append(zero, rest)
 }
 
 /// Gives a local scalar a value; the first place is that of its name, the second that of the value.
 #[tactic(auto, unfolding(dae_types_rules::specs::Plan::ask_all))]
 pub fn initialise_scalar(
     alloc: Global,
-    checker: &mut Checker,
+    checker: &Checker,
     place: Place,
     of_value: Place,
     number: usize,
     x: Value,
 ) -> Result<Vec<Statement>, CheckError>
-    ensures { GivesStatements checker.new result
-        (scalar_value_at place of_value number (one x)) checker.old }
+    ensures { GivesStatements checker.now result
+        (scalar_value_at place of_value number (one x)) checker.now }
 {
     let type_id = type_of_local(checker, number);
     if !fits(checker, &x, type_id) {
@@ -133,10 +136,7 @@ pub fn initialise_scalar(
         return Err(broken(Rule::StructureValue, of_value));
     }
     let x = convert(alloc, checker, of_value, x, type_id)?;
-    let is_read = names_stored(checker.storage(number), &x.tree);
-    let statements = set_to(alloc, checker, place, number, x.tree)?;
-    begin_zero(checker, number, is_read);
-    Ok(statements)
+    set_by_own(alloc, checker, place, number, x.tree)
 }
 
 /// Begins a local object without an initialiser: a scalar is 0, an aggregate holds anything.
@@ -182,16 +182,6 @@ fn is_taken(local: Option<Local>) -> bool
     }
 }
 
-/// Whether a local object is 0 when its function is called.
-fn begins_zero(local: Option<Local>) -> bool
-    ensures { result ≡ zero_or_not local }
-{
-    match local {
-        Some(local) => local.begins_zero,
-        None => false,
-    }
-}
-
 /// Sets a local aggregate, which gets its type from what it holds: zeros, and then the items.
 pub fn initialise_aggregate(
     alloc: Global,
@@ -209,14 +199,6 @@ pub fn initialise_aggregate(
     let mut statements = Vec::new(alloc);
     statements.push(Statement::Initialise(place, offset, size, content.items))?;
     let type_id = content.type_id;
-    let begins_zero = begins_zero(checker.local(number));
-    checker.set_local(
-        number,
-        Local {
-            type_id,
-            taken,
-            begins_zero,
-        },
-    );
+    checker.set_local(number, Local { type_id, taken });
     Ok(statements)
 }

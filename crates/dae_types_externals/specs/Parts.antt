@@ -1,5 +1,5 @@
 -- Plans of parts of declarations and definitions at file scope, and of a file's end.
-use Rattle.std.specs.Prelude.{ℕ, List, [], ◌∷◌, ◌++◌, Option, Some, None, Bool, false}
+use Rattle.std.specs.Prelude.{ℕ, List, Option, Some, None, Bool, false}
 use Rattle.dae_base.specs.declared.Place.{Place}
 use Rattle.dae_tree.specs.declared.words.Keyword.{Keyword}
 use Rattle.dae_tree.specs.declared.expressions.Name.{Name}
@@ -9,21 +9,15 @@ use Rattle.dae_tree.specs.Depth.{place_of_specifiers}
 use Rattle.dae_tree.specs.FileViews.{view_declarations, views_statements}
 use Rattle.dae_tree.specs.Names.{declared_name, function_part, has_typedef}
 use Rattle.dae_program.specs.Trees as program
-use Rattle.dae_program.specs.Views.{statement_then}
-use Rattle.dae_program.specs.declared.statements.Statement.{Statement}
 use Rattle.dae_types_kinds.specs.declared.tables.Context.TheVariants as context
-use Rattle.dae_types_kinds.specs.declared.tables.Local.{Local}
-use Rattle.dae_types_kinds.specs.declared.tables.Storage.{Storage}
-use Rattle.dae_types_kinds.specs.Tables.{Tables}
-use Rattle.dae_types_kinds.specs.Types.{int_id, shape_of}
-use Rattle.dae_types_kinds.specs.Values.{load_kind}
+use Rattle.dae_types_kinds.specs.Types.{int_id}
 use Rattle.dae_types_rules.specs.Plan.{Plan, node, chain, pure}
 use Rattle.dae_types_plans.specs.Steps.{base_at, changes_to, declared_place, looks, nothing, settles_name}
 use Rattle.dae_types_plans.specs.Expressions.{plan_declarator, plan_specifiers}
 use Rattle.dae_types_file_plans.specs.declared.surroundings.Surrounding.{Surrounding}
 use Rattle.dae_types_file_plans.specs.Files.{Product, data_at, definition_at, end_sites, function_at, is_direct, plan_body_of, parameters_in, plan_defined_as, second_at, some_of, some_type, started, storage_of, type_of_object}
 use Rattle.dae_types_file_plans.specs.Initialisers.{plan_content}
-use Rattle.dae_types_file_plans.specs.Statements.{plan_block, storage_target}
+use Rattle.dae_types_file_plans.specs.Statements.{plan_block}
 use Rattle.dae_types_rules.specs.Table.{is_static}
 
 -- ---- declarations
@@ -54,10 +48,6 @@ plan_entry p k n t = second_at p (function_at p (is_static k) false n (pure t))
 abbrev pub plan_statements_of : Surrounding → Block → Plan program.Statements
 plan_statements_of c b = plan_block c (view_declarations b.declarations.items) (views_statements b.statements.items)
 
--- the assignment of 0 to a parameter or local object
-abbrev pub zero_of : Place → Tables → Local → Storage → program.Expression
-zero_of p s x y = program.Assign p (load_kind (shape_of s x.type_id)) (storage_target (Some y) p) (program.Number 0)
-
 -- the body of a function in memory, whose type isn't faulty
 abbrev pub plan_body_in : Place → Option Name → Parameters → Block → ℕ → Option ℕ → Plan (List Product)
 plan_body_in p n ps b t f = plan_body_of p n ps (view_declarations b.declarations.items) (views_statements b.statements.items) (Some t) f
@@ -75,11 +65,6 @@ abbrev pub plan_begun : Specifiers → Declarator → Block → Plan (List Produ
 plan_begun ws d b =
     let p = declared_place d (place_of_specifiers ws b.place) in
     chain tt (changes_to started) (λ x. chain int_id (plan_file_base false ws) (λ t. chain None (plan_type_of_definition p ws t d) (plan_defined_as p (storage_of ws) (declared_name d) (parameters_in (function_part d)) (view_declarations b.declarations.items) (views_statements b.statements.items))))
-
--- a body behind statements
-abbrev pub before : List Statement → program.Statements → program.Statements
-before [] body = body
-before (x ∷ xs) body = statement_then x (before xs body)
 
 -- ---- the end of the file
 

@@ -3,22 +3,21 @@
 ghost use Rattle.std.specs.Prelude.{◌≡◌, Some};
 ghost use Rattle.dae_tree.specs.Views.{views_parameters};
 ghost use Rattle.dae_types_kinds.specs.Values.{result_of};
-ghost use Rattle.dae_types_file_plans.specs.Files.{first_time, in_body, named_at, plan_body_of, second_time, surrounding, twice};
+ghost use Rattle.dae_types_file_plans.specs.Files.{body_product, first_time, in_body, named_at, plan_body_of, second_time, surrounding, twice};
 ghost use Rattle.dae_types_tables.specs.Seen.{tables, Follows};
-ghost use Rattle.dae_types_bodies.specs.Written.{GivesStatements};
-ghost use Rattle.dae_types_products.specs.Products.{GivesProducts};
+ghost use Rattle.dae_types_bodies.specs.Written.{GivesStatements, as_statements};
+ghost use Rattle.dae_types_products.specs.Products.{GivesProducts, MakesProducts};
 ghost use Rattle.dae_types_externals.specs.Parts.{plan_body_in, plan_statements_of};
 
-use crate::zeros::body_product;
 use dae_base::Place;
 use dae_program::Statement;
 use dae_tree::{Block, Name, Parameter};
 use dae_types_file_plans::Surrounding;
-use dae_types_kinds::{CheckError, Rule, Shape};
+use dae_types_kinds::{CheckError, Rule, result_of};
 use dae_types_linkage::{is_main_name, settle_locals};
-use dae_types_products::Product;
+use dae_types_products::{Body, Product};
 use dae_types_statements::block;
-use dae_types_tables::{Checker, INT_ID, broken, copy_kept, set_kept};
+use dae_types_tables::{Checker, broken, copy_kept, set_kept, storages};
 use dae_types_walk::place_of_specifiers;
 use std::alloc::Global;
 
@@ -35,16 +34,6 @@ fn check_names(checker: &Checker, place: Place, parameters: &[Parameter]) -> Res
         }
     }
     Ok(())
-}
-
-/// What a function's result has as its type.
-fn result_of(shape: Shape) -> usize
-    ensures { result ≡ result_of shape }
-{
-    match shape {
-        Shape::Function(gives, _) => gives,
-        _ => INT_ID,
-    }
 }
 
 /// What stands round the statements of a function of a type. The flag says that it is main.
@@ -91,21 +80,44 @@ fn look_at_body(
     checker.close(outer)
 }
 
+/// A function with its body, by its number.
+fn body_product(
+    alloc: Global,
+    checker: &Checker,
+    function: usize,
+    statements: Vec<Statement>,
+) -> Result<Vec<Product>, CheckError>
+    ensures { MakesProducts result
+        (body_product function (tables checker.now) (as_statements statements)) }
+{
+    let mut locals = Vec::new(alloc);
+    locals.extend_from_slice(checker.locals())?;
+    let mut kept = Vec::new(alloc);
+    kept.extend_from_slice(storages(checker))?;
+    let mut products = Vec::new(alloc);
+    products.push(Product::Body(Body {
+        routine: function,
+        locals,
+        storages: kept,
+        statements,
+    }))?;
+    Ok(products)
+}
+
 /// Goes through a body for the second time, with each parameter and local object in its place.
 fn write_body(
     alloc: Global,
     checker: &mut Checker,
-    place: Place,
     function: Option<usize>,
     around: Surrounding,
     body: &Block,
 ) -> Result<Vec<Product>, CheckError>
     ensures { GivesProducts checker.new result
-        (second_time place function (plan_statements_of around body.now)) checker.old }
+        (second_time function (plan_statements_of around body.now)) checker.old }
 {
     let statements = body_statements(alloc, checker, around, body)?;
     match function {
-        Some(function) => body_product(alloc, checker, place, function, statements),
+        Some(function) => body_product(alloc, checker, function, statements),
         None => Ok(Vec::new(alloc)),
     }
 }
@@ -114,14 +126,13 @@ fn write_body(
 fn body_twice(
     alloc: Global,
     checker: &mut Checker,
-    place: Place,
     parameters: usize,
     function: Option<usize>,
     around: Surrounding,
     body: &Block,
 ) -> Result<Vec<Product>, CheckError>
     ensures { GivesProducts checker.new result
-        (twice place parameters function (plan_statements_of around body.now)) checker.old }
+        (twice parameters function (plan_statements_of around body.now)) checker.old }
 {
     let kept = copy_kept(checker)?;
     let uses = checker.copy_uses()?;
@@ -129,7 +140,7 @@ fn body_twice(
     set_kept(checker, kept);
     checker.set_uses(uses);
     settle_locals(alloc, checker, parameters)?;
-    write_body(alloc, checker, place, function, around, body)
+    write_body(alloc, checker, function, around, body)
 }
 
 /// The body of a function of a type, by its number.
@@ -150,13 +161,5 @@ pub fn function_body(
 {
     check_names(checker, place, parameters)?;
     let around = surrounding(checker, is_main_name(checker, name), type_id);
-    body_twice(
-        alloc,
-        checker,
-        place,
-        parameters.len(),
-        function,
-        around,
-        body,
-    )
+    body_twice(alloc, checker, parameters.len(), function, around, body)
 }

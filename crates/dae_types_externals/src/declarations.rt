@@ -5,7 +5,6 @@ ghost use Rattle.dae_tree.specs.FileViews.{view_declaration, view_initialiser, v
 ghost use Rattle.dae_tree.specs.Views.{view_declarator, views_specifiers};
 ghost use Rattle.dae_types_file_plans.specs.Files.{plan_data, plan_declared, plan_function, plan_item_at, plan_items, plan_object, plan_typed, role_of, storage_of};
 ghost use Rattle.dae_types_file_plans.specs.Statements.{is_alone};
-ghost use Rattle.dae_types_rules.specs.Table.{is_extern};
 ghost use Rattle.dae_types_tables.specs.Seen.{Follows, FollowsBy};
 ghost use Rattle.dae_types_products.specs.Products.{GivesProducts, as_products};
 ghost use Rattle.dae_types_externals.specs.Parts.{plan_file_base, plan_object_data, plan_type_of};
@@ -15,7 +14,8 @@ use dae_tree::{Declaration, Declarator, Initialiser, Item, Keyword, Seen, Specif
 use dae_types_file_plans::Role;
 use dae_types_kinds::{CheckError, Context};
 use dae_types_linkage::{
-    declare_function, declare_object, declare_type, is_static, set_object_type, type_of_object,
+    declare_function, declare_object, declare_type, is_extern, is_static, set_object_type,
+    type_of_object,
 };
 use dae_types_locals::{content, has_typedef, look_through};
 use dae_types_products::{Product, append, declares_function, declares_object};
@@ -51,16 +51,6 @@ fn is_alone(items: &[Item]) -> bool
     ensures { result ≡ is_alone (view_items items.now) }
 {
     items.is_empty()
-}
-
-/// Whether the word extern stands in specifiers.
-fn is_extern(word: Option<Keyword>) -> bool
-    ensures { result ≡ is_extern word }
-{
-    match word {
-        Some(Keyword::Extern) => true,
-        _ => false,
-    }
 }
 
 /// What a declaration is for an object: it has an initialiser, it gives room, or neither (C90 6.7.2).

@@ -9,4 +9,3 @@ mod bodies;
 mod declarations;
 mod definitions;
 mod externals;
-mod zeros;

@@ -1,6 +1,6 @@
 -- The plan of a file: declarations and definitions at file scope (C90 6.1.2.2 and 6.7), and what is declared before its first
 -- token.
-use Rattle.std.specs.Prelude.{ℕ, suc, ◌+◌, ◌-◌, List, [], ◌∷◌, ◌++◌, length, take, Option, Some, None, is_some, Bool, true, false, ◌&&◌, ◌||◌, not, nat_eq, if◌then◌else◌, slice_get}
+use Rattle.std.specs.Prelude.{ℕ, suc, ◌+◌, ◌-◌, ◌^◌, min, List, [], ◌∷◌, ◌++◌, length, take, Option, Some, None, is_some, Bool, true, false, ◌&&◌, ◌||◌, not, nat_eq, if◌then◌else◌, slice_get}
 use Rattle.dae_base.specs.declared.Place.{Place}
 use Rattle.dae_tree.specs.declared.words.Keyword.{Keyword}
 use Rattle.dae_tree.specs.declared.expressions.Name.{Name}
@@ -25,7 +25,7 @@ use Rattle.dae_types_kinds.specs.declared.tables.Storage.{Storage}
 use Rattle.dae_types_kinds.specs.declared.tables.Storage.TheVariants as storage
 use Rattle.dae_types_kinds.specs.Tables.{Tables, with_object, with_routine, with_locals, with_storages, with_name, set_object, set_routine, reopened, closed}
 use Rattle.dae_types_kinds.specs.Types.{int_id, first_shapes, shape_of, is_function, is_scalar, composite, layout_at, rounded}
-use Rattle.dae_types_kinds.specs.Values.{result_of, load_kind}
+use Rattle.dae_types_kinds.specs.Values.{result_of}
 use Rattle.dae_types_rules.specs.Table.{is_static, is_extern}
 use Rattle.dae_types_rules.specs.Sites.{Site, AtFunction, AtObject, AtEndOfFile, AtDefinition, AtSecond, AtUnnamed}
 use Rattle.dae_types_rules.specs.Plan.{Plan, pure, node, chain}
@@ -36,7 +36,7 @@ use Rattle.dae_types_file_plans.specs.declared.declarations.Role.{Role}
 use Rattle.dae_types_file_plans.specs.declared.declarations.Role.TheVariants.{Reference, Tentative, Definition}
 use Rattle.dae_types_file_plans.specs.Initialisers.{Content, plan_content, plan_unused_initialiser}
 use Rattle.dae_types_file_plans.specs.declared.surroundings.Surrounding.{Surrounding}
-use Rattle.dae_types_file_plans.specs.Statements.{plan_block, typedef_at, own_of, is_alone, storage_target}
+use Rattle.dae_types_file_plans.specs.Statements.{plan_block, typedef_at, own_of, is_alone}
 
 -- ---- what a file comes to: its declarations of objects and functions, the content of its objects that are initialised, and
 -- its functions with their bodies
@@ -167,6 +167,9 @@ plan_declared done d =
 
 -- ---- where the parameters and locals of a function are kept. Variable 0 holds what the function returns, the next ones the
 -- parameters; other scalars follow, unless their addresses are taken. What is in the frame stands in the order of the text.
+-- Sums stop at a number that is far above what a memory has: a call with such a frame traps, wherever its objects stand.
+abbrev pub most_frame : ℕ
+most_frame = 2 ^ 31
 
 abbrev pub in_variable : Tables → Local → Bool
 in_variable s x = is_scalar (shape_of s x.type_id) && not x.taken
@@ -177,7 +180,7 @@ kept_from s v o n [] = []
 kept_from s v o n (x ∷ xs) =
     let l = layout_at s x.type_id in
     let at = rounded o l.align in
-    if in_variable s x then storage.Variable v ∷ kept_from s (suc v) o (n - 1) xs else storage.Frame at ∷ kept_from s (if nat_eq n 0 then v else suc v) (at + l.size) (n - 1) xs
+    if in_variable s x then storage.Variable v ∷ kept_from s (suc v) o (n - 1) xs else storage.Frame at ∷ kept_from s (if nat_eq n 0 then v else suc v) (min (at + l.size) most_frame) (n - 1) xs
 
 -- ---- definitions (C90 6.7.1)
 
@@ -240,24 +243,14 @@ keep_scope old s = record s { kept_names = old.kept_names; kept_tags = old.kept_
 abbrev pub first_time : ℕ → Plan program.Statements → Plan (Unit {0})
 first_time n body = chain (record { names = 0; tags = 0 }) (does (λ s x. (reopened s, s.innermost)) nothing) (λ outer. does (λ s x. (s, tt {0})) (ends (closed outer) body))
 
--- what is 0 when its function is called is set before all else
-abbrev pub zero_if : Place → Tables → Local → Storage → program.Statements → program.Statements
-zero_if p s x y body =
-    if x.begins_zero then program.Evaluate p (program.Assign p (load_kind (shape_of s x.type_id)) (storage_target (Some y) p) (program.Number 0)) body
-    else body
+abbrev pub body_product : ℕ → Tables → program.Statements → List Product
+body_product f s x = Body f s.locals s.storages x ∷ []
 
-abbrev pub begun_with : Place → Tables → List Local → List Storage → program.Statements → program.Statements
-begun_with p s (x ∷ xs) (y ∷ ys) body = zero_if p s x y (begun_with p s xs ys body)
-begun_with p s _ _ body = body
+abbrev pub second_time : Option ℕ → Plan program.Statements → Plan (List Product)
+second_time f body = does (λ s x. (s, elim f [ None ↦ [] | Some g ↦ body_product g s x ])) (in_body body)
 
-abbrev pub body_product : Place → ℕ → Tables → program.Statements → List Product
-body_product p f s x = Body f s.locals s.storages (begun_with p s s.locals s.storages x) ∷ []
-
-abbrev pub second_time : Place → Option ℕ → Plan program.Statements → Plan (List Product)
-second_time p f body = does (λ s x. (s, elim f [ None ↦ [] | Some g ↦ body_product p g s x ])) (in_body body)
-
-abbrev pub twice : Place → ℕ → Option ℕ → Plan program.Statements → Plan (List Product)
-twice p n f body = chain [] (looks (λ s. s ∷ [])) (λ olds. chain tt (first_time n body) (λ x. chain tt (changes_to (λ s. settled_locals n (elim olds [ [] ↦ s | old ∷ rest ↦ keep_scope old s ]))) (λ y. second_time p f body)))
+abbrev pub twice : ℕ → Option ℕ → Plan program.Statements → Plan (List Product)
+twice n f body = chain [] (looks (λ s. s ∷ [])) (λ olds. chain tt (first_time n body) (λ x. chain tt (changes_to (λ s. settled_locals n (elim olds [ [] ↦ s | old ∷ rest ↦ keep_scope old s ]))) (λ y. second_time f body)))
 
 abbrev pub result_type : Tables → Option ℕ → Option ℕ
 result_type s None = None
@@ -270,7 +263,7 @@ abbrev pub first_surrounding : Surrounding
 first_surrounding = record { result = None; is_main = false; inside_loop = false; inside_switch = false }
 
 abbrev pub plan_body_of : Place → Option Name → Parameters → List Declaration → Statements → Option ℕ → Option ℕ → Plan (List Product)
-plan_body_of p n ps ds ss t f = chain tt (named_at p ps) (λ x. chain first_surrounding (looks (λ s. surrounding s (is_main_name s n) t)) (λ c. twice p (count_parameters ps) f (plan_block c ds ss)))
+plan_body_of p n ps ds ss t f = chain tt (named_at p ps) (λ x. chain first_surrounding (looks (λ s. surrounding s (is_main_name s n) t)) (λ c. twice (count_parameters ps) f (plan_block c ds ss)))
 
 -- of a function whose type is faulty the body is looked at
 abbrev pub plan_defined_as : Place → Option Keyword → Option Name → Parameters → List Declaration → Statements → Option ℕ → Plan (List Product)

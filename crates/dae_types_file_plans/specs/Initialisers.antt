@@ -1,6 +1,6 @@
 -- The plans of initialisers (C90 6.5.7). Items are given to the scalars of an aggregate in their order; inner braces may be
 -- left out. What is still to be filled is a stack, its innermost part first.
-use Rattle.std.specs.Prelude.{ℕ, zero, suc, ◌+◌, ◌*◌, List, [], ◌∷◌, ◌++◌, length, filter, Option, Some, None, Bool, true, false, ◌&&◌, ◌||◌, not, nat_eq, nat_lt, if◌then◌else◌, slice_get}
+use Rattle.std.specs.Prelude.{ℕ, zero, suc, ◌+◌, ◌*◌, min, List, [], ◌∷◌, ◌++◌, length, filter, Option, Some, None, Bool, true, false, ◌&&◌, ◌||◌, not, nat_eq, nat_lt, if◌then◌else◌, slice_get}
 use Rattle.dae_base.specs.declared.Place.{Place}
 use Rattle.dae_base.specs.declared.LoadKind.{LoadKind}
 use Rattle.dae_base.specs.Words.{extended, width_of}
@@ -10,12 +10,10 @@ use Rattle.dae_tree.specs.Depth.{place_of}
 use Rattle.dae_program.specs.Trees as program
 use Rattle.dae_types_kinds.specs.declared.types.Shape.{Shape}
 use Rattle.dae_types_kinds.specs.declared.types.Shape.TheVariants as shape
-use Rattle.dae_types_kinds.specs.declared.values.Known.{Known}
-use Rattle.dae_types_kinds.specs.declared.values.Known.TheVariants as known
 use Rattle.dae_types_kinds.specs.declared.tables.Component.{Component}
 use Rattle.dae_types_kinds.specs.Tables.{Tables}
-use Rattle.dae_types_kinds.specs.Types.{int_id, shape_of, made, is_scalar, is_character, is_structure, layout_at}
-use Rattle.dae_types_kinds.specs.Values.{Typed, number, load_kind, known_as}
+use Rattle.dae_types_kinds.specs.Types.{int_id, shape_of, made, greatest_word, is_scalar, is_character, is_structure, layout_at}
+use Rattle.dae_types_kinds.specs.Values.{Typed, number, load_kind, known_as, constant_tree}
 use Rattle.dae_types_rules.specs.Sites.{Site, AtItem, AtScalarList, AtAggregate, AtString, AtTooMany, AtFilled}
 use Rattle.dae_types_rules.specs.Plan.{Plan, pure, node, chain, pardons}
 use Rattle.dae_types_plans.specs.Steps.{at, does, nothing, looks}
@@ -49,13 +47,20 @@ abbrev pub is_before : ℕ → Option ℕ → Bool
 is_before n None = true
 is_before n (Some count) = nat_lt n count
 
+-- offsets stop at the greatest word, which is behind all that an object may have
+abbrev pub behind_bytes : ℕ → ℕ → ℕ
+behind_bytes o bytes = min (o + bytes) greatest_word
+
 -- the next element or member, or else what stands behind
 abbrev pub element_slot : Tables → ℕ → ℕ → ℕ → Option ℕ → List Rest → Option Slot → Option Slot
-element_slot s o t n count rest behind = if is_before n count then Some (slot (o + (n * (layout_at s t).size)) t (Elements o t (suc n) count ∷ rest)) else behind
+element_slot s o t n count rest behind =
+    if is_before n count
+    then Some (slot (behind_bytes o (n * (layout_at s t).size)) t (Elements o t (suc n) count ∷ rest))
+    else behind
 
 abbrev pub member_slot : ℕ → ℕ → ℕ → Option Component → List Rest → Option Slot → Option Slot
 member_slot o k n None rest behind = behind
-member_slot o k n (Some f) rest behind = Some (slot (o + f.offset) f.type_id (Members o k (suc n) ∷ rest))
+member_slot o k n (Some f) rest behind = Some (slot (behind_bytes o f.offset) f.type_id (Members o k (suc n) ∷ rest))
 
 abbrev pub next_slot : Tables → List Rest → Option Slot
 next_slot s [] = None
@@ -145,27 +150,27 @@ abbrev pub item_sites : Place → Tables → Option ℕ → Typed → Option Slo
 item_sites p s n x None = []
 item_sites p s n x (Some z) = item_sites_at p s n x z.type_id (shape_of s z.type_id)
 
--- a constant as the item's value
-abbrev pub constant_tree : Known → program.Expression
-constant_tree (known.Number w) = program.Number w
-constant_tree (known.Address (Some o) k) = program.Address o k
-constant_tree (known.Address None w) = program.Number w
-constant_tree _ = program.Number 0
-
 abbrev pub setting : ℕ → Shape → program.Expression → program.Setting
 setting o t e = record { offset = o; width = width_of (load_kind t); value = e }
+
+-- a constant sets a scalar; what is none is refused, and sets nothing
+abbrev pub constant_settings : ℕ → Shape → Option program.Expression → List program.Setting
+constant_settings o t None = []
+constant_settings o t (Some e) = setting o t e ∷ []
 
 abbrev pub byte_setting : ℕ → LoadKind → ℕ → program.Setting
 byte_setting o k b = record { offset = o; width = width_of k; value = program.Number (extended k b) }
 
 abbrev pub byte_settings : ℕ → LoadKind → List ℕ → List program.Setting
 byte_settings o k [] = []
-byte_settings o k (b ∷ bs) = byte_setting o k b ∷ byte_settings (suc o) k bs
+byte_settings o k (b ∷ bs) = byte_setting o k b ∷ byte_settings (behind_bytes o 1) k bs
 
 abbrev pub item_by : Tables → Option ℕ → Typed → Slot → Shape → Filling → Filling
 item_by s n x z (shape.Array u count) f = record f { items = f.items ++ byte_settings z.offset (load_kind (shape_of s u)) (literal_bytes s n); count = suc (length (literal_bytes s n)) }
 item_by s n x z (shape.Struct k) f = f
-item_by s n x z t f = record f { items = f.items ++ (setting z.offset t (constant_tree (known_as (shape_of s x.type_id) t x.known)) ∷ []) }
+item_by s n x z t f =
+    let k = known_as (shape_of s x.type_id) t x.known in
+    record f { items = f.items ++ constant_settings z.offset t (constant_tree k) }
 
 abbrev pub item_in : Tables → Option ℕ → Typed → Option Slot → Filling → Filling
 item_in s n x None f = f

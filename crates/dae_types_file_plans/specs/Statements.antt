@@ -17,8 +17,7 @@ use Rattle.dae_types_kinds.specs.declared.tables.Storage.{Storage}
 use Rattle.dae_types_kinds.specs.declared.tables.Storage.TheVariants as storage
 use Rattle.dae_types_kinds.specs.Tables.{Tables, with_name, set_local, found_name, own_entity}
 use Rattle.dae_types_kinds.specs.Types.{int_id, shape_of, is_scalar, layout_at}
-use Rattle.dae_types_kinds.specs.Values.{Typed, converted, load_kind, local_type, library_of}
-use Rattle.dae_types_rules.specs.Table.{is_printf}
+use Rattle.dae_types_kinds.specs.Values.{Typed, converted, load_kind, local_type, library_of, is_printf}
 use Rattle.dae_types_rules.specs.Sites.{Site, AtAssign, AtReturn, AtBreak, AtCase, AtDefault, AtCaseOutside, AtSwitchBody, AtFormat, AtPrinted, AtTypedef, AtLocal, AtScalarList}
 use Rattle.dae_types_rules.specs.Plan.{Plan, pure, both, node, chain}
 use Rattle.dae_types_plans.specs.Steps.{at, asks, does, nothing, looks, scoped, settles_name, declared_place, base_at, constant_at, integer_at, condition_at, name_in, with_named_local, is_taken, routine_in, count_of}
@@ -98,14 +97,14 @@ abbrev pub taken_or_not : Option Local → Bool
 taken_or_not None = false
 taken_or_not (Some x) = x.taken
 
--- a local scalar that its own initialiser reads is 0 when its function is called: so each variable is set before it is read
-abbrev pub with_zero : ℕ → Bool → Tables → Tables
-with_zero k false s = s
-with_zero k true s = set_local k (record { type_id = type_of_local s k; taken = taken_or_not (slice_get s.locals k); begins_zero = true }) s
+-- a local scalar gets the value of its own initialiser; where that reads it, it is 0 before, each time that its declaration is
+-- reached: so each variable is set before it is read
+abbrev pub own_set : Bool → Place → Tables → ℕ → program.Expression → program.Statements
+own_set false p s k e = set_to p s k e
+own_set true p s k e = behind_all (set_to p s k (program.Number 0)) (set_to p s k e)
 
--- a local scalar gets the value of its own initialiser
 abbrev pub set_by_own : Place → ℕ → Tables → program.Expression → Tables × program.Statements
-set_by_own p k s e = (with_zero k (names_stored (slice_get s.storages k) e) s, set_to p s k e)
+set_by_own p k s e = (s, own_set (names_stored (slice_get s.storages k) e) p s k e)
 
 -- a scalar's initialiser is any expression, perhaps in braces
 abbrev pub scalar_value_at : Place → Place → ℕ → Plan Typed → Plan program.Statements
@@ -124,12 +123,8 @@ abbrev mutual
   plan_first_scalar p k tree.no_initialisers = pure program.Done
   plan_first_scalar p k (tree.initialiser_then x xs) = plan_scalar p k x
 
-abbrev pub zero_or_not : Option Local → Bool
-zero_or_not None = false
-zero_or_not (Some x) = x.begins_zero
-
 abbrev pub with_type : ℕ → ℕ → Tables → Tables
-with_type k t s = set_local k (record { type_id = t; taken = taken_or_not (slice_get s.locals k); begins_zero = zero_or_not (slice_get s.locals k) }) s
+with_type k t s = set_local k (record { type_id = t; taken = taken_or_not (slice_get s.locals k) }) s
 
 -- an aggregate begins as zeros, and then its items are set
 abbrev pub initialised_at : Place → ℕ → Plan Content → Plan program.Statements

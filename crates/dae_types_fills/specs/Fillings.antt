@@ -6,13 +6,13 @@ use Rattle.dae_program.specs.Views.{view, view_settings}
 use Rattle.dae_program.specs.declared.statements.Setting.{Setting as SettingInMemory}
 use Rattle.dae_types_kinds.specs.Tables.{Tables}
 use Rattle.dae_types_kinds.specs.Types.{shape_of}
-use Rattle.dae_types_kinds.specs.Values.{Typed, load_kind, known_as}
+use Rattle.dae_types_kinds.specs.Values.{Typed, load_kind, known_as, constant_tree}
 use Rattle.dae_types_kinds.specs.declared.types.Shape.{Shape}
 use Rattle.dae_base.specs.declared.Place.{Place}
 use Rattle.dae_types_rules.specs.Sites.{AtAggregate, AtItem, AtString}
 use Rattle.dae_types_rules.specs.Plan.{Plan}
 use Rattle.dae_types_plans.specs.Steps.{at, nothing}
-use Rattle.dae_types_file_plans.specs.Initialisers.{Rest, Slot, slot, Filling, Landing, Opening, Content, literal_bytes, byte_settings, constant_tree, setting}
+use Rattle.dae_types_file_plans.specs.Initialisers.{Rest, Slot, slot, Filling, Landing, Opening, Content, literal_bytes, byte_settings, constant_settings}
 use Rattle.dae_types_fills.specs.declared.filling.Filling.{Filling as FillingInMemory}
 use Rattle.dae_types_fills.specs.declared.filling.Destination.{Destination}
 use Rattle.dae_types_fills.specs.declared.filling.Landing.{Landing as LandingInMemory}
@@ -62,9 +62,9 @@ abbrev pub structure_item : Place → Typed → ℕ → Filling → Plan Filling
 structure_item p x t f = at (λ s y. AtAggregate p s x t) (λ s y. (s, f)) nothing
 
 -- a constant for a scalar
-abbrev pub scalar_item : Place → Typed → (offset type_id : ℕ) → Shape → Filling → Plan Filling
-scalar_item p x o t shape f =
+abbrev pub scalar_item : Place → Typed → (offset type_id : ℕ) → Filling → Plan Filling
+scalar_item p x o t f =
     at
     (λ s y. AtItem p s x t)
-    (λ s y. (s, with_settings f (setting o shape (constant_tree (known_as (shape_of s x.type_id) shape x.known)) ∷ []) f.count))
+    (λ s y. (s, with_settings f (constant_settings o (shape_of s t) (constant_tree (known_as (shape_of s x.type_id) (shape_of s t) x.known))) f.count))
     nothing

@@ -83,7 +83,7 @@ fn convert(spot: Spot, piece: Option<Piece>) -> Result<Option<(Spot, Option<Piec
         (Ok (converted_with piece (pieces_from InText (suc spot.argument) bs))) }
 {
     let Some(argument) = spot.argument.checked_add(1) else {
-        return Err(CheckError::Memory);
+        return Err(CheckError::TooMany);
     };
     match piece {
         Some(piece) => {

@@ -1,16 +1,17 @@
 // What an item of an initialiser writes (C90 6.5.7): a constant, the bytes of a literal, or nothing of a structure.
 
 ghost use Rattle.std.specs.Prelude.{◌≡◌, [], ◌∷◌, ◌++◌, Ok};
-ghost use Rattle.dae_program.specs.Views.{view, view_settings};
-ghost use Rattle.dae_types_kinds.specs.Values.{is_constant, is_division};
+ghost use Rattle.dae_program.specs.Views.{view, view_settings, view_some};
+ghost use Rattle.dae_types_kinds.specs.Values.{constant_tree, is_division};
 ghost use Rattle.dae_types_rules.specs.Table.{is_longer};
 ghost use Rattle.dae_types_rules.specs.Plan.{Gives};
-ghost use Rattle.dae_types_file_plans.specs.Initialisers.{byte_setting, byte_settings, constant_tree, item_at, literal_bytes, setting};
+ghost use Rattle.dae_types_file_plans.specs.Initialisers.{byte_setting, byte_settings, item_at, literal_bytes, setting};
 ghost use Rattle.dae_types_tables.specs.Seen.{tables, FollowsBy};
 ghost use Rattle.dae_types_folding.specs.Views.{view_value};
 ghost use Rattle.dae_types_fills.specs.Fillings.{scalar_item, structure_item, text_item, view_filling, view_landing, view_setting};
 
 use crate::filling::{Destination, Filling, Landing};
+use crate::slots::behind_bytes;
 use dae_base::{LoadKind, Place, extend};
 use dae_program::{Expression, Setting};
 use dae_types_folding::{Value, known_as, load_kind};
@@ -28,25 +29,16 @@ fn is_division(known: Known) -> bool
     }
 }
 
-/// Whether a value is a constant for an initialiser: a number or an address.
-fn is_constant(known: Known) -> bool
-    ensures { result ≡ is_constant known }
+/// The tree of a constant for an initialiser: an integer constant expression or an address constant (C90 6.4).
+fn constant_tree(known: Known) -> Option<Expression>
+    ensures { view_some result ≡ constant_tree known }
 {
     match known {
-        Known::Number(_) | Known::Address(_, _) => true,
-        _ => false,
-    }
-}
-
-/// A constant as the value of an item.
-fn constant_tree(known: Known) -> Expression
-    ensures { view result ≡ constant_tree known }
-{
-    match known {
-        Known::Number(word) => Expression::Number(word),
-        Known::Address(Some(object), offset) => Expression::Address(object, offset),
-        Known::Address(None, word) => Expression::Number(word),
-        _ => Expression::Number(0),
+        Known::Number(word) => Some(Expression::Number(word)),
+        Known::Address(Some(object), offset) => Some(Expression::Address(object, offset)),
+        Known::Address(None, word) => Some(Expression::Number(word)),
+        Known::NullPointer => Some(Expression::Number(0)),
+        Known::Division | Known::Nothing => None,
     }
 }
 
@@ -82,13 +74,13 @@ fn byte_setting(offset: u32, kind: LoadKind, byte: u8) -> Setting
 }
 
 /// A constant as the item of a scalar of this shape.
-fn constant_setting(offset: u32, shape: Shape, known: Known) -> Setting
-    ensures { view_setting result ≡ setting offset shape (constant_tree known) }
+fn constant_setting(offset: u32, shape: Shape, value: Expression) -> Setting
+    ensures { view_setting result ≡ setting offset shape (view value) }
 {
     Setting {
         offset,
         width: load_kind(shape).width(),
-        value: constant_tree(known),
+        value,
     }
 }
 
@@ -115,10 +107,7 @@ fn push_bytes(
     let mut next = offset;
     for byte in bytes {
         push_setting(items, byte_setting(next, kind, *byte))?;
-        let Some(behind) = next.checked_add(1) else {
-            return Err(CheckError::Memory);
-        };
-        next = behind;
+        next = behind_bytes(next, 1);
     }
     Ok(())
 }
@@ -143,10 +132,10 @@ fn fill_text(
     }
     let kind = load_kind(checker.shape_of(element));
     let Ok(length) = u32::try_from(bytes.len()) else {
-        return Err(CheckError::Memory);
+        return Err(CheckError::TooMany);
     };
     let Some(count) = length.checked_add(1) else {
-        return Err(CheckError::Memory);
+        return Err(CheckError::TooMany);
     };
     let mut items = filling.items;
     push_bytes(&mut items, offset, kind, bytes)?;
@@ -178,18 +167,17 @@ fn fill_structure(
     Err(broken(Rule::BadInitialiser, place))
 }
 
-/// Writes a constant into a scalar of this shape.
+/// Writes a constant into a scalar.
 #[tactic(auto, unfolding(dae_types_rules::specs::Plan::ask_all))]
 fn fill_scalar(
     checker: &Checker,
     place: Place,
     x: &Value,
     destination: Destination,
-    shape: Shape,
     filling: Filling,
 ) -> Result<Filling, CheckError>
     ensures { FollowsBy view_filling checker.now result
-        (scalar_item place (view_value x.now) destination.offset destination.type_id shape
+        (scalar_item place (view_value x.now) destination.offset destination.type_id
         (view_filling filling)) checker.now }
 {
     if !fits(checker, x, destination.type_id) {
@@ -202,14 +190,14 @@ fn fill_scalar(
     if is_division(x.known) {
         return Err(broken(Rule::ConstantDivision, place));
     }
-    if !is_constant(x.known) {
+    let shape = checker.shape_of(destination.type_id);
+    let Some(value) = constant_tree(known_as(from, shape, x.known)) else {
         return Err(broken(Rule::NotConstant, place));
-    }
+    };
     let mut items = filling.items;
-    let known = known_as(from, shape, x.known);
     push_setting(
         &mut items,
-        constant_setting(destination.offset, shape, known),
+        constant_setting(destination.offset, shape, value),
     )?;
     Ok(Filling {
         rest: filling.rest,
@@ -248,6 +236,6 @@ pub fn fill_item(
             )
         }
         Shape::Struct(_) => fill_structure(checker, place, x, destination.type_id, filling),
-        shape => fill_scalar(checker, place, x, destination, shape, filling),
+        _ => fill_scalar(checker, place, x, destination, filling),
     }
 }

@@ -1,7 +1,7 @@
 // What of an aggregate is still to be filled, as a stack, and the object that is next (C90 6.5.7).
 
-ghost use Rattle.std.specs.Prelude.{◌≡◌, List, ◌∷◌, Option, Ok, slice_get};
-ghost use Rattle.dae_types_file_plans.specs.Initialisers.{Rest as PlainRest, Slot as PlainSlot, components_of, descend, element_slot, is_before, is_text_array, member_slot, next_slot, parts_of};
+ghost use Rattle.std.specs.Prelude.{◌≡◌, ◌*◌, List, ◌∷◌, Option, Ok, slice_get};
+ghost use Rattle.dae_types_file_plans.specs.Initialisers.{Rest as PlainRest, Slot as PlainSlot, behind_bytes, components_of, descend, element_slot, is_before, is_text_array, member_slot, next_slot, parts_of};
 ghost use Rattle.dae_types_rules.specs.Plan.{Gives};
 ghost use Rattle.dae_types_tables.specs.Seen.{tables};
 ghost use Rattle.dae_types_fills.specs.Slots.{slot_or, view_rest, view_slot, view_stack};
@@ -81,6 +81,20 @@ fn start_of(checker: &Checker, part: Rest) -> Result<Option<Start>, CheckError>
     }
 }
 
+/// An offset so many bytes further. It stops at the greatest word, behind all that an object may have.
+pub fn behind_bytes(offset: u32, bytes: u32) -> u32
+    ensures { result ≡ behind_bytes offset bytes }
+{
+    offset.saturating_add(bytes)
+}
+
+/// The offset of an element of so many bytes, by its number, in an array at an offset.
+fn element_offset(offset: u32, number: u32, size: u32) -> u32
+    ensures { result ≡ behind_bytes offset (number * size) }
+{
+    behind_bytes(offset, number.saturating_mul(size))
+}
+
 /// The next element of an array, unless all are begun.
 fn first_element(
     checker: &Checker,
@@ -97,11 +111,9 @@ fn first_element(
         return Ok(None);
     }
     let size = checker.layout_at(element).size;
-    let (Some(bytes), Some(more)) = (begun.checked_mul(size), begun.checked_add(1)) else {
-        return Err(CheckError::Memory);
-    };
-    let Some(offset_of_it) = offset.checked_add(bytes) else {
-        return Err(CheckError::Memory);
+    let offset_of_it = element_offset(offset, begun, size);
+    let Some(more) = begun.checked_add(1) else {
+        return Err(CheckError::TooMany);
     };
     let left = Rest::Elements(offset, element, more, count);
     Ok(Some(Start {
@@ -136,8 +148,9 @@ fn first_member(
     let Some(member) = component(checker, structure, begun) else {
         return Ok(None);
     };
-    let (Some(place), Some(more)) = (offset.checked_add(member.offset), begun.checked_add(1)) else {
-        return Err(CheckError::Memory);
+    let place = behind_bytes(offset, member.offset);
+    let Some(more) = begun.checked_add(1) else {
+        return Err(CheckError::TooMany);
     };
     let left = Rest::Members(offset, structure, more);
     Ok(Some(Start {

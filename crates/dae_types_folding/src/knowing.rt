@@ -41,6 +41,7 @@ pub fn known_as(from: Shape, to: Shape, known: Known) -> Known
         Known::Number(word) if is_pointer(to) => Known::Address(None, word),
         Known::Division if is_integer(to) => Known::Division,
         Known::Address(_, _) if is_wide(load_kind(to)) && !is_void(to) => known,
+        Known::NullPointer if is_wide(load_kind(to)) && !is_void(to) => Known::Address(None, 0),
         _ => Known::Nothing,
     }
 }

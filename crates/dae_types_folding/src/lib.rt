@@ -10,7 +10,7 @@ pub use operators::{
     Combination, Deed, apply, compare, deed_of, divides, is_comparison, is_difference, is_equality,
     is_shift, is_sum, is_unsigned_for, operator_of, type_for,
 };
-pub use shapes::{CHAR, INT, NO_PARAMETERS, UNSIGNED, VOID, common, load_kind, pointee, promoted};
+pub use shapes::{common, load_kind, pointee, promoted};
 pub use trees::{changed, difference_of, further, operated, scaled, sum_of, target_of, tree_by};
 pub use value::Value;
 

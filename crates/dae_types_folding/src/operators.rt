@@ -5,10 +5,9 @@ ghost use Rattle.dae_meaning.specs.Operations.{combined, compared};
 ghost use Rattle.dae_types_kinds.specs.Values.{deed, is_shift, is_equality, is_comparison, is_sum, is_difference, operator_of, divides, is_unsigned_for, type_for};
 ghost use Rattle.dae_types_folding.specs.Views.{view_deed};
 
-use crate::shapes::{INT, UNSIGNED};
 use dae_meaning::{Comparison, Operator};
 use dae_tree::{AssignmentOperator, BinaryOperator};
-use dae_types_kinds::Shape;
+use dae_types_kinds::{INT_ID, Shape, UNSIGNED_ID};
 use dae_types_tables::is_unsigned;
 
 /// An operation, or a comparison with whether its operands are turned.
@@ -171,9 +170,9 @@ pub fn type_for(operator: BinaryOperator, unsigned: bool) -> usize
     ensures { result ≡ type_for operator unsigned }
 {
     if !is_comparison(operator) && unsigned {
-        UNSIGNED
+        UNSIGNED_ID
     } else {
-        INT
+        INT_ID
     }
 }
 

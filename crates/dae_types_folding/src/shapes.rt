@@ -1,27 +1,12 @@
-// The types that are there from the start, by their numbers, and the types of promotions and of the usual conversions (C90 6.1.2.5 and 6.2.1).
+// How values of types are read, and the types of promotions and of the usual conversions (C90 6.2.1).
 
 ghost use Rattle.std.specs.Prelude.{◌≡◌};
 ghost use Rattle.dae_types_kinds.specs.Types.{pointee};
 ghost use Rattle.dae_types_kinds.specs.Values.{load_kind, promoted, common};
 
 use dae_base::LoadKind;
-use dae_types_kinds::Shape;
+use dae_types_kinds::{INT_ID, Shape, UNSIGNED_ID};
 use dae_types_tables::is_unsigned;
-
-/// The number of the type void.
-pub const VOID: usize = 0;
-
-/// The number of the type char.
-pub const CHAR: usize = 1;
-
-/// The number of the type int.
-pub const INT: usize = 6;
-
-/// The number of the type unsigned int.
-pub const UNSIGNED: usize = 7;
-
-/// The number of the empty list of parameters.
-pub const NO_PARAMETERS: usize = 8;
 
 /// The type that a pointer points to.
 pub fn pointee(shape: Shape) -> Option<usize>
@@ -50,7 +35,11 @@ pub fn load_kind(shape: Shape) -> LoadKind
 pub fn promoted(shape: Shape) -> usize
     ensures { result ≡ promoted shape }
 {
-    if is_unsigned(shape) { UNSIGNED } else { INT }
+    if is_unsigned(shape) {
+        UNSIGNED_ID
+    } else {
+        INT_ID
+    }
 }
 
 /// The type that the usual arithmetic conversions give.
@@ -58,8 +47,8 @@ pub fn common(first: Shape, second: Shape) -> usize
     ensures { result ≡ common first second }
 {
     if is_unsigned(first) || is_unsigned(second) {
-        UNSIGNED
+        UNSIGNED_ID
     } else {
-        INT
+        INT_ID
     }
 }

@@ -1,6 +1,6 @@
 -- Typed expressions, and what is written for each operation where no rule is broken: with conversions, scalings and offsets
 -- (C90 6.2, 6.3 and 6.4).
-use Rattle.std.specs.Prelude.{ℕ, ◌+◌, ◌-◌, ◌^◌, List, [], ◌∷◌, length, Option, Some, None, Bool, true, false, ◌&&◌, ◌||◌, not, nat_eq, if◌then◌else◌, slice_get}
+use Rattle.std.specs.Prelude.{ℕ, ◌+◌, ◌-◌, ◌^◌, List, [], ◌∷◌, length, Option, Some, None, is_some, Bool, true, false, ◌&&◌, ◌||◌, not, nat_eq, if◌then◌else◌, slice_get}
 use Rattle.dae_base.specs.declared.Place.{Place}
 use Rattle.dae_base.specs.declared.LoadKind.{LoadKind}
 use Rattle.dae_base.specs.declared.LoadKind.TheVariants as kinds
@@ -34,7 +34,7 @@ use Rattle.dae_types_kinds.specs.declared.tables.LibraryFunction.TheVariants as 
 use Rattle.dae_types_kinds.specs.declared.tables.Storage.{Storage}
 use Rattle.dae_types_kinds.specs.declared.tables.Storage.TheVariants as storage
 use Rattle.dae_types_kinds.specs.Tables.{Tables, with_shape, with_use, set_local, found_component}
-use Rattle.dae_types_kinds.specs.Types.{void_id, char_id, int_id, unsigned_id, shape_of, is_integer, is_unsigned, is_pointer, is_void, pointee, points_to_void, structure_of, same, composite, layout_at}
+use Rattle.dae_types_kinds.specs.Types.{void_id, char_id, int_id, unsigned_id, no_parameters_id, shape_of, is_integer, is_unsigned, is_pointer, is_void, pointee, points_to_void, structure_of, same, composite, layout_at}
 
 -- a typed expression with what the rules ask of it
 pub record Typed : Type 0 where
@@ -68,19 +68,33 @@ abbrev pub is_division : Known → Bool
 is_division known.Division = true
 is_division _ = false
 
--- a constant for an initialiser: an integer constant expression or an address constant
+-- a constant for an initialiser, as it is written: an integer constant expression or an address constant (C90 6.4)
+abbrev pub constant_tree : Known → Option program.Expression
+constant_tree (known.Number w) = Some (program.Number w)
+constant_tree (known.Address (Some o) k) = Some (program.Address o k)
+constant_tree (known.Address None w) = Some (program.Number w)
+constant_tree known.NullPointer = Some (program.Number 0)
+constant_tree known.Division = None
+constant_tree known.Nothing = None
+
 abbrev pub is_constant : Known → Bool
-is_constant (known.Number w) = true
-is_constant (known.Address o k) = true
-is_constant _ = false
+is_constant k = is_some (constant_tree k)
 
 abbrev pub is_zero : Known → Bool
 is_zero (known.Number w) = nat_eq w 0
 is_zero _ = false
 
--- an integer constant expression with the value 0 (C90 6.2.2.3)
+abbrev pub is_null_pointer : Known → Bool
+is_null_pointer known.NullPointer = true
+is_null_pointer _ = false
+
+-- an integer constant expression with the value 0
+abbrev pub is_constant_zero : Tables → Typed → Bool
+is_constant_zero s x = is_integer (shape_of s x.type_id) && is_zero x.known
+
+-- a null pointer constant: such an expression, or one cast to `void *` (C90 6.2.2.3)
 abbrev pub is_null : Tables → Typed → Bool
-is_null s x = is_integer (shape_of s x.type_id) && is_zero x.known
+is_null s x = is_constant_zero s x || is_null_pointer x.known
 
 abbrev pub is_object : Category → Bool
 is_object (category.At checked) = true
@@ -169,6 +183,7 @@ abbrev pub known_as : Shape → Shape → Known → Known
 known_as t u (known.Number w) = if is_integer u then known.Number (extended (load_kind u) w) else if is_pointer u then known.Address None w else known.Nothing
 known_as t u known.Division = if is_integer u then known.Division else known.Nothing
 known_as t u (known.Address o k) = if is_wide (load_kind u) && not (is_void u) then known.Address o k else known.Nothing
+known_as t u known.NullPointer = if is_wide (load_kind u) && not (is_void u) then known.Address None 0 else known.Nothing
 known_as t u known.Nothing = known.Nothing
 
 abbrev pub changed : Place → LoadKind → LoadKind → program.Expression → program.Expression
@@ -180,6 +195,15 @@ converted_by p x t u n = valued_by (changed p (load_kind t) (load_kind u) x.tree
 
 unfoldable pub converted : Place → Tables → Typed → ℕ → Typed
 converted p s x t = if is_void (shape_of s t) then plain x.tree t else converted_by p x (shape_of s x.type_id) (shape_of s t) t
+
+-- a cast: an integer constant expression that is 0 becomes a null pointer constant by one to `void *` (C90 6.2.2.3)
+abbrev pub null_pointer : Tables → Typed → ℕ → Bool
+null_pointer s x t = points_to_void s (shape_of s t) && is_constant_zero s x
+
+abbrev pub cast_to : Place → Tables → Typed → ℕ → Typed
+cast_to p s x t =
+    let y = converted p s x t in
+    typed y.tree y.type_id y.category (if null_pointer s x t then known.NullPointer else y.known)
 
 -- the types of the integral promotion and of the usual conversions; the words stay as they are
 abbrev pub promoted : Shape → ℕ
@@ -417,7 +441,7 @@ starred x (Some n) = typed x.tree n (category.At true) (based x.known)
 -- `&`, which says that a local object's address is taken
 abbrev pub marked : ℕ → Option Local → Tables → Tables
 marked n None s = s
-marked n (Some x) s = set_local n (record { type_id = x.type_id; taken = true; begins_zero = x.begins_zero }) s
+marked n (Some x) s = set_local n (record { type_id = x.type_id; taken = true }) s
 
 abbrev pub addressed : Typed → Tables → Tables × Typed
 addressed x s = (with_shape (shape.Pointer x.type_id) s, typed x.tree (length s.shapes) category.Plain x.known)
@@ -542,15 +566,22 @@ stepped p s down new x =
 
 -- ---- `?:` and the comma (C90 6.3.15 and 6.3.17)
 
--- the type of a conditional by the types of its branches, where they go together
+-- two types of pointers, to m and to n, of which neither is that of a null pointer constant
+abbrev pub joined_pointers : Tables → ℕ → ℕ → ℕ → ℕ → Option (Tables × ℕ)
+joined_pointers s y z m n =
+    if same s y z then Some (composite s y z)
+    else if is_void (shape_of s m) then Some (s, y)
+    else if is_void (shape_of s n) then Some (s, z)
+    else None
+
+-- the type of a conditional by its branches, where they go together: a null pointer constant takes the other's type
 abbrev pub joined_shape : Tables → Typed → Typed → Shape → Shape → Option (Tables × ℕ)
 joined_shape s y z shape.Void shape.Void = Some (s, void_id)
 joined_shape s y z (shape.Struct m) (shape.Struct n) = if nat_eq m n then Some (s, y.type_id) else None
 joined_shape s y z (shape.Pointer m) (shape.Pointer n) =
-    if same s y.type_id z.type_id then Some (composite s y.type_id z.type_id)
-    else if is_void (shape_of s m) then Some (s, y.type_id)
-    else if is_void (shape_of s n) then Some (s, z.type_id)
-    else None
+    if is_null s z then Some (s, y.type_id)
+    else if is_null s y then Some (s, z.type_id)
+    else joined_pointers s y.type_id z.type_id m n
 joined_shape s y z (shape.Pointer m) u = if is_null s z then Some (s, y.type_id) else None
 joined_shape s y z t (shape.Pointer n) = if is_null s y then Some (s, z.type_id) else None
 joined_shape s y z t u = if is_integer t && is_integer u then Some (s, common t u) else None
@@ -598,13 +629,17 @@ abbrev pub library_of : Option Routine → Option LibraryFunction
 library_of None = None
 library_of (Some f) = f.library
 
+abbrev pub is_printf : Option LibraryFunction → Bool
+is_printf (Some library.Printf) = true
+is_printf _ = false
+
 abbrev pub result_of : Shape → ℕ
 result_of (shape.Function r ps) = r
 result_of _ = int_id
 
 abbrev pub parameters_of : Shape → ℕ
 parameters_of (shape.Function r ps) = ps
-parameters_of _ = 8
+parameters_of _ = no_parameters_id
 
 abbrev pub listed : List program.Expression → program.Expressions
 listed [] = program.no_expressions

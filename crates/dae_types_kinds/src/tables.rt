@@ -54,13 +54,11 @@ pub struct Object {
     pub placed: Option<Place>,
 }
 
-/// A parameter or a local object; whether its address is taken, and whether it is 0 when its function is called, since its own
-/// initialiser reads it.
+/// A parameter or a local object, and whether its address is taken.
 #[derive(Clone, Copy)]
 pub struct Local {
     pub type_id: usize,
     pub taken: bool,
-    pub begins_zero: bool,
 }
 
 /// The functions of the standard library that a header declares.

@@ -1,7 +1,7 @@
 // Where the parameters and local objects of a function are kept.
 
-ghost use Rattle.std.specs.Prelude.{◌≡◌, ℕ, suc, List, ◌∷◌, Ok, nat_eq, if◌then◌else◌};
-ghost use Rattle.dae_types_file_plans.specs.Files.{in_variable, kept_from, settled_locals};
+ghost use Rattle.std.specs.Prelude.{◌≡◌, ◌+◌, ℕ, suc, min, List, ◌∷◌, Ok, nat_eq, if◌then◌else◌};
+ghost use Rattle.dae_types_file_plans.specs.Files.{in_variable, kept_from, most_frame, settled_locals};
 ghost use Rattle.dae_types_kinds.specs.declared.tables.Local.{Local as PlainLocal};
 ghost use Rattle.dae_types_rules.specs.Plan.{Gives};
 ghost use Rattle.dae_types_tables.specs.Seen.{tables, Leaves};
@@ -10,6 +10,9 @@ ghost use Rattle.dae_types_linkage.specs.Rooms.{kept_in};
 use dae_types_kinds::{CheckError, Local, Storage};
 use dae_types_tables::{Checker, is_scalar, round_up};
 use std::alloc::Global;
+
+/// Offsets in a frame stop here, far above what a memory has.
+const MOST_FRAME: u32 = 1 << 31;
 
 /// The next variable, the next offset in the frame in bytes, and how many parameters are still to come.
 #[derive(Clone, Copy)]
@@ -66,7 +69,7 @@ fn keep(checker: &Checker, room: Room, local: Local) -> Result<(Storage, Room), 
     let parameters = room.parameters.saturating_sub(1);
     if is_in_variable(checker, local) {
         let Some(variable) = room.variable.checked_add(1) else {
-            return Err(CheckError::Memory);
+            return Err(CheckError::TooMany);
         };
         let offset = room.offset;
         let next = Room {
@@ -78,9 +81,7 @@ fn keep(checker: &Checker, room: Room, local: Local) -> Result<(Storage, Room), 
     }
     let layout = checker.layout_at(local.type_id);
     let start = round_up(room.offset, layout.align);
-    let Some(offset) = start.checked_add(layout.size) else {
-        return Err(CheckError::Memory);
-    };
+    let offset = end_of(start, layout.size);
     let variable = variable_behind(room)?;
     let next = Room {
         variable,
@@ -88,6 +89,13 @@ fn keep(checker: &Checker, room: Room, local: Local) -> Result<(Storage, Room), 
         parameters,
     };
     Ok((Storage::Frame(start), next))
+}
+
+/// Where so many bytes from an offset on end, as far as offsets go.
+fn end_of(start: u32, size: u32) -> u32
+    ensures { result ≡ min (start + size) most_frame }
+{
+    start.saturating_add(size).min(MOST_FRAME)
 }
 
 /// Whether a parameter or local object is kept in a variable: a scalar whose address isn't taken.
@@ -107,6 +115,6 @@ fn variable_behind(room: Room) -> Result<u32, CheckError>
     }
     match room.variable.checked_add(1) {
         Some(variable) => Ok(variable),
-        None => Err(CheckError::Memory),
+        None => Err(CheckError::TooMany),
     }
 }

@@ -4,14 +4,16 @@ ghost use Rattle.std.specs.Prelude.{◌≡◌};
 ghost use Rattle.dae_types_file_plans.specs.Files.{declared_function, definition_at, function_at, is_main_name, name_number, new_routine, retyped, routine_by, second_at};
 ghost use Rattle.dae_types_kinds.specs.Values.{parameters_of, result_of};
 ghost use Rattle.dae_types_rules.specs.Plan.{pure};
-ghost use Rattle.dae_types_rules.specs.Table.{clashes_with_function, is_again, is_defined, is_empty_list, is_int, is_main_type, is_printf};
+ghost use Rattle.dae_types_rules.specs.Table.{clashes_with_function, is_again, is_defined, is_empty_list, is_int, is_main_type};
 ghost use Rattle.dae_types_tables.specs.Seen.{tables, Follows, LeavesAnd};
 
 use crate::blocks::own_entity;
 use dae_base::Place;
 use dae_tree::Name;
-use dae_types_kinds::{CheckError, Entity, LibraryFunction, NamedType, Routine, Rule, Shape};
-use dae_types_tables::{Checker, INT_ID, NO_PARAMETERS_ID, broken, is_function};
+use dae_types_kinds::{
+    CheckError, Entity, NamedType, Routine, Rule, Shape, is_printf, parameters_of, result_of,
+};
+use dae_types_tables::{Checker, broken, is_function};
 
 /// Declares a function, and gives its number. The flags say that the word static stands there, and that it has an
 /// initialiser.
@@ -57,26 +59,6 @@ fn is_main_type(checker: &Checker, type_id: usize) -> bool
     let shape = checker.shape_of(type_id);
     is_int(checker.shape_of(result_of(shape)))
         && is_empty_list(checker.shape_of(parameters_of(shape)))
-}
-
-/// The result of a function.
-fn result_of(shape: Shape) -> usize
-    ensures { result ≡ result_of shape }
-{
-    match shape {
-        Shape::Function(gives, _) => gives,
-        _ => INT_ID,
-    }
-}
-
-/// The list of parameters of a function.
-fn parameters_of(shape: Shape) -> usize
-    ensures { result ≡ parameters_of shape }
-{
-    match shape {
-        Shape::Function(_, parameters) => parameters,
-        _ => NO_PARAMETERS_ID,
-    }
 }
 
 /// Whether a type is int.
@@ -128,16 +110,6 @@ fn is_again(checker: &Checker, type_id: usize, own: bool, routine: Option<Routin
                 && !is_printf(routine.library)
         }
         None => false,
-    }
-}
-
-/// Whether a function is printf.
-fn is_printf(library: Option<LibraryFunction>) -> bool
-    ensures { result ≡ is_printf library }
-{
-    match library {
-        Some(LibraryFunction::Printf) => true,
-        _ => false,
     }
 }
 

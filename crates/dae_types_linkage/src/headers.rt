@@ -7,8 +7,10 @@ ghost use Rattle.dae_types_tables.specs.Seen.{tables, Leaves};
 ghost use Rattle.dae_types_linkage.specs.Numbering.{view_numbers};
 
 use dae_base::Items;
-use dae_types_kinds::{CheckError, Entity, LibraryFunction, Routine, Shape};
-use dae_types_tables::{CHAR_ID, Checker, INT_ID, NO_PARAMETERS_ID, VOID_ID};
+use dae_types_kinds::{
+    CHAR_ID, CheckError, Entity, INT_ID, LibraryFunction, NO_PARAMETERS_ID, Routine, Shape, VOID_ID,
+};
+use dae_types_tables::Checker;
 use std::alloc::Global;
 
 /// int (char *), the type of printf.

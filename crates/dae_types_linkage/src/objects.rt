@@ -10,8 +10,8 @@ use crate::blocks::own_entity;
 use crate::functions::name_number;
 use dae_base::Place;
 use dae_tree::{Keyword, Name};
-use dae_types_kinds::{CheckError, Entity, Object, Rule};
-use dae_types_tables::{Checker, INT_ID, broken, is_array, is_void};
+use dae_types_kinds::{CheckError, Entity, INT_ID, Object, Rule};
+use dae_types_tables::{Checker, broken, is_array, is_void};
 
 /// Declares an object, and gives its number. The word is its storage class, and the flag says that it has an initialiser.
 #[tactic(auto, unfolding(dae_types_rules::specs::Plan::ask_all))]
@@ -54,7 +54,7 @@ pub fn is_static(word: Option<Keyword>) -> bool
 }
 
 /// Whether the word extern stands in specifiers.
-fn is_extern(word: Option<Keyword>) -> bool
+pub fn is_extern(word: Option<Keyword>) -> bool
     ensures { result ≡ is_extern word }
 {
     match word {

@@ -2,17 +2,17 @@
 
 ghost use Rattle.std.specs.Prelude.{◌≡◌, Ok};
 ghost use Rattle.dae_program.specs.Views.{view};
-ghost use Rattle.dae_types_kinds.specs.Values.{comma, conditional_by, either_category, joined, kept_category, known_if};
+ghost use Rattle.dae_types_kinds.specs.Values.{comma, conditional_by, either_category, joined, joined_pointers, kept_category, known_if};
 ghost use Rattle.dae_types_rules.specs.Plan.{Gives, pure};
 ghost use Rattle.dae_types_plans.specs.Steps.{and_at, comma_at, conditional_at, or_at};
 ghost use Rattle.dae_types_tables.specs.Seen.{tables};
 ghost use Rattle.dae_types_folding.specs.Views.{view_value};
-ghost use Rattle.dae_types_values.specs.Results.{Joins, joined_pointers, three, GivesValue, two};
+ghost use Rattle.dae_types_values.specs.Results.{Joins, three, GivesValue, two};
 
 use dae_base::Place;
 use dae_program::Expression;
-use dae_types_folding::{INT, VOID, Value, common, known_and, known_branch, known_or};
-use dae_types_kinds::{Category, CheckError, Known, Rule, Shape};
+use dae_types_folding::{Value, common, known_and, known_branch, known_or};
+use dae_types_kinds::{Category, CheckError, INT_ID, Known, Rule, Shape, VOID_ID};
 use dae_types_tables::{Checker, broken, is_integer, is_scalar, is_void};
 use dae_types_values::is_null;
 use std::alloc::Global;
@@ -38,7 +38,7 @@ pub fn and(
     let known = known_and(x.known, y.known);
     let left = Box::new(alloc, x.tree)?;
     let right = Box::new(alloc, y.tree)?;
-    Ok(Value::of_known(Expression::And(place, left, right), INT, known))
+    Ok(Value::of_known(Expression::And(place, left, right), INT_ID, known))
 }
 
 /// `||` between two values, at their places.
@@ -62,7 +62,7 @@ pub fn or(
     let known = known_or(x.known, y.known);
     let left = Box::new(alloc, x.tree)?;
     let right = Box::new(alloc, y.tree)?;
-    Ok(Value::of_known(Expression::Or(place, left, right), INT, known))
+    Ok(Value::of_known(Expression::Or(place, left, right), INT_ID, known))
 }
 
 /// The type of two pointers that are the branches of a conditional, where they go together.
@@ -93,13 +93,13 @@ fn join(checker: &mut Checker, y: &Value, z: &Value) -> Result<Option<usize>, Ch
         (joined (tables checker.old) (view_value y.now) (view_value z.now)) }
 {
     match (checker.shape_of(y.type_id), checker.shape_of(z.type_id)) {
-        (Shape::Void, Shape::Void) => Ok(Some(VOID)),
+        (Shape::Void, Shape::Void) => Ok(Some(VOID_ID)),
         (Shape::Struct(one), Shape::Struct(other)) if one == other => Ok(Some(y.type_id)),
+        (Shape::Pointer(_), _) if is_null(checker, z) => Ok(Some(y.type_id)),
+        (_, Shape::Pointer(_)) if is_null(checker, y) => Ok(Some(z.type_id)),
         (Shape::Pointer(one), Shape::Pointer(other)) => {
             join_pointers(checker, y.type_id, z.type_id, one, other)
         }
-        (Shape::Pointer(_), _) if is_null(checker, z) => Ok(Some(y.type_id)),
-        (_, Shape::Pointer(_)) if is_null(checker, y) => Ok(Some(z.type_id)),
         (left, right) if is_integer(left) && is_integer(right) => Ok(Some(common(left, right))),
         _ => Ok(None),
     }

@@ -17,11 +17,11 @@ use dae_meaning::Operator;
 use dae_program::Expression;
 use dae_tree::BinaryOperator;
 use dae_types_folding::{
-    Combination, INT, Value, based, deed_of, difference_of, is_comparison, is_difference,
-    is_equality, is_sum, is_unsigned_for, moved_back, moved_on, operated, scaled, scaled_known,
-    sum_of, tree_by, type_for,
+    Combination, Value, based, deed_of, difference_of, is_comparison, is_difference, is_equality,
+    is_sum, is_unsigned_for, moved_back, moved_on, operated, scaled, scaled_known, sum_of, tree_by,
+    type_for,
 };
-use dae_types_kinds::{Category, CheckError, Rule, Shape};
+use dae_types_kinds::{Category, CheckError, INT_ID, Rule, Shape};
 use dae_types_tables::{Checker, broken, is_integer, is_pointer, is_void};
 use dae_types_values::is_null;
 use std::alloc::Global;
@@ -207,12 +207,12 @@ fn distance(alloc: Global, place: Place, size: u32, x: Value, y: Value) -> Resul
     let right = Box::new(alloc, y.tree)?;
     let bytes = Expression::Binary(place, Operator::Subtract, left, right);
     if size == 1 {
-        return Ok(Value::plain(bytes, INT));
+        return Ok(Value::plain(bytes, INT_ID));
     }
     let bytes = Box::new(alloc, bytes)?;
     let size = Box::new(alloc, Expression::Number(size))?;
     let tree = Expression::Binary(place, Operator::DivideSigned, bytes, size);
-    Ok(Value::plain(tree, INT))
+    Ok(Value::plain(tree, INT_ID))
 }
 
 /// What an operator gives of two operands that go together.
@@ -248,7 +248,7 @@ fn combine(
         }
         Combination::Pointers => {
             let tree = tree_by(alloc, place, deed_of(true, operator), x.tree, y.tree)?;
-            Ok(Value::plain(tree, INT))
+            Ok(Value::plain(tree, INT_ID))
         }
     }
 }

@@ -15,9 +15,9 @@ use dae_meaning::Operator;
 use dae_program::Expression;
 use dae_tree::{Name, PostfixOperator, PrefixOperator};
 use dae_types_folding::{
-    Deed, INT, Value, based, known_not, load_kind, operated, pointee, promoted, target_of,
+    Deed, Value, based, known_not, load_kind, operated, pointee, promoted, target_of,
 };
-use dae_types_kinds::{Category, CheckError, Entity, Local, Rule, Shape};
+use dae_types_kinds::{Category, CheckError, Entity, INT_ID, Local, Rule, Shape};
 use dae_types_tables::{Checker, broken, is_array, is_scalar, is_void};
 use dae_types_values::{integer, scalar, value};
 use std::alloc::Global;
@@ -38,7 +38,6 @@ fn mark(checker: &mut Checker, name: Option<Name>)
             Local {
                 type_id: local.type_id,
                 taken: true,
-                begins_zero: local.begins_zero,
             },
         );
     }
@@ -148,7 +147,7 @@ fn step(
 fn negated(alloc: Global, place: Place, x: Value, type_id: usize) -> Result<Value, CheckError>
     ensures { MakesValue result (negated place (view_value x) type_id) }
 {
-    let zero = Value::number(0, INT);
+    let zero = Value::number(0, INT_ID);
     operated(
         alloc,
         place,
@@ -163,7 +162,7 @@ fn negated(alloc: Global, place: Place, x: Value, type_id: usize) -> Result<Valu
 fn complemented(alloc: Global, place: Place, x: Value, type_id: usize) -> Result<Value, CheckError>
     ensures { MakesValue result (complemented place (view_value x) type_id) }
 {
-    let ones = Value::number(u32::MAX, INT);
+    let ones = Value::number(u32::MAX, INT_ID);
     operated(
         alloc,
         place,
@@ -180,7 +179,7 @@ fn inverted(alloc: Global, place: Place, x: Value) -> Result<Value, CheckError>
 {
     let known = known_not(x.known);
     let tree = Expression::Not(place, Box::new(alloc, x.tree)?);
-    Ok(Value::of_known(tree, INT, known))
+    Ok(Value::of_known(tree, INT_ID, known))
 }
 
 /// An operator before its operand, which has a place of its own and is this name, perhaps.

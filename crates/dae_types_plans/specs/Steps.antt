@@ -36,8 +36,8 @@ use Rattle.dae_types_kinds.specs.declared.tables.LibraryFunction.{LibraryFunctio
 use Rattle.dae_types_kinds.specs.declared.tables.NamedType.{NamedType}
 use Rattle.dae_types_kinds.specs.Tables.{Tables, with_shape, with_structure, with_component, with_name, with_tag, with_local, with_use, with_uses, set_structure, found_name, found_tag, own_name, own_tag, found_component, opened, closed}
 use Rattle.dae_types_kinds.specs.Types.{void_id, char_id, signed_char_id, unsigned_char_id, short_id, unsigned_short_id, int_id, unsigned_id, shape_of, made, is_pointer, pointee, layout, layout_at, rounded, placed, finished}
-use Rattle.dae_types_kinds.specs.Values.{Typed, Combination, number, valued_by, named, valued, converted, promoted, combination, scaled_by, combined_as, subscripted, starred, marked, addressed, negated, complemented, inverted, known_and, known_or, owner, component_in, member_by, assigned, updated, operator_of, stepped, joined, conditional_as, comma, routine_type, library_of, parameters_of, called}
-use Rattle.dae_types_rules.specs.Sites.{Site, AtWord, AtTag, AtBody, AtEnumeration, AtEnumerationBody, AtEnumerator, AtConstant, AtComponent, AtEnd, AtPointer, AtCount, AtElement, AtResult, AtParameter, AtName, AtValue, AtInteger, AtScalar, AtOperands, AtSized, AtSizeof, AtCast, AtAddress, AtStar, AtIndex, AtMember, AtTarget, AtAssign, AtUpdate, AtBranches, AtCall, AtCalled, AtArgument}
+use Rattle.dae_types_kinds.specs.Values.{Typed, Combination, number, valued_by, named, valued, converted, cast_to, promoted, combination, scaled_by, combined_as, subscripted, starred, marked, addressed, negated, complemented, inverted, known_and, known_or, owner, component_in, member_by, assigned, updated, operator_of, stepped, joined, conditional_as, comma, routine_type, library_of, parameters_of, called}
+use Rattle.dae_types_rules.specs.Sites.{Site, AtWord, AtTypeName, AtTag, AtBody, AtEnumeration, AtEnumerationBody, AtEnumerator, AtConstant, AtComponent, AtEnd, AtPointer, AtCount, AtElement, AtResult, AtParameter, AtName, AtValue, AtInteger, AtScalar, AtOperands, AtSized, AtSizeof, AtCast, AtAddress, AtStar, AtIndex, AtMember, AtTarget, AtAssign, AtUpdate, AtBranches, AtCall, AtCalled, AtArgument}
 use Rattle.dae_types_rules.specs.Plan.{Plan, pure, both, node, maps, chain, pardons, settles, unless_spoiled, OfName, OfTag, OfMember}
 
 -- ---- words for plans
@@ -121,12 +121,16 @@ base_at ws m = does (λ s b. (s, base_of (seen_behind nothing_seen ws) b)) m
 abbrev pub word_at : Place → Context → Option ℕ → Keyword → Plan (Option ℕ)
 word_at p c b k = at (λ s x. AtWord p c k) (λ s x. (s, b)) nothing
 
-abbrev pub type_id_of : Option Entity → ℕ
-type_id_of (Some (entity.Type t)) = t
-type_id_of _ = int_id
+-- the type that a name stands for
+abbrev pub type_named : Option Entity → Option ℕ
+type_named (Some (entity.Type t)) = Some t
+type_named _ = None
 
 abbrev pub type_name_at : Name → Plan (Option ℕ)
-type_name_at n = unless_spoiled (OfName n.number) (looks (λ s. Some (type_id_of (found_name s n.number))))
+type_name_at n =
+    unless_spoiled
+    (OfName n.number)
+    (at (λ s x. AtTypeName n.place (found_name s n.number)) (λ s x. (s, type_named (found_name s n.number))) nothing)
 
 -- ---- structures and enumerations (C90 6.5.2.1 to 6.5.2.3)
 
@@ -244,7 +248,7 @@ adjusted s t = elim (shape_of s t) [ shape.Array n count ↦ shape.Pointer n | x
 
 abbrev pub with_named_local : Option Name → ℕ → Tables → Tables
 with_named_local None t s = s
-with_named_local (Some n) t s = with_name n.number (entity.Local (length s.locals)) (with_local (record { type_id = t; taken = false; begins_zero = false }) s)
+with_named_local (Some n) t s = with_name n.number (entity.Local (length s.locals)) (with_local (record { type_id = t; taken = false }) s)
 
 abbrev pub is_taken : Tables → Option Name → Bool
 is_taken s None = false
@@ -371,7 +375,7 @@ abbrev pub type_of_value : Plan Typed → Plan ℕ
 type_of_value m = does (λ s x. (s, x.type_id)) m
 
 abbrev pub cast_at : Place → Plan (ℕ × Typed) → Plan Typed
-cast_at p m = at (λ s x. AtCast p (shape_of s x.1.type_id) (shape_of s x.0)) (λ s x. (s, converted p s x.1 x.0)) m
+cast_at p m = at (λ s x. AtCast p (shape_of s x.1.type_id) (shape_of s x.0)) (λ s x. (s, cast_to p s x.1 x.0)) m
 
 abbrev pub target_at : Place → Plan (Typed × Typed) → Plan (Typed × Typed)
 target_at p m = asks (λ s x. AtTarget p (shape_of s x.0.type_id) x.0.category) m

@@ -226,8 +226,7 @@ narrow_is_converted : check ((tree.Declared (record {
 unfolding shape_of layout_of same composite layout_at found_name found_tag own_entity own_tag found_component converted combination fits joined combined compared parameter_types ask_all
 narrow_is_converted = refl
 
--- A variable that its own initialiser names is 0 when its function is called: int f(void){int
--- k=k+1;return k;}
+-- A variable that its own initialiser names is 0 before: int f(void){int k=k+1;return k;}
 own_name_is_zero : check ((tree.Defined (tree.specifier_then (tree.Word (at 1) keyword.Int)
     tree.no_specifiers) (tree.Empty (tree.Named (name 5 0)) (at 5)) (at 12) ((record {
       specifiers =
@@ -249,15 +248,16 @@ own_name_is_zero : check ((tree.Defined (tree.specifier_then (tree.Word (at 1) k
       exit = None;
       abort = None;
       main = None;
-    }) ([])) ≡ (program.Evaluate (at 5)
-    (program.Assign (at 5) kinds.I32 (program.InVariable 1) (program.Number 0)) (program.Evaluate
+    }) ([])) ≡ (program.Evaluate (at 17)
+    (program.Assign (at 17) kinds.I32 (program.InVariable 1) (program.Number 0)) (program.Evaluate
     (at 17) (program.Assign (at 17) kinds.I32 (program.InVariable 1) (program.Binary (at 19)
     operator.Add (program.Variable (at 19) 1) (program.Number 1))) (program.Return (at 23) (Some
     (program.Variable (at 30) 1)) program.Done))) ∷ []
 unfolding shape_of layout_of same composite layout_at found_name found_tag own_entity own_tag found_component converted combination fits joined combined compared parameter_types ask_all
 own_name_is_zero = refl
 
--- In a loop it keeps what it held: int f(int a){while(a){int k=k+1;a=a-k;}return 0;}
+-- In a loop it is 0 each time that its declaration is reached: int f(int
+-- a){while(a){int k=k+1;a=a-k;}return 0;}
 own_name_in_loop : check ((tree.Defined (tree.specifier_then (tree.Word (at 1) keyword.Int)
     tree.no_specifiers) (tree.Function (tree.Named (name 5 1)) (at 6) (tree.parameter_then
     (tree.specifier_then (tree.Word (at 7) keyword.Int) tree.no_specifiers) (tree.Named (name 11 0))
@@ -287,13 +287,13 @@ own_name_in_loop : check ((tree.Defined (tree.specifier_then (tree.Word (at 1) k
       abort = None;
       main =
           None;
-    }) ([])) ≡ (program.Evaluate (at 5) (program.Assign (at 5) kinds.I32 (program.InVariable 2)
-    (program.Number 0)) (program.Loop (at 14) (Some (program.Variable (at 20) 1)) (program.Evaluate
+    }) ([])) ≡ (program.Loop (at 14) (Some (program.Variable (at 20) 1)) (program.Evaluate (at 27)
+    (program.Assign (at 27) kinds.I32 (program.InVariable 2) (program.Number 0)) (program.Evaluate
     (at 27) (program.Assign (at 27) kinds.I32 (program.InVariable 2) (program.Binary (at 29)
     operator.Add (program.Variable (at 29) 2) (program.Number 1))) (program.Evaluate (at 33)
     (program.Assign (at 33) kinds.I32 (program.InVariable 1) (program.Binary (at 35)
-    operator.Subtract (program.Variable (at 35) 1) (program.Variable (at 37) 2))) program.Done))
-    None (program.Return (at 40) (Some (program.Number 0)) program.Done))) ∷ []
+    operator.Subtract (program.Variable (at 35) 1) (program.Variable (at 37) 2))) program.Done)))
+    None (program.Return (at 40) (Some (program.Number 0)) program.Done)) ∷ []
 unfolding shape_of layout_of same composite layout_at found_name found_tag own_entity own_tag found_component converted combination fits joined combined compared parameter_types ask_all
 own_name_in_loop = refl
 

@@ -49,7 +49,7 @@ fn count_kept(storages: &[Storage], mut count: u32) -> Result<u32, CheckError>
 {
     for storage in storages {
         if is_variable(*storage) {
-            count = count.checked_add(1).ok_or(CheckError::Memory)?;
+            count = count.checked_add(1).ok_or(CheckError::TooMany)?;
         }
     }
     Ok(count)
@@ -61,9 +61,9 @@ pub fn count_variables(parameters: usize, storages: &[Storage]) -> Result<u32, C
     ensures { Gives (λ n. n) result (Ok (variables_of parameters storages.now)) }
 {
     let Ok(first) = u32::try_from(parameters) else {
-        return Err(CheckError::Memory);
+        return Err(CheckError::TooMany);
     };
-    let first = first.checked_add(1).ok_or(CheckError::Memory)?;
+    let first = first.checked_add(1).ok_or(CheckError::TooMany)?;
     count_kept(behind(storages, parameters), first)
 }
 
@@ -146,7 +146,7 @@ pub fn frame_size(
         (Ok (frame_of (tables checker.now) locals.now storages.now)) }
 {
     let Some(end) = last_end(checker, locals, storages).checked_add(3) else {
-        return Err(CheckError::Memory);
+        return Err(CheckError::TooMany);
     };
     Ok(end / 4 * 4)
 }

@@ -13,18 +13,18 @@ use crate::frames::{count_variables, frame_size, slots_of};
 use crate::products::Body;
 use dae_base::{Items, Place, Text};
 use dae_types_file_plans::{FileDeclaration, Role};
-use dae_types_kinds::{CheckError, Entity, Routine, Shape};
-use dae_types_tables::{Checker, INT_ID, NO_PARAMETERS_ID};
+use dae_types_kinds::{CheckError, Entity, Routine, Shape, parameters_of, routine_type};
+use dae_types_tables::Checker;
 use dae_types_typed::TypedFunction;
 use std::alloc::Global;
 
-/// The text of a name. A name that isn't a text is wanting in memory; there is none.
+/// The text of a name. The names of C are ASCII, so each is one.
 fn text_of(alloc: Global, bytes: &[u8]) -> Result<Text, CheckError>
     ensures { Gives (λ t. t) result (Ok bytes.now) }
 {
     match std::str::from_utf8(bytes) {
         Ok(text) => Ok(Text::from_str(alloc, text)?),
-        Err(_) => Err(CheckError::Memory),
+        Err(_) => Err(CheckError::Unsound),
     }
 }
 
@@ -48,26 +48,6 @@ fn name_of(names: &[Items<u8>], routine: Option<Routine>) -> &[u8]
     }
 }
 
-/// The list of parameters of a function.
-fn parameters_of(shape: Shape) -> usize
-    ensures { result ≡ parameters_of shape }
-{
-    match shape {
-        Shape::Function(_, parameters) => parameters,
-        _ => NO_PARAMETERS_ID,
-    }
-}
-
-/// The type of a function.
-fn routine_type(routine: Option<Routine>) -> usize
-    ensures { result ≡ routine_type routine }
-{
-    match routine {
-        Some(routine) => routine.type_id,
-        None => INT_ID,
-    }
-}
-
 /// The number of parameters in a list of at most so many.
 fn count_parameters_from(checker: &Checker, depth: usize, shape: Shape) -> Result<usize, CheckError>
     ensures { Gives (λ n. n) result
@@ -79,7 +59,7 @@ fn count_parameters_from(checker: &Checker, depth: usize, shape: Shape) -> Resul
     match shape {
         Shape::Parameter(before, _) => {
             let before = count_parameters_from(checker, depth - 1, checker.shape_of(before))?;
-            before.checked_add(1).ok_or(CheckError::Memory)
+            before.checked_add(1).ok_or(CheckError::TooMany)
         }
         _ => Ok(0),
     }
@@ -151,13 +131,13 @@ pub fn functions_in(
     let mut rest = places;
     for body in bodies {
         let Some((place, others)) = next_place(rest) else {
-            return Err(CheckError::Memory);
+            return Err(CheckError::Unsound);
         };
         functions.push(typed_function(alloc, checker, names, place, body)?)?;
         rest = others;
     }
     if !rest.is_empty() {
-        return Err(CheckError::Memory);
+        return Err(CheckError::Unsound);
     }
     Ok(functions)
 }

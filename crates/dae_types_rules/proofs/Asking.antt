@@ -2,7 +2,7 @@
 use Rattle.std.proofs.Common.{◌≡◌, List, [], ◌∷◌, Bool, true, false, if◌then◌else◌, ◌⊎◌, inl, inr, refl, sym, ap, ◌∙◌}
 use Rattle.dae_types_kinds.specs.declared.rules.Rule.{Rule}
 use Rattle.dae_types_kinds.specs.declared.rules.Rule.TheVariants as rule
-use Rattle.dae_types_rules.specs.Sites.{Site, AtWord, AtTag, AtBody, AtEnumeration, AtEnumerationBody, AtEnumerator, AtConstant, AtComponent, AtEnd, AtPointer, AtCount, AtElement, AtResult, AtParameter, AtName, AtValue, AtInteger, AtScalar, AtOperands, AtSized, AtSizeof, AtCast, AtAddress, AtStar, AtIndex, AtMember, AtTarget, AtAssign, AtUpdate, AtBranches, AtCall, AtCalled, AtArgument, AtReturn, AtBreak, AtCase, AtDefault, AtCaseOutside, AtSwitchBody, AtFormat, AtPrinted, AtTypedef, AtLocal, AtFunction, AtObject, AtEndOfFile, AtDefinition, AtSecond, AtUnnamed, AtItem, AtScalarList, AtAggregate, AtString, AtTooMany, AtFilled}
+use Rattle.dae_types_rules.specs.Sites.{Site, AtWord, AtTypeName, AtTag, AtBody, AtEnumeration, AtEnumerationBody, AtEnumerator, AtConstant, AtComponent, AtEnd, AtPointer, AtCount, AtElement, AtResult, AtParameter, AtName, AtValue, AtInteger, AtScalar, AtOperands, AtSized, AtSizeof, AtCast, AtAddress, AtStar, AtIndex, AtMember, AtTarget, AtAssign, AtUpdate, AtBranches, AtCall, AtCalled, AtArgument, AtReturn, AtBreak, AtCase, AtDefault, AtCaseOutside, AtSwitchBody, AtFormat, AtPrinted, AtTypedef, AtLocal, AtFunction, AtObject, AtEndOfFile, AtDefinition, AtSecond, AtUnnamed, AtItem, AtScalarList, AtAggregate, AtString, AtTooMany, AtFilled}
 use Rattle.dae_types_rules.specs.Table.{IsAmong, breaks, asked, any_broken}
 
 any_by : (b : Bool) (rest : Bool) → (b ≡ true) ⊎ (rest ≡ true) → (if b then true else rest) ≡ true
@@ -19,6 +19,7 @@ pub is_asked : (r : Rule) (s : Site) → breaks r s ≡ true → IsAmong r (aske
 is_asked rule.StorageClass (AtWord p c k) e = inl refl
 is_asked rule.BlockStorage (AtWord p c k) e = inr (inl refl)
 is_asked rule.TypedefMisuse (AtWord p c k) e = inr (inr (inl refl))
+is_asked rule.Undeclared (AtTypeName p found) e = inl refl
 is_asked rule.TagKind (AtTag p found) e = inl refl
 is_asked rule.TagKind (AtBody p s found) e = inl refl
 is_asked rule.Redefined (AtBody p s found) e = inr (inl refl)
@@ -52,6 +53,7 @@ is_asked rule.StructureValue (AtParameter p taken t) e = inr (inr (inr (inl refl
 is_asked rule.Redeclared (AtParameter p taken t) e = inr (inr (inr (inr (inl refl))))
 is_asked rule.Undeclared (AtName p found) e = inl refl
 is_asked rule.FunctionValue (AtName p found) e = inr (inl refl)
+is_asked rule.TypedefMisuse (AtName p found) e = inr (inr (inl refl))
 is_asked rule.Incomplete (AtValue p s x) e = inl refl
 is_asked rule.NotInteger (AtInteger p t) e = inl refl
 is_asked rule.NotScalar (AtScalar p t) e = inl refl

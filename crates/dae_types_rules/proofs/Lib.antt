@@ -1,2 +1,3 @@
 mod Asking
+mod Settling
 pub mod Laws

@@ -1,3 +1,4 @@
 pub mod Sites
 pub mod Table
 pub mod Plan
+pub mod Settled

@@ -15,9 +15,10 @@ use Rattle.dae_types_kinds.specs.Tables.{Tables}
 use Rattle.dae_types_kinds.specs.Values.{Typed, Combination}
 
 pub data Site : Type 0 where
-  -- specifiers: a word; a tag of a structure, and one before members; a tag of an enumeration, and one before enumerators;
+  -- specifiers: a word; a name of a type; a tag of a structure, and one before members; a tag of an enumeration, and one before enumerators;
   -- an enumerator; and the value of an enumerator or of a label
   AtWord : Place → Context → Keyword → Site
+  AtTypeName : Place → Option Entity → Site
   AtTag : Place → Option Tagged → Site
   AtBody : Place → Tables → Option Tagged → Site
   AtEnumeration : Place → Option Tagged → Site
@@ -90,6 +91,7 @@ pub data Site : Type 0 where
 
 abbrev pub place : Site → Place
 place (AtWord p c k) = p
+place (AtTypeName p found) = p
 place (AtTag p found) = p
 place (AtBody p s found) = p
 place (AtEnumeration p found) = p

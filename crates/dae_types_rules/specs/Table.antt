@@ -14,22 +14,24 @@ use Rattle.dae_types_kinds.specs.declared.tables.Entity.{Entity}
 use Rattle.dae_types_kinds.specs.declared.tables.Entity.TheVariants as entity
 use Rattle.dae_types_kinds.specs.declared.tables.Tagged.{Tagged}
 use Rattle.dae_types_kinds.specs.declared.tables.Tagged.TheVariants as tagged
-use Rattle.dae_types_kinds.specs.declared.tables.LibraryFunction.{LibraryFunction}
-use Rattle.dae_types_kinds.specs.declared.tables.LibraryFunction.TheVariants as library
 use Rattle.dae_types_kinds.specs.declared.tables.Object.{Object}
 use Rattle.dae_types_kinds.specs.declared.tables.Routine.{Routine}
 use Rattle.dae_types_kinds.specs.declared.values.Known.{Known}
 use Rattle.dae_types_kinds.specs.declared.values.Known.TheVariants as known
 use Rattle.dae_types_kinds.specs.Tables.{Tables, found_component}
 use Rattle.dae_types_kinds.specs.Types.{shape_of, is_integer, is_character, is_unsigned, is_pointer, is_void, is_function, is_array, is_structure, is_scalar, pointee, is_complete, same, layout_at, layout_of, most_bytes, is_too_large}
-use Rattle.dae_types_kinds.specs.Values.{Typed, is_number, is_division, is_constant, is_object, is_update, fits, result_of, parameters_of}
-use Rattle.dae_types_rules.specs.Sites.{Site, AtWord, AtTag, AtBody, AtEnumeration, AtEnumerationBody, AtEnumerator, AtConstant, AtComponent, AtEnd, AtPointer, AtCount, AtElement, AtResult, AtParameter, AtName, AtValue, AtInteger, AtScalar, AtOperands, AtSized, AtSizeof, AtCast, AtAddress, AtStar, AtIndex, AtMember, AtTarget, AtAssign, AtUpdate, AtBranches, AtCall, AtCalled, AtArgument, AtReturn, AtBreak, AtCase, AtDefault, AtCaseOutside, AtSwitchBody, AtFormat, AtPrinted, AtTypedef, AtLocal, AtFunction, AtObject, AtEndOfFile, AtDefinition, AtSecond, AtUnnamed, AtItem, AtScalarList, AtAggregate, AtString, AtTooMany, AtFilled}
+use Rattle.dae_types_kinds.specs.Values.{Typed, is_number, is_division, is_constant, known_as, is_object, is_update, is_printf, fits, result_of, parameters_of}
+use Rattle.dae_types_rules.specs.Sites.{Site, AtWord, AtTypeName, AtTag, AtBody, AtEnumeration, AtEnumerationBody, AtEnumerator, AtConstant, AtComponent, AtEnd, AtPointer, AtCount, AtElement, AtResult, AtParameter, AtName, AtValue, AtInteger, AtScalar, AtOperands, AtSized, AtSizeof, AtCast, AtAddress, AtStar, AtIndex, AtMember, AtTarget, AtAssign, AtUpdate, AtBranches, AtCall, AtCalled, AtArgument, AtReturn, AtBreak, AtCase, AtDefault, AtCaseOutside, AtSwitchBody, AtFormat, AtPrinted, AtTypedef, AtLocal, AtFunction, AtObject, AtEndOfFile, AtDefinition, AtSecond, AtUnnamed, AtItem, AtScalarList, AtAggregate, AtString, AtTooMany, AtFilled}
 
 -- ---- questions that the rows ask
 
 abbrev pub names_function : Option Entity → Bool
 names_function (Some (entity.Function n)) = true
 names_function _ = false
+
+abbrev pub names_type : Option Entity → Bool
+names_type (Some (entity.Type t)) = true
+names_type _ = false
 
 abbrev pub is_enumeration : Option Tagged → Bool
 is_enumeration (Some tagged.Enumeration) = true
@@ -75,10 +77,6 @@ fits_some s x (Some t) = fits s x t
 
 abbrev pub is_structure_value : Tables → Typed → Bool
 is_structure_value s x = is_structure (shape_of s x.type_id)
-
-abbrev pub is_printf : Option LibraryFunction → Bool
-is_printf (Some library.Printf) = true
-is_printf _ = false
 
 abbrev pub is_storage : Context → Keyword → Bool
 is_storage context.Member keyword.Register = true
@@ -173,9 +171,11 @@ is_longer n (Some count) = nat_lt count n
 
 -- ---- the table
 
--- a name has no declaration in scope
+-- a name has no declaration in scope, or stands as that of a type and has none as one, which is a case that the grammar of
+-- names in scope leaves out
 abbrev pub undeclared : Site → Bool
 undeclared (AtName p found) = is_none found
+undeclared (AtTypeName p found) = not (names_type found)
 undeclared (AtEnumeration p found) = is_none found
 undeclared _ = false
 
@@ -355,7 +355,7 @@ bad_return _ = false
 -- an initialiser of static storage or of an aggregate, an enumerator or a label isn't constant
 abbrev pub not_constant : Site → Bool
 not_constant (AtConstant p s x) = not (is_number x.known)
-not_constant (AtItem p s x t) = fits s x t && not (is_constant x.known)
+not_constant (AtItem p s x t) = fits s x t && not (is_constant (known_as (shape_of s x.type_id) (shape_of s t) x.known))
 not_constant _ = false
 
 -- a constant expression divides by zero, where a constant is required
@@ -399,9 +399,11 @@ abbrev pub block_function : Site → Bool
 block_function (AtLocal p taken given s t) = is_function (shape_of s t)
 block_function _ = false
 
--- typedef where no type can be named, with an initialiser, or in a definition, or a body whose parameters a type name gives
+-- typedef where no type can be named, with an initialiser, or in a definition, or a body whose parameters a type name gives; or
+-- the name of a type as a value, which that grammar leaves out too
 abbrev pub typedef_misuse : Site → Bool
 typedef_misuse (AtWord p c k) = is_stray_typedef c k
+typedef_misuse (AtName p found) = names_type found
 typedef_misuse (AtTypedef p block given found s t) = given
 typedef_misuse (AtDefinition p is_typedef is_direct t) = is_typedef || (is_function t && not is_direct)
 typedef_misuse _ = false
@@ -504,6 +506,7 @@ breaks rule.SwitchBody s = switch_body s
 -- the rules that can be broken at a site, in the order in which a check asks them
 abbrev pub asked : Site → List Rule
 asked (AtWord p c k) = rule.StorageClass ∷ rule.BlockStorage ∷ rule.TypedefMisuse ∷ []
+asked (AtTypeName p found) = rule.Undeclared ∷ []
 asked (AtTag p found) = rule.TagKind ∷ []
 asked (AtBody p s found) = rule.TagKind ∷ rule.Redefined ∷ []
 asked (AtEnumeration p found) = rule.TagKind ∷ rule.Incomplete ∷ rule.Undeclared ∷ []
@@ -517,7 +520,7 @@ asked (AtCount p s x) = rule.NotInteger ∷ rule.ConstantDivision ∷ rule.BadSi
 asked (AtElement p s t count) = rule.BadFunctionType ∷ rule.Incomplete ∷ rule.ObjectTooLarge ∷ []
 asked (AtResult p t) = rule.BadFunctionType ∷ rule.StructureValue ∷ []
 asked (AtParameter p taken t) = rule.FunctionPointer ∷ rule.VoidObject ∷ rule.Incomplete ∷ rule.StructureValue ∷ rule.Redeclared ∷ []
-asked (AtName p found) = rule.Undeclared ∷ rule.FunctionValue ∷ []
+asked (AtName p found) = rule.Undeclared ∷ rule.FunctionValue ∷ rule.TypedefMisuse ∷ []
 asked (AtValue p s x) = rule.Incomplete ∷ []
 asked (AtInteger p t) = rule.NotInteger ∷ []
 asked (AtScalar p t) = rule.NotScalar ∷ []

@@ -3,9 +3,15 @@
 // Nothing here runs; the code of the checker stands above.
 #![tactic(auto)]
 
+ghost use Rattle.dae_types_rules.specs.Settled.{NothingIsMadeUp};
 ghost use Rattle.dae_types_rules.specs.Table.{RulesAreAsked};
 
 /// Each rule that is broken at a site is among those that a check asks there.
 pub fn rules_are_asked()
     ensures { RulesAreAsked }
+{}
+
+/// Where no rule is broken, what is written is what the text says.
+pub fn nothing_is_made_up()
+    ensures { NothingIsMadeUp }
 {}

@@ -104,7 +104,9 @@ pub fn element_count(
             }
             Ok(count)
         }
-        Known::Nothing | Known::Address(_, _) => Err(broken(Rule::BadSize, place)),
+        Known::Nothing | Known::Address(_, _) | Known::NullPointer => {
+            Err(broken(Rule::BadSize, place))
+        }
     }
 }
 
@@ -193,7 +195,6 @@ pub fn add_named_local(
     checker.add_local(Local {
         type_id,
         taken: false,
-        begins_zero: false,
     })?;
     checker.add_name(name.number, Entity::Local(number))
 }

@@ -10,8 +10,8 @@ ghost use Rattle.dae_types_tables.specs.Seen.{Follows};
 
 use dae_base::Place;
 use dae_tree::Name;
-use dae_types_kinds::{CheckError, Entity, Known, Rule, Tagged};
-use dae_types_tables::{Checker, INT_ID, broken, is_integer};
+use dae_types_kinds::{CheckError, Entity, INT_ID, Known, Rule, Tagged};
+use dae_types_tables::{Checker, broken, is_integer};
 
 /// `enum` and a tag without enumerators.
 #[tactic(auto, unfolding(dae_types_rules::specs::Plan::ask_all))]
@@ -70,6 +70,8 @@ pub fn constant_value(
     match known {
         Known::Number(word) => Ok(word),
         Known::Division => Err(broken(Rule::ConstantDivision, place)),
-        Known::Nothing | Known::Address(_, _) => Err(broken(Rule::NotConstant, place)),
+        Known::Nothing | Known::Address(_, _) | Known::NullPointer => {
+            Err(broken(Rule::NotConstant, place))
+        }
     }
 }

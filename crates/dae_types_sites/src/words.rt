@@ -7,11 +7,11 @@ ghost use Rattle.dae_types_tables.specs.Seen.{Follows};
 
 use dae_base::Place;
 use dae_tree::{Arithmetic, Keyword, Name, Seen};
-use dae_types_kinds::{CheckError, Context, Entity, Rule};
-use dae_types_tables::{
-    CHAR_ID, Checker, INT_ID, SHORT_ID, SIGNED_CHAR_ID, UNSIGNED_CHAR_ID, UNSIGNED_ID,
-    UNSIGNED_SHORT_ID, VOID_ID, broken,
+use dae_types_kinds::{
+    CHAR_ID, CheckError, Context, Entity, INT_ID, Rule, SHORT_ID, SIGNED_CHAR_ID, UNSIGNED_CHAR_ID,
+    UNSIGNED_ID, UNSIGNED_SHORT_ID, VOID_ID,
 };
+use dae_types_tables::{Checker, broken};
 
 /// A word of specifiers. It leaves the type that stands alone among them, if there is one so far.
 #[tactic(auto, unfolding(dae_types_rules::specs::Plan::ask_all))]
@@ -69,12 +69,13 @@ fn is_stray_typedef(context: Context, word: Keyword) -> bool
 }
 
 /// The type that a typedef's name stands for.
+#[tactic(auto, unfolding(dae_types_rules::specs::Plan::ask_all))]
 pub fn type_of_name(checker: &Checker, name: Name) -> Result<Option<usize>, CheckError>
     ensures { Follows checker.now result (type_name_at name) checker.now }
 {
     match checker.found_name(name.number) {
         Some(Entity::Type(id)) => Ok(Some(id)),
-        _ => Ok(Some(INT_ID)),
+        _ => Err(broken(Rule::Undeclared, name.place)),
     }
 }
 

@@ -2,7 +2,6 @@
 
 ghost use Rattle.std.specs.Prelude.{◌≡◌, slice_get};
 ghost use Rattle.dae_tree.specs.Views.{view, views};
-ghost use Rattle.dae_types_rules.specs.Table.{is_printf};
 ghost use Rattle.dae_types_file_plans.specs.Statements.{arguments_of, callee_name, is_printf_name, plan_evaluate, plan_printf};
 ghost use Rattle.dae_types_tables.specs.Seen.{FollowsBy, tables};
 ghost use Rattle.dae_types_values.specs.Results.{views as views_of_arguments};
@@ -14,21 +13,11 @@ use dae_program::{Expression, Statement};
 use dae_tree::{Expression as Tree, Name};
 use dae_types_bodies::alone;
 use dae_types_fills::{add_printed, kinds_of_arguments, literal_in, read_format};
-use dae_types_kinds::{CheckError, LibraryFunction, Rule};
+use dae_types_kinds::{CheckError, Rule, is_printf};
 use dae_types_tables::{Checker, broken};
 use dae_types_values::routine_of;
 use dae_types_walk::{name_in, operand};
 use std::alloc::Global;
-
-/// Whether a function is the library's `printf`.
-fn is_printf(library: Option<LibraryFunction>) -> bool
-    ensures { result ≡ is_printf library }
-{
-    match library {
-        Some(LibraryFunction::Printf) => true,
-        _ => false,
-    }
-}
 
 /// Whether a name stands for the library's `printf`.
 fn is_printf_name(checker: &Checker, name: Option<Name>) -> bool

@@ -2,10 +2,6 @@
 // scopes. A look-up by name goes through its table from the latest row: at most 65,536 uses of 10,000 names are about a second.
 #![tactic(auto)]
 
-pub use basic::{
-    CHAR_ID, INT_ID, NO_PARAMETERS_ID, SHORT_ID, SIGNED_CHAR_ID, UNSIGNED_CHAR_ID, UNSIGNED_ID,
-    UNSIGNED_SHORT_ID, VOID_ID,
-};
 pub use checker::Checker;
 pub use kept::{FileTables, Kept, copy_kept, file_tables, objects, set_kept, storages};
 pub use layouts::{MOST_BYTES, finish_layout, place_member, round_up};

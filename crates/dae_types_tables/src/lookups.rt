@@ -203,8 +203,8 @@ impl Checker {
             return Ok(1);
         };
         match u32::try_from(bytes.len()) {
-            Ok(length) => length.checked_add(1).ok_or(CheckError::Memory),
-            Err(_) => Err(CheckError::Memory),
+            Ok(length) => length.checked_add(1).ok_or(CheckError::TooMany),
+            Err(_) => Err(CheckError::TooMany),
         }
     }
 

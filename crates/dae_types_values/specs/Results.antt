@@ -1,12 +1,11 @@
 -- What functions of values give, as plain data.
-use Rattle.std.specs.Prelude.{ℕ, Bool, not, nat_eq, length, List, Vec, Option, Some, None, Result, Ok, map, if◌then◌else◌}
+use Rattle.std.specs.Prelude.{ℕ, Bool, not, nat_eq, length, List, Vec, Option, Some, None, Result, Ok, map}
 use Rattle.std.specs.declared.alloc.Global.{Global}
 use Rattle.dae_program.specs.Trees as program
 use Rattle.dae_program.specs.Views.{view}
 use Rattle.dae_program.specs.declared.expressions.Expression.{Expression}
 use Rattle.dae_types_kinds.specs.declared.rules.CheckError.{CheckError}
 use Rattle.dae_types_kinds.specs.Tables.{Tables}
-use Rattle.dae_types_kinds.specs.Types.{shape_of, is_void, same, composite}
 use Rattle.dae_types_kinds.specs.Values.{Typed}
 use Rattle.dae_types_rules.specs.Plan.{Plan, pure, Gives}
 use Rattle.dae_types_plans.specs.Steps.{parameter_types}
@@ -47,14 +46,6 @@ among s (Some t) = Some (s, t)
 
 abbrev pub Joins : Checker → Result (Option ℕ) CheckError → Option (Tables × ℕ) → Type 0
 Joins c r t = Gives (among (tables c)) r (Ok t)
-
--- the type of a conditional of two pointers, to m and to n, where they go together (C90 6.3.15)
-abbrev pub joined_pointers : Tables → ℕ → ℕ → ℕ → ℕ → Option (Tables × ℕ)
-joined_pointers s y z m n =
-    if same s y z then Some (composite s y z)
-    else if is_void (shape_of s m) then Some (s, y)
-    else if is_void (shape_of s n) then Some (s, z)
-    else None
 
 -- a function has another number of parameters
 abbrev pub differs_in_number : Tables → ℕ → ℕ → Bool

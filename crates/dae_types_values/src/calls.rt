@@ -7,7 +7,7 @@ ghost use Rattle.dae_types_kinds.specs.Types.{shape_of};
 ghost use Rattle.dae_types_kinds.specs.Values.{call_tree, called, first_of_list, library_of, listed, parameters_of, result_of, routine_type};
 ghost use Rattle.dae_types_rules.specs.Plan.{Gives};
 ghost use Rattle.dae_types_rules.specs.Sites.{AtCall};
-ghost use Rattle.dae_types_rules.specs.Table.{argument_count, fits_some, is_printf};
+ghost use Rattle.dae_types_rules.specs.Table.{argument_count, fits_some};
 ghost use Rattle.dae_types_plans.specs.Steps.{argument_at, call_at, is_main, parameter_type, parameter_types, parameters_from, passed, routine_in, with_call};
 ghost use Rattle.dae_types_tables.specs.Seen.{FollowsBy, Leaves, tables};
 ghost use Rattle.dae_types_folding.specs.Views.{MakesTree, MakesValue, view_value};
@@ -17,8 +17,11 @@ use crate::converting::{convert, fits};
 use dae_base::Place;
 use dae_program::Expression;
 use dae_tree::Name;
-use dae_types_folding::{INT, NO_PARAMETERS, Value};
-use dae_types_kinds::{CheckError, Entity, LibraryFunction, Routine, Rule, Shape};
+use dae_types_folding::Value;
+use dae_types_kinds::{
+    CheckError, Entity, LibraryFunction, Rule, Shape, is_printf, library_of, parameters_of,
+    result_of, routine_type,
+};
 use dae_types_tables::{Checker, broken, is_structure};
 use std::alloc::Global;
 
@@ -33,46 +36,6 @@ pub fn routine_of(checker: &Checker, name: Name) -> Option<usize>
 }
 
 ghost use Rattle.dae_types_kinds.specs.Tables.{found_name};
-
-/// The type of a function.
-fn routine_type(routine: Option<Routine>) -> usize
-    ensures { result ≡ routine_type routine }
-{
-    match routine {
-        Some(routine) => routine.type_id,
-        None => INT,
-    }
-}
-
-/// Which function of the standard library a function is.
-fn library_of(routine: Option<Routine>) -> Option<LibraryFunction>
-    ensures { result ≡ library_of routine }
-{
-    match routine {
-        Some(routine) => routine.library,
-        None => None,
-    }
-}
-
-/// The list of a function's parameters.
-fn parameters_of(shape: Shape) -> usize
-    ensures { result ≡ parameters_of shape }
-{
-    match shape {
-        Shape::Function(_, parameters) => parameters,
-        _ => NO_PARAMETERS,
-    }
-}
-
-/// The type that a function gives.
-fn result_of(shape: Shape) -> usize
-    ensures { result ≡ result_of shape }
-{
-    match shape {
-        Shape::Function(result, _) => result,
-        _ => INT,
-    }
-}
 
 /// The types of parameters in their order, from their list of at most so many.
 fn parameters_from(
@@ -195,16 +158,6 @@ fn is_main(checker: &Checker, name: u32) -> bool
     }
 }
 
-/// Whether a function is printf.
-fn is_printf(library: Option<LibraryFunction>) -> bool
-    ensures { result ≡ is_printf library }
-{
-    match library {
-        Some(LibraryFunction::Printf) => true,
-        _ => false,
-    }
-}
-
 /// Notes a call of a function that isn't the library's.
 fn note_call(
     checker: &mut Checker,
@@ -314,7 +267,7 @@ pub fn call(
     ensures { MakesValue result (called place (tables checker.now) function (views arguments)) }
 {
     let Ok(number) = u32::try_from(function) else {
-        return Err(CheckError::Memory);
+        return Err(CheckError::TooMany);
     };
     let routine = checker.routine(function);
     let type_id = result_of(checker.shape_of(routine_type(routine)));

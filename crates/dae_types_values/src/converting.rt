@@ -1,7 +1,7 @@
 // Conversions, and what may be converted to what (C90 6.2, 6.3.4 and 6.3.16.1).
 
 ghost use Rattle.std.specs.Prelude.{◌≡◌};
-ghost use Rattle.dae_types_kinds.specs.Values.{converted, fits, is_null};
+ghost use Rattle.dae_types_kinds.specs.Values.{cast_to, converted, fits, is_constant_zero, is_null, is_null_pointer, null_pointer};
 ghost use Rattle.dae_types_rules.specs.Sites.{AtCast};
 ghost use Rattle.dae_types_rules.specs.Table.{bad_cast};
 ghost use Rattle.dae_types_plans.specs.Steps.{cast_at};
@@ -11,15 +11,32 @@ ghost use Rattle.dae_types_values.specs.Results.{GivesValue, cast_of};
 
 use dae_base::Place;
 use dae_types_folding::{Value, changed, is_zero, known_as, load_kind};
-use dae_types_kinds::{CheckError, Rule, Shape};
+use dae_types_kinds::{CheckError, Known, Rule, Shape};
 use dae_types_tables::{Checker, broken, is_integer, is_scalar, is_structure, is_void};
 use std::alloc::Global;
+
+/// Whether this is a number that is 0, cast to `void *`.
+fn is_null_pointer(known: Known) -> bool
+    ensures { result ≡ is_null_pointer known }
+{
+    match known {
+        Known::NullPointer => true,
+        _ => false,
+    }
+}
+
+/// Whether a value is an integer constant expression that is 0.
+fn is_constant_zero(checker: &Checker, x: &Value) -> bool
+    ensures { result ≡ is_constant_zero (tables checker.now) (view_value x.now) }
+{
+    is_integer(checker.shape_of(x.type_id)) && is_zero(x.known)
+}
 
 /// Whether a value is a null pointer constant (C90 6.2.2.3).
 pub fn is_null(checker: &Checker, x: &Value) -> bool
     ensures { result ≡ is_null (tables checker.now) (view_value x.now) }
 {
-    is_integer(checker.shape_of(x.type_id)) && is_zero(x.known)
+    is_constant_zero(checker, x) || is_null_pointer(x.known)
 }
 
 /// A value as one of another type.
@@ -70,6 +87,37 @@ fn is_bad_cast(place: Place, from: Shape, to: Shape) -> bool
     }
 }
 
+/// Whether a cast to a type makes a null pointer constant of a value (C90 6.2.2.3).
+fn is_made_null(checker: &Checker, x: &Value, type_id: usize) -> bool
+    ensures { result ≡ null_pointer (tables checker.now) (view_value x.now) type_id }
+{
+    let Shape::Pointer(to) = checker.shape_of(type_id) else {
+        return false;
+    };
+    is_void(checker.shape_of(to)) && is_constant_zero(checker, x)
+}
+
+/// A value as one of another type by a cast.
+fn cast_to(
+    alloc: Global,
+    checker: &Checker,
+    place: Place,
+    x: Value,
+    type_id: usize,
+) -> Result<Value, CheckError>
+    ensures { MakesValue result (cast_to place (tables checker.now) (view_value x) type_id) }
+{
+    let is_null = is_made_null(checker, &x, type_id);
+    let y = convert(alloc, checker, place, x, type_id)?;
+    let known = if is_null { Known::NullPointer } else { y.known };
+    Ok(Value {
+        tree: y.tree,
+        type_id: y.type_id,
+        category: y.category,
+        known,
+    })
+}
+
 /// A cast.
 #[tactic(auto, unfolding(dae_types_rules::specs::Plan::ask_all))]
 pub fn cast(
@@ -88,5 +136,5 @@ pub fn cast(
     ) {
         return Err(broken(Rule::BadCast, place));
     }
-    convert(alloc, checker, place, x, type_id)
+    cast_to(alloc, checker, place, x, type_id)
 }

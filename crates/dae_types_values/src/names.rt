@@ -12,8 +12,10 @@ ghost use Rattle.dae_types_values.specs.Results.{GivesValue};
 use dae_base::Place;
 use dae_program::Expression;
 use dae_tree::{Constant, Name};
-use dae_types_folding::{CHAR, INT, UNSIGNED, Value};
-use dae_types_kinds::{Category, CheckError, Entity, Known, Rule, Shape, Storage};
+use dae_types_folding::Value;
+use dae_types_kinds::{
+    CHAR_ID, Category, CheckError, Entity, INT_ID, Known, Rule, Shape, Storage, UNSIGNED_ID,
+};
 use dae_types_tables::{Checker, broken};
 
 /// An integer constant.
@@ -23,7 +25,11 @@ pub fn constant_number(constant: Constant) -> Value
 {
     Value::number(
         constant.value,
-        if constant.unsigned { UNSIGNED } else { INT },
+        if constant.unsigned {
+            UNSIGNED_ID
+        } else {
+            INT_ID
+        },
     )
 }
 
@@ -32,7 +38,7 @@ fn object_at(number: usize, type_id: usize) -> Result<Value, CheckError>
     ensures { MakesValue result (object_at number type_id) }
 {
     let Ok(number) = u32::try_from(number) else {
-        return Err(CheckError::Memory);
+        return Err(CheckError::TooMany);
     };
     Ok(Value {
         tree: Expression::Address(number, 0),
@@ -47,7 +53,7 @@ pub fn literal(checker: &mut Checker, number: u32) -> Result<Value, CheckError>
     ensures { GivesValue checker.new result (does (λ s x. literal number s) nothing) checker.old }
 {
     let size = checker.literal_size(number as usize)?;
-    let type_id = checker.make(Shape::Array(CHAR, Some(size)))?;
+    let type_id = checker.make(Shape::Array(CHAR_ID, Some(size)))?;
     object_at(number as usize, type_id)
 }
 
@@ -58,11 +64,11 @@ fn object(checker: &Checker, number: usize) -> Result<Value, CheckError>
         (object_type (slice_get (tables checker.now).objects number))) }
 {
     let Some(behind) = checker.count_literals().checked_add(number) else {
-        return Err(CheckError::Memory);
+        return Err(CheckError::TooMany);
     };
     match checker.object(number) {
         Some(object) => object_at(behind, object.type_id),
-        None => object_at(behind, INT),
+        None => object_at(behind, INT_ID),
     }
 }
 
@@ -98,7 +104,7 @@ fn local_type(checker: &Checker, number: usize) -> usize
 {
     match checker.local(number) {
         Some(local) => local.type_id,
-        None => INT,
+        None => INT_ID,
     }
 }
 
@@ -119,7 +125,7 @@ pub fn name(checker: &mut Checker, name: Name) -> Result<Value, CheckError>
             let type_id = local_type(checker, number);
             Ok(stored_in(name.place, type_id, checker.storage(number)))
         }
-        Some(Entity::Enumerator(word)) => Ok(Value::number(word, INT)),
-        Some(Entity::Type(_)) => Ok(Value::number(0, INT)),
+        Some(Entity::Enumerator(word)) => Ok(Value::number(word, INT_ID)),
+        Some(Entity::Type(_)) => Err(broken(Rule::TypedefMisuse, name.place)),
     }
 }

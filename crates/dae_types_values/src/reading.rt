@@ -11,8 +11,8 @@ ghost use Rattle.dae_types_values.specs.Results.{GivesValue, one};
 
 use dae_base::Place;
 use dae_program::Expression;
-use dae_types_folding::{UNSIGNED, Value, load_kind};
-use dae_types_kinds::{Category, CheckError, Known, Rule, Shape};
+use dae_types_folding::{Value, load_kind};
+use dae_types_kinds::{Category, CheckError, Known, Rule, Shape, UNSIGNED_ID};
 use dae_types_tables::{Checker, broken, is_integer, is_scalar, is_structure};
 use std::alloc::Global;
 
@@ -103,7 +103,7 @@ pub fn sizeof(checker: &Checker, place: Place, type_id: usize) -> Result<Value, 
     ensures { GivesValue checker.now result (sizeof_at place (pure type_id)) checker.now }
 {
     if checker.is_complete(type_id) {
-        Ok(Value::number(checker.layout_at(type_id).size, UNSIGNED))
+        Ok(Value::number(checker.layout_at(type_id).size, UNSIGNED_ID))
     } else {
         Err(broken(Rule::Incomplete, place))
     }

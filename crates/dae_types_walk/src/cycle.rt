@@ -18,8 +18,8 @@ use dae_tree::{
     Name, Parameter, PostfixOperator, PrefixOperator, Seen, Specifier, TypeName,
 };
 use dae_types_folding::Value;
-use dae_types_kinds::{CheckError, Context, Layout, NamedType, Rule};
-use dae_types_tables::{Checker, INT_ID, NO_PARAMETERS_ID, broken};
+use dae_types_kinds::{CheckError, Context, INT_ID, Layout, NO_PARAMETERS_ID, NamedType, Rule};
+use dae_types_tables::{Checker, broken};
 use std::alloc::Global;
 
 /// The typed tree of an expression, as an object where it is one.

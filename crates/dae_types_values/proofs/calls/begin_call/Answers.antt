@@ -1,7 +1,7 @@
 use Rattle.std.proofs.Common.{length, ap, sym, ◌∙◌}
 use Rattle.std.specs.Prelude.{slice_get}
 use Rattle.dae_types_kinds.specs.Values.{library_of}
-use Rattle.dae_types_rules.specs.Table.{is_printf}
+use Rattle.dae_types_kinds.specs.Values.{is_printf}
 use Rattle.dae_types_plans.specs.Steps.{is_main, parameter_types, with_call}
 use Rattle.dae_types_tables.specs.Seen.{tables}
 use Rattle.dae_types_values.specs.Results.{differs_in_number}
