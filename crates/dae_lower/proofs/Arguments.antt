@@ -112,7 +112,7 @@ module _ (m n : ℕ) (s : Setup) (l : Links) (p : Program) (calls : Calls) where
 
     -- a call behind its test for room does what the program's call does, in variable v
     abbrev pub Called : Type 0
-    Called = (place : Place) (f : ℕ) (ys : List Operand) (env other : Env) (w : World) (i t v k : ℕ) → m ≤ v → k ≤ v → Agree m env other → i + (t + (length ys + 4)) ≤ 9 * w.items →
+    Called = (place : Place) (f : ℕ) (ys : List Operand) (env other : Env) (w : World) (i t v k : ℕ) → m ≤ v → k ≤ v → Agree m env other → i + (t + (length ys + 4)) + w.loads ≤ 9 * w.items →
         Alike m k nowhere (Holding (Variable v)) t other (returned env (s.calls f (all_held ys other) w))
         (run m n p calls (Do place (Expect (Room (l.callee f))) (one place (Call v (l.callee f) ys))) other (at i w))
 

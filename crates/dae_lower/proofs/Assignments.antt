@@ -111,8 +111,8 @@ module _ (m n : ℕ) (s : Setup) (l : Links) (p : Program) (calls : Calls) where
         (paid m n p calls 0 0 k (h (or later (assigned a)) k j)) (λ x e o u v. tt)
         (λ o r z.
         weaker m n p calls 9 2 o 9 2 k (or (assigned a) (assigned_target t)) (omega arith) (omega arith) (omega arith) (λ v z. z)
-        ((pair m n s l p calls) _ (value s a) (λ x y n. operated place operator x y n ≫ λ z n. narrowed place kind z n ≫ put_in place kind (spot l t (or later (assigned a)) k).given) (λ x y z env w. operates operator y z env w ⟫ λ z. write kind x.1 (extended kind z)) later 9 7 o k nowhere (assigned a) (assigned_target t) (omega arith) j r
-        (spared m n p calls 7 2 0 o (held_follows m n p calls (or later (assigned a)) o o place kind (or later (assigned a)) _ (λ x. x.1) (omega (arith, j, r)) (omega arith) (λ v e. e) (spot_among (assigned_target t) (or later (assigned a)) k o _ z) (λ x o u. u.1)))
+        ((pair m n s l p calls) _ (value s a) (λ x y n. operated place operator x y n ≫ λ z n. narrowed place kind z n ≫ put_in place kind (spot l t (or later (assigned a)) k).given) (λ x y z env w. operates operator y z env w ⟫ λ z. write kind x.1 (extended kind z)) later 9 6 o k nowhere (assigned a) (assigned_target t) (omega arith) j r
+        (spared m n p calls 6 3 0 o (held_follows m n p calls (or later (assigned a)) o o place kind (or later (assigned a)) _ (λ x. x.1) (omega (arith, j, r)) (omega arith) (λ v e. e) (spot_among (assigned_target t) (or later (assigned a)) k o _ z) (λ x o u. u.1)))
         (λ x e o' u v. (tt, standing_alone (assigned_target t) (or later (assigned a)) k o _ x.1 e o' j r z v u.1))
         i.value
         (λ g y d x c e f u v b. ((tt, still_standing (assigned_target t) (assigned a) later k g _ x.1 e f j (omega (arith, r, y)) (spot_wider (assigned_target t) (or later (assigned a)) k o g _ y z) b u.1), still m o g later (assigned a) _ e f (omega (arith, j, r)) y d b ∙ v))
@@ -123,10 +123,10 @@ module _ (m n : ℕ) (s : Setup) (l : Links) (p : Program) (calls : Calls) where
     -- what a step computes and writes, once the target is read
     pub stepping : {W : Type 0} {Was : W → Env → Type 0} (place : Place) (kind : LoadKind) (change : ℕ) (c later : VariableSet) (h k q : ℕ) (t : Spot) (b : W → Object) (y : Operand) (u : W → ℕ) → m ≤ h → h ≤ k → k ≤ q → SpotLasts c later h q t →
         ((x : W) (o : Env) → Was x o → Standing t (b x) o) → ((x : W) (o : Env) → Was x o → Holding y (u x) o) →
-        Follows m n p calls 5 0 q k c (Lasts m later h) Was Holding (advanced place kind change t y q) (λ x env w. write kind (b x) (extended kind (plus (u x) change)) env w)
+        Follows m n p calls 4 0 q k c (Lasts m later h) Was Holding (advanced place kind change t y q) (λ x env w. write kind (b x) (extended kind (plus (u x) change)) env w)
     unfolding combined
     stepping {W} {Was} place kind change c later h k q t b y u j v i f hb hy =
-        weaker m n p calls 4 0 q 5 0 k c (omega arith) (omega arith) (omega arith) (λ v z. z)
+        weaker m n p calls 4 0 q 4 0 k c (omega arith) (omega arith) (omega arith) (λ v z. z)
         (chain_to m n p calls (λ x. Standing t (b x)) (λ z q. narrowed place kind z q ≫ put_in place kind t) (λ x env w. Gives (extended kind x.1) env w ⟫ write kind (b x.0)) 4 3 0 q q k nowhere c i
         (spared m n p calls 3 1 0 q (set_follows m n p calls later q q place (Binary Add y (Number change)) (λ x env w. plus (u x) change) (omega (arith, j, v, i)) (omega arith) (λ x env o w d z. ap (λ t. plus t change) (hy x o z))))
         (λ x e o w r. standing_alone c later h q t (b x) e o j (omega (arith, v, i)) f r (hb x e w))
@@ -145,24 +145,24 @@ module _ (m n : ℕ) (s : Setup) (l : Links) (p : Program) (calls : Calls) where
         (paid m n p calls 0 0 k (h later k j)) (λ x e o u v. tt)
         (λ o r z.
         weaker m n p calls 9 2 o 9 2 k (assigned_target t) (omega arith) (omega arith) (omega arith) (λ v z. z)
-        (chain m n p calls (λ x n. advanced place kind change (spot l t later k).given x n ≫ λ y. nothing (if new then y else x)) (λ x env w. write kind x.0.1 (extended kind (plus x.1 change)) env w ⟫ λ z. Gives (if new then z else x.1)) 9 7 2 o o k nowhere (assigned_target t) r
-        (spared m n p calls 7 2 0 o (held_follows m n p calls copied o o place kind copied _ (λ x. x.1) (omega (arith, j, r)) (omega arith) (λ v e. e) (spot_among (assigned_target t) later k o _ z) (λ x o u. u.1)))
+        (chain m n p calls (λ x n. advanced place kind change (spot l t later k).given x n ≫ λ y. nothing (if new then y else x)) (λ x env w. write kind x.0.1 (extended kind (plus x.1 change)) env w ⟫ λ z. Gives (if new then z else x.1)) 9 6 2 o o k nowhere (assigned_target t) r
+        (spared m n p calls 6 3 0 o (held_follows m n p calls copied o o place kind copied _ (λ x. x.1) (omega (arith, j, r)) (omega arith) (λ v e. e) (spot_among (assigned_target t) later k o _ z) (λ x o u. u.1)))
         (λ x e o' u v. (tt, standing_alone (assigned_target t) later k o _ x.1 e o' j r z v u.1))
-        (λ g y d. weaker m n p calls 7 2 g 7 2 k (assigned_target t) (omega arith) (omega arith) (omega arith) (λ v z. (or_nowhere m n s l p calls) (assigned_target t v) z)
+        (λ g y d. weaker m n p calls 6 2 g 6 2 k (assigned_target t) (omega arith) (omega arith) (omega arith) (λ v z. (or_nowhere m n s l p calls) (assigned_target t v) z)
         (gives_one new g (held_in place kind copied (spot l t later k).given o).given o r y z d))))) where
           copied : VariableSet
           copied = if new then later else or later (assigned_target t)
 
           gives_one : (new : Bool) (g : ℕ) (y : Operand) (o : ℕ) → k ≤ o → o ≤ g → SpotLasts (assigned_target t) later k o (spot l t later k).given → Lasts m (if new then later else or later (assigned_target t)) o g y →
-              Follows m n p calls 7 2 g k (or (assigned_target t) nowhere) (Lasts m later k) (λ x o. (Unit {0} × Standing (spot l t later k).given x.0.1 o) × Holding y x.1 o) Holding (advanced place kind change (spot l t later k).given y g ≫ λ z. nothing (if new then z else y)) (λ (x : ((Start m n s l p calls) × Object) × ℕ) env w. write kind x.0.1 (extended kind (plus x.1 change)) env w ⟫ λ z. Gives (if new then z else x.1))
+              Follows m n p calls 6 2 g k (or (assigned_target t) nowhere) (Lasts m later k) (λ x o. (Unit {0} × Standing (spot l t later k).given x.0.1 o) × Holding y x.1 o) Holding (advanced place kind change (spot l t later k).given y g ≫ λ z. nothing (if new then z else y)) (λ (x : ((Start m n s l p calls) × Object) × ℕ) env w. write kind x.0.1 (extended kind (plus x.1 change)) env w ⟫ λ z. Gives (if new then z else x.1))
           gives_one true g y o r i z d =
-              chain_to m n p calls Anything (λ z. nothing z) (λ x. Gives x.1) 7 2 2 g g k (assigned_target t) nowhere (omega (arith, r, i))
-              (spared m n p calls 2 5 0 g (stepping place kind change (assigned_target t) later k g g _ (λ x. x.0.1) y (λ x. x.1) j (omega (arith, r, i)) (omega arith) (spot_wider (assigned_target t) later k o g _ i z) (λ x o u. u.0.1) (λ x o u. u.1)))
+              chain_to m n p calls Anything (λ z. nothing z) (λ x. Gives x.1) 6 2 2 g g k (assigned_target t) nowhere (omega (arith, r, i))
+              (spared m n p calls 2 4 0 g (stepping place kind change (assigned_target t) later k g g _ (λ x. x.0.1) y (λ x. x.1) j (omega (arith, r, i)) (omega arith) (spot_wider (assigned_target t) later k o g _ i z) (λ x o u. u.0.1) (λ x o u. u.1)))
               (λ x e o' u v. tt)
               (λ q v w. spared m n p calls 2 0 0 q (nothing_follows m n p calls later q k nowhere _ (λ x env. x.1) w (λ x env o d u. u.1)))
           gives_one false g y o r i z d =
-              chain_to m n p calls (λ x. Holding y x.1) (λ z. nothing y) (λ x. Gives x.0.1) 7 2 2 g g k (assigned_target t) nowhere (omega (arith, r, i))
-              (spared m n p calls 2 5 0 g (stepping place kind change (assigned_target t) later k g g _ (λ x. x.0.1) y (λ x. x.1) j (omega (arith, r, i)) (omega arith) (spot_wider (assigned_target t) later k o g _ i z) (λ x o u. u.0.1) (λ x o u. u.1)))
+              chain_to m n p calls (λ x. Holding y x.1) (λ z. nothing y) (λ x. Gives x.0.1) 6 2 2 g g k (assigned_target t) nowhere (omega (arith, r, i))
+              (spared m n p calls 2 4 0 g (stepping place kind change (assigned_target t) later k g g _ (λ x. x.0.1) y (λ x. x.1) j (omega (arith, r, i)) (omega arith) (spot_wider (assigned_target t) later k o g _ i z) (λ x o u. u.0.1) (λ x o u. u.1)))
               (λ x e o' u v. still m o g later (assigned_target t) y e o' (omega (arith, j, r)) i d v ∙ u.1)
               (λ q v w. spared m n p calls 2 0 0 q (nothing_follows m n p calls later q k nowhere y (λ x env. x.0.1) (lasts_on m later (assigned_target t) o g k q y r v d) (λ x env o d u. u.0)))
 

@@ -32,7 +32,7 @@ module _ (m n : ℕ) (p : Program) (calls : Calls) where
   pub record Follows {X Y Z : Type 0} (a b q k : ℕ) (c : VariableSet) (Lasting : ℕ → Z → Type 0) (Was : X → Env → Type 0) (Is : Z → Y → Env → Type 0) (made : Made Z) (f : X → Env → World → Outcome Y) : Type 0 where
     pub grows : q ≤ made.next
     pub lasts : Lasting made.next made.given
-    pub runs : (x : X) (env other : Env) (w : World) (i s : ℕ) → Agree m env other → Was x other → i + (s + a) ≤ 9 * w.items → Alike m k c (Is made.given) (s + b) other (f x env w) (run made.code other (at i w))
+    pub runs : (x : X) (env other : Env) (w : World) (i s : ℕ) → Agree m env other → Was x other → i + (s + a) + w.loads ≤ 9 * w.items → Alike m k c (Is made.given) (s + b) other (f x env w) (run made.code other (at i w))
 
   module _ {X Y Z : Type 0} {k : ℕ} {c : VariableSet} {Lasting : ℕ → Z → Type 0} {Was : X → Env → Type 0} {Is : Z → Y → Env → Type 0} {f : X → Env → World → Outcome Y} {made : Made Z} where
     -- one unit of work comes first

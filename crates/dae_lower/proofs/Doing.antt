@@ -22,8 +22,8 @@ everything v = true
 
 -- Both go the same way, or end alike. Of the form's variables below k, none changes but the program's of c.
 pub data Same (m k : ℕ) (c : VariableSet) (spare : ℕ) (e : Env) : Result Env → Result Env → Type 0 where
-  Goes : (way : Way) (env other : Env) (w : World) (i : ℕ) → Agree m env other → Kept m k c e other → i + spare ≤ 9 * w.items → Same m k c spare e (At way env w) (At way other (at i w))
-  Halts : (end : End) (w : World) (i : ℕ) → i ≤ 9 * w.items → Same m k c spare e (Over end w) (Over end (at i w))
+  Goes : (way : Way) (env other : Env) (w : World) (i : ℕ) → Agree m env other → Kept m k c e other → i + spare + w.loads ≤ 9 * w.items → Same m k c spare e (At way env w) (At way other (at i w))
+  Halts : (end : End) (w : World) (i : ℕ) → i + w.loads ≤ 9 * w.items → Same m k c spare e (Over end w) (Over end (at i w))
 
 pub kept_everything : (m k : ℕ) (c : VariableSet) (e o : Env) → Kept m k c e o → Kept m k everything e o
 kept_everything m k c e o h v l (inl f) = h v l (inl f)
@@ -31,12 +31,12 @@ kept_everything m k c e o h v l (inr f) = cc
 
 module _ {m k s t : ℕ} {c : VariableSet} {e : Env} where
   -- a value, and then statements
-  pub after_value : {X : Type 0} {d : VariableSet} {Is : X → Env → Type 0} {j : ℕ} (r : Outcome X) (q : Result Env) (f : X → Run Env) (g : Run Env) → Alike m j d Is s e r q → ((x : X) (env other : Env) (w : World) (i : ℕ) → Agree m env other → Kept m j d e other → Is x other → i + s ≤ 9 * w.items → Same m k c t e (f x env w) (g other (at i w))) → Same m k c t e (r ⊳ f) (q ▷ g)
+  pub after_value : {X : Type 0} {d : VariableSet} {Is : X → Env → Type 0} {j : ℕ} (r : Outcome X) (q : Result Env) (f : X → Run Env) (g : Run Env) → Alike m j d Is s e r q → ((x : X) (env other : Env) (w : World) (i : ℕ) → Agree m env other → Kept m j d e other → Is x other → i + s + w.loads ≤ 9 * w.items → Same m k c t e (f x env w) (g other (at i w))) → Same m k c t e (r ⊳ f) (q ▷ g)
   after_value r q f g (Both x env other w i a b h l) go = go x env other w i a b h l
   after_value r q f g (Stop end w i l) go = Halts end w i l
 
   -- statements, and then others
-  pub after_statements : (r q : Result Env) (f g : Run Env) → t ≤ s → Same m k c s e r q → ((env other : Env) (w : World) (i : ℕ) → Agree m env other → Kept m k c e other → i + s ≤ 9 * w.items → Same m k c t e (f env w) (g other (at i w))) → Same m k c t e (r ▷ f) (q ▷ g)
+  pub after_statements : (r q : Result Env) (f g : Run Env) → t ≤ s → Same m k c s e r q → ((env other : Env) (w : World) (i : ℕ) → Agree m env other → Kept m k c e other → i + s + w.loads ≤ 9 * w.items → Same m k c t e (f env w) (g other (at i w))) → Same m k c t e (r ▷ f) (q ▷ g)
   after_statements r q f g d (Goes Next env other w i a b l) go = go env other w i a b l
   after_statements r q f g d (Goes Leaves env other w i a b l) go = Goes Leaves env other w i a b (omega (arith, d, l))
   after_statements r q f g d (Goes Skips env other w i a b l) go = Goes Skips env other w i a b (omega (arith, d, l))
@@ -44,7 +44,7 @@ module _ {m k s t : ℕ} {c : VariableSet} {e : Env} where
   after_statements r q f g d (Halts end w i l) go = Halts end w i l
 
   -- a body, and then what follows in the loop
-  pub after_body : (r q : Result Env) (f g : Run Env) → t ≤ s → Same m k c s e r q → ((env other : Env) (w : World) (i : ℕ) → Agree m env other → Kept m k c e other → i + s ≤ 9 * w.items → Same m k c t e (f env w) (g other (at i w))) → Same m k c t e (r ↻ f) (q ↻ g)
+  pub after_body : (r q : Result Env) (f g : Run Env) → t ≤ s → Same m k c s e r q → ((env other : Env) (w : World) (i : ℕ) → Agree m env other → Kept m k c e other → i + s + w.loads ≤ 9 * w.items → Same m k c t e (f env w) (g other (at i w))) → Same m k c t e (r ↻ f) (q ↻ g)
   after_body r q f g d (Goes Next env other w i a b l) go = go env other w i a b l
   after_body r q f g d (Goes Leaves env other w i a b l) go = Goes Next env other w i a b (omega (arith, d, l))
   after_body r q f g d (Goes Skips env other w i a b l) go = go env other w i a b l
@@ -59,7 +59,7 @@ same_from m k j c s t e f l d h r q (Halts end w i o) = Halts end w i o
 module _ (m n : ℕ) (p : Program) (calls : Calls) where
   -- two runs do the same, at a cost of a, of which b is left
   abbrev pub DoSame : ℕ → ℕ → ℕ → Run Env → Run Env → Type 0
-  DoSame a b k r q = (env other : Env) (w : World) (i s : ℕ) → Agree m env other → i + (s + a) ≤ 9 * w.items → Same m k everything (s + b) other (r env w) (q other (at i w))
+  DoSame a b k r q = (env other : Env) (w : World) (i s : ℕ) → Agree m env other → i + (s + a) + w.loads ≤ 9 * w.items → Same m k everything (s + b) other (r env w) (q other (at i w))
 
   pub record Does (a b q k : ℕ) (made : Made (Unit {0})) (r : Run Env) : Type 0 where
     pub grows : q ≤ made.next
@@ -93,7 +93,7 @@ module _ (m n : ℕ) (p : Program) (calls : Calls) where
     second = go made.next h.grows
 
   -- a value, and then statements that know it
-  pub value_does : {Y Z : Type 0} {c : VariableSet} {Lasting : ℕ → Z → Type 0} {Is : Z → Y → Env → Type 0} {made : Made Z} (a b t q k j : ℕ) (next : Z → ℕ → Made (Unit {0})) (g : Env → World → Outcome Y) (f : Y → Run Env) → j ≤ k → Follows m n p calls a b q k c Lasting (Anything {X = Unit {0}}) Is made (λ x. g) → ((o : ℕ) → q ≤ o → Lasting o made.given → (o ≤ (next made.given o).next) × ((y : Y) (env other : Env) (w : World) (i s : ℕ) → Agree m env other → Is made.given y other → i + (s + b) ≤ 9 * w.items → Same m j everything (s + t) other (f y env w) (run m n p calls (next made.given o).code other (at i w)))) → Does a t q j (made ≫ next) (λ env w. g env w ⊳ f)
+  pub value_does : {Y Z : Type 0} {c : VariableSet} {Lasting : ℕ → Z → Type 0} {Is : Z → Y → Env → Type 0} {made : Made Z} (a b t q k j : ℕ) (next : Z → ℕ → Made (Unit {0})) (g : Env → World → Outcome Y) (f : Y → Run Env) → j ≤ k → Follows m n p calls a b q k c Lasting (Anything {X = Unit {0}}) Is made (λ x. g) → ((o : ℕ) → q ≤ o → Lasting o made.given → (o ≤ (next made.given o).next) × ((y : Y) (env other : Env) (w : World) (i s : ℕ) → Agree m env other → Is made.given y other → i + (s + b) + w.loads ≤ 9 * w.items → Same m j everything (s + t) other (f y env w) (run m n p calls (next made.given o).code other (at i w)))) → Does a t q j (made ≫ next) (λ env w. g env w ⊳ f)
   value_does {Y} {Z} {c} {Lasting} {Is} {made} a b t q k j next g f l h go = record {
     grows = omega (arith, h.grows, (go made.next h.grows h.lasts).0);
     runs = λ env other w i s d o.

@@ -80,11 +80,11 @@ module _ (n : ℕ) (p : Program) (calls : Calls) where
   closed_leaves (Loop place a b k) h e w = then_not_next _ _ (closed_leaves k h)
 
   -- parameters are stored
-  parameters_do : (m : ℕ) (place : Place) (slots : List (Option Slot)) (k q : ℕ) → k + length slots ≤ m → m ≤ q → (q ≤ (parameters_stored place slots k q).next) × ((env other : Env) (w : World) (i t : ℕ) → Agree m env other → i + t ≤ 9 * w.items → Same m m everything t other (kept slots k env w) (run m n p calls (parameters_stored place slots k q).code other (at i w)))
+  parameters_do : (m : ℕ) (place : Place) (slots : List (Option Slot)) (k q : ℕ) → k + length slots ≤ m → m ≤ q → (q ≤ (parameters_stored place slots k q).next) × ((env other : Env) (w : World) (i t : ℕ) → Agree m env other → i + t + w.loads ≤ 9 * w.items → Same m m everything t other (kept slots k env w) (run m n p calls (parameters_stored place slots k q).code other (at i w)))
   parameters_do m place [] k q h j = (omega arith, λ env other w i t g o. Goes Next env other w i g (λ v z x. refl) o)
   parameters_do m place (None ∷ slots) k q h j = parameters_do m place slots (k + 1) q (omega (arith, h)) j
   parameters_do m place (Some slot ∷ slots) k q h j = by (parameters_do m place slots (k + 1) (q + 1) (omega (arith, h)) (omega (arith, j))) where
-    by : (q + 1 ≤ (parameters_stored place slots (k + 1) (q + 1)).next) × ((env other : Env) (w : World) (i t : ℕ) → Agree m env other → i + t ≤ 9 * w.items → Same m m everything t other (kept slots (k + 1) env w) (run m n p calls (parameters_stored place slots (k + 1) (q + 1)).code other (at i w))) → (q ≤ (parameters_stored place (Some slot ∷ slots) k q).next) × ((env other : Env) (w : World) (i t : ℕ) → Agree m env other → i + t ≤ 9 * w.items → Same m m everything t other (kept (Some slot ∷ slots) k env w) (run m n p calls (parameters_stored place (Some slot ∷ slots) k q).code other (at i w)))
+    by : (q + 1 ≤ (parameters_stored place slots (k + 1) (q + 1)).next) × ((env other : Env) (w : World) (i t : ℕ) → Agree m env other → i + t + w.loads ≤ 9 * w.items → Same m m everything t other (kept slots (k + 1) env w) (run m n p calls (parameters_stored place slots (k + 1) (q + 1)).code other (at i w))) → (q ≤ (parameters_stored place (Some slot ∷ slots) k q).next) × ((env other : Env) (w : World) (i t : ℕ) → Agree m env other → i + t + w.loads ≤ 9 * w.items → Same m m everything t other (kept (Some slot ∷ slots) k env w) (run m n p calls (parameters_stored place (Some slot ∷ slots) k q).code other (at i w)))
     by rest = (
       omega (arith, rest.0),
       λ env other w i t g o.
@@ -93,14 +93,14 @@ module _ (n : ℕ) (p : Program) (calls : Calls) where
           (subst (λ (x : ℕ). Same m m everything t other (store slot.width (other1 q) x env (ticked w) ▷ kept slots (k + 1)) (run m n p calls (parameters_stored place (Some slot ∷ slots) k q).code other (at i w))) (put_other q (plus w.frame slot.offset) k other (λ e. omega (arith, e, h, j)) ∙ g k (omega (arith, h)))
           (stored rest env other other1 w i t (agree_put m n p calls nowhere q (plus w.frame slot.offset) env other j g) (λ v z x. put_other q (plus w.frame slot.offset) v other (λ e. omega (arith, e, z, j))) o (misplaced slot.width (other1 q) (length w.memory)))),
     ) where
-      stored : (q + 1 ≤ (parameters_stored place slots (k + 1) (q + 1)).next) × ((env other : Env) (w : World) (i t : ℕ) → Agree m env other → i + t ≤ 9 * w.items → Same m m everything t other (kept slots (k + 1) env w) (run m n p calls (parameters_stored place slots (k + 1) (q + 1)).code other (at i w))) → (env other other1 : Env) (w : World) (i t : ℕ) → Agree m env other1 → Kept m m everything other other1 → i + t ≤ 9 * w.items → (f : Option ℕ) → Same m m everything t other (within f (ticked w) (At Next env (with_written slot.width (other1 q) (other1 k) (ticked w))) ▷ kept slots (k + 1)) (within f (at (i + 1) w) (At Next other1 (at (i + 1 + 1) (with_written slot.width (other1 q) (other1 k) (ticked w)))) ▷ run m n p calls (parameters_stored place slots (k + 1) (q + 1)).code)
+      stored : (q + 1 ≤ (parameters_stored place slots (k + 1) (q + 1)).next) × ((env other : Env) (w : World) (i t : ℕ) → Agree m env other → i + t + w.loads ≤ 9 * w.items → Same m m everything t other (kept slots (k + 1) env w) (run m n p calls (parameters_stored place slots (k + 1) (q + 1)).code other (at i w))) → (env other other1 : Env) (w : World) (i t : ℕ) → Agree m env other1 → Kept m m everything other other1 → i + t + w.loads ≤ 9 * w.items → (f : Option ℕ) → Same m m everything t other (within f (ticked w) (At Next env (with_written slot.width (other1 q) (other1 k) (ticked w))) ▷ kept slots (k + 1)) (within f (at (i + 1) w) (At Next other1 (at (i + 1 + 1) (with_written slot.width (other1 q) (other1 k) (ticked w)))) ▷ run m n p calls (parameters_stored place slots (k + 1) (q + 1)).code)
       stored rest env other other1 w i t g c o None = same_from m m m everything t t other other1 (omega arith) (omega arith) c _ _ (rest.1 env other1 (with_written slot.width (other1 q) (other1 k) (ticked w)) (i + 1 + 1) t g (omega (arith, o)))
       stored rest env other other1 w i t g c o (Some code) = Halts Astray (ticked w) (i + 1) (omega (arith, o))
 
 -- a call has come back alike, or both end alike
 data BackSame (t : ℕ) (old : World) : Outcome ℕ → Result Env → Type 0 where
-  Returned : (x : ℕ) (env other : Env) (way : Way) (u : World) (j : ℕ) → other 0 ≡ x → j + t ≤ 9 * u.items → BackSame t old (Gives x env (back old u)) (At way other (at j u))
-  Ended : (end : End) (u : World) (j : ℕ) → j ≤ 9 * u.items → BackSame t old (Ends end u) (Over end (at j u))
+  Returned : (x : ℕ) (env other : Env) (way : Way) (u : World) (j : ℕ) → other 0 ≡ x → j + t + u.loads ≤ 9 * u.items → BackSame t old (Gives x env (back old u)) (At way other (at j u))
+  Ended : (end : End) (u : World) (j : ℕ) → j + u.loads ≤ 9 * u.items → BackSame t old (Ends end u) (Over end (at j u))
 
 module _ (m n : ℕ) (p : Program) (calls : Calls) (some : 0 < m) where
   -- where the code goes elsewhere by itself
@@ -145,7 +145,7 @@ module _ (n : ℕ) (source : tree.Program) (place : ℕ → Place) (variables : 
   links_of f = let g = source.function f in record { address = g.address; callee = g.callee }
 
   abbrev CallsSame : ℕ → Type 0
-  CallsSame depth = (f : ℕ) (xs : List ℕ) (w : World) (i t : ℕ) → nat_eq f main ≡ false → i + (t + 1) ≤ 9 * w.items → no_room source (source.function f) w ≡ None → BackSame t w (program_calls source false n depth f xs w) (calls_of form all_loads n depth f xs (at i w))
+  CallsSame depth = (f : ℕ) (xs : List ℕ) (w : World) (i t : ℕ) → nat_eq f main ≡ false → i + (t + 1) + w.loads ≤ 9 * w.items → no_room source (source.function f) w ≡ None → BackSame t w (program_calls source false n depth f xs w) (calls_of form all_loads n depth f xs (at i w))
 
   abbrev callee_of : ℕ → ℕ → ℕ
   callee_of f g = let h = source.function f in h.callee g
@@ -202,12 +202,12 @@ module _ (n : ℕ) (source : tree.Program) (place : ℕ → Place) (variables : 
       (body_of f) (scoped.statements f) q h
 
   -- a function's body, on the world that its caller leaves it
-  core_same : (depth f : ℕ) → CallsSame depth → (xs : List ℕ) (w : World) (i t : ℕ) → i + t ≤ 9 * w.items → Same (variables f) (variables f) everything t (entry xs) (kept (slots_of f) 1 (entry xs) w ▷ does (setup_of depth f) false n (body_of f)) (run (variables f) n form (calls_of form all_loads n depth) (core_of f) (entry xs) (at i w))
+  core_same : (depth f : ℕ) → CallsSame depth → (xs : List ℕ) (w : World) (i t : ℕ) → i + t + w.loads ≤ 9 * w.items → Same (variables f) (variables f) everything t (entry xs) (kept (slots_of f) 1 (entry xs) w ▷ does (setup_of depth f) false n (body_of f)) (run (variables f) n form (calls_of form all_loads n depth) (core_of f) (entry xs) (at i w))
   core_same depth f same xs w i t o = by (parameters_do n form (calls_of form all_loads n depth) (variables f) (place f) (slots_of f) 1 (variables f) (scoped.parameters f) (omega arith)) where
     stored : Made (Unit {0})
     stored = parameters_stored (place f) (slots_of f) 1 (variables f)
 
-    by : (variables f ≤ (parameters_stored (place f) (slots_of f) 1 (variables f)).next) × ((env other : Env) (w : World) (i t : ℕ) → Agree (variables f) env other → i + t ≤ 9 * w.items → Same (variables f) (variables f) everything t other (kept (slots_of f) 1 env w) (run (variables f) n form (calls_of form all_loads n depth) (parameters_stored (place f) (slots_of f) 1 (variables f)).code other (at i w))) → Same (variables f) (variables f) everything t (entry xs) (kept (slots_of f) 1 (entry xs) w ▷ does (setup_of depth f) false n (body_of f)) (run (variables f) n form (calls_of form all_loads n depth) (core_of f) (entry xs) (at i w))
+    by : (variables f ≤ (parameters_stored (place f) (slots_of f) 1 (variables f)).next) × ((env other : Env) (w : World) (i t : ℕ) → Agree (variables f) env other → i + t + w.loads ≤ 9 * w.items → Same (variables f) (variables f) everything t other (kept (slots_of f) 1 env w) (run (variables f) n form (calls_of form all_loads n depth) (parameters_stored (place f) (slots_of f) 1 (variables f)).code other (at i w))) → Same (variables f) (variables f) everything t (entry xs) (kept (slots_of f) 1 (entry xs) w ▷ does (setup_of depth f) false n (body_of f)) (run (variables f) n form (calls_of form all_loads n depth) (core_of f) (entry xs) (at i w))
     by h =
         subst (λ (u : Result Env). Same (variables f) (variables f) everything t (entry xs) (kept (slots_of f) 1 (entry xs) w ▷ does (setup_of depth f) false n (body_of f)) u) (sym (exec_then (meaning form (λ v. true) (calls_of form all_loads n depth)) n (parameters_stored (place f) (slots_of f) 1 (variables f)).code (statements (links_of f) (body_of f) (parameters_stored (place f) (slots_of f) 1 (variables f)).next).code (entry xs) (at i w)))
         (after_statements (kept (slots_of f) 1 (entry xs) w) _ (does (setup_of depth f) false n (body_of f)) _ (omega arith) (h.1 (entry xs) (entry xs) w i t (λ v l. refl) o)
@@ -248,8 +248,8 @@ module _ (n : ℕ) (source : tree.Program) (place : ℕ → Place) (variables : 
     by false g = subst (λ (q : Result Env). IsKept (came_back old r) q) (sym (exec_then (meaning form (λ v. true) calls) n core (one pl (Halt (Number 0))) other u)) (open' r _ h)
 
   -- the form of a program ends as the program does, with the same output, memory, reads and writes
-  pub program_same : (depth : ℕ) (w : World) → source.limit ≡ suc depth → w.depth ≡ 0 → w.top ≤ length w.memory → 1 ≤ w.items → IsKept (program_calls source false n (suc depth) main [] w) (calls_of form all_loads n (suc depth) main [] (at 0 w))
-  program_same depth w limit none fits items =
+  pub program_same : (depth : ℕ) (w : World) → source.limit ≡ suc depth → w.depth ≡ 0 → w.top ≤ length w.memory → 1 ≤ w.items → w.loads ≡ 0 → IsKept (program_calls source false n (suc depth) main [] w) (calls_of form all_loads n (suc depth) main [] (at 0 w))
+  program_same depth w limit none fits items unread =
       subst (λ (b : Bool). IsKept (program_calls source false n (suc depth) main [] w) (exec (meaning form (λ v. true) (calls_of form all_loads n depth)) n (function_code (place main) b (source.function main) (variables main)) (entry []) (deeper form main (at 0 w)))) (sym is_main)
       (subst (λ (b : Bool). IsKept (unless (passed (b || nat_lt (length w.memory) (w.top + frame_of main))) (came_back w (kept (slots_of main) 1 (entry []) (entered_world (source.function main) w) ▷ does (setup_of depth main) false n (body_of main))) w) (exec (meaning form (λ v. true) (calls_of form all_loads n depth)) n (function_code (place main) true (source.function main) (variables main)) (entry []) (deeper form main (at 0 w)))) (sym deep)
       (by (nat_eq (frame_of main) 0) (nat_lt (length w.memory) (w.top + frame_of main)) refl refl)) where
@@ -265,11 +265,11 @@ module _ (n : ℕ) (source : tree.Program) (place : ℕ → Place) (variables : 
           by true e = absurd (grind (arith, nat_tests, limit, none))
           by false e = refl
 
-        inside : (j : ℕ) → j + 1 ≤ 9 * w.items → IsKept (came_back w (kept (slots_of main) 1 (entry []) (entered_world (source.function main) w) ▷ does (setup_of depth main) false n (body_of main))) (exec (meaning form (λ v. true) (calls_of form all_loads n depth)) n (closed (place main) (Halt (Number 0)) (core_of main)) (entry []) (at j (entered_world (source.function main) w)))
+        inside : (j : ℕ) → j + 1 + w.loads ≤ 9 * w.items → IsKept (came_back w (kept (slots_of main) 1 (entry []) (entered_world (source.function main) w) ▷ does (setup_of depth main) false n (body_of main))) (exec (meaning form (λ v. true) (calls_of form all_loads n depth)) n (closed (place main) (Halt (Number 0)) (core_of main)) (entry []) (at j (entered_world (source.function main) w)))
         inside j h = finish_main (variables main) (variables main) (calls_of form all_loads n depth) (some_of main) (place main) w (entry []) (entry []) (at j (entered_world (source.function main) w)) (kept (slots_of main) 1 (entry []) (entered_world (source.function main) w) ▷ does (setup_of depth main) false n (body_of main)) (core_of main) (core_same depth main (calls_same depth) [] (entered_world (source.function main) w) j 1 h)
 
         by : (b c : Bool) → nat_eq (frame_of main) 0 ≡ b → nat_lt (length w.memory) (w.top + frame_of main) ≡ c → IsKept (unless (passed c) (came_back w (kept (slots_of main) 1 (entry []) (entered_world (source.function main) w) ▷ does (setup_of depth main) false n (body_of main))) w) (exec (meaning form (λ v. true) (calls_of form all_loads n depth)) n (checks (true && not b) (place main) (Expect Frame) (closed (place main) (Halt (Number 0)) (core_of main))) (entry []) (deeper form main (at 0 w)))
         by true true e f = absurd (grind (arith, nat_tests, e, f, fits))
-        by true false e f = inside 0 (omega (arith, items))
-        by false true e f = subst (λ (b : Bool). IsKept (Ends (Trapped 4) w) (checked {E = Env} (passed b) (entry []) (ticked (deeper form main (at 0 w))) ▷ exec (meaning form (λ v. true) (calls_of form all_loads n depth)) n (closed (place main) (Halt (Number 0)) (core_of main)))) (sym f) (record { end = refl; memory = refl; printed = refl; loads = refl; stores = refl; items = omega (arith, items) })
-        by false false e f = subst (λ (b : Bool). IsKept (came_back w (kept (slots_of main) 1 (entry []) (entered_world (source.function main) w) ▷ does (setup_of depth main) false n (body_of main))) (checked {E = Env} (passed b) (entry []) (ticked (deeper form main (at 0 w))) ▷ exec (meaning form (λ v. true) (calls_of form all_loads n depth)) n (closed (place main) (Halt (Number 0)) (core_of main)))) (sym f) (inside 1 (omega (arith, items)))
+        by true false e f = inside 0 (omega (arith, items, unread))
+        by false true e f = subst (λ (b : Bool). IsKept (Ends (Trapped 4) w) (checked {E = Env} (passed b) (entry []) (ticked (deeper form main (at 0 w))) ▷ exec (meaning form (λ v. true) (calls_of form all_loads n depth)) n (closed (place main) (Halt (Number 0)) (core_of main)))) (sym f) (record { end = refl; memory = refl; printed = refl; loads = refl; stores = refl; items = omega (arith, items, unread) })
+        by false false e f = subst (λ (b : Bool). IsKept (came_back w (kept (slots_of main) 1 (entry []) (entered_world (source.function main) w) ▷ does (setup_of depth main) false n (body_of main))) (checked {E = Env} (passed b) (entry []) (ticked (deeper form main (at 0 w))) ▷ exec (meaning form (λ v. true) (calls_of form all_loads n depth)) n (closed (place main) (Halt (Number 0)) (core_of main)))) (sym f) (inside 1 (omega (arith, items, unread)))

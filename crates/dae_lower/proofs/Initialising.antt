@@ -54,7 +54,7 @@ module _ (m n : ℕ) (p : Program) (calls : Calls) where
   abbrev turns_of : Place → ℕ → ℕ → ℕ → Run Env
   turns_of place size q count = turns (run m n p calls (body place size q)) (run m n p calls (step place q)) count
 
-  zero_turns : (place : Place) (size q : ℕ) → m ≤ q → size < 4294967296 → (c count : ℕ) → c < count → (env other : Env) (w : World) (i t : ℕ) → other (q + 1) + c ≡ size → Agree m env other → i + (t + 3) ≤ 9 * w.items → Same m q nowhere t other (cleared c (plus (other (q + 2)) (other (q + 1))) env w) (turns_of place size q count other (at i w))
+  zero_turns : (place : Place) (size q : ℕ) → m ≤ q → size < 4294967296 → (c count : ℕ) → c < count → (env other : Env) (w : World) (i t : ℕ) → other (q + 1) + c ≡ size → Agree m env other → i + (t + 3) + w.loads ≤ 9 * w.items → Same m q nowhere t other (cleared c (plus (other (q + 2)) (other (q + 1))) env w) (turns_of place size q count other (at i w))
   unfolding compared combined
   zero_turns place size q mq small c zero l env other w i t e a o = absurd (omega (arith, l))
   zero_turns place size q mq small zero (suc count) l env other w i t e a o =
@@ -107,7 +107,7 @@ module _ (m n : ℕ) (s : Setup) (l : Links) (p : Program) (calls : Calls) (plac
         y : Operand
         y = ((ways l item.value).value nowhere q).given
 
-        by : (o : ℕ) → q ≤ o → Lasts m nowhere q o ((ways l item.value).value nowhere q).given → Does m n p calls 0 0 o v (settings l place v items o) (settled s items) → (o ≤ (emit (Do place (Assign v (FrameAddress item.offset)) (one place (Store item.width (Variable v) ((ways l item.value).value nowhere q).given))) o ≫ λ x. settings l place v items).next) × ((x : ℕ) (env other : Env) (w : World) (i t : ℕ) → Agree m env other → held ((ways l item.value).value nowhere q).given other ≡ x → i + (t + 2) ≤ 9 * w.items → Same m v everything (t + 0) other (store item.width (plus w.frame item.offset) x env w ▷ settled s items) (run m n p calls (emit (Do place (Assign v (FrameAddress item.offset)) (one place (Store item.width (Variable v) ((ways l item.value).value nowhere q).given))) o ≫ λ x. settings l place v items).code other (at i w)))
+        by : (o : ℕ) → q ≤ o → Lasts m nowhere q o ((ways l item.value).value nowhere q).given → Does m n p calls 0 0 o v (settings l place v items o) (settled s items) → (o ≤ (emit (Do place (Assign v (FrameAddress item.offset)) (one place (Store item.width (Variable v) ((ways l item.value).value nowhere q).given))) o ≫ λ x. settings l place v items).next) × ((x : ℕ) (env other : Env) (w : World) (i t : ℕ) → Agree m env other → held ((ways l item.value).value nowhere q).given other ≡ x → i + (t + 2) + w.loads ≤ 9 * w.items → Same m v everything (t + 0) other (store item.width (plus w.frame item.offset) x env w ▷ settled s items) (run m n p calls (emit (Do place (Assign v (FrameAddress item.offset)) (one place (Store item.width (Variable v) ((ways l item.value).value nowhere q).given))) o ≫ λ x. settings l place v items).code other (at i w)))
         by o r z rest = (
           rest.grows,
           λ x env other w i t a u d.
@@ -117,7 +117,7 @@ module _ (m n : ℕ) (s : Setup) (l : Links) (p : Program) (calls : Calls) (plac
               (subst (λ (k : ℕ). Same m v everything (t + 0) other (store item.width (other1 v) k env w ▷ settled s items) (within (misplaced item.width (other1 v) (length w.memory)) (at (i + 1) w) (At Next other1 (at (i + 1 + 1) (with_written item.width (other1 v) (held y1 other1) w))) ▷ run m n p calls (settings l place v items o).code)) (unchanged y1 o z other (plus w.frame item.offset) ∙ u)
               (stored y1 rest env other other1 w i t (agree_put m n p calls nowhere v (plus w.frame item.offset) env other mv a) (kept_everything m v nowhere other other1 (kept_put m n p calls nowhere v v (plus w.frame item.offset) other (omega arith))) d (misplaced item.width (other1 v) (length w.memory)))),
         ) where
-          stored : (y1 : Operand) → Does m n p calls 0 0 o v (settings l place v items o) (settled s items) → (env other other1 : Env) (w : World) (i t : ℕ) → Agree m env other1 → Kept m v everything other other1 → i + (t + 2) ≤ 9 * w.items → (f : Option ℕ) → Same m v everything (t + 0) other (within f w (At Next env (with_written item.width (other1 v) (held y1 other1) w)) ▷ settled s items) (within f (at (i + 1) w) (At Next other1 (at (i + 1 + 1) (with_written item.width (other1 v) (held y1 other1) w))) ▷ run m n p calls (settings l place v items o).code)
+          stored : (y1 : Operand) → Does m n p calls 0 0 o v (settings l place v items o) (settled s items) → (env other other1 : Env) (w : World) (i t : ℕ) → Agree m env other1 → Kept m v everything other other1 → i + (t + 2) + w.loads ≤ 9 * w.items → (f : Option ℕ) → Same m v everything (t + 0) other (within f w (At Next env (with_written item.width (other1 v) (held y1 other1) w)) ▷ settled s items) (within f (at (i + 1) w) (At Next other1 (at (i + 1 + 1) (with_written item.width (other1 v) (held y1 other1) w))) ▷ run m n p calls (settings l place v items o).code)
           stored y1 rest env other other1 w i t a k d None = same_from m v v everything (t + 0) (t + 0) other other1 (omega arith) (omega arith) k _ _ (rest.runs env other1 (with_written item.width (other1 v) (held y1 other1) w) (i + 1 + 1) t a (omega (arith, d)))
           stored y1 rest env other other1 w i t a k d (Some code) = Halts Astray w (i + 1) (omega (arith, d))
 

@@ -75,7 +75,7 @@ module _ (m n : ℕ) (p : Program) (calls : Calls) (later : VariableSet) where
 
   -- ---- memory
 
-  loads_alike : (q k : ℕ) (place : Place) (kind : LoadKind) (y : Operand) (env other : Env) (w : World) (i s : ℕ) → m ≤ q → k ≤ q → Agree m env other → i + (s + 2) ≤ 9 * w.items → (b : Bool) → Alike m k nowhere (Holding (Variable q)) s other (read kind (AtPlace b (held y other)) env w) (runs_to (checks b place (Expect (Good (width_of kind) y)) (one place (Load q kind y))) other (at i w))
+  loads_alike : (q k : ℕ) (place : Place) (kind : LoadKind) (y : Operand) (env other : Env) (w : World) (i s : ℕ) → m ≤ q → k ≤ q → Agree m env other → i + (s + 3) + w.loads ≤ 9 * w.items → (b : Bool) → Alike m k nowhere (Holding (Variable q)) s other (read kind (AtPlace b (held y other)) env w) (runs_to (checks b place (Expect (Good (width_of kind) y)) (one place (Load q kind y))) other (at i w))
   loads_alike q k place kind y env other w i s l j a o false = by (misplaced (width_of kind) (held y other) (length w.memory)) where
     by : (f : Option ℕ) → Alike m k nowhere (Holding (Variable q)) s other (access false f (Gives (loaded kind (held y other) w.memory) env (with_read w)) w) (within f (at i w) (At Next (put true q (loaded kind (held y other) w.memory) other) (at (i + 1) (with_read w))) ▷ runs_to Done)
     by None = Both (loaded kind (held y other) w.memory) env (put true q (loaded kind (held y other) w.memory) other) (with_read w) (i + 1) (agree_put q _ env other l a) (kept_put q k _ other j) (put_same q _ other) (omega (arith, o))
@@ -87,7 +87,7 @@ module _ (m n : ℕ) (p : Program) (calls : Calls) (later : VariableSet) where
         (Both (loaded kind (held y other) w.memory) env (put true q (loaded kind (held y other) w.memory) other) (with_read w) (i + 1 + 1) (agree_put q _ env other l a) (kept_put q k _ other j) (put_same q _ other) (omega (arith, o)))
     by (Some code) e = Stop (Trapped code) w (i + 1) (omega (arith, o))
 
-  stores_alike : (q k : ℕ) (c : VariableSet) (place : Place) (kind : LoadKind) (y z : Operand) (env other : Env) (w : World) (i s : ℕ) → Agree m env other → i + (s + 2) ≤ 9 * w.items → (b : Bool) → Alike m k c (Holding z) s other (write kind (AtPlace b (held y other)) (held z other) env w) (runs_to (checks b place (Expect (Good (width_of kind) y)) (one place (Store (width_of kind) y z))) other (at i w))
+  stores_alike : (q k : ℕ) (c : VariableSet) (place : Place) (kind : LoadKind) (y z : Operand) (env other : Env) (w : World) (i s : ℕ) → Agree m env other → i + (s + 2) + w.loads ≤ 9 * w.items → (b : Bool) → Alike m k c (Holding z) s other (write kind (AtPlace b (held y other)) (held z other) env w) (runs_to (checks b place (Expect (Good (width_of kind) y)) (one place (Store (width_of kind) y z))) other (at i w))
   stores_alike q k c place kind y z env other w i s a o false = by (misplaced (width_of kind) (held y other) (length w.memory)) where
     by : (f : Option ℕ) → Alike m k c (Holding z) s other (access false f (Gives (held z other) env (with_written (width_of kind) (held y other) (held z other) w)) w) (within f (at i w) (At Next other (at (i + 1) (with_written (width_of kind) (held y other) (held z other) w))) ▷ runs_to Done)
     by None = Both (held z other) env other (with_written (width_of kind) (held y other) (held z other) w) (i + 1) a (kept_all m k c other) refl (omega (arith, o))
@@ -101,9 +101,9 @@ module _ (m n : ℕ) (p : Program) (calls : Calls) (later : VariableSet) where
 
   -- ---- division
 
-  operates_alike : (q k : ℕ) (place : Place) (operator : Operator) (x : Operand) (env other : Env) (w : World) (i s : ℕ) → m ≤ q → k ≤ q → Agree m env other → i + (s + 2) ≤ 9 * w.items → (d : Bool) (y : Operand) → Alike m k nowhere (Holding (Variable q)) s other (if d && nat_eq (held y other) 0 then Ends (Trapped 1) w else Gives (combined operator (held x other) (held y other)) env w) (runs_to (checks (d && may_be_zero y) place (Expect (Zero y)) (one place (Assign q (Binary operator x y)))) other (at i w))
+  operates_alike : (q k : ℕ) (place : Place) (operator : Operator) (x : Operand) (env other : Env) (w : World) (i s : ℕ) → m ≤ q → k ≤ q → Agree m env other → i + (s + 2) + w.loads ≤ 9 * w.items → (d : Bool) (y : Operand) → Alike m k nowhere (Holding (Variable q)) s other (if d && nat_eq (held y other) 0 then Ends (Trapped 1) w else Gives (combined operator (held x other) (held y other)) env w) (runs_to (checks (d && may_be_zero y) place (Expect (Zero y)) (one place (Assign q (Binary operator x y)))) other (at i w))
   operates_alike q k place operator x env other w i s l j a o d y = by d y where
-    made : (i : ℕ) (y : Operand) → i + (s + 1) ≤ 9 * w.items → Alike m k nowhere (Holding (Variable q)) s other (Gives (combined operator (held x other) (held y other)) env w) (runs_to (one place (Assign q (Binary operator x y))) other (at i w))
+    made : (i : ℕ) (y : Operand) → i + (s + 1) + w.loads ≤ 9 * w.items → Alike m k nowhere (Holding (Variable q)) s other (Gives (combined operator (held x other) (held y other)) env w) (runs_to (one place (Assign q (Binary operator x y))) other (at i w))
     made i y o = Both (combined operator (held x other) (held y other)) env (put true q (combined operator (held x other) (held y other)) other) w (i + 1) (agree_put q _ env other l a) (kept_put q k _ other j) (put_same q _ other) (omega (arith, o))
 
     tested : (y : Operand) (b : Bool) → Alike m k nowhere (Holding (Variable q)) s other (if b then Ends (Trapped 1) w else Gives (combined operator (held x other) (held y other)) env w) (checked (if b then Some 1 else None) other (ticked (at i w)) ▷ runs_to (one place (Assign q (Binary operator x y))))
@@ -122,7 +122,7 @@ module _ (m n : ℕ) (p : Program) (calls : Calls) (later : VariableSet) where
   -- ---- the same as steps
 
   module _ {X : Type 0} {Was : X → Env → Type 0} where
-    pub fetched_follows : (q k : ℕ) (place : Place) (kind : LoadKind) (b : Bool) (y : Operand) (g : X → ℕ) → m ≤ q → k ≤ q → ((x : X) (o : Env) → Was x o → held y o ≡ g x) → Follows m n p calls 2 0 q k nowhere (Lasts m later k) Was Holding (fetched place kind b y q) (λ x. read kind (AtPlace b (g x)))
+    pub fetched_follows : (q k : ℕ) (place : Place) (kind : LoadKind) (b : Bool) (y : Operand) (g : X → ℕ) → m ≤ q → k ≤ q → ((x : X) (o : Env) → Was x o → held y o ≡ g x) → Follows m n p calls 3 0 q k nowhere (Lasts m later k) Was Holding (fetched place kind b y q) (λ x. read kind (AtPlace b (g x)))
     fetched_follows q k place kind b y g l j h = record {
       grows = omega arith;
       lasts = inl (j, omega arith);
@@ -167,7 +167,7 @@ module _ (m n : ℕ) (p : Program) (calls : Calls) (later : VariableSet) where
     by (inl g) e = omega (arith, g, l, e)
     by (inr g) e = let b : c v ≡ false = subst (λ (z : ℕ). c z ≡ false) e g in cc
 
-  puts_alike : (k : ℕ) (c : VariableSet) (place : Place) (kind : LoadKind) (z : Operand) (env other : Env) (w : World) (i s : ℕ) → Agree m env other → i + (s + 2) ≤ 9 * w.items → (t : Spot) (b : Object) → SpotIn c t → Standing t b other → (q : ℕ) → Alike m k c (Holding z) s other (write kind b (held z other) env w) (runs_to (put_in place kind t z q).code other (at i w))
+  puts_alike : (k : ℕ) (c : VariableSet) (place : Place) (kind : LoadKind) (z : Operand) (env other : Env) (w : World) (i s : ℕ) → Agree m env other → i + (s + 2) + w.loads ≤ 9 * w.items → (t : Spot) (b : Object) → SpotIn c t → Standing t b other → (q : ℕ) → Alike m k c (Holding z) s other (write kind b (held z other) env w) (runs_to (put_in place kind t z q).code other (at i w))
   puts_alike k c place kind z env other w i s a o (Local u) (InLocal v) f h q =
       subst (λ d. Alike m k c (Holding z) s other (write kind (InLocal d) (held z other) env w) (runs_to (put_in place kind (Local u) z q).code other (at i w))) h
       (Both (held z other) (put true u (held z other) env) (put true u (held z other) other) w (i + 1) (agree_both u (held z other) env other a) (kept_own u (held z other) k c other f.0 f.1) (put_own u z other) (omega (arith, o)))
@@ -207,13 +207,13 @@ module _ (m n : ℕ) (p : Program) (calls : Calls) (later : VariableSet) where
         weaker m n p calls 0 0 q 2 0 k nowhere (omega arith) (omega arith) (omega arith) (λ v z. z) (nothing_follows q k nowhere (Variable v) (λ x env. env v) (inr (h, f refl)) (λ x env o a u. a v h))
 
     -- what a target holds
-    pub held_follows : (q k : ℕ) (place : Place) (kind : LoadKind) (copied : VariableSet) (t : Spot) (b : X → Object) → m ≤ q → k ≤ q → ((v : ℕ) → copied v ≡ false → later v ≡ false) → SpotIn (λ v. true) t → ((x : X) (o : Env) → Was x o → Standing t (b x) o) → Follows m n p calls 2 0 q k nowhere (Lasts m later k) Was Holding (held_in place kind copied t q) (λ x. read kind (b x))
+    pub held_follows : (q k : ℕ) (place : Place) (kind : LoadKind) (copied : VariableSet) (t : Spot) (b : X → Object) → m ≤ q → k ≤ q → ((v : ℕ) → copied v ≡ false → later v ≡ false) → SpotIn (λ v. true) t → ((x : X) (o : Env) → Was x o → Standing t (b x) o) → Follows m n p calls 3 0 q k nowhere (Lasts m later k) Was Holding (held_in place kind copied t q) (λ x. read kind (b x))
     held_follows q k place kind copied (Placed d y) b l j f g h = record {
       grows = omega arith;
       lasts = inl (j, omega arith);
       runs = λ x env other w i s a u o. by (b x) env other w i s (h x other u) a o;
     } where
-      by : (t : Object) (env other : Env) (w : World) (i s : ℕ) → Standing (Placed d y) t other → Agree m env other → i + (s + 2) ≤ 9 * w.items → Alike m k nowhere (Holding (Variable q)) (s + 0) other (read kind t env w) (runs_to (held_in place kind copied (Placed d y) q).code other (at i w))
+      by : (t : Object) (env other : Env) (w : World) (i s : ℕ) → Standing (Placed d y) t other → Agree m env other → i + (s + 3) + w.loads ≤ 9 * w.items → Alike m k nowhere (Holding (Variable q)) (s + 0) other (read kind t env w) (runs_to (held_in place kind copied (Placed d y) q).code other (at i w))
       by (InLocal v) env other w i s z a o = absurd z
       by (AtPlace c x) env other w i s z a o =
           subst (λ t. Alike m k nowhere (Holding (Variable q)) (s + 0) other (read kind (AtPlace t x) env w) (runs_to (held_in place kind copied (Placed d y) q).code other (at i w))) (z.0)
@@ -224,8 +224,9 @@ module _ (m n : ℕ) (p : Program) (calls : Calls) (later : VariableSet) where
       lasts = made.lasts;
       runs = λ x env other w i s a u o. by (b x) env other w i s (h x other u) (made.runs x env other w i s a u o);
     } where
-      made : Follows m n p calls 2 0 q k nowhere (Lasts m later k) Was Holding (variable (copied v) place v q) (λ x env w. Gives (env v) env w)
-      made = variable_follows q k place (copied v) v l j (g.0) (f v)
+      made : Follows m n p calls 3 0 q k nowhere (Lasts m later k) Was Holding (variable (copied v) place v q) (λ x env w. Gives (env v) env w)
+      made =
+          weaker m n p calls 2 0 q 3 0 k nowhere (omega arith) (omega arith) (omega arith) (λ v z. z) (variable_follows q k place (copied v) v l j (g.0) (f v))
 
       by : (t : Object) (env other : Env) (w : World) (i s : ℕ) → Standing (Local v) t other → Alike m k nowhere (Holding (variable (copied v) place v q).given) (s + 0) other (Gives (env v) env w) (runs_to (variable (copied v) place v q).code other (at i w)) → Alike m k nowhere (Holding (variable (copied v) place v q).given) (s + 0) other (read kind t env w) (runs_to (variable (copied v) place v q).code other (at i w))
       by (InLocal c) env other w i s z a = subst (λ t. Alike m k nowhere (Holding (variable (copied v) place v q).given) (s + 0) other (Gives (env t) env w) (runs_to (variable (copied v) place v q).code other (at i w))) z a

@@ -51,6 +51,6 @@ module _ (c : ℕ → Outcome ℕ) (b : ℕ → Outcome ℕ) (f : ℕ → Result
   }
 
 pub meaning_kept : TurnsInOrder → MeaningKept
-meaning_kept order p place variables main scoped depth limit w start =
+meaning_kept order p place variables main scoped depth limit w start unread =
     kept_meaning (λ n. program_calls p true n p.limit main [] w) (λ n. program_calls p false n p.limit main [] w) (λ n. calls_of (program_form p place variables main) all_loads n p.limit main [] (with_no_items w))
-    (λ n. (order p n p.limit main [] w).0) (λ n. (order p n p.limit main [] w).1) (λ n h. form_keeps p place variables main scoped depth limit w start n h)
+    (λ n. (order p n p.limit main [] w).0) (λ n. (order p n p.limit main [] w).1) (λ n h. form_keeps p place variables main scoped depth limit w start unread n h)

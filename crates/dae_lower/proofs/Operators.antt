@@ -30,7 +30,7 @@ module _ (m n : ℕ) (s : Setup) (l : Links) (p : Program) (calls : Calls) where
     pub read_value : (place : Place) (kind : LoadKind) (b : Bool) (a : Expression) → (Faithful m n s l p calls) (assigned a) (ways l a) (value s a) → (AsValue m n s l p calls) (assigned a) (λ later q. (ways l a).value later q ≫ fetched place kind b) (value s (tree.Read place kind b a))
     read_value place kind b a h later k low =
         (unary m n s l p calls) (assigned a) _ (value s a) (fetched place kind b) (λ x. read kind (AtPlace b x)) later k low h.value
-        (λ o y i z. (cheap m n s l p calls) 2 o (omega arith) (fetched_follows m n p calls later o k place kind b y (λ x. x.1) (omega (arith, low, i)) i (λ x o u. u.1)))
+        (λ o y i z. (cheap m n s l p calls) 3 o (omega arith) (fetched_follows m n p calls later o k place kind b y (λ x. x.1) (omega (arith, low, i)) i (λ x o u. u.1)))
 
     pub convert_value : (place : Place) (kind : LoadKind) (a : Expression) → (Faithful m n s l p calls) (assigned a) (ways l a) (value s a) → (AsValue m n s l p calls) (assigned a) (λ later q. (ways l a).value later q ≫ narrowed place kind) (value s (tree.Convert place kind a))
     convert_value place kind a h later k low =

@@ -98,7 +98,7 @@ module _ (m n : ℕ) (p : Program) (calls : Calls) where
   abbrev more_of : Place → ℕ → ℕ → Run Env
   more_of place q count e u = run m n p calls (step place q) e u ↻ turns_of place q count
 
-  module _ (place : Place) (q k : ℕ) (mq : m ≤ q) (kq : k ≤ q) (most count : ℕ) (env other : Env) (w : World) (i t : ℕ) (a : Agree m env other) (o : i + (t + 6) ≤ 9 * w.items) where
+  module _ (place : Place) (q k : ℕ) (mq : m ≤ q) (kq : k ≤ q) (most count : ℕ) (env other : Env) (w : World) (i t : ℕ) (a : Agree m env other) (o : i + (t + 7) + w.loads ≤ 9 * w.items) where
     next_q : next_of q other w q ≡ other q
     next_q = put_other (q + 1) (byte_at q other w) q other (λ e. omega (arith, e))
 
@@ -145,7 +145,7 @@ module _ (m n : ℕ) (p : Program) (calls : Calls) where
     fetched (Some code) e rest = Halts (Trapped code) w (i + 1 + 1) (omega (arith, o))
 
   -- the turns of the loop, where the address is in variable q
-  text_turns : (place : Place) (q k : ℕ) → m ≤ q → k ≤ q → (most count : ℕ) → most ≤ count → (env other : Env) (w : World) (i t : ℕ) → Far most (other q) → Agree m env other → i + (t + 6) ≤ 9 * w.items → Same m k nowhere t other (text most (other q) env w) (turns_of place q count other (at i w))
+  text_turns : (place : Place) (q k : ℕ) → m ≤ q → k ≤ q → (most count : ℕ) → most ≤ count → (env other : Env) (w : World) (i t : ℕ) → Far most (other q) → Agree m env other → i + (t + 7) + w.loads ≤ 9 * w.items → Same m k nowhere t other (text most (other q) env w) (turns_of place q count other (at i w))
   unfolding spelled
   text_turns place q k mq kq zero count l env other w i t far a o = absurd (omega (arith, far.some))
   text_turns place q k mq kq (suc most) zero l env other w i t far a o = absurd (omega (arith, l))
@@ -167,7 +167,7 @@ module _ (m n : ℕ) (s : Setup) (l : Links) (p : Program) (calls : Calls) (plac
 
   -- the variables below b stay
   abbrev PiecesDo : Place → List Piece → List Operand → ℕ → ℕ → Type 0
-  PiecesDo place ps ys b q = (q ≤ (prints place ps ys q).next) × ((words : List ℕ) (env other : Env) (w : World) (i t : ℕ) → Agree m env other → all_held ys other ≡ words → i + t ≤ 9 * w.items → Same m b nowhere t other (shown ps words env w) (run m n p calls (prints place ps ys q).code other (at i w)))
+  PiecesDo place ps ys b q = (q ≤ (prints place ps ys q).next) × ((words : List ℕ) (env other : Env) (w : World) (i t : ℕ) → Agree m env other → all_held ys other ≡ words → i + t + w.loads ≤ 9 * w.items → Same m b nowhere t other (shown ps words env w) (run m n p calls (prints place ps ys q).code other (at i w)))
 
   string_does : (place : Place) (j : ℕ) (ps : List Piece) (ys : List Operand) (k b q : ℕ) → m ≤ k → k ≤ q → b ≤ q → AllLast m n s l p calls places nowhere k q ys → PiecesDo place ps ys q (q + 2) → PiecesDo place (piece.String j ∷ ps) ys b q
   string_does place j ps ys k b q mk kq bq h rest = (

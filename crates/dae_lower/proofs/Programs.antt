@@ -13,7 +13,7 @@ programs_kept rules kept stays p depth h =
     let place : ℕ → Place = λ f. place_in (slice_get p.functions f) in
     let w = start p.memory p.frames p.content in
     record {
-      meaning = kept (program_of p (suc depth)) place (variables_of p) p.main r.scope depth refl w r.begins;
-      stays = stays (program_of p (suc depth)) place (variables_of p) p.main r.scope depth refl w r.begins
+      meaning = kept (program_of p (suc depth)) place (variables_of p) p.main r.scope depth refl w r.begins refl;
+      stays = stays (program_of p (suc depth)) place (variables_of p) p.main r.scope depth refl w r.begins refl
           (subst (λ (m : ℕ). KeepsFrames m (program_of p (suc depth))) (sym r.memory) r.frames);
     }

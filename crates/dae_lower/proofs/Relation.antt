@@ -1,5 +1,5 @@
 -- How the form follows the program: the form's variables below m are the program's, its worlds differ in the number of
--- items alone, and 9 items are paid for by each unit of work.
+-- items alone, and 9 items and loads are paid for by each unit of work.
 use Rattle.std.proofs.Common.{◌≡◌, ℕ, ◌+◌, ◌*◌, ◌<◌, ◌≤◌, ◌⊎◌, inl, inr, Bool, true, false, ◌&&◌, ◌||◌, nat_eq, if◌then◌else◌, refl, ◌∙◌, arith}
 use Rattle.std.proofs.lemmas.Bool.Decides.{nat_tests}
 use Rattle.std.proofs.lemmas.Bool.{or_parts}
@@ -106,15 +106,15 @@ put_other v x u e h = by (nat_eq u v) refl where
 
 -- ---- what runs alike
 
--- An evaluation and what is made of it: the value is in what `Is` says, and so many items are still paid for. Both may end
+-- An evaluation and what is made of it: the value is in what `Is` says, and so many items and loads are still paid for. Both may end
 -- instead, and alike.
 pub data Alike {X : Type 0} (m k : ℕ) (c : VariableSet) (Is : X → Env → Type 0) (spare : ℕ) (e : Env) : Outcome X → Result Env → Type 0 where
-  Both : (x : X) (env other : Env) (w : World) (i : ℕ) → Agree m env other → Kept m k c e other → Is x other → i + spare ≤ 9 * w.items → Alike m k c Is spare e (Gives x env w) (At Next other (at i w))
-  Stop : (end : End) (w : World) (i : ℕ) → i ≤ 9 * w.items → Alike m k c Is spare e (Ends end w) (Over end (at i w))
+  Both : (x : X) (env other : Env) (w : World) (i : ℕ) → Agree m env other → Kept m k c e other → Is x other → i + spare + w.loads ≤ 9 * w.items → Alike m k c Is spare e (Gives x env w) (At Next other (at i w))
+  Stop : (end : End) (w : World) (i : ℕ) → i + w.loads ≤ 9 * w.items → Alike m k c Is spare e (Ends end w) (Over end (at i w))
 
 module _ {X Y : Type 0} {m k j : ℕ} {c d : VariableSet} {Is : X → Env → Type 0} {Are : Y → Env → Type 0} {s t : ℕ} {e : Env} where
   -- one after the other
-  pub after : (r : Outcome X) (q : Result Env) (f : X → Env → World → Outcome Y) (g : Run Env) → Alike m k c Is s e r q → ((x : X) (env other : Env) (w : World) (i : ℕ) → Agree m env other → Kept m k c e other → Is x other → i + s ≤ 9 * w.items → Alike m j d Are t e (f x env w) (g other (at i w))) → Alike m j d Are t e (r ⟫ f) (q ▷ g)
+  pub after : (r : Outcome X) (q : Result Env) (f : X → Env → World → Outcome Y) (g : Run Env) → Alike m k c Is s e r q → ((x : X) (env other : Env) (w : World) (i : ℕ) → Agree m env other → Kept m k c e other → Is x other → i + s + w.loads ≤ 9 * w.items → Alike m j d Are t e (f x env w) (g other (at i w))) → Alike m j d Are t e (r ⟫ f) (q ▷ g)
   after r q f g (Both x env other w i a b h l) go = go x env other w i a b h l
   after r q f g (Stop end w i l) go = Stop end w i l
 

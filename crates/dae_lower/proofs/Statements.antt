@@ -112,7 +112,7 @@ module _ (m n : ℕ) (s : Setup) (l : Links) (p : Program) (calls : Calls) (plac
 
   -- the arms from number j on, where variable v says which is the first
   abbrev pub ArmsDo : Arms → Type 0
-  ArmsDo arms = (place : Place) (v j k q : ℕ) → m ≤ v → v < k → k ≤ q → (q ≤ (arms_from l place v j arms q).next) × ((first before : ℕ) → Stands first j before → (env other : Env) (w : World) (i t : ℕ) → Agree m env other → other v ≡ first → i + (t + count_arms arms) ≤ 9 * w.items → Same m k everything t other (does_from s false n before arms env w) (run m n p calls (arms_from l place v j arms q).code other (at i w)))
+  ArmsDo arms = (place : Place) (v j k q : ℕ) → m ≤ v → v < k → k ≤ q → (q ≤ (arms_from l place v j arms q).next) × ((first before : ℕ) → Stands first j before → (env other : Env) (w : World) (i t : ℕ) → Agree m env other → other v ≡ first → i + (t + count_arms arms) + w.loads ≤ 9 * w.items → Same m k everything t other (does_from s false n before arms env w) (run m n p calls (arms_from l place v j arms q).code other (at i w)))
 
   below_not : (j first : ℕ) → first ≤ j → nat_lt j first ≡ false
   below_not j first h = by (nat_lt j first) refl where
@@ -132,14 +132,14 @@ module _ (m n : ℕ) (s : Setup) (l : Links) (p : Program) (calls : Calls) (plac
     first_grows : q ≤ (statements l t q).next
     first_grows = let c = ht q (omega (arith, lv, vk, kq)) in c.grows
 
-    second : ((statements l t q).next ≤ (arms_from l place v (suc j) more (statements l t q).next).next) × ((first before : ℕ) → Stands first (suc j) before → (env other : Env) (w : World) (i t' : ℕ) → Agree m env other → other v ≡ first → i + (t' + count_arms more) ≤ 9 * w.items → Same m k everything t' other (does_from s false n before more env w) (run m n p calls (arms_from l place v (suc j) more (statements l t q).next).code other (at i w)))
+    second : ((statements l t q).next ≤ (arms_from l place v (suc j) more (statements l t q).next).next) × ((first before : ℕ) → Stands first (suc j) before → (env other : Env) (w : World) (i t' : ℕ) → Agree m env other → other v ≡ first → i + (t' + count_arms more) + w.loads ≤ 9 * w.items → Same m k everything t' other (does_from s false n before more env w) (run m n p calls (arms_from l place v (suc j) more (statements l t q).next).code other (at i w)))
     second = hr place v (suc j) k (statements l t q).next lv vk (omega (arith, kq, first_grows))
 
     -- which way the test goes
     goes : (h : Bool) (other : Env) (u : World) → Result Env
     goes h other u = (if h then run m n p calls (statements l t q).code other (ticked u) else At Next other (ticked u)) ▷ run m n p calls (arms_from l place v (suc j) more (statements l t q).next).code
 
-    runs : (first before : ℕ) → Stands first j before → (env other : Env) (w : World) (i t' : ℕ) → Agree m env other → other v ≡ first → i + (t' + suc (count_arms more)) ≤ 9 * w.items → Same m k everything t' other (does_from s false n before (tree.arm_then labels t more) env w) (run m n p calls (arms_from l place v j (tree.arm_then labels t more) q).code other (at i w))
+    runs : (first before : ℕ) → Stands first j before → (env other : Env) (w : World) (i t' : ℕ) → Agree m env other → other v ≡ first → i + (t' + suc (count_arms more)) + w.loads ≤ 9 * w.items → Same m k everything t' other (does_from s false n before (tree.arm_then labels t more) env w) (run m n p calls (arms_from l place v j (tree.arm_then labels t more) q).code other (at i w))
     runs first zero st env other w i t' g u o =
         subst (λ (h : Bool). Same m k everything t' other (does s false n t env w ▷ does_from s false n zero more) ((if h then run m n p calls (statements l t q).code other (ticked (at i w)) else At Next other (ticked (at i w))) ▷ run m n p calls (arms_from l place v (suc j) more (statements l t q).next).code)) (sym (ap not (below_not j (other v) (low st))))
         (after_statements _ _ _ _ (omega arith) (same_from m q k everything (t' + count_arms more + 0) (t' + count_arms more) other other kq (omega arith) (λ x z d. refl) _ _ (let c = ht q (omega (arith, lv, vk, kq)) in c.runs env other w (i + 1) (t' + count_arms more) g (omega (arith, o))))

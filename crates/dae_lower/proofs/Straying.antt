@@ -30,7 +30,7 @@ strays_on f order n (suc m) l e = by (nat_lt m n) refl (λ h. strays_next (f m) 
   by false g go = go (grind (arith, nat_tests, g))
 
 pub forms_never_stray : NamedNeverStray → ((p : Program) (counted : Counting) → MoreTurns p counted) → FormsNeverStray
-forms_never_stray named order p place variables main scoped depth limit w begins placed n e =
-    let kept = form_keeps p place variables main scoped depth limit w begins (most_bytes + n) (omega arith) in
+forms_never_stray named order p place variables main scoped depth limit w begins unread placed n e =
+    let kept = form_keeps p place variables main scoped depth limit w begins unread (most_bytes + n) (omega arith) in
     let far = strays_on (form_run p place variables main w) (λ m. order (program_form p place variables main) all_loads m p.limit main [] (with_no_items w)) n (most_bytes + n) (omega arith) e in
     named p false (most_bytes + n) main w placed begins (sym kept.end ∙ far)

@@ -76,7 +76,7 @@ module _ (m n : ℕ) (p : Program) (calls : Calls) where
     kept_lower e k u l f = k u (omega (arith, l, qv)) f
 
     -- the flag is still 0
-    unflagged : (t : ℕ) (env e : Env) (w : World) (i : ℕ) → start (v + 1) ≡ 0 → Agree m env e → Kept m (v + 2) everything start e → i + (t + 4) ≤ 9 * w.items → Same m q everything t start (At Next env w) (((if not (nat_eq (e (v + 1)) 0) then At Skips e (at (i + 1 + 1) w) else At Next e (at (i + 1) w)) ▷ At Next))
+    unflagged : (t : ℕ) (env e : Env) (w : World) (i : ℕ) → start (v + 1) ≡ 0 → Agree m env e → Kept m (v + 2) everything start e → i + (t + 4) + w.loads ≤ 9 * w.items → Same m q everything t start (At Next env w) (((if not (nat_eq (e (v + 1)) 0) then At Skips e (at (i + 1 + 1) w) else At Next e (at (i + 1) w)) ▷ At Next))
     unflagged t env e w i z a k o =
         subst (λ (x : ℕ). Same m q everything t start (At Next env w) ((if not (nat_eq x 0) then At Skips e (at (i + 1 + 1) w) else At Next e (at (i + 1) w)) ▷ At Next)) (sym (k (v + 1) (omega arith) (inl (omega (arith, mq, qv))) ∙ z))
         (Goes Next env e w (i + 1) a (kept_lower e k) (omega (arith, o)))
@@ -108,7 +108,7 @@ left_on (Ends end w) f = refl
 
 module _ (m n : ℕ) (s : Setup) (l : Links) (p : Program) (calls : Calls) (places : (k : ℕ) → s.address k ≡ l.address k) (called : Called m n s l p calls places) (some : 0 < m) (many : 1 ≤ n) where
   -- behind the search, in variables that it left
-  arms_then : (place : Place) (arms : Arms) → ArmsDo m n s l p calls places called some arms → (q v first : ℕ) → m ≤ q → q ≤ v → (goes : Bool) → arms_continue arms ≡ goes → (env e : Env) (w : World) (j t : ℕ) → Agree m env e → e v ≡ first → j + (t + count_arms arms + 8) ≤ 9 * w.items →
+  arms_then : (place : Place) (arms : Arms) → ArmsDo m n s l p calls places called some arms → (q v first : ℕ) → m ≤ q → q ≤ v → (goes : Bool) → arms_continue arms ≡ goes → (env e : Env) (w : World) (j t : ℕ) → Agree m env e → e v ≡ first → j + (t + count_arms arms + 8) + w.loads ≤ 9 * w.items →
       Same m q everything t e (left (does_from s false n first arms env w)) (run m n p calls (where_so goes (one place (Assign (v + 1) (Copy (Number 0)))) ⨾ Loop place ((arms_from l place v 0 arms (v + 2)).code ⨾ one place Break) (where_so goes (Do place (Assign (v + 1) (Copy (Number 1))) (one place Break))) (where_so goes (If place (test_of NotEqual (Variable (v + 1)) (Number 0)) (one place Continue) Done Done))) e (at j w))
   arms_then place arms h q v first mq qv true g env e w j t a f o =
       once m n p calls (λ r. Same m q everything t e (left (does_from s false n first arms env w)) (r ▷ run m n p calls (If place (test_of NotEqual (Variable (v + 1)) (Number 0)) (one place Continue) Done Done))) (run m n p calls ((arms_from l place v 0 arms (v + 2)).code ⨾ one place Break)) (run m n p calls (Do place (Assign (v + 1) (Copy (Number 1))) (one place Break))) (put true (v + 1) 0 e) (at (j + 1) w)
@@ -135,7 +135,7 @@ module _ (m n : ℕ) (s : Setup) (l : Links) (p : Program) (calls : Calls) (plac
   }
 
   -- a switch on an operand
-  searched : (place : Place) (arms : Arms) → ArmsDo m n s l p calls places called some arms → (x : Operand) (q v : ℕ) → m ≤ q → q ≤ v → Lasts m nowhere q v x → (y : ℕ) (env other : Env) (w : World) (i t : ℕ) → Agree m env other → held x other ≡ y → i + (t + (2 + 9 * suc (count_labels arms))) ≤ 9 * w.items →
+  searched : (place : Place) (arms : Arms) → ArmsDo m n s l p calls places called some arms → (x : Operand) (q v : ℕ) → m ≤ q → q ≤ v → Lasts m nowhere q v x → (y : ℕ) (env other : Env) (w : World) (i t : ℕ) → Agree m env other → held x other ≡ y → i + (t + (2 + 9 * suc (count_labels arms))) + w.loads ≤ 9 * w.items →
       Same m q everything (t + 0) other (left (does_from s false n (first_arm y arms) arms env w)) (run m n p calls (switch place x v (arm_with None 0 arms (count_arms arms)) (search place x v 0 arms) (arms_continue arms) (arms_from l place v 0 arms (v + 2))).code other (at i w))
   searched place arms h x q v mq qv lasts y env other w i t a is o =
       once m n p calls (λ r. Same m q everything (t + 0) other (left (does_from s false n (first_arm y arms) arms env w)) (r ▷ run m n p calls (where_so (arms_continue arms) (one place (Assign (v + 1) (Copy (Number 0)))) ⨾ Loop place ((arms_from l place v 0 arms (v + 2)).code ⨾ one place Break) (where_so (arms_continue arms) (Do place (Assign (v + 1) (Copy (Number 1))) (one place Break))) (where_so (arms_continue arms) (If place (test_of NotEqual (Variable (v + 1)) (Number 0)) (one place Continue) Done Done))))) (run m n p calls (search place x v 0 arms)) (At Next) (put true v (arm_with None 0 arms (count_arms arms)) other) (at (i + 1) w)

@@ -15,10 +15,10 @@ unfolding most_bytes
 enough n h = omega (arith, h)
 
 pub form_keeps : FormKeeps
-form_keeps p place variables main scoped depth limit w start n many =
+form_keeps p place variables main scoped depth limit w start unread n many =
     subst (λ (d : ℕ). IsKept (program_calls p false n d main [] w) (calls_of (program_form p place variables main) all_loads n d main [] (with_no_items w))) (sym limit)
     (program_same n p place variables main scoped
     (λ m s l f calls places called some. prints_do m n s l f calls places called some many)
     (λ m s l f calls places called some. initialises_do m n s l f calls places called some (enough n many))
     (λ m s l f calls places called some. switches_do m n s l f calls places called some (omega (arith, enough n many)))
-    depth w limit start.depth start.fits start.work)
+    depth w limit start.depth start.fits start.work unread)

@@ -1,5 +1,5 @@
 -- The form of a program keeps its meaning.
-use Rattle.std.specs.Prelude.{◌≡◌, ◌≢◌, ℕ, suc, ◌*◌, ◌≤◌, true, false, [], length, slice_get, Option, Some, None}
+use Rattle.std.specs.Prelude.{◌≡◌, ◌≢◌, ℕ, suc, ◌+◌, ◌*◌, ◌≤◌, true, false, [], length, slice_get, Option, Some, None}
 use Rattle.dae_base.specs.declared.Place.{Place}
 use Rattle.dae_meaning.specs.Worlds.{World}
 use Rattle.dae_meaning.specs.Results.{Result, End, Halted, Trapped, Going, Astray, world_of}
@@ -20,15 +20,15 @@ use Rattle.dae_program.specs.Scope.{KeepsScope}
 use Rattle.dae_program.specs.Trees as tree
 use Rattle.dae_lower.specs.Lowering.{program_form}
 
--- what is kept of a program's run in its form's: the end, memory, output, reads and writes. It executes at most 9 items
--- for each unit of work
+-- what is kept of a program's run in its form's: the end, memory, output, reads and writes. Its items and loads together
+-- are at most 9 for each unit of work
 pub record IsKept (r : Outcome ℕ) (q : Result Env) : Type 0 where
   pub end : end_of q ≡ program_end r
   pub memory : (world_of q).memory ≡ (last_world r).memory
   pub printed : (world_of q).printed ≡ (last_world r).printed
   pub loads : (world_of q).loads ≡ (last_world r).loads
   pub stores : (world_of q).stores ≡ (last_world r).stores
-  pub items : (world_of q).items ≤ 9 * (last_world r).items
+  pub items : (world_of q).items + (world_of q).loads ≤ 9 * (last_world r).items
 
 -- with no item executed
 abbrev pub with_no_items : World → World
@@ -39,11 +39,12 @@ abbrev pub form_run : tree.Program → (ℕ → Place) → (ℕ → ℕ) → (ma
 form_run p place variables main w n =
     calls_of (program_form p place variables main) all_loads n p.limit main [] (with_no_items w)
 
--- for each bound n on the turns of loops from some number on; the program leaves out the test of the turn that can't begin
+-- for each world in which no load is counted yet, and each bound n on the turns of loops from some number on; the program
+-- leaves out the test of the turn that can't begin
 abbrev pub FormKeeps : Type 0
 FormKeeps =
     (p : tree.Program) (place : ℕ → Place) (variables : ℕ → ℕ) (main : ℕ) → KeepsScope p variables main →
-    (depth : ℕ) → p.limit ≡ suc depth → (w : World) → IsBegin w →
+    (depth : ℕ) → p.limit ≡ suc depth → (w : World) → IsBegin w → w.loads ≡ 0 →
     (n : ℕ) → most_bytes ≤ n → IsKept (call p false n p.limit main [] w) (form_run p place variables main w n)
 
 abbrev pub IsOver : End → Type 0
@@ -63,7 +64,7 @@ pub record MeaningIsKept (program : ℕ → Outcome ℕ) (form : ℕ → Result 
 abbrev pub MeaningKept : Type 0
 MeaningKept =
     (p : tree.Program) (place : ℕ → Place) (variables : ℕ → ℕ) (main : ℕ) → KeepsScope p variables main →
-    (depth : ℕ) → p.limit ≡ suc depth → (w : World) → IsBegin w →
+    (depth : ℕ) → p.limit ≡ suc depth → (w : World) → IsBegin w → w.loads ≡ 0 →
     MeaningIsKept (λ n. run p n main w) (form_run p place variables main w)
 
 -- The form of a program whose objects by name lie in memory makes no access that isn't good and isn't checked, and no call
@@ -71,7 +72,7 @@ MeaningKept =
 abbrev pub FormsNeverStray : Type 0
 FormsNeverStray =
     (p : tree.Program) (place : ℕ → Place) (variables : ℕ → ℕ) (main : ℕ) → KeepsScope p variables main →
-    (depth : ℕ) → p.limit ≡ suc depth → (w : World) → IsBegin w → KeepsFrames (length w.memory) p →
+    (depth : ℕ) → p.limit ≡ suc depth → (w : World) → IsBegin w → w.loads ≡ 0 → KeepsFrames (length w.memory) p →
     (n : ℕ) → end_of (form_run p place variables main w n) ≢ Astray
 
 -- no code of a form falls off its end

@@ -3,7 +3,7 @@
 ghost use Rattle.dae_lower.specs.Keeping.{FormKeeps, FormsClose, FormsNeverStray, MeaningKept, ProgramsKept};
 
 /// The form of a program ends as the program does, with the same output, memory, reads and writes, for every large bound on
-/// the turns of loops; or both go on. It executes at most 9 items for each unit of work.
+/// the turns of loops; or both go on. Its items and loads together are at most 9 for each unit of work.
 pub fn form_keeps()
     ensures { FormKeeps }
 {}

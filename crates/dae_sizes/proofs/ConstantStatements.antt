@@ -9,7 +9,6 @@ use Rattle.dae_tree.specs.Depth.{place_of, place_of_specifiers}
 use Rattle.dae_tree.specs.Names.{declared_name, has_typedef}
 use Rattle.dae_program.specs.Trees as program
 use Rattle.dae_types_kinds.specs.declared.tables.Context.TheVariants as context
-use Rattle.dae_types_kinds.specs.declared.tables.Storage.{Storage}
 use Rattle.dae_types_kinds.specs.Tables.{Tables}
 use Rattle.dae_types_kinds.specs.Types.{shape_of, is_scalar}
 use Rattle.dae_types_kinds.specs.Values.{Typed, converted}
@@ -17,7 +16,7 @@ use Rattle.dae_types_rules.specs.Plan.{Plan}
 use Rattle.dae_types_plans.specs.Steps.{declared_place}
 use Rattle.dae_types_file_plans.specs.declared.surroundings.Surrounding.{Surrounding}
 use Rattle.dae_types_file_plans.specs.Initialisers.{Content}
-use Rattle.dae_types_file_plans.specs.Statements.{behind_all, appended, type_of_local, storage_target, offset_of_local, set_to, names_stored, scalar_value_at, plan_scalar, plan_first_scalar, initialised_at, plan_given, plan_local, plan_item_at, plan_items, is_alone, plan_declaration, plan_declarations, in_loop, in_switch, returned, nothing_returned, as_result, plan_return, is_printf_name, callee_name, arguments_of, plan_evaluation, plan_evaluate, Armed, arms_of, is_done, with_label, with_statement, Arming, case_at, default_at, label_at, started, starting_place, plan_statement, plan_statements, plan_body, plan_arms, plan_labelled, plan_block}
+use Rattle.dae_types_file_plans.specs.Statements.{behind_all, appended, type_of_local, offset_of_local, set_to, own_set, names_stored, scalar_value_at, plan_scalar, plan_first_scalar, initialised_at, plan_given, plan_local, plan_item_at, plan_items, is_alone, plan_declaration, plan_declarations, in_loop, in_switch, returned, nothing_returned, as_result, plan_return, is_printf_name, callee_name, arguments_of, plan_evaluation, plan_evaluate, Armed, arms_of, is_done, with_label, with_statement, Arming, case_at, default_at, label_at, started, starting_place, plan_statement, plan_statements, plan_body, plan_arms, plan_labelled, plan_block}
 use Rattle.dae_sizes.specs.Worth.{declares, declares_in_all, declares_in, declares_in_specifiers, declares_in_initialiser, declares_in_initialisers, declares_in_value, declares_in_items, declares_in_declarations, declares_in_optional, declares_in_statement, declares_in_statements}
 use Rattle.dae_sizes.proofs.Within.{Within, none, stays, fewer, unmeasured, pure_within, node_stays, node_reads, maps_reads, maps_stays, asks_within, both_within, chain_within, nothing_within, looks_within, scoped_within}
 use Rattle.dae_sizes.proofs.Weighing.{cost}
@@ -29,10 +28,7 @@ use Rattle.dae_types_plans.specs.Steps.{count_of}
 use Rattle.dae_types_file_plans.specs.Initialisers.{literal_in}
 use Rattle.dae_types_file_plans.specs.Formats.{letters}
 use Rattle.dae_types_file_plans.specs.Statements.{plan_printf}
-use Rattle.dae_sizes.proofs.Statements.{zero_grown, type_grown, typedef_within, local_within, condition_of_within, optional_within, test_within}
-use Rattle.dae_types_kinds.specs.declared.tables.Local.{Local}
-use Rattle.dae_types_file_plans.specs.Files.{zero_if, begun_with}
-use Rattle.dae_types_kinds.specs.Values.{load_kind}
+use Rattle.dae_sizes.proofs.Statements.{type_grown, typedef_within, local_within, condition_of_within, optional_within, test_within}
 use Rattle.dae_lower_bounds.specs.Constants.{IsConstant, AreConstant, InitialisesConstants, ArmsInitialiseConstants}
 use Rattle.dae_sizes.proofs.Constants.{other, others, held, content_constant}
 
@@ -97,22 +93,6 @@ mutual
   arms_initialise program.no_arms h = tt
   arms_initialise (program.arm_then labels t rest) h = (initialises t (omega (arith, h)), arms_initialise rest (omega (arith, h)))
 
--- ---- locals that begin as 0 add none
-
-zero_adds : (p : Place) (s : Tables) (x : Local) (y : Storage) (body : program.Statements) → others_in (zero_if p s x y body) ≤ others_in body
-zero_adds p s x y body = by x.begins_zero where
-  by : (b : Bool) → others_in (if b then program.Evaluate p (program.Assign p (load_kind (shape_of s x.type_id)) (storage_target (Some y) p) (program.Number 0)) body else body) ≤ others_in body
-  by true = omega arith
-  by false = omega arith
-
-begun_adds : (p : Place) (s : Tables) (xs : List Local) (ys : List Storage) (body : program.Statements) → others_in (begun_with p s xs ys body) ≤ others_in body
-begun_adds p s [] ys body = omega arith
-begun_adds p s (x ∷ xs) [] body = omega arith
-begun_adds p s (x ∷ xs) (y ∷ ys) body = let h = begun_adds p s xs ys body in let g = zero_adds p s x y (begun_with p s xs ys body) in omega (arith, h, g)
-
-pub begun_initialises : (p : Place) (s : Tables) (xs : List Local) (ys : List Storage) (body : program.Statements) → others_in body ≤ 0 → InitialisesConstants (begun_with p s xs ys body)
-begun_initialises p s xs ys body h = initialises (begun_with p s xs ys body) (let g = begun_adds p s xs ys body in omega (arith, h, g))
-
 -- ---- the parts of a switch
 
 abbrev armed : List Armed → ℕ
@@ -149,10 +129,14 @@ module _ (ls : List (List ℕ)) where
 
   -- ---- local declarations
 
+  own_constant : (b : Bool) (p : Place) (s : Tables) (k : ℕ) (e : program.Expression) → others_in (own_set b p s k e) ≤ 0
+  own_constant true p s k e = omega arith
+  own_constant false p s k e = omega arith
+
   scalar_value_constant : {n w : ℕ} {m : Plan Typed} (p q : Place) (k : ℕ) → Within ls (cost 0 2) n w m → Constant n (scalar_value_at p q k m)
   scalar_value_constant p q k h = node_stays h (λ s x e l. record {
-    grown = zero_grown k (names_stored (slice_get s.storages k) (converted q s x (type_of_local s k)).tree) s;
-    small = omega arith;
+    grown = stays 0;
+    small = own_constant (names_stored (slice_get s.storages k) (converted q s x (type_of_local s k)).tree) p s k (converted q s x (type_of_local s k)).tree;
   })
 
   mutual

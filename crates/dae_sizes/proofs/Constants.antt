@@ -1,6 +1,6 @@
 -- The items that aggregates get are numbers and addresses of objects with static storage: by induction over the plans of
 -- initialisers, with the measure of those that are neither.
-use Rattle.std.proofs.Common.{◌≡◌, ℕ, suc, ◌+◌, ◌≤◌, Bool, true, false, List, [], ◌∷◌, ◌++◌, Option, Some, None, if◌then◌else◌, refl, arith}
+use Rattle.std.proofs.Common.{◌≡◌, ℕ, ◌+◌, ◌≤◌, Bool, true, false, List, [], ◌∷◌, ◌++◌, Option, Some, None, if◌then◌else◌, refl, arith}
 use Rattle.std.specs.Prelude.{◌&&◌, ◌||◌}
 use Rattle.dae_base.specs.declared.Place.{Place}
 use Rattle.dae_base.specs.declared.LoadKind.{LoadKind}
@@ -14,10 +14,10 @@ use Rattle.dae_types_kinds.specs.declared.values.Known.{Known}
 use Rattle.dae_types_kinds.specs.declared.values.Known.TheVariants as known
 use Rattle.dae_types_kinds.specs.Tables.{Tables, with_shape}
 use Rattle.dae_types_kinds.specs.Types.{shape_of, int_id, is_scalar}
-use Rattle.dae_types_kinds.specs.Values.{Typed, number, load_kind, known_as}
+use Rattle.dae_types_kinds.specs.Values.{Typed, number, load_kind, known_as, constant_tree}
 use Rattle.dae_types_rules.specs.Plan.{Plan}
 use Rattle.dae_types_plans.specs.Expressions.{plan_value}
-use Rattle.dae_types_file_plans.specs.Initialisers.{Once, Slot, Filling, Landing, Opening, Content, over, literal_in, has_literal, landed_in, lowered, next_slot, literal_bytes, constant_tree, setting, byte_settings, item_by, item_in, item_at, value_item, is_one_literal, is_text_array, parts_of, open_with, opens, list_at, plan_initialiser, plan_initialisers, empty_filling, whole_by, is_value_for, filled_type, plan_content}
+use Rattle.dae_types_file_plans.specs.Initialisers.{Once, Slot, Filling, Landing, Opening, Content, over, literal_in, has_literal, landed_in, lowered, next_slot, literal_bytes, constant_settings, byte_settings, behind_bytes, item_by, item_in, item_at, value_item, is_one_literal, is_text_array, parts_of, open_with, opens, list_at, plan_initialiser, plan_initialisers, empty_filling, whole_by, is_value_for, filled_type, plan_content}
 use Rattle.dae_sizes.specs.Worth.{declares, declares_in_initialiser, declares_in_initialisers}
 use Rattle.dae_sizes.proofs.Within.{Grown, Within, none, same, stays, fewer, lighter, pure_within, node_reads, maps_reads, maps_stays, asks_within, chain_within, nothing_within, looks_within}
 use Rattle.dae_sizes.proofs.Steps.{pardons_within}
@@ -36,15 +36,17 @@ others-append : (xs ys : List program.Setting) → others (xs ++ ys) ≡ others 
 others-append [] ys = omega arith
 others-append (x ∷ xs) ys = let h = others-append xs ys in omega (arith, h)
 
-constant_is_none : (k : Known) → other (constant_tree k) ≡ 0
-constant_is_none (known.Number w) = refl
-constant_is_none (known.Address (Some o) k) = refl
-constant_is_none (known.Address None w) = refl
-constant_is_none k = refl
+constant_is_none : (o : ℕ) (t : Shape) (k : Known) → others (constant_settings o t (constant_tree k)) ≡ 0
+constant_is_none o t (known.Number w) = refl
+constant_is_none o t (known.Address (Some n) k) = refl
+constant_is_none o t (known.Address None w) = refl
+constant_is_none o t known.NullPointer = refl
+constant_is_none o t known.Division = refl
+constant_is_none o t known.Nothing = refl
 
 bytes_are_none : (o : ℕ) (k : LoadKind) (bs : List ℕ) → others (byte_settings o k bs) ≡ 0
 bytes_are_none o k [] = refl
-bytes_are_none o k (b ∷ bs) = let h = bytes_are_none (suc o) k bs in omega (arith, h)
+bytes_are_none o k (b ∷ bs) = let h = bytes_are_none (behind_bytes o 1) k bs in omega (arith, h)
 
 abbrev pub filled : Filling → ℕ
 filled f = others f.items
@@ -72,10 +74,10 @@ opens_few s f js (Some z) =
     let t = shape_of s z.type_id in
     opens_if (is_scalar t || (is_text_array s t && is_one_literal js)) (filled f) (open_with f (Once z.offset z.type_id ∷ []) true z.rest) (open_with f (parts_of z.offset z.type_id t ∷ []) false z.rest) (omega arith) (omega arith)
 
-scalar_few : (f : Filling) (z : Slot) (t u : Shape) (x : Typed) → others (f.items ++ (setting z.offset t (constant_tree (known_as u t x.known)) ∷ [])) ≤ filled f
+scalar_few : (f : Filling) (z : Slot) (t u : Shape) (x : Typed) → others (f.items ++ constant_settings z.offset t (constant_tree (known_as u t x.known))) ≤ filled f
 scalar_few f z t u x =
-    let h = others-append f.items (setting z.offset t (constant_tree (known_as u t x.known)) ∷ []) in
-    let k = constant_is_none (known_as u t x.known) in omega (arith, h, k)
+    let h = others-append f.items (constant_settings z.offset t (constant_tree (known_as u t x.known))) in
+    let k = constant_is_none z.offset t (known_as u t x.known) in omega (arith, h, k)
 
 item_few : (s : Tables) (n : Option ℕ) (x : Typed) (z : Slot) (t : Shape) (f : Filling) → filled (item_by s n x z t f) ≤ filled f
 item_few s n x z (shape.Array u count) f =

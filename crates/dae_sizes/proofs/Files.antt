@@ -2,7 +2,7 @@
 use Rattle.std.proofs.Common.{◌≡◌, ℕ, suc, ◌+◌, ◌-◌, ◌≤◌, Bool, true, false, List, [], ◌∷◌, ◌++◌, length, Option, Some, None, Ok, inl, inr, if◌then◌else◌, refl, sym, ap, ◌∙◌, subst, arith, append_assoc, length-append, append-nil}
 use Rattle.std.proofs.lemmas.List.{length-take}
 use Rattle.std.proofs.lemmas.Result.{IfOk-at_ok}
-use Rattle.std.specs.Prelude.{IfOk, slice_get, is_some, nat_eq, not}
+use Rattle.std.specs.Prelude.{IfOk, min, slice_get, is_some, nat_eq, not}
 use Rattle.dae_base.specs.declared.Place.{Place}
 use Rattle.dae_tree.specs.declared.words.Keyword.{Keyword}
 use Rattle.dae_tree.specs.declared.expressions.Name.{Name}
@@ -30,7 +30,7 @@ use Rattle.dae_types_plans.specs.Steps.{declared_place}
 use Rattle.dae_types_file_plans.specs.declared.declarations.Role.{Role}
 use Rattle.dae_types_file_plans.specs.declared.declarations.Role.TheVariants.{Reference, Definition}
 use Rattle.dae_types_file_plans.specs.Statements.{own_of, is_alone}
-use Rattle.dae_types_file_plans.specs.Files.{Product, Declares, Data, Body, retyped, new_routine, declared_function, function_at, new_object, replaced, declared_object, object_at, role_of, declares_object, declares_function, type_of_object, with_object_type, plan_data, plan_either, plan_typed, plan_item_at, plan_items, storage_of, plan_declared, in_variable, kept_from, is_direct, definition_at, defined_or, define, second_at, unnamed_site, unnamed_sites, parameters_in, count_parameters, named_at, settled_locals, in_body, keep_scope, first_time, body_product, second_time, twice, plan_body_of, plan_defined_as, some_of, plan_defined, plan_external, plan_externals, plan_file}
+use Rattle.dae_types_file_plans.specs.Files.{Product, Declares, Data, Body, most_frame, retyped, new_routine, declared_function, function_at, new_object, replaced, declared_object, object_at, role_of, declares_object, declares_function, type_of_object, with_object_type, plan_data, plan_either, plan_typed, plan_item_at, plan_items, storage_of, plan_declared, in_variable, kept_from, is_direct, definition_at, defined_or, define, second_at, unnamed_site, unnamed_sites, parameters_in, count_parameters, named_at, settled_locals, in_body, keep_scope, first_time, body_product, second_time, twice, plan_body_of, plan_defined_as, some_of, plan_defined, plan_external, plan_externals, plan_file}
 use Rattle.dae_sizes.specs.Worth.{worth_of_declarations, worth_of_statements, worth_of_external, declares_in, declares_in_specifiers, declares_in_parameters, declares_in_value, declares_in_declarations, declares_in_statements, declares_in_external, IsDefinition}
 use Rattle.dae_sizes.specs.Weights.{weight_in}
 use Rattle.dae_sizes.specs.Paid.{price}
@@ -41,7 +41,7 @@ use Rattle.dae_sizes.proofs.Steps.{count_name, base_within, node_keeps, maps_kee
 use Rattle.dae_sizes.proofs.Expressions.{own, inner, own_and_inner, own_is, declarator_within, specifiers_within}
 use Rattle.dae_sizes.proofs.Initialisers.{content_within, unused_initialiser_within}
 use Rattle.dae_sizes.proofs.Statements.{typedef_within, block_within}
-use Rattle.dae_sizes.proofs.ConstantStatements.{others_in, begun_initialises, block_constant}
+use Rattle.dae_sizes.proofs.ConstantStatements.{others_in, initialises, block_constant}
 use Rattle.dae_sizes.proofs.Leads.{leads_both, Come, Leads, leads_pure, leads_maps, leads_node, leads_chain, leads_settled, leads_within, leads_if, leads_after}
 
 -- ---- products
@@ -116,7 +116,7 @@ length-kept s v o n (x ∷ xs) =
     let l = layout_at s x.type_id in
     let at = rounded o l.align in
     let u = if nat_eq n 0 then v else suc v in
-    length_if (in_variable s x) (storage.Variable v) (storage.Frame at) (kept_from s (suc v) o (n - 1) xs) (kept_from s u (at + l.size) (n - 1) xs) (length xs) (length-kept s (suc v) o (n - 1) xs) (length-kept s u (at + l.size) (n - 1) xs)
+    length_if (in_variable s x) (storage.Variable v) (storage.Frame at) (kept_from s (suc v) o (n - 1) xs) (kept_from s u (min (at + l.size) most_frame) (n - 1) xs) (length xs) (length-kept s (suc v) o (n - 1) xs) (length-kept s u (min (at + l.size) most_frame) (n - 1) xs)
 
 -- a definition gives one body, or none
 abbrev Part : ℕ → List (List ℕ) → External → List PlannedBody → Type 0
@@ -229,21 +229,21 @@ module _ (c : ℕ) (low : c ≤ 1) (ls : List (List ℕ)) where
   settled_come n k m [] s e b l = record { literals = e; so = (let h = length-take n s.locals in omega (arith, h, l), let h = length-kept s 1 0 n s.locals in omega (arith, h, b)) }
   settled_come n k m (old ∷ rest) s e b l = record { literals = e; so = (let h = length-take n s.locals in omega (arith, h, l), let h = length-kept (keep_scope old s) 1 0 n s.locals in omega (arith, h, b)) }
 
-  made_part : (x : External) → IsDefinition x → (p : Place) (f : Option ℕ) (s : Tables) (y : program.Statements) → length s.locals ≤ declares_in_external x → length s.storages ≤ declares_in_external x → 8 + weight_in c y ≤ worth_of_external (price c ls) x → others_in y ≤ 0 →
-      Part c ls x (bodies_in (elim f [ None ↦ [] | Some g ↦ body_product p g s y ]))
-  made_part x is p None s y l k w z = tt
-  made_part x is p (Some g) s y l k w z = record { definition = is; place = p; tables = s; block = y; begun = refl; locals = l; storages = k; weight = w; constants = begun_initialises p s s.locals s.storages y z }
+  made_part : (x : External) → IsDefinition x → (f : Option ℕ) (s : Tables) (y : program.Statements) → length s.locals ≤ declares_in_external x → length s.storages ≤ declares_in_external x → 8 + weight_in c y ≤ worth_of_external (price c ls) x → others_in y ≤ 0 →
+      Part c ls x (bodies_in (elim f [ None ↦ [] | Some g ↦ body_product g s y ]))
+  made_part x is None s y l k w z = tt
+  made_part x is (Some g) s y l k w z = record { definition = is; locals = l; storages = k; weight = w; constants = initialises y z }
 
-  module _ {b w : ℕ} {m : Plan program.Statements} (x : External) (is : IsDefinition x) (p : Place) (f : Option ℕ) (block : Within ls (weight_in c) b w m) (constant : Within ls others_in b 0 m) (enough : 8 + w ≤ worth_of_external (price c ls) x) (n k most : ℕ) (first : k + b ≤ declares_in_external x) (again : most + b ≤ declares_in_external x) where
-    second_leads : Leads ls (λ s. Few most s × (length s.storages ≤ k + b)) (λ s r. Part c ls x (bodies_in r)) (second_time p f m)
+  module _ {b w : ℕ} {m : Plan program.Statements} (x : External) (is : IsDefinition x) (f : Option ℕ) (block : Within ls (weight_in c) b w m) (constant : Within ls others_in b 0 m) (enough : 8 + w ≤ worth_of_external (price c ls) x) (n k most : ℕ) (first : k + b ≤ declares_in_external x) (again : most + b ≤ declares_in_external x) where
+    second_leads : Leads ls (λ s. Few most s × (length s.storages ≤ k + b)) (λ s r. Part c ls x (bodies_in r)) (second_time f m)
     second_leads =
         leads_maps {Between = λ s y. (Few (most + b) s × (length s.storages ≤ k + b) × (weight_in c y ≤ w)) × (others_in y ≤ 0)}
         (leads_both {After = λ s y. Few (most + b) s × (length s.storages ≤ k + b) × (weight_in c y ≤ w)} {Also = λ s y. others_in y ≤ 0}
         (leads_within (in_body_within block) (λ s t y h g l. (let i = h.0 in omega (arith, i, g.locals), let i = h.1 in let j = ap length g.storages in omega (arith, i, j), l)))
         (leads_within (in_body_within constant) (λ s t y h g l. l)))
-        (λ s y e h. record { literals = e; so = made_part x is p f s y (let i = h.0 in let j = i.0 in omega (arith, j, again)) (let i = h.0 in let j = i.1 in omega (arith, j, first)) (let i = h.0 in let j = i.2 in omega (arith, j, enough)) h.1 })
+        (λ s y e h. record { literals = e; so = made_part x is f s y (let i = h.0 in let j = i.0 in omega (arith, j, again)) (let i = h.0 in let j = i.1 in omega (arith, j, first)) (let i = h.0 in let j = i.2 in omega (arith, j, enough)) h.1 })
 
-    twice_leads : Leads ls (λ s. Few k s × (n ≤ most)) (λ s r. Part c ls x (bodies_in r)) (twice p n f m)
+    twice_leads : Leads ls (λ s. Few k s × (n ≤ most)) (λ s r. Part c ls x (bodies_in r)) (twice n f m)
     twice_leads =
         leads_chain {Between = λ s olds. Few k s × (n ≤ most)} (leads_maps {Between = λ s u. Few k s × (n ≤ most)} (leads_pure (tt {0}) (λ s h. h)) (λ s u e h. record { literals = e; so = h }))
         (λ olds. leads_chain {Between = λ s u. Few (k + b) s × (n ≤ most)} (leads_within (first_within n block) (λ s t u h g l. (let i = h.0 in omega (arith, i, g.locals), h.1)))
@@ -257,7 +257,7 @@ module _ (c : ℕ) (low : c ≤ 1) (ls : List (List ℕ)) where
   body_leads x is p name ps ds ss t f k enough first again =
       leads_chain {Between = λ s u. Few k s × (count_parameters ps ≤ declares_in_parameters ps)} (named_leads k p ps)
       (λ u. leads_chain {Between = λ s u. Few k s × (count_parameters ps ≤ declares_in_parameters ps)} (leads_maps {Between = λ s u. Few k s × (count_parameters ps ≤ declares_in_parameters ps)} (leads_pure (tt {0}) (λ s h. h)) (λ s u e h. record { literals = e; so = h }))
-      (λ round. twice_leads x is p f (block_within c low ls round ds ss) (block_constant ls round ds ss) enough (count_parameters ps) k (declares_in_parameters ps) first again))
+      (λ round. twice_leads x is f (block_within c low ls round ds ss) (block_constant ls round ds ss) enough (count_parameters ps) k (declares_in_parameters ps) first again))
 
   second_at_within : (p : Place) {m : Plan (Option ℕ)} → Within ls none 0 0 m → Within ls none 0 0 (second_at p m)
   second_at_within p h = node_keeps h (λ s f. define_grown f s)

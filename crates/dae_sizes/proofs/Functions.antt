@@ -37,7 +37,7 @@ use Rattle.dae_sizes.specs.From.{AreFrom}
 use Rattle.dae_unit.specs.Parameters.{HasParameters}
 use Rattle.dae_sizes.specs.Small.{IsPlanned, HasFew, HasLittle, VariablesAreFew, CodeIsLittle}
 use Rattle.dae_sizes.proofs.From.{AreAlike, from_alike, alike_all}
-use Rattle.dae_sizes.proofs.Trees.{made_in, code_in, begun_made, begun_code, slots_made, slots_code}
+use Rattle.dae_sizes.proofs.Trees.{made_in, code_in, slots_made, slots_code}
 
 -- ---- types by tables that have the same shapes
 
@@ -144,23 +144,21 @@ within t file d f es er b h =
 
 few : (pay : TokensPay) (ls : List (List ℕ)) (t : Tables) (x : External) (d : PlannedBody) (f : TypedFunction) → IsPaidBy 0 ls x d → IsBodyOf t d f → AreWithin t d f → HasFew x f.variables f.parameters (view_statements f.body)
 few pay ls t x d f p b w =
-    let body = ap most_made_in (b.body ∙ p.begun) in
-    let begun = begun_made p.place p.tables d.locals d.storages p.block in
-    let block = made_in p.block in
+    let body = ap most_made_in b.body in
+    let block = made_in d.statements in
     let slots = slots_made f.parameters in
     let paid = pay (price 0 ls) x in
     let free = nothing_priced ls (literal_numbers (spell_external x [])) in
-    (p.definition, omega (arith, body, begun, block, slots, paid, free, p.locals, p.storages, p.weight, w.locals, w.variables))
+    (p.definition, omega (arith, body, block, slots, paid, free, p.locals, p.storages, p.weight, w.locals, w.variables))
 
 little : (pay : TokensPay) (ls : List (List ℕ)) (t : Tables) (x : External) (d : PlannedBody) (f : TypedFunction) → IsPaidBy 1 ls x d → IsBodyOf t d f → AreWithin t d f → HasLittle ls x f.parameters (view_statements f.body)
 little pay ls t x d f p b w =
-    let body = ap most_code_in (b.body ∙ p.begun) in
-    let begun = begun_code p.place p.tables d.locals d.storages p.block in
-    let block = code_in p.block in
+    let body = ap most_code_in b.body in
+    let block = code_in d.statements in
     let slots = slots_code f.parameters in
     let paid = pay (price 1 ls) x in
     let cost = twice_priced ls (literal_numbers (spell_external x [])) in
-    omega (arith, body, begun, block, slots, paid, cost, p.locals, p.weight, w.locals)
+    omega (arith, body, block, slots, paid, cost, p.locals, p.weight, w.locals)
 
 some_same : {X : Type 0} (d : X) (x y : X) → Some x ≡ Some y → x ≡ y
 some_same d x y e = ap (λ o. elim o [ None ↦ d | Some z ↦ z ]) e

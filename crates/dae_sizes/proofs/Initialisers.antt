@@ -1,5 +1,5 @@
 -- What is set by an initialiser weighs no more than its tokens and literals pay: by induction over its plan.
-use Rattle.std.proofs.Common.{◌≡◌, ℕ, suc, ◌+◌, ◌≤◌, Bool, true, false, List, [], ◌∷◌, ◌++◌, Option, Some, None, if◌then◌else◌, refl, ap, ◌∙◌, arith}
+use Rattle.std.proofs.Common.{◌≡◌, ℕ, ◌+◌, ◌≤◌, Bool, true, false, List, [], ◌∷◌, ◌++◌, Option, Some, None, if◌then◌else◌, refl, ap, ◌∙◌, arith}
 use Rattle.std.specs.Prelude.{slice_get, ◌&&◌, ◌||◌}
 use Rattle.dae_base.specs.declared.Place.{Place}
 use Rattle.dae_base.specs.declared.LoadKind.{LoadKind}
@@ -13,12 +13,12 @@ use Rattle.dae_types_kinds.specs.declared.values.Known.{Known}
 use Rattle.dae_types_kinds.specs.declared.values.Known.TheVariants as known
 use Rattle.dae_types_kinds.specs.Tables.{Tables, with_shape}
 use Rattle.dae_types_kinds.specs.Types.{shape_of, int_id, is_scalar}
-use Rattle.dae_types_kinds.specs.Values.{Typed, number, load_kind, known_as}
+use Rattle.dae_types_kinds.specs.Values.{Typed, number, load_kind, known_as, constant_tree}
 use Rattle.dae_types_rules.specs.Plan.{Plan}
 use Rattle.dae_types_plans.specs.Expressions.{plan_value}
-use Rattle.dae_types_file_plans.specs.Initialisers.{Once, Slot, Filling, Landing, Opening, Content, over, literal_in, has_literal, landed_in, lowered, next_slot, literal_bytes, constant_tree, setting, byte_settings, item_by, item_in, item_at, value_item, is_one_literal, is_text_array, parts_of, open_with, opens, list_at, plan_initialiser, plan_initialisers, empty_filling, plan_unused_initialiser, whole_by, is_value_for, filled_type, plan_content}
+use Rattle.dae_types_file_plans.specs.Initialisers.{Once, Slot, Filling, Landing, Opening, Content, over, literal_in, has_literal, landed_in, lowered, next_slot, literal_bytes, byte_settings, item_by, item_in, item_at, value_item, is_one_literal, is_text_array, parts_of, open_with, opens, list_at, plan_initialiser, plan_initialisers, empty_filling, plan_unused_initialiser, whole_by, is_value_for, filled_type, plan_content, constant_settings, behind_bytes}
 use Rattle.dae_sizes.specs.Worth.{worth, worth_of_initialiser, worth_of_initialisers, declares, declares_in_initialiser, declares_in_initialisers}
-use Rattle.dae_sizes.specs.Weights.{weight, weight_of_items}
+use Rattle.dae_sizes.specs.Weights.{weight_of_items}
 use Rattle.dae_sizes.specs.Paid.{bytes_or_none, for_each, price}
 use Rattle.dae_sizes.specs.Paid as paid
 use Rattle.dae_sizes.proofs.Within.{Grown, Within, none, same, stays, fewer, lighter, unmeasured, pure_within, node_reads, maps_reads, maps_stays, asks_within, chain_within, nothing_within, looks_within}
@@ -49,15 +49,17 @@ pub items-append : (c : ℕ) (xs ys : List program.Setting) → weight_of_items 
 items-append c [] ys = omega arith
 items-append c (x ∷ xs) ys = let h = items-append c xs ys in omega (arith, h)
 
-constant_weighs : (c : ℕ) (k : Known) → weight c (constant_tree k) ≡ c
-constant_weighs c (known.Number w) = refl
-constant_weighs c (known.Address (Some o) k) = refl
-constant_weighs c (known.Address None w) = refl
-constant_weighs c k = refl
+constant_weighs : (c o : ℕ) (t : Shape) (k : Known) → weight_of_items c (constant_settings o t (constant_tree k)) ≤ c + c
+constant_weighs c o t (known.Number w) = omega arith
+constant_weighs c o t (known.Address (Some n) k) = omega arith
+constant_weighs c o t (known.Address None w) = omega arith
+constant_weighs c o t known.NullPointer = omega arith
+constant_weighs c o t known.Division = omega arith
+constant_weighs c o t known.Nothing = omega arith
 
 bytes_weigh : (c o : ℕ) (k : LoadKind) (bs : List ℕ) → weight_of_items c (byte_settings o k bs) ≡ for_each c bs + for_each c bs
 bytes_weigh c o k [] = refl
-bytes_weigh c o k (b ∷ bs) = let h = bytes_weigh c (suc o) k bs in omega (arith, h)
+bytes_weigh c o k (b ∷ bs) = let h = bytes_weigh c (behind_bytes o 1) k bs in omega (arith, h)
 
 abbrev pub filled : ℕ → Filling → ℕ
 filled c f = weight_of_items c f.items
@@ -85,10 +87,10 @@ opens_weighs c s f js (Some z) =
     let t = shape_of s z.type_id in
     opens_if (is_scalar t || (is_text_array s t && is_one_literal js)) c (filled c f) (open_with f (Once z.offset z.type_id ∷ []) true z.rest) (open_with f (parts_of z.offset z.type_id t ∷ []) false z.rest) (omega arith) (omega arith)
 
-scalar_weighs : (c : ℕ) (f : Filling) (z : Slot) (t u : Shape) (x : Typed) → weight_of_items c (f.items ++ (setting z.offset t (constant_tree (known_as u t x.known)) ∷ [])) ≤ (c + c) + filled c f
+scalar_weighs : (c : ℕ) (f : Filling) (z : Slot) (t u : Shape) (x : Typed) → weight_of_items c (f.items ++ constant_settings z.offset t (constant_tree (known_as u t x.known))) ≤ (c + c) + filled c f
 scalar_weighs c f z t u x =
-    let h = items-append c f.items (setting z.offset t (constant_tree (known_as u t x.known)) ∷ []) in
-    let k = constant_weighs c (known_as u t x.known) in omega (arith, h, k)
+    let h = items-append c f.items (constant_settings z.offset t (constant_tree (known_as u t x.known))) in
+    let k = constant_weighs c z.offset t (known_as u t x.known) in omega (arith, h, k)
 
 module _ (c : ℕ) (low : c ≤ 1) (ls : List (List ℕ)) where
   -- an item for a scalar, or the bytes of a literal

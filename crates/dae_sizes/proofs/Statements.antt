@@ -20,7 +20,7 @@ use Rattle.dae_types_rules.specs.Plan.{Plan}
 use Rattle.dae_types_plans.specs.Steps.{declared_place}
 use Rattle.dae_types_file_plans.specs.declared.surroundings.Surrounding.{Surrounding}
 use Rattle.dae_types_file_plans.specs.Initialisers.{Content}
-use Rattle.dae_types_file_plans.specs.Statements.{behind_all, appended, with_typedef, typedef_at, local_at, type_of_local, storage_target, offset_of_local, set_to, with_zero, names_stored, taken_or_not, zero_or_not, scalar_value_at, plan_scalar, plan_first_scalar, with_type, initialised_at, plan_given, plan_local, plan_item_at, plan_items, is_alone, plan_declaration, plan_declarations, in_loop, in_switch, returned, nothing_returned, as_result, plan_return, is_printf_name, callee_name, arguments_of, plan_evaluation, plan_evaluate, Armed, arms_of, is_done, with_label, with_statement, Arming, case_at, default_at, label_at, plan_optional, plan_condition, plan_test, started, starting_place, plan_statement, plan_statements, plan_body, plan_arms, plan_labelled, plan_block}
+use Rattle.dae_types_file_plans.specs.Statements.{behind_all, appended, with_typedef, typedef_at, local_at, type_of_local, storage_target, offset_of_local, set_to, own_set, names_stored, taken_or_not, scalar_value_at, plan_scalar, plan_first_scalar, with_type, initialised_at, plan_given, plan_local, plan_item_at, plan_items, is_alone, plan_declaration, plan_declarations, in_loop, in_switch, returned, nothing_returned, as_result, plan_return, is_printf_name, callee_name, arguments_of, plan_evaluation, plan_evaluate, Armed, arms_of, is_done, with_label, with_statement, Arming, case_at, default_at, label_at, plan_optional, plan_condition, plan_test, started, starting_place, plan_statement, plan_statements, plan_body, plan_arms, plan_labelled, plan_block}
 use Rattle.dae_sizes.specs.Worth.{worth, worth_of_initialiser, worth_of_initialisers, worth_of_value, worth_of_items, worth_of_declarations, worth_of_optional, worth_of_statement, worth_of_statements, declares, declares_in, declares_in_specifiers, declares_in_initialiser, declares_in_initialisers, declares_in_value, declares_in_items, declares_in_declarations, declares_in_optional, declares_in_statement, declares_in_statements}
 use Rattle.dae_sizes.specs.Weights.{weight, weight_of_target, weight_of_some, weight_in, weight_in_arms}
 use Rattle.dae_sizes.specs.Paid.{price}
@@ -84,12 +84,8 @@ typedef_grown : (n : Option Name) (t : ℕ) (s : Tables) → Grown 0 s (with_typ
 typedef_grown None t s = stays 0
 typedef_grown (Some n) t s = same 0 s (with_typedef (Some n) t s) refl refl refl
 
-pub zero_grown : (k : ℕ) (b : Bool) (s : Tables) → Grown 0 s (with_zero k b s)
-zero_grown k false s = stays 0
-zero_grown k true s = set_local_grown k (record { type_id = type_of_local s k; taken = taken_or_not (slice_get s.locals k); begins_zero = true }) s
-
 pub type_grown : (k t : ℕ) (s : Tables) → Grown 0 s (with_type k t s)
-type_grown k t s = set_local_grown k (record { type_id = t; taken = taken_or_not (slice_get s.locals k); begins_zero = zero_or_not (slice_get s.locals k) }) s
+type_grown k t s = set_local_grown k (record { type_id = t; taken = taken_or_not (slice_get s.locals k) }) s
 
 -- a statement with one more
 abbrev pub statement_cost : ℕ → program.Statements → ℕ
@@ -107,20 +103,28 @@ module _ (c : ℕ) (low : c ≤ 1) (ls : List (List ℕ)) where
   pub local_within : {n w : ℕ} {μ : NamedType → ℕ} {m : Plan NamedType} (p : Place) (given : Bool) (name : Option Name) → Within ls μ n w m → Within ls none (n + count_name name) 0 (local_at p given name m)
   local_within p given name h = settles_within name (node_within h (λ s x e l. record { grown = local_grown name x.type_id s; small = omega arith }))
 
-  scalar_value_within : {n w : ℕ} {m : Plan Typed} (p q : Place) (k : ℕ) → Within ls (cost c 2) n w m → Within ls (weight_in c) n (2 + w) (scalar_value_at p q k m)
+  own_weighs : (b : Bool) (p : Place) (s : Tables) (k : ℕ) (e : program.Expression) → names_stored (slice_get s.storages k) e ≡ b → weight_in c (own_set b p s k e) ≤ 5 + weight c e
+  own_weighs false p s k e h = let g = set_weighs c p s k e in omega (arith, g)
+  own_weighs true p s k e h = let g = stored_free (slice_get s.storages k) h in omega (arith, low, g) where
+    stored_free : (o : Option Storage) → names_stored o e ≡ true → weight_of_target c (storage_target o p) ≡ 0
+    stored_free (Some (storage.Variable v)) h = refl
+    stored_free (Some (storage.Frame v)) h = cc
+    stored_free None h = cc
+
+  scalar_value_within : {n w : ℕ} {m : Plan Typed} (p q : Place) (k : ℕ) → Within ls (cost c 2) n w m → Within ls (weight_in c) n (4 + w) (scalar_value_at p q k m)
   scalar_value_within p q k h = node_stays h (λ s x e l. record {
-    grown = zero_grown k (names_stored (slice_get s.storages k) (converted q s x (type_of_local s k)).tree) s;
+    grown = stays 0;
     small =
         let g = converted_weighs c low q s x (type_of_local s k) in
-        let j = set_weighs c p s k (converted q s x (type_of_local s k)).tree in omega (arith, l, g, j);
+        let j = own_weighs (names_stored (slice_get s.storages k) (converted q s x (type_of_local s k)).tree) p s k (converted q s x (type_of_local s k)).tree refl in omega (arith, l, g, j);
   })
 
   mutual
-    scalar_within : (p : Place) (k : ℕ) (x : Initialiser) → Within ls (weight_in c) (declares_in_initialiser x) (2 + worth_of_initialiser (price c ls) x) (plan_scalar p k x)
+    scalar_within : (p : Place) (k : ℕ) (x : Initialiser) → Within ls (weight_in c) (declares_in_initialiser x) (4 + worth_of_initialiser (price c ls) x) (plan_scalar p k x)
     scalar_within p k (tree.Value e) = scalar_value_within p (place_of e) k (value_of_within c low ls e)
     scalar_within p k (tree.Listed q js comma) = weaker (omega arith) (omega arith) (chain_within (node_keeps nothing_within (λ s x. stays 0)) (λ x l. first_scalar_within p k js))
 
-    first_scalar_within : (p : Place) (k : ℕ) (xs : tree.Initialisers) → Within ls (weight_in c) (declares_in_initialisers xs) (2 + worth_of_initialisers (price c ls) xs) (plan_first_scalar p k xs)
+    first_scalar_within : (p : Place) (k : ℕ) (xs : tree.Initialisers) → Within ls (weight_in c) (declares_in_initialisers xs) (4 + worth_of_initialisers (price c ls) xs) (plan_first_scalar p k xs)
     first_scalar_within p k tree.no_initialisers = pure_within program.Done (omega arith)
     first_scalar_within p k (tree.initialiser_then x xs) = weaker (omega arith) (omega arith) (scalar_within p k x)
 

@@ -81,7 +81,7 @@ module _ {ls : List (List ℕ)} where
   word_within p k b w = node_keeps nothing_within (λ s x. stays 0)
 
   pub type_name_within : (n : Name) → Within ls none 0 0 (type_name_at n)
-  type_name_within n = unless_within (OfName n.number) (maps_keeps nothing_within (λ s x. stays 0))
+  type_name_within n = unless_within (OfName n.number) (node_keeps nothing_within (λ s x. stays 0))
 
   pub tag_within : (alone : Bool) (n : Name) → Within ls none 0 0 (tag_at alone n)
   tag_within alone n = unless_within (OfTag n.number) (node_keeps nothing_within (λ s x. mentioned_grown n.number (tag_in alone s n.number) s))
@@ -147,7 +147,7 @@ named x = count_name x.name
 
 pub local_grown : (n : Option Name) (t : ℕ) (s : Tables) → Grown (count_name n) s (with_named_local n t s)
 local_grown None t s = stays 0
-local_grown (Some n) t s = record { literals = refl; locals = let h = length-append s.locals (record { type_id = t; taken = false; begins_zero = false } ∷ []) in omega (arith, h); storages = refl }
+local_grown (Some n) t s = record { literals = refl; locals = let h = length-append s.locals (record { type_id = t; taken = false } ∷ []) in omega (arith, h); storages = refl }
 
 with_parameter_grown : (list : ℕ) (x : NamedType) (s : Tables) → Grown (named x) s (with_parameter list x s).0
 with_parameter_grown list x s =

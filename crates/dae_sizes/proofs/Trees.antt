@@ -1,19 +1,10 @@
 -- What lowering makes of a typed tree is no more than the tree weighs.
-use Rattle.std.proofs.Common.{◌+◌, ◌*◌, ◌≤◌, Bool, true, false, List, [], ◌∷◌, length, Option, Some, None, if◌then◌else◌, arith}
-use Rattle.dae_base.specs.declared.Place.{Place}
+use Rattle.std.proofs.Common.{◌*◌, ◌≤◌, List, [], ◌∷◌, length, Option, Some, None, arith}
 use Rattle.dae_program.specs.Trees as tree
 use Rattle.dae_program.specs.Trees.{Expression, Target, Expressions, Setting, Statements, Arms}
 use Rattle.dae_program.specs.declared.statements.Piece.{Piece}
 use Rattle.dae_program.specs.declared.statements.Piece.TheVariants as piece
 use Rattle.dae_program.specs.declared.program.Slot.{Slot}
-use Rattle.dae_types_kinds.specs.declared.tables.Local.{Local}
-use Rattle.dae_types_kinds.specs.declared.tables.Storage.{Storage}
-use Rattle.dae_types_kinds.specs.declared.tables.Storage.TheVariants as storage
-use Rattle.dae_types_kinds.specs.Tables.{Tables}
-use Rattle.dae_types_kinds.specs.Types.{shape_of}
-use Rattle.dae_types_kinds.specs.Values.{load_kind}
-use Rattle.dae_types_file_plans.specs.Statements.{storage_target}
-use Rattle.dae_types_file_plans.specs.Files.{zero_if, begun_with}
 use Rattle.dae_lower_formed.specs.Sizes.{most_made, most_made_for, most_made_of_all, most_made_of_some, most_made_of_items, most_made_of_pieces, most_made_in, most_made_in_arms, most_made_of_slots}
 use Rattle.dae_sizes.specs.Weights.{weight, weight_of_target, weight_of_all, weight_of_some, weight_of_items, weight_of_pieces, weight_in, weight_in_arms}
 use Rattle.dae_lower_formed.specs.Code.{most_code, most_code_for, most_code_of_all, most_code_of_some, most_code_of_items, most_code_of_pieces, most_code_in, most_code_in_arms, most_code_of_slots}
@@ -147,32 +138,6 @@ mutual
   code_arms : (arms : Arms) → most_code_in_arms arms ≤ 4 * weight_in_arms 1 arms
   code_arms tree.no_arms = omega arith
   code_arms (tree.arm_then labels t rest) = let h = code_in t in let g = code_arms rest in omega (arith, h, g)
-
--- ---- locals that begin as 0
-
-zero_made : (p : Place) (s : Tables) (x : Local) (y : Storage) (body : Statements) → most_made_in (zero_if p s x y body) ≤ 1 + most_made_in body
-zero_made p s x y body = by x.begins_zero y where
-  by : (b : Bool) (y : Storage) → most_made_in (if b then tree.Evaluate p (tree.Assign p (load_kind (shape_of s x.type_id)) (storage_target (Some y) p) (tree.Number 0)) body else body) ≤ 1 + most_made_in body
-  by true (storage.Variable n) = omega arith
-  by true (storage.Frame o) = omega arith
-  by false y = omega arith
-
-pub begun_made : (p : Place) (s : Tables) (xs : List Local) (ys : List Storage) (body : Statements) → most_made_in (begun_with p s xs ys body) ≤ length xs + most_made_in body
-begun_made p s [] ys body = omega arith
-begun_made p s (x ∷ xs) [] body = omega arith
-begun_made p s (x ∷ xs) (y ∷ ys) body = let h = begun_made p s xs ys body in let g = zero_made p s x y (begun_with p s xs ys body) in omega (arith, h, g)
-
-zero_code : (p : Place) (s : Tables) (x : Local) (y : Storage) (body : Statements) → most_code_in (zero_if p s x y body) ≤ 6 + most_code_in body
-zero_code p s x y body = by x.begins_zero y where
-  by : (b : Bool) (y : Storage) → most_code_in (if b then tree.Evaluate p (tree.Assign p (load_kind (shape_of s x.type_id)) (storage_target (Some y) p) (tree.Number 0)) body else body) ≤ 6 + most_code_in body
-  by true (storage.Variable n) = omega arith
-  by true (storage.Frame o) = omega arith
-  by false y = omega arith
-
-pub begun_code : (p : Place) (s : Tables) (xs : List Local) (ys : List Storage) (body : Statements) → most_code_in (begun_with p s xs ys body) ≤ 6 * length xs + most_code_in body
-begun_code p s [] ys body = omega arith
-begun_code p s (x ∷ xs) [] body = omega arith
-begun_code p s (x ∷ xs) (y ∷ ys) body = let h = begun_code p s xs ys body in let g = zero_code p s x y (begun_with p s xs ys body) in omega (arith, h, g)
 
 -- ---- parameters
 

@@ -1,13 +1,12 @@
 -- The bodies of functions that the plan of a file gives, and the definitions that pay for them.
 use Rattle.std.specs.Prelude.{◌≡◌, ◌⊎◌, ℕ, ◌+◌, ◌≤◌, List, [], ◌∷◌, length, Ok}
-use Rattle.dae_base.specs.declared.Place.{Place}
 use Rattle.dae_tree.specs.Trees.{External}
 use Rattle.dae_program.specs.Trees.{Statements}
 use Rattle.dae_types_kinds.specs.declared.tables.Local.{Local}
 use Rattle.dae_types_kinds.specs.declared.tables.Storage.{Storage}
 use Rattle.dae_types_kinds.specs.Tables.{Tables}
 use Rattle.dae_types_rules.specs.Plan.{check_of}
-use Rattle.dae_types_file_plans.specs.Files.{Product, Declares, Data, Body, begun_with, plan_file}
+use Rattle.dae_types_file_plans.specs.Files.{Product, Declares, Data, Body, plan_file}
 use Rattle.dae_lower_bounds.specs.Constants.{InitialisesConstants}
 use Rattle.dae_sizes.specs.Worth.{worth_of_external, declares_in_external, IsDefinition}
 use Rattle.dae_sizes.specs.Weights.{weight_in}
@@ -26,17 +25,13 @@ bodies_in (Declares d ∷ xs) = bodies_in xs
 bodies_in (Data o items ∷ xs) = bodies_in xs
 bodies_in (Body f locals storages body ∷ xs) = record { routine = f; locals = locals; storages = storages; statements = body } ∷ bodies_in xs
 
--- A definition has at least as many declared names as there are parameters and locals. What its block comes to, before locals
--- that begin as 0 are set, weighs at least 8 less than it pays. Aggregates get constants alone.
+-- A definition has at least as many declared names as there are parameters and locals. What its block comes to weighs at least 8
+-- less than it pays. Aggregates get constants alone.
 pub record IsPaidBy (c : ℕ) (literals : List (List ℕ)) (x : External) (f : PlannedBody) : Type 0 where
   pub definition : IsDefinition x
-  pub place : Place
-  pub tables : Tables
-  pub block : Statements
-  pub begun : f.statements ≡ begun_with place tables f.locals f.storages block
   pub locals : length f.locals ≤ declares_in_external x
   pub storages : length f.storages ≤ declares_in_external x
-  pub weight : 8 + weight_in c block ≤ worth_of_external (price c literals) x
+  pub weight : 8 + weight_in c f.statements ≤ worth_of_external (price c literals) x
   pub constants : InitialisesConstants f.statements
 
 -- bodies come from definitions, at most one from each, in their order

@@ -1,0 +1,17 @@
+pub mod Words
+pub mod Facts
+pub mod Meaning
+pub mod Slices
+pub mod Renaming
+pub mod NoSecond
+pub mod Exact
+pub mod Scopes
+pub mod Small
+pub mod Forms
+pub mod Sets
+pub mod Lists
+pub mod Onto
+pub mod Turns
+pub mod Marks
+pub mod Numbered
+pub mod Whole

@@ -1,0 +1,20 @@
+use Rattle.std.proofs.Common.{List, Option, ℕ, Bool, subst}
+use Rattle.dae_ir.specs.declared.form.Statement.{Statement}
+use Rattle.dae_alias.specs.Turning.{holders_of, IsTurned}
+use Rattle.dae_alias.specs.Marking.{AreRepeated}
+use Rattle.dae_alias.specs.Tables.{IsTable}
+use Rattle.dae_alias.proofs.Whole.{reused_function}
+use Rattle.dae_alias.proofs.reusing.reuse_in_function.Goals as goal
+
+pub returns : goal.returns
+returns c =
+    let f = c.args.function in
+    let marks : List Bool = c.in_ok-marks.marks.items in
+    let table = c.in_ok-table.table in
+    let part = c.in_ok-part.part in
+    reused_function f marks table part c.from_vec.result
+    (subst (λ (xs : List Statement). AreRepeated xs marks) c.as_slice.ensures c.in_ok-marks.ensures)
+    (subst (λ (xs : List Bool). IsTable xs f.variables table) c.deref.ensures.value c.in_ok-table.ensures)
+    (subst (λ (xs : List Statement). IsTurned (holders_of table.holders.items) xs 0 part) c.as_slice-2.ensures
+    (subst (λ (xs : List (Option ℕ)). IsTurned (holders_of xs) c.as_slice-2.result.now 0 part) c.deref-2.ensures.value c.in_ok-part.ensures))
+    c.from_vec.ensures

@@ -1,0 +1,15 @@
+use Rattle.std.proofs.Common.{true, false, ap, ◌∙◌, arith}
+use Rattle.dae_alias.proofs.Numbered.{numbered_next}
+use Rattle.dae_alias.proofs.tables.number_marked.Goals as goal
+use Rattle.dae_alias.proofs.tables.number_marked.Goals.{then-mark+in_ok-push+in_ok-variables, else-mark+in_ok-push-2}
+
+pub loop-mark-preserved : goal.loop-mark-preserved
+loop-mark-preserved c =
+    elim c.if-mark.branch [
+      | then-mark+in_ok-push+in_ok-variables w ↦
+          numbered_next c.args.first c.args.marks.now c.loop-mark.mark-index _ true c.loop-mark.holders.items c.if-mark.holders.items c.loop-mark.variables c.if-mark.variables
+          c.loop-mark-test.true w.if-mark.true c.loop-mark.invariant (ap (λ v. v.items) w.holders-is ∙ w.in_ok-push.ensures.items) (w.variables-is ∙ w.in_ok-variables.ensures)
+      | else-mark+in_ok-push-2 w ↦
+          numbered_next c.args.first c.args.marks.now c.loop-mark.mark-index _ false c.loop-mark.holders.items c.if-mark.holders.items c.loop-mark.variables c.if-mark.variables
+          c.loop-mark-test.true w.if-mark.false c.loop-mark.invariant (ap (λ v. v.items) w.holders-is ∙ w.in_ok-push-2.ensures.items) (let e = w.variables-is in omega (arith, e))
+    ]

@@ -1,0 +1,10 @@
+pub mod Addresses
+pub mod Stretches
+pub mod Reuse
+pub mod Laws
+pub mod Forms
+pub mod Listed
+pub mod Meeting
+pub mod Turning
+pub mod Marking
+pub mod Tables
