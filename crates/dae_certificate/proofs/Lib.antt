@@ -1,0 +1,6 @@
+mod Parts
+mod Spellings
+mod Texts
+mod Making
+mod Once
+pub mod LawsOfTexts

@@ -1,0 +1,14 @@
+// The walk of the guard, over nodes as the code keeps them, and what it says of a pair of codes: that no run is stuck,
+// whatever common memory holds, or the first rule of certificates that is broken.
+#![tactic(auto)]
+
+pub use guarding::{GuardAnswer, guard};
+
+mod guarding;
+mod instructions;
+mod kinds;
+mod queues;
+mod results;
+mod sides;
+mod slots;
+mod walking;

@@ -1,0 +1,6 @@
+mod Members
+mod Multiples
+mod Closed
+mod Signed
+mod Turned
+pub mod Laws
