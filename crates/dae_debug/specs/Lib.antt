@@ -1,0 +1,4 @@
+pub mod Breaks
+pub mod Texts
+pub mod Sessions
+pub mod Scripts

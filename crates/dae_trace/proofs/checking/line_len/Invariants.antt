@@ -1,0 +1,6 @@
+-- No byte before this one is a line feed.
+use Rattle.std.proofs.Common.{◌≢◌, ℕ, ◌<◌, get_or}
+use Rattle.dae_trace.proofs.checking.line_len.Given as goal
+
+abbrev pub invariant-loop-at : goal.invariant-loop-at
+invariant-loop-at l = (k : ℕ) → k < l.at → get_or l.bytes k 0 ≢ 10
