@@ -1,0 +1,4 @@
+mod Split
+mod Places
+mod Numbered
+mod Walked

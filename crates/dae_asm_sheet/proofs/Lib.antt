@@ -1,0 +1,3 @@
+mod Collected
+mod Cut
+pub mod Laws

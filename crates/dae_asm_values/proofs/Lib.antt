@@ -1,0 +1,7 @@
+mod Seven
+mod Resolved
+mod Walked
+mod Sayings
+mod Formed
+mod Sizes
+pub mod Laws
