@@ -14,7 +14,7 @@ use Rattle.dae_select_walks.specs.Walks.{Setting, Comes}
 use Rattle.dae_select_walks.specs.Live.{live, nowhere}
 use Rattle.dae_select_walks.specs.Multiples.{AreMultiples, unknown}
 use Rattle.dae_select_walks.specs.Agrees.{Plan, Moment, Waiting as Waiting', IsWithin}
-use Rattle.dae_select_walks.specs.Compiled.{Exit, Exits, exits, with_result, IsAnswered, Lands, At as At', CodeDone, Turns}
+use Rattle.dae_select_walks.specs.Compiled.{Exit, Exits, exits, with_result, IsAnswered, Lands, At as At', CodeDone, GoesBack, begins_told}
 use Rattle.dae_link_faithful.specs.Made.{IsFit, AnyBranch, IsTight, IsClosed, setting_of}
 
 -- the same of a list with what comes behind it
@@ -72,8 +72,9 @@ module _ (setup : Setup) (plan : Plan) (p : Program) (body : ℕ → Actions) (m
   abbrev pub CodeAt : ℕ → Actions → Exit → Exits → Type 0
   CodeAt f code here x = CodeWith f unknown code here x
 
-  abbrev pub TurnsAt : ℕ → Exit → Exit → Type 0
-  TurnsAt f x y = Turns s plan p entries most widest f x y
+  -- the way back to a body
+  abbrev pub BackAt : ℕ → Actions → Exit → Exit → Type 0
+  BackAt f x end begin = GoesBack s plan p entries most widest f (begins_told x) end begin
 
   abbrev pub FitsCode : ℕ → Actions → Type 0
   FitsCode f code = Each (IsFit functions answered f) AnyBranch code
@@ -87,7 +88,7 @@ module _ (setup : Setup) (plan : Plan) (p : Program) (body : ℕ → Actions) (m
   pub record LoopDone (f : ℕ) (x y k : Actions) (l : Around) (z : Exits) : Type 0 where
     pub in_body : CodeAt f x l.begin (body_exits l)
     pub in_step : CodeAt f y l.again (step_exits l)
-    pub back : TurnsAt f l.end l.begin
+    pub back : BackAt f x l.end l.begin
     pub rest : CodeAt f k l.next z
 
   -- what comes behind a list is done from where the list goes on

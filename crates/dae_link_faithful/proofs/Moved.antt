@@ -23,7 +23,7 @@ use Rattle.dae_ir.specs.declared.stream.Branch.TheVariants.{Silent, Tells, Hears
 use Rattle.dae_machine.specs.Uses.{Use, Pushes}
 use Rattle.dae_machine.specs.Uses.{Takes}
 use Rattle.dae_machine_rounds.specs.Follows.{IsFit as IsFitUse, Outcome, Leaves, Quits, Follows, went, takes, pushes, reserves, sends, says, halts}
-use Rattle.dae_machine_rounds.specs.Spots.{Behind, Ends, After, Body, Turn, Point, point, left, skipped, Spot, spot, Waiting, waits, put_some, resumed, given, with_result, weight, Came, came, Moves, acts, goes_behind, ends_body, ends_step, breaks, continues, branches, tells, hears, enters, calls_it, returns, goes_back}
+use Rattle.dae_machine_rounds.specs.Spots.{turn_least, Behind, Ends, After, Body, Turn, Point, point, left, skipped, Spot, spot, Waiting, waits, put_some, resumed, given, with_result, weight, Came, came, Moves, acts, goes_behind, ends_body, ends_step, breaks, continues, branches, tells, hears, enters, calls_it, returns, goes_back}
 use Rattle.dae_machine_rounds.specs.Sides.{Walked, Agrees, Implements}
 use Rattle.dae_select_walks.specs.Walks.{Comes}
 use Rattle.dae_select_walks.specs.Does.{Does}
@@ -33,10 +33,10 @@ use Rattle.dae_select_walks.proofs.LawsOfWalks.{deed_multiples}
 use Rattle.dae_select_walks.specs.Agrees.{Plan, Moment, Waiting as Waiting', IsWithin, top_of}
 use Rattle.dae_select_walks.specs.declared.Standing.{Standing}
 use Rattle.dae_select_walks.specs.declared.Standing.TheVariants.{Settled, Early, Late}
-use Rattle.dae_select_walks.specs.Compiled.{HoldsAt, Exit, Exits, exit, exits, with_env, with_result as with_result', result_of, given as given', waiting_of, called, IsAnswered, Lands, IsWorldOf}
+use Rattle.dae_select_walks.specs.Compiled.{HoldsAt, Exit, Exits, exit, exits, with_env, GoesBack, begins_told, with_result as with_result', result_of, given as given', waiting_of, called, IsAnswered, Lands, IsWorldOf}
 use Rattle.dae_select_blocks.specs.Wanted.{IsPlanOf}
 use Rattle.dae_link_faithful.specs.Made.{IsTight, IsClosed, AreWhole}
-use Rattle.dae_link_faithful.proofs.Walked.{Walks_to, Ended, comes_walks, nears_walks, here_walks, walks_more, just_comes, use_walks, acts_walks, does_walks}
+use Rattle.dae_link_faithful.proofs.Walked.{Walks_to, Ended, comes_walks, nears_walks, here_walks, walks_more, just_comes, use_walks, acts_walks, used_walks, does_walks}
 use Rattle.dae_link_faithful.proofs.Agree.{Around, body_exits, step_exits, TightAt, ClosedAt, s, entries, GoesOn, CodeAt, FitsCode, FitsBehind, LoopDone, BehindDone, moment, StandsAt, AreCalls, HasReturned, Landed, At}
 use Rattle.dae_link_faithful.proofs.Ways.{tight_map, closed_map, agrees_at, Leads_to, left_leads, skipped_leads}
 
@@ -230,7 +230,7 @@ module _ (setup : Setup) (plan : Plan) (p : Program) (body : ℕ → Actions) (n
       let ck = closed_map (If m (Silent t) x y k) k b (λ u. u) h.placed.closed in
       just_comes setup plan.by_a (d.3 M q h.stands) (λ r g. chosen x y k b env calls w h.waiting d.0 d.1 d.2 z (holds t env) r d.4 d.5 d.6 h.placed.next fits.1 fits.2 fits.3 h.placed.fits_next tx ty tk ck h.top h.depth h.calls g) (omega arith)
 
-  tells_moved : (q : Processor) {m : Mark} {t : Test} {x y k : Actions} {b : Behind} {env : Env} {calls : List Waiting} (w : World) → S (spot (point (If m (Tells t) x y k) b) env w calls) q → To 0 n q (Pushes (told_on plan.by_a) (if holds t env then 1 else 0) ∷ []) (A (spot (point (if holds t env then x else y) (After k b)) env w calls))
+  tells_moved : (q : Processor) {m : Mark} {t : Test} {x y k : Actions} {b : Behind} {env : Env} {calls : List Waiting} (w : World) → S (spot (point (If m (Tells t) x y k) b) env w calls) q → To 1 n q (Pushes (told_on plan.by_a) (if holds t env then 1 else 0) ∷ []) (A (spot (point (if holds t env then x else y) (After k b)) env w calls))
   tells_moved q {m} {t} {x} {y} {k} {b} {env} {calls} w h =
       let d = h.placed.done in let z : Exits = h.exits' in let fits = h.placed.fits in
       let M : Moment = moment setup plan p body n widest functions answered h.function env w.frame h.waiting in
@@ -239,9 +239,9 @@ module _ (setup : Setup) (plan : Plan) (p : Program) (body : ℕ → Actions) (n
       let tk = tight_map (If m (Tells t) x y k) k b (λ u. u.2) h.placed.tight in
       let ck = closed_map (If m (Tells t) x y k) k b (λ u. u) h.placed.closed in
       let does = d.3 M q h.stands in
-      nears_walks setup plan.by_a does.1 (λ l r a. use_walks setup plan.by_a {k = l} (Pushes (told_on plan.by_a) (if holds t env then 1 else 0)) (if holds t env then 1 else 0) refl does.0 a (λ o c. just_comes setup plan.by_a c (λ e g. chosen x y k b env calls w h.waiting d.0 d.1 d.2 z (holds t env) e d.4 d.5 d.6 h.placed.next fits.1 fits.2 fits.3 h.placed.fits_next tx ty tk ck h.top h.depth h.calls g) (omega arith)) (omega arith)) (omega arith)
+      used_walks setup plan.by_a (nears_walks setup plan.by_a does.1 (λ l r a. use_walks setup plan.by_a {k = l} (Pushes (told_on plan.by_a) (if holds t env then 1 else 0)) (if holds t env then 1 else 0) refl does.0 a (λ o c. just_comes setup plan.by_a c (λ e g. chosen x y k b env calls w h.waiting d.0 d.1 d.2 z (holds t env) e d.4 d.5 d.6 h.placed.next fits.1 fits.2 fits.3 h.placed.fits_next tx ty tk ck h.top h.depth h.calls g) (omega arith)) (omega arith)) (omega arith))
 
-  hears_moved : (q : Processor) {m : Mark} {x y k : Actions} {b : Behind} {env : Env} {calls : List Waiting} (w : World) (told : Bool) → S (spot (point (If m Hears x y k) b) env w calls) q → To 0 n q (Takes (heard_on plan.by_a) (if told then 1 else 0) ∷ []) (A (spot (point (if told then x else y) (After k b)) env w calls))
+  hears_moved : (q : Processor) {m : Mark} {x y k : Actions} {b : Behind} {env : Env} {calls : List Waiting} (w : World) (told : Bool) → S (spot (point (If m Hears x y k) b) env w calls) q → To 1 n q (Takes (heard_on plan.by_a) (if told then 1 else 0) ∷ []) (A (spot (point (if told then x else y) (After k b)) env w calls))
   hears_moved q {m} {x} {y} {k} {b} {env} {calls} w told h =
       let d = h.placed.done in let z : Exits = h.exits' in let fits = h.placed.fits in
       let M : Moment = moment setup plan p body n widest functions answered h.function env w.frame h.waiting in
@@ -250,7 +250,7 @@ module _ (setup : Setup) (plan : Plan) (p : Program) (body : ℕ → Actions) (n
       let tk = tight_map (If m Hears x y k) k b (λ u. u.2) h.placed.tight in
       let ck = closed_map (If m Hears x y k) k b (λ u. u) h.placed.closed in
       let word : ℕ = if told then 1 else 0 in
-      nears_walks setup plan.by_a (d.3 M q h.stands) (λ l r a. let g = a word (bit_small told) in use_walks setup plan.by_a {k = l} (Takes (heard_on plan.by_a) word) g.0 tt tt g.1 (λ o c. just_comes setup plan.by_a c (λ e g. chosen x y k b env calls w h.waiting d.0 d.1 d.2 z told e d.4 d.5 d.6 h.placed.next fits.1 fits.2 fits.3 h.placed.fits_next tx ty tk ck h.top h.depth h.calls (heard _ _ _ _ _ told g)) (omega arith)) (omega arith)) (omega arith)
+      used_walks setup plan.by_a (nears_walks setup plan.by_a (d.3 M q h.stands) (λ l r a. let g = a word (bit_small told) in use_walks setup plan.by_a {k = l} (Takes (heard_on plan.by_a) word) g.0 tt tt g.1 (λ o c. just_comes setup plan.by_a c (λ e g. chosen x y k b env calls w h.waiting d.0 d.1 d.2 z told e d.4 d.5 d.6 h.placed.next fits.1 fits.2 fits.3 h.placed.fits_next tx ty tk ck h.top h.depth h.calls (heard _ _ _ _ _ told g)) (omega arith)) (omega arith)) (omega arith))
     where
       bit_small : (t : Bool) → (if t then 1 else 0) < 2 ^ 32
       bit_small true = omega arith
@@ -307,15 +307,29 @@ module _ (setup : Setup) (plan : Plan) (p : Program) (body : ℕ → Actions) (n
       just_comes setup plan.by_a (h.placed.done M q h.stands) (λ r c.
       agrees_at setup plan p body n widest functions answered y (Turn x y k b) env w.frame w.top w.depth calls r (record { function = h.function; waiting = h.waiting; here = g.0.again; exits' = step_exits g.0; placed = record { done = g.3.in_step; next = (g.0, g.1, refl, g.3, g.4); fits = fits.1; fits_next = fits; tight = h.placed.tight; closed = h.placed.closed }; known = unknown; multiples = none_known _; stands = subst (λ (e : Exits). On h.function e.next M r) g.2 c; top = h.top; depth = h.depth; calls = h.calls })) (omega arith)
 
-  step_moved : (q : Processor) {x y k : Actions} {b : Behind} {env : Env} {calls : List Waiting} (w : World) → S (spot (point Done (Turn x y k b)) env w calls) q → To 1 4 q [] (A (spot (point x (Body x y k b)) env w calls))
+  -- the way back takes an instruction, but where the body begins with a test that is told
+  least_is : (x : Actions) → turn_least x ≡ (if begins_told x then 0 else 1)
+  least_is Done = refl
+  least_is (Do m a k) = refl
+  least_is (If m (Silent t) x y k) = refl
+  least_is (If m (Tells t) x y k) = refl
+  least_is (If m Hears x y k) = refl
+  least_is (Loop m x y k) = refl
+
+  back_walks : (f : ℕ) (told : Bool) (end begin : Exit) (M : Moment) (r : Processor) (Q : Processor → Type 0) → GoesBack (s setup plan p body n widest functions answered) plan p (entries setup plan p body n widest functions answered) n widest f told end begin → On f end M r
+      → ((e : Processor) → On f begin M e → Q e) → To (if told then 0 else 1) 2 r [] Q
+  back_walks f true end begin M r Q back h to = just_comes setup plan.by_a (back M r h) to (omega arith)
+  back_walks f false end begin M r Q back h to = (let a = back M r h in acts_walks setup plan.by_a {k = 1} a.1 (λ o c. just_comes setup plan.by_a c to (omega arith)) (omega arith))
+
+  step_moved : (q : Processor) {x y k : Actions} {b : Behind} {env : Env} {calls : List Waiting} (w : World) → S (spot (point Done (Turn x y k b)) env w calls) q → To (turn_least x) 4 q [] (A (spot (point x (Body x y k b)) env w calls))
   step_moved q {x} {y} {k} {b} {env} {calls} w h =
       let M : Moment = moment setup plan p body n widest functions answered h.function env w.frame h.waiting in
       let g = h.placed.next in
       let fits = h.placed.fits_next in
       let l : Around = g.0 in let z : Exits = g.1 in
-      comes_walks setup plan.by_a {k = 2} (h.placed.done M q h.stands) (λ r c.
-      let a = g.3.back M r (subst (λ (e : Exits). On h.function e.next M r) g.2 c) in
-      acts_walks setup plan.by_a {k = 1} a.1 (λ o c. just_comes setup plan.by_a c (λ e i.
+      subst (λ (least : ℕ). To least 4 q [] (A (spot (point x (Body x y k b)) env w calls))) (sym (least_is x))
+      (comes_walks setup plan.by_a {k = 2} (h.placed.done M q h.stands) (λ r c.
+      back_walks h.function (begins_told x) l.end l.begin M r (A (spot (point x (Body x y k b)) env w calls)) g.3.back (subst (λ (e : Exits). On h.function e.next M r) g.2 c) (λ e i.
       agrees_at setup plan p body n widest functions answered x (Body x y k b) env w.frame w.top w.depth calls e (record {
         function = h.function;
         waiting = h.waiting;
@@ -328,7 +342,7 @@ module _ (setup : Setup) (plan : Plan) (p : Program) (body : ℕ → Actions) (n
         top = h.top;
         depth = h.depth;
         calls = h.calls;
-      })) (omega arith)) (omega arith)) (omega arith)
+      }))) (omega arith))
 
   break_moved : (q : Processor) {m : Mark} {k : Actions} {b : Behind} {env : Env} {calls : List Waiting} (w : World) → S (spot (point (Do m Break k) b) env w calls) q → To 0 4 q [] (A (spot (left b) env w calls))
   break_moved q {m} {k} {b} {env} {calls} w h =

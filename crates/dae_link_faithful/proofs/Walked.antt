@@ -83,6 +83,14 @@ module _ (setup : Setup) (by_a : Bool) where
       let r = f a.next a.holds in let few = r.few in
       record { after = r.after; steps = suc r.steps; walks = makes (record { word = put; inst = a.goes.inst; asks = a.goes.asks; puts = same; does = a.goes.does }) r.walks; holds = r.holds; some = omega arith; few = omega arith; words = (word, r.words) }
 
+  some_step : {p last : Processor} {u : Use} {uses : List Use} {n : ℕ} → Walks setup (side by_a) p (u ∷ uses) n last → 1 ≤ n
+  some_step (quiet g w) = omega arith
+  some_step (makes g w) = omega arith
+
+  -- a use is an instruction
+  pub used_walks : {least most : ℕ} {p : Processor} {u : Use} {uses : List Use} {Q : Processor → Type 0} → Walks_to least most p (u ∷ uses) Q → Walks_to 1 most p (u ∷ uses) Q
+  used_walks r = record { after = r.after; steps = r.steps; walks = r.walks; holds = r.holds; some = some_step r.walks; few = r.few; words = r.words }
+
   -- one quiet instruction at least
   pub acts_walks : {put k most : ℕ} {p : Processor} {uses : List Use} {Q R : Processor → Type 0} → Acts s p (event Nothing put 0 []) Q → ((q : Processor) → Q q → Walks_to 0 k q uses R) → suc k ≤ most → Walks_to 1 most p uses R
   acts_walks {put} a f l =

@@ -1,5 +1,5 @@
 -- Where a jump or the end of a list leads.
-use Rattle.std.proofs.Common.{◌≡◌, ℕ, Bool, List, refl, ap, sym, subst}
+use Rattle.std.proofs.Common.{◌≡◌, ℕ, Bool, true, false, List, refl, ap, sym, subst}
 use Rattle.dae_encode.specs.Processor.{Processor}
 use Rattle.dae_machine.specs.Machine.{Setup}
 use Rattle.dae_ir.specs.Code.{Done, Do, If, Loop}
@@ -10,10 +10,10 @@ use Rattle.dae_machine_rounds.specs.Spots.{Behind, Ends, After, Body, Turn, Poin
 use Rattle.dae_select_walks.specs.Walks.{Comes}
 use Rattle.dae_select_walks.specs.Multiples.{unknown}
 use Rattle.dae_select_walks.specs.Agrees.{Plan, Moment}
-use Rattle.dae_select_walks.specs.Compiled.{Exit, Exits}
+use Rattle.dae_select_walks.specs.Compiled.{Exit, Exits, GoesBack, begins_told}
 use Rattle.dae_select_walks.proofs.LawsOfWalks.{comes_here, comes_more}
 use Rattle.dae_link_faithful.specs.Made.{IsTight, IsClosed}
-use Rattle.dae_link_faithful.proofs.Agree.{Around, body_exits, step_exits, TightAt, ClosedAt, s, GoesOn, FitsCode, FitsBehind, LoopDone, BehindDone, Placed, StandsAt, At}
+use Rattle.dae_link_faithful.proofs.Agree.{Around, body_exits, step_exits, TightAt, ClosedAt, s, entries, GoesOn, FitsCode, FitsBehind, LoopDone, BehindDone, Placed, StandsAt, At}
 
 pub tight_map : (code code' : Actions) (b : Behind) → (IsTight code → IsTight code') → TightAt code b → TightAt code' b
 tight_map code code' Ends f h = f h
@@ -69,6 +69,11 @@ module _ (setup : Setup) (plan : Plan) (p : Program) (body : ℕ → Actions) (m
     walks = λ m q h. comes_here (s setup plan p body most widest functions answered) (subst (λ (z : Exit). Goes_on f z m q) e h);
   }
 
+  back_comes : (f : ℕ) (told : Bool) (end begin : Exit) → GoesBack (s setup plan p body most widest functions answered) plan p (entries setup plan p body most widest functions answered) most widest f told end begin
+      → (m : Moment) (q : Processor) → Goes_on f end m q → Comes (s setup plan p body most widest functions answered) 2 q (Goes_on f begin m)
+  back_comes f true end begin back m q h = back m q h
+  back_comes f false end begin back m q h = (let a = back m q h in comes_more (s setup plan p body most widest functions answered) a.1.goes a.1.holds)
+
   -- from behind a loop's step to where the next turn begins
   pub back_leads : (f : ℕ) (x y k : Actions) (b : Behind) (l : Around) (z : Exits) → LoopDone setup plan p body most widest functions answered f x y k l z → BehindDone setup plan p body most widest functions answered f b z → FitsCode setup plan p body most widest functions answered f x → FitsCode setup plan p body most widest functions answered f y
       → FitsCode setup plan p body most widest functions answered f k → FitsBehind setup plan p body most widest functions answered f b → TightAt k b → ClosedAt k b → Leads_to f l.end (point x (Body x y k b))
@@ -76,7 +81,7 @@ module _ (setup : Setup) (plan : Plan) (p : Program) (body : ℕ → Actions) (m
     here = l.begin;
     exits' = body_exits l;
     placed = record { done = d.in_body; next = (l, z, refl, d, next); fits = fx; fits_next = (fx, fy, fk, fb); tight = tight; closed = closed };
-    walks = λ m q h. (let a = d.back m q h in comes_more (s setup plan p body most widest functions answered) a.1.goes a.1.holds);
+    walks = back_comes f (begins_told x) l.end l.begin d.back;
   }
 
   pub left_leads : (f : ℕ) (b : Behind) (x : Exits) (c d : Actions) → (IsTight c → ⊥) → TightAt c b → ClosedAt d b → BehindDone setup plan p body most widest functions answered f b x → FitsBehind setup plan p body most widest functions answered f b → Leads_to f x.leaves (left b)

@@ -17,7 +17,7 @@ use Rattle.dae_select_blocks.specs.Blocks.{arguments_code, argument_code, save_c
 use Rattle.dae_select_blocks.specs.Sizes.{is_short}
 use Rattle.dae_select_walks.specs.declared.Standing.{Standing}
 use Rattle.dae_select_walks.specs.declared.Standing.TheVariants.{Settled, Early, Late}
-use Rattle.dae_select_blocks.specs.Code.{registers_in, standing_behind, placed_code, block_code, action_code, branch_code, does_nothing, past_code, call_code, code_of, function_code, entry_code}
+use Rattle.dae_select_blocks.specs.Code.{registers_in, standing_behind, placed_code, block_code, action_code, branch_code, does_nothing, past_code, call_code, back_branch, has_bottom, loop_code, bottom_code, code_of, function_code, entry_code}
 
 -- lists with parts that are as long are as long
 pub both_long : (xs xs' ys ys' : List Inst) → length xs ≡ length xs' → length ys ≡ length ys' → length (xs ++ ys) ≡ length (xs' ++ ys')
@@ -101,6 +101,34 @@ module _ (p : Plan) (entry start : ℕ → ℕ) (finish : ℕ) (variables : ℕ 
     block_long placed (Early v x) a g' k l s m t = refl
     block_long placed (Late v x) a g' k l s m t = refl
 
+    either_long : (c : Bool) (xs xs' ys ys' : List Inst) → length xs ≡ length xs' → length ys ≡ length ys' → length (if c then xs else ys) ≡ length (if c then xs' else ys')
+    either_long true xs xs' ys ys' h k = h
+    either_long false xs xs' ys ys' h k = k
+
+    -- however far what leaves it leads
+    abbrev AreLong : (ℕ → ℕ → List Inst) → (ℕ → ℕ → List Inst) → Type 0
+    AreLong xs xs' = (l s m t : ℕ) → length (xs l s) ≡ length (xs' m t)
+
+    top_long : (body body' : ℕ → ℕ → List Inst) (again again' rest rest' : List Inst) → AreLong body body' → length again ≡ length again' → length rest ≡ length rest' → length (loop_code short body again rest) ≡ length (loop_code short body' again' rest')
+    top_long body body' again again' rest rest' one two more =
+        let turned = body (length again + jump_words short) 0 in let turned' = body' (length again' + jump_words short) 0 in
+        let back = jump_back short (length turned + length again) in let back' = jump_back short (length turned' + length again') in
+        both_long turned turned' (again ++ (back ++ rest)) (again' ++ (back' ++ rest')) (one (length again + jump_words short) 0 (length again' + jump_words short) 0)
+        (both_long again again' (back ++ rest) (back' ++ rest') two (both_long back back' rest rest' (back_long short (length turned + length again) (length turned' + length again')) more))
+
+    bottom_long : (test : ℕ → List Inst) (tail tail' step step' : ℕ → ℕ → List Inst) (rest rest' : List Inst) → AreLong tail tail' → AreLong step step' → length rest ≡ length rest' → length (bottom_code short tail step test rest) ≡ length (bottom_code short tail' step' test rest')
+    bottom_long test tail tail' step step' rest rest' one two more =
+        let words : ℕ = length (test 0) in
+        let again = step words 0 in let again' = step' words 0 in
+        let turned = tail (length again + words) 0 in let turned' = tail' (length again' + words) 0 in
+        let e1 : length turned ≡ length turned' = one (length again + words) 0 (length again' + words) 0 in
+        let e2 : length again ≡ length again' = two words 0 words 0 in
+        let n = length turned + length again in let n' = length turned' + length again' in
+        let same : n ≡ n' = ap (λ (w : ℕ). w + length again) e1 ∙ ap (λ (w : ℕ). length turned' + w) e2 in
+        both_long (jump_over short n) (jump_over short n') (turned ++ (again ++ (test n ++ rest))) (turned' ++ (again' ++ (test n' ++ rest'))) (over_long short n n')
+        (both_long turned turned' (again ++ (test n ++ rest)) (again' ++ (test n' ++ rest')) e1
+        (both_long again again' (test n ++ rest) (test n' ++ rest') e2 (both_long (test n) (test n') rest rest' (ap (λ (w : ℕ). length (test w)) same) more)))
+
     code_long : (g : Standing) (known : VariableSet) (code : Actions) (x : Ways) (l s m t : ℕ) → length (code_of short q variables f g known code x l s) ≡ length (code_of short p variables f g known code x m t)
     code_long g known Done x l s m t = refl
     code_long g known (Do mark a k) x l s m t = both_long _ _ _ _ (block_long (is_placed known a) g a (standing_behind a k x) (live k x) _ _ _ _) (code_long (standing_behind a k x) (multiples_behind a known) k x l s m t)
@@ -121,16 +149,31 @@ module _ (p : Plan) (entry start : ℕ → ℕ) (finish : ℕ) (variables : ℕ 
         both_long (branch_code (p.home f) short b none (if none then length second else length first + length past)) (branch_code (p.home f) short b none (if none then length second' else length first' + length past')) _ _
         (ap (λ (w : ℕ). length (branch_code (p.home f) short b none w)) led)
         (both_long first first' _ _ one (both_long past past' _ _ over (both_long second second' _ _ two (code_long Settled unknown k x l s m t))))
-    code_long g known (Loop mark body step k) x l s m t =
-        let rest = code_of short q variables f Settled unknown k x l s in let rest' = code_of short p variables f Settled unknown k x m t in
-        let again = code_of short q variables f Settled unknown step (step_ways body step (live k x)) (jump_words short) 0 in
-        let again' = code_of short p variables f Settled unknown step (step_ways body step (live k x)) (jump_words short) 0 in
-        let turned = code_of short q variables f Settled unknown body (body_ways body step (live k x)) (length again + jump_words short) 0 in
-        let turned' = code_of short p variables f Settled unknown body (body_ways body step (live k x)) (length again' + jump_words short) 0 in
-        let back = jump_back short (length turned + length again) in let back' = jump_back short (length turned' + length again') in
-        both_long turned turned' (again ++ (back ++ rest)) (again' ++ (back' ++ rest')) (code_long Settled unknown body (body_ways body step (live k x)) (length again + jump_words short) 0 (length again' + jump_words short) 0)
-        (both_long again again' (back ++ rest) (back' ++ rest') (code_long Settled unknown step (step_ways body step (live k x)) (jump_words short) 0 (jump_words short) 0)
-        (both_long back back' rest rest' (back_long short (length turned + length again) (length turned' + length again')) (code_long Settled unknown k x l s m t)))
+    code_long g known (Loop mark Done step k) x l s m t =
+        top_long (code_of short q variables f Settled unknown Done (body_ways Done step (live k x))) (code_of short p variables f Settled unknown Done (body_ways Done step (live k x)))
+        (code_of short q variables f Settled unknown step (step_ways Done step (live k x)) (jump_words short) 0) (code_of short p variables f Settled unknown step (step_ways Done step (live k x)) (jump_words short) 0)
+        (code_of short q variables f Settled unknown k x l s) (code_of short p variables f Settled unknown k x m t)
+        (code_long Settled unknown Done (body_ways Done step (live k x))) (code_long Settled unknown step (step_ways Done step (live k x)) (jump_words short) 0 (jump_words short) 0) (code_long Settled unknown k x l s m t)
+    code_long g known (Loop mark (Do mark' a u) step k) x l s m t =
+        top_long (code_of short q variables f Settled unknown (Do mark' a u) (body_ways (Do mark' a u) step (live k x))) (code_of short p variables f Settled unknown (Do mark' a u) (body_ways (Do mark' a u) step (live k x)))
+        (code_of short q variables f Settled unknown step (step_ways (Do mark' a u) step (live k x)) (jump_words short) 0) (code_of short p variables f Settled unknown step (step_ways (Do mark' a u) step (live k x)) (jump_words short) 0)
+        (code_of short q variables f Settled unknown k x l s) (code_of short p variables f Settled unknown k x m t)
+        (code_long Settled unknown (Do mark' a u) (body_ways (Do mark' a u) step (live k x))) (code_long Settled unknown step (step_ways (Do mark' a u) step (live k x)) (jump_words short) 0 (jump_words short) 0) (code_long Settled unknown k x l s m t)
+    code_long g known (Loop mark (Loop mark' y n u) step k) x l s m t =
+        top_long (code_of short q variables f Settled unknown (Loop mark' y n u) (body_ways (Loop mark' y n u) step (live k x))) (code_of short p variables f Settled unknown (Loop mark' y n u) (body_ways (Loop mark' y n u) step (live k x)))
+        (code_of short q variables f Settled unknown step (step_ways (Loop mark' y n u) step (live k x)) (jump_words short) 0) (code_of short p variables f Settled unknown step (step_ways (Loop mark' y n u) step (live k x)) (jump_words short) 0)
+        (code_of short q variables f Settled unknown k x l s) (code_of short p variables f Settled unknown k x m t)
+        (code_long Settled unknown (Loop mark' y n u) (body_ways (Loop mark' y n u) step (live k x))) (code_long Settled unknown step (step_ways (Loop mark' y n u) step (live k x)) (jump_words short) 0 (jump_words short) 0) (code_long Settled unknown k x l s m t)
+    code_long g known (Loop mark (If mark' b y n u) step k) x l s m t =
+        let ways' = body_ways (If mark' b y n u) step (live k x) in let ways'' = step_ways (If mark' b y n u) step (live k x) in
+        let more = code_long Settled unknown k x l s m t in
+        either_long (has_bottom (If mark' b y n u) step) _ _ _ _
+        (bottom_long (back_branch (p.home f) b true) (code_of short q variables f Settled unknown u ways') (code_of short p variables f Settled unknown u ways') (code_of short q variables f Settled unknown step ways'') (code_of short p variables f Settled unknown step ways'')
+        (code_of short q variables f Settled unknown k x l s) (code_of short p variables f Settled unknown k x m t) (code_long Settled unknown u ways') (code_long Settled unknown step ways'') more)
+        (top_long (code_of short q variables f Settled unknown (If mark' b y n u) ways') (code_of short p variables f Settled unknown (If mark' b y n u) ways')
+        (code_of short q variables f Settled unknown step ways'' (jump_words short) 0) (code_of short p variables f Settled unknown step ways'' (jump_words short) 0)
+        (code_of short q variables f Settled unknown k x l s) (code_of short p variables f Settled unknown k x m t)
+        (code_long Settled unknown (If mark' b y n u) ways') (code_long Settled unknown step ways'' (jump_words short) 0 (jump_words short) 0) more)
 
   pub function_long : (code : Actions) → length (function_code q variables f code) ≡ length (function_code p variables f code)
   function_long code = both_long (entry_code p variables f (live code nowhere)) (entry_code p variables f (live code nowhere)) _ _ refl (both_long _ _ _ _ (code_long (is_short code) Settled unknown code nowhere 0 0 0 0) refl)

@@ -84,7 +84,7 @@ branch_form AtLeastSigned x y offset = refl
 branch_form LessUnsigned x y offset = refl
 branch_form AtLeastUnsigned x y offset = refl
 
-branch_plain : (relation : Comparison) (x y : ℕ) (offset : ℤ) → x < 28 → y < 28 → IsPlain (form_of (effect (branch_inst relation x y offset)))
+pub branch_plain : (relation : Comparison) (x y : ℕ) (offset : ℤ) → x < 28 → y < 28 → IsPlain (form_of (effect (branch_inst relation x y offset)))
 branch_plain relation x y offset h k = rw (branch_form relation x y offset) (omega arith, h, k)
 
 goes_by_plain : (t short : Bool) (relation : Comparison) (x y n : ℕ) → x < 28 → y < 28 → AllPlain (goes_by t short relation x y n)

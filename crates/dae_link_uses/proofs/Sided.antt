@@ -1,6 +1,6 @@
 -- The code of an action uses the queue of the action and no other, and so does that of a function.
 use Rattle.std.proofs.Common.{◌≡◌, ◌≢◌, ◌↔◌, ◌⊎◌, inl, inr, ℕ, ◌+◌, ◌-◌, ◌<◌, ◌*◌, Bool, true, false, List, [], ◌∷◌, ◌++◌, length, Option, Some, None, refl, sym, ap, subst, ◌∙◌, arith, pos, negsuc}
-use Rattle.std.specs.Prelude.{◌||◌, nat_lt, nat_eq, not, if◌then◌else◌, ℤ}
+use Rattle.std.specs.Prelude.{◌&&◌, ◌||◌, nat_lt, nat_eq, not, if◌then◌else◌, ℤ}
 use Rattle.std.specs.List.{AllByRecursion}
 use Rattle.std.proofs.lemmas.Bool.Decides.{nat_tests}
 use Rattle.dae_base.specs.Words.{word, size, minus}
@@ -42,11 +42,12 @@ use Rattle.dae_select_walks.specs.declared.Standing.TheVariants.{Settled, Early,
 use Rattle.dae_select_walks.specs.Live.{Ways, none, in_operand, live, behind, body_ways, step_ways, nowhere}
 use Rattle.dae_select_walks.specs.Multiples.{unknown, is_multiple, multiples_behind, is_placed}
 use Rattle.dae_select_walks.specs.Agrees.{Plan}
-use Rattle.dae_select_blocks.specs.Blocks.{number_code, register_or, source, operation_code, immediate_code, exchanged_code, behind_or, combine_registers, binary_code, value_code, fetch, move_code, keep, test_code, call_number, issue_code, address_code, take_code, fail_code, over, align_code, bounds_code, room_code, check_code, hear_code, jump_over, jump_back, leave_code, jump_words, branch_inst, opposite, one_way, goes_by, goes_code, frames_room_code, lower, is_immediate, tell_number_code, against_zero, immediate_of, extend_code, compare_code, takes_number, compare_number_code, compare_registers, compare_operands}
-use Rattle.dae_select_blocks.specs.Code.{either_one, reads_once, with_home, early_code, late_code, standing_behind, placed_code, block_code, action_code, branch_code, code_of, entry_code, function_code, finish_code, start_code, does_nothing, past_code, told_code, written_last}
+use Rattle.dae_select_blocks.specs.Blocks.{number_code, register_or, source, operation_code, immediate_code, exchanged_code, behind_or, combine_registers, binary_code, value_code, fetch, move_code, keep, test_code, call_number, issue_code, address_code, take_code, fail_code, over, align_code, bounds_code, room_code, check_code, hear_code, jump_over, jump_back, leave_code, jump_words, branch_inst, opposite, one_way, goes_by, goes_code, frames_room_code, lower, is_immediate, tell_number_code, against_zero, immediate_of, extend_code, compare_code, takes_number, compare_number_code, compare_registers, compare_operands, back_offset, goes_back}
+use Rattle.dae_select_walks.specs.Compiled.{is_told}
+use Rattle.dae_select_blocks.specs.Code.{is_break, only_breaks, leaves_first, is_near, has_bottom, told_by, branch_by, ahead_by, before_branch, back_branch, either_one, reads_once, with_home, early_code, late_code, standing_behind, placed_code, block_code, action_code, branch_code, code_of, entry_code, function_code, finish_code, start_code, does_nothing, past_code, written_last}
 use Rattle.dae_link_uses.specs.Uses.{queue_in, action_queue, branch_queue, IsOfSide, AreOfSide, IsUntouched, LeavesAlone}
 use Rattle.dae_link_uses.proofs.Access.{IsPlain, plain, loads_for_e, loads_own, gives_address, pushes_datum, pushes_copy, pushes_message, takes_load, takes_own, takes_copy, takes_message, takes_load_left, takes_load_right, takes_copy_left, takes_copy_right, pushes_flag, sends_datum}
-use Rattle.dae_link_uses.proofs.Quiet.{immediate_form, exchanged_form, AllPlain, plain_append, number_plain, register_low, keep_plain, source_low, fetch_plain, move_is, value_plain, system_plain, stop_plain, leave_plain, call_plain, entry_plain, finish_plain, start_plain, over_plain, past_plain, back_jump_plain, branch_form, goes_plain, test_writes, Writes, tell_number_writes}
+use Rattle.dae_link_uses.proofs.Quiet.{immediate_form, exchanged_form, AllPlain, plain_append, number_plain, register_low, keep_plain, source_low, fetch_plain, move_is, value_plain, system_plain, stop_plain, leave_plain, call_plain, entry_plain, finish_plain, start_plain, over_plain, past_plain, back_jump_plain, branch_form, branch_plain, goes_plain, test_writes, Writes, tell_number_writes}
 use Rattle.dae_select_blocks.specs.Sizes.{is_short}
 use Rattle.dae_select_blocks.proofs.LawsOfBlocks.{operation_is, passed_on, by_pairs, Suits, suits_behind}
 
@@ -446,23 +447,42 @@ module _ (plan : Plan) (variables : ℕ → ℕ) (good : (f v : ℕ) → IsHome 
         first_uses by_a' (Some (heard_on by_a')) (branch_inst (opposite relation) 29 0 far) (jump_over short n) (takes_message by_a' (branch_inst (opposite relation) 29 0 far) 0 (branch_form (opposite relation) 29 0 far) (omega arith))
         (quiet by_a' (Some (heard_on by_a')) (jump_over short n) (over_plain short n))
 
-    told_uses : (o : Option ℕ) (short : Bool) (t : Test) (way : Bool) (n : ℕ) → Uses by_a' (Some (told_on by_a')) (told_code o (plan.home f) short t way n)
-    told_uses None short t way n =
+    -- what goes on elsewhere where two registers compare so
+    abbrev IsPlainGoing : (Comparison → ℕ → ℕ → List Inst) → Type 0
+    IsPlainGoing go = (relation : Comparison) (x y : ℕ) → x < 28 → y < 28 → AllPlain (go relation x y)
+
+    abbrev IsHearing : (Comparison → ℕ → ℕ → List Inst) → Type 0
+    IsHearing go = (relation : Comparison) → Uses by_a' (Some (heard_on by_a')) (go relation 29 0)
+
+    told_uses : (o : Option ℕ) (go : Comparison → ℕ → ℕ → List Inst) (t : Test) (way : Bool) → IsPlainGoing go → Uses by_a' (Some (told_on by_a')) (told_by o (plan.home f) go t way)
+    told_uses None go t way plain =
         let x : ℕ = source (plan.home f) 5 t.left in let y : ℕ = source (plan.home f) 6 t.right in
-        before_plain by_a' (Some (told_on by_a')) (test_code (plan.home f) 29 t) (goes_code short (one_way way t.comparison) x y n) (writes_uses by_a' (test_code (plan.home f) 29 t) (test_writes (variables f) (plan.home f) (good f) 29 t))
-        (goes_plain short (one_way way t.comparison) x y n (low t.left) (source_low (variables f) (plan.home f) (good f) 6 t.right (omega arith)))
-    told_uses (Some k) short t way n =
+        before_plain by_a' (Some (told_on by_a')) (test_code (plan.home f) 29 t) (go (one_way way t.comparison) x y) (writes_uses by_a' (test_code (plan.home f) 29 t) (test_writes (variables f) (plan.home f) (good f) 29 t))
+        (plain (one_way way t.comparison) x y (low t.left) (source_low (variables f) (plan.home f) (good f) 6 t.right (omega arith)))
+    told_uses (Some k) go t way plain =
         let tell : List Inst = tell_number_code t.comparison (source (plan.home f) 5 t.left) k in
-        let last : List Inst = goes_code short (one_way way (against_zero t.comparison)) 7 0 n in
+        let last : List Inst = go (one_way way (against_zero t.comparison)) 7 0 in
         behind_plain by_a' (Some (told_on by_a')) (fetch (plan.home f) 5 t.left) (tell ++ last) (fetches t.left)
-        (before_plain by_a' (Some (told_on by_a')) tell last (writes_uses by_a' tell (tell_number_writes t.comparison (source (plan.home f) 5 t.left) k (low t.left))) (goes_plain short (one_way way (against_zero t.comparison)) 7 0 n (omega arith) (omega arith)))
+        (before_plain by_a' (Some (told_on by_a')) tell last (writes_uses by_a' tell (tell_number_writes t.comparison (source (plan.home f) 5 t.left) k (low t.left))) (plain (one_way way (against_zero t.comparison)) 7 0 (omega arith) (omega arith)))
+
+    by_uses : (go : Comparison → ℕ → ℕ → List Inst) (b : Branch) (way : Bool) → IsPlainGoing go → IsHearing go → Uses by_a' (branch_queue by_a' b) (branch_by (plan.home f) go b way)
+    by_uses go (Silent t) way plain hearing =
+        no_queue by_a' _ (plain_append (fetch (plan.home f) 5 t.left) _ (fetch_plain (variables f) (plan.home f) (good f) 5 t.left (omega arith)) (plain_append (fetch (plan.home f) 6 t.right) _ (fetch_plain (variables f) (plan.home f) (good f) 6 t.right (omega arith))
+        (plain (one_way way t.comparison) (source (plan.home f) 5 t.left) (source (plan.home f) 6 t.right) (source_low (variables f) (plan.home f) (good f) 5 t.left (omega arith)) (source_low (variables f) (plan.home f) (good f) 6 t.right (omega arith)))))
+    by_uses go (Tells t) way plain hearing = told_uses (immediate_of t.comparison t.right) go t way plain
+    by_uses go Hears way plain hearing = hearing (one_way way NotEqual)
 
     branch_uses : (short : Bool) (b : Branch) (way : Bool) (n : ℕ) → Uses by_a' (branch_queue by_a' b) (branch_code (plan.home f) short b way n)
-    branch_uses short (Silent t) way n =
-        no_queue by_a' _ (plain_append (fetch (plan.home f) 5 t.left) _ (fetch_plain (variables f) (plan.home f) (good f) 5 t.left (omega arith)) (plain_append (fetch (plan.home f) 6 t.right) _ (fetch_plain (variables f) (plan.home f) (good f) 6 t.right (omega arith))
-        (goes_plain short (one_way way t.comparison) (source (plan.home f) 5 t.left) (source (plan.home f) 6 t.right) n (source_low (variables f) (plan.home f) (good f) 5 t.left (omega arith)) (source_low (variables f) (plan.home f) (good f) 6 t.right (omega arith)))))
-    branch_uses short (Tells t) way n = told_uses (immediate_of t.comparison t.right) short t way n
-    branch_uses short Hears way n = hears (nat_lt n 1000) short (one_way way NotEqual) n
+    branch_uses short b way n = by_uses (ahead_by short n) b way (λ relation x y h k. goes_plain short relation x y n h k) (λ relation. hears (nat_lt n 1000) short relation n)
+
+    back_uses : (b : Branch) (way : Bool) (n : ℕ) → Uses by_a' (branch_queue by_a' b) (back_branch (plan.home f) b way n)
+    back_uses b way n = by_uses (goes_back far) b way (λ relation x y h k. (branch_plain relation x y (back_offset far) h k, tt)) hearing
+      where
+        far : ℕ
+        far = n + before_branch (plan.home f) b way
+
+        hearing : IsHearing (goes_back far)
+        hearing relation = first_uses by_a' (Some (heard_on by_a')) (branch_inst relation 29 0 (back_offset far)) [] (takes_message by_a' (branch_inst relation 29 0 (back_offset far)) 0 (branch_form relation 29 0 (back_offset far)) (omega arith)) tt
 
     -- ---- structured code
 
@@ -472,6 +492,65 @@ module _ (plan : Plan) (variables : ℕ → ℕ) (good : (f v : ℕ) → IsHome 
 
       abbrev Both : Actions → List Inst → Type 0
       Both code is = (LeavesAlone by_a' q is → IsUntouched by_a' q code) × (IsUntouched by_a' q code → LeavesAlone by_a' q is)
+
+      -- a loop whose turn ends with a jump back
+      top_both : (short : Bool) (m : Mark) (body step k : Actions) (turned again rest : List Inst) → Both body turned → Both step again → Both k rest → Both (Loop m body step k) (turned ++ (again ++ (jump_back short (length turned + length again) ++ rest)))
+      top_both short m body step k turned again rest one two more =
+          let back = jump_back short (length turned + length again) in (
+            (λ alone.
+                let a = alone_split by_a' q turned (again ++ (back ++ rest)) alone in
+                let b = alone_split by_a' q again (back ++ rest) a.1 in
+                let c = alone_split by_a' q back rest b.1 in
+                (one.0 a.0, two.0 b.0, more.0 c.1)),
+            (λ free.
+                alone_append by_a' q turned (again ++ (back ++ rest)) (one.1 free.0)
+                (alone_append by_a' q again (back ++ rest) (two.1 free.1)
+                (alone_append by_a' q back rest (silent back (back_jump_plain short (length turned + length again))) (more.1 free.2)))),
+          )
+
+      both_true : (b c : Bool) → (b && c) ≡ true → (b ≡ true) × (c ≡ true)
+      both_true true c e = (refl, e)
+      both_true false c e = absurd cc
+
+      nothing_untouched : (code : Actions) → does_nothing code ≡ true → IsUntouched by_a' q code
+      nothing_untouched Done e = tt
+      nothing_untouched (Do m a k) e = absurd cc
+      nothing_untouched (If m b p r k) e = absurd cc
+      nothing_untouched (Loop m body step k) e = absurd cc
+
+      no_break : (a : Action) → is_break a ≡ true → action_queue by_a' a ≢ Some q
+      no_break Break e same = absurd cc
+      no_break a e same = absurd cc
+
+      breaks_untouched : (code : Actions) → only_breaks code ≡ true → IsUntouched by_a' q code
+      breaks_untouched (Do m a k) e = (let two = both_true (is_break a) (does_nothing k) e in (no_break a two.0, nothing_untouched k two.1))
+      breaks_untouched Done e = absurd cc
+      breaks_untouched (If m b p r k) e = absurd cc
+      breaks_untouched (Loop m body step k) e = absurd cc
+
+      -- a loop whose test stands behind its step
+      bottom_both : (short : Bool) (m m' : Mark) (b : Branch) (p r t step k : Actions) (n : ℕ) (jump turned again rest : List Inst) → leaves_first (If m' b p r t) ≡ true → AllPlain jump → Both t turned → Both step again → Both k rest
+          → Both (Loop m (If m' b p r t) step k) (jump ++ (turned ++ (again ++ (back_branch (plan.home f) b true n ++ rest))))
+      bottom_both short m m' b p r t step k n jump turned again rest is plain one two more =
+          let test = back_branch (plan.home f) b true n in
+          let uses = back_uses b true n in
+          let lists = both_true (does_nothing p) (only_breaks r) (both_true (is_told b) (does_nothing p && only_breaks r) is).1 in (
+            (λ alone.
+                let a = alone_split by_a' q jump (turned ++ (again ++ (test ++ rest))) alone in
+                let c = alone_split by_a' q turned (again ++ (test ++ rest)) a.1 in
+                let d = alone_split by_a' q again (test ++ rest) c.1 in
+                let e = alone_split by_a' q test rest d.1 in
+                (((λ same. uses.some q same e.0), nothing_untouched p lists.0, breaks_untouched r lists.1, one.0 c.0), two.0 d.0, more.0 e.1)),
+            (λ free.
+                alone_append by_a' q jump (turned ++ (again ++ (test ++ rest))) (silent jump plain)
+                (alone_append by_a' q turned (again ++ (test ++ rest)) (one.1 free.0.3)
+                (alone_append by_a' q again (test ++ rest) (two.1 free.1)
+                (alone_append by_a' q test rest (others_alone by_a' (branch_queue by_a' b) q test uses.only free.0.0) (more.1 free.2))))),
+          )
+
+      either_both : (c : Bool) (code : Actions) (xs ys : List Inst) → (c ≡ true → Both code xs) → Both code ys → Both code (if c then xs else ys)
+      either_both true code xs ys h k = h refl
+      either_both false code xs ys h k = k
 
       code_both : (short : Bool) (standing : Standing) (known : VariableSet) (code : Actions) (x : Ways) (leaves skips : ℕ) → Suits standing code x → AreOfSide by_a' code → Both code (code_of short plan variables f standing known code x leaves skips)
       code_both short standing known Done x leaves skips suits is = ((λ h. tt), (λ h. tt))
@@ -509,24 +588,32 @@ module _ (plan : Plan) (variables : ℕ → ℕ) (good : (f v : ℕ) → IsHome 
                 (alone_append by_a' q past (second ++ rest) (silent past (past_plain short (none || does_nothing r) (length second)))
                 (alone_append by_a' q second rest (two.1 free.2) (more.1 free.3))))),
           )
-      code_both short standing known (Loop m body step k) x leaves skips suits is =
+      code_both short standing known (Loop m Done step k) x leaves skips suits is =
+          let again = code_of short plan variables f Settled unknown step (step_ways Done step (live k x)) (jump_words short) 0 in
+          top_both short m Done step k (code_of short plan variables f Settled unknown Done (body_ways Done step (live k x)) (length again + jump_words short) 0) again (code_of short plan variables f Settled unknown k x leaves skips)
+          (code_both short Settled unknown Done (body_ways Done step (live k x)) (length again + jump_words short) 0 tt is.0) (code_both short Settled unknown step (step_ways Done step (live k x)) (jump_words short) 0 tt is.1) (code_both short Settled unknown k x leaves skips tt is.2)
+      code_both short standing known (Loop m (Do m' a t) step k) x leaves skips suits is =
+          let again = code_of short plan variables f Settled unknown step (step_ways (Do m' a t) step (live k x)) (jump_words short) 0 in
+          top_both short m (Do m' a t) step k (code_of short plan variables f Settled unknown (Do m' a t) (body_ways (Do m' a t) step (live k x)) (length again + jump_words short) 0) again (code_of short plan variables f Settled unknown k x leaves skips)
+          (code_both short Settled unknown (Do m' a t) (body_ways (Do m' a t) step (live k x)) (length again + jump_words short) 0 tt is.0) (code_both short Settled unknown step (step_ways (Do m' a t) step (live k x)) (jump_words short) 0 tt is.1) (code_both short Settled unknown k x leaves skips tt is.2)
+      code_both short standing known (Loop m (Loop m' c d t) step k) x leaves skips suits is =
+          let again = code_of short plan variables f Settled unknown step (step_ways (Loop m' c d t) step (live k x)) (jump_words short) 0 in
+          top_both short m (Loop m' c d t) step k (code_of short plan variables f Settled unknown (Loop m' c d t) (body_ways (Loop m' c d t) step (live k x)) (length again + jump_words short) 0) again (code_of short plan variables f Settled unknown k x leaves skips)
+          (code_both short Settled unknown (Loop m' c d t) (body_ways (Loop m' c d t) step (live k x)) (length again + jump_words short) 0 tt is.0) (code_both short Settled unknown step (step_ways (Loop m' c d t) step (live k x)) (jump_words short) 0 tt is.1) (code_both short Settled unknown k x leaves skips tt is.2)
+      code_both short standing known (Loop m (If m' b p r t) step k) x leaves skips suits is =
+          let ways' = body_ways (If m' b p r t) step (live k x) in
           let rest = code_of short plan variables f Settled unknown k x leaves skips in
-          let again = code_of short plan variables f Settled unknown step (step_ways body step (live k x)) (jump_words short) 0 in
-          let turned = code_of short plan variables f Settled unknown body (body_ways body step (live k x)) (length again + jump_words short) 0 in
-          let back = jump_back short (length turned + length again) in
-          let one = code_both short Settled unknown body (body_ways body step (live k x)) (length again + jump_words short) 0 tt is.0 in
-          let two = code_both short Settled unknown step (step_ways body step (live k x)) (jump_words short) 0 tt is.1 in
-          let more = code_both short Settled unknown k x leaves skips tt is.2 in (
-            (λ alone.
-                let a = alone_split by_a' q turned (again ++ (back ++ rest)) alone in
-                let b = alone_split by_a' q again (back ++ rest) a.1 in
-                let c = alone_split by_a' q back rest b.1 in
-                (one.0 a.0, two.0 b.0, more.0 c.1)),
-            (λ free.
-                alone_append by_a' q turned (again ++ (back ++ rest)) (one.1 free.0)
-                (alone_append by_a' q again (back ++ rest) (two.1 free.1)
-                (alone_append by_a' q back rest (silent back (back_jump_plain short (length turned + length again))) (more.1 free.2)))),
-          )
+          let more = code_both short Settled unknown k x leaves skips tt is.2 in
+          let again = code_of short plan variables f Settled unknown step (step_ways (If m' b p r t) step (live k x)) (jump_words short) 0 in
+          let turned = code_of short plan variables f Settled unknown (If m' b p r t) ways' (length again + jump_words short) 0 in
+          let words : ℕ = length (back_branch (plan.home f) b true 0) in
+          let again' = code_of short plan variables f Settled unknown step (step_ways (If m' b p r t) step (live k x)) words 0 in
+          let tail = code_of short plan variables f Settled unknown t ways' (length again' + words) 0 in
+          let n : ℕ = length tail + length again' in
+          either_both (has_bottom (If m' b p r t) step) (Loop m (If m' b p r t) step k) (jump_over short n ++ (tail ++ (again' ++ (back_branch (plan.home f) b true n ++ rest)))) (turned ++ (again ++ (jump_back short (length turned + length again) ++ rest)))
+          (λ e. bottom_both short m m' b p r t step k n (jump_over short n) tail again' rest (both_true (leaves_first (If m' b p r t)) (is_near (If m' b p r t) step) e).0 (over_plain short n)
+          (code_both short Settled unknown t ways' (length again' + words) 0 tt is.0.3) (code_both short Settled unknown step (step_ways (If m' b p r t) step (live k x)) words 0 tt is.1) more)
+          (top_both short m (If m' b p r t) step k turned again rest (code_both short Settled unknown (If m' b p r t) ways' (length again + jump_words short) 0 tt is.0) (code_both short Settled unknown step (step_ways (If m' b p r t) step (live k x)) (jump_words short) 0 tt is.1) more)
 
       function_both : (code : Actions) → AreOfSide by_a' code → Both code (function_code plan variables f code)
       function_both code is =

@@ -1,3 +1,5 @@
+// The laws of runs that crates above rely on, as functions without parameters.
+
 ghost use Rattle.std.specs.Prelude.{◌⊎◌, ◌≡◌, ◌≢◌, ℕ, ◌+◌, List, length, Some};
 ghost use Rattle.std.specs.List.{AllByRecursion};
 ghost use Rattle.dae_base.specs.Budgets.{Reaches};

@@ -1,3 +1,5 @@
+// The machine: opened from an image and depths, and moved by one pick at a time.
+
 ghost use Rattle.std.specs.Prelude.{◌≡◌, ◌<◌, [], true, false, Some, IsSome, is_some, IfOk, IfErr, IfSome, None};
 ghost use Rattle.dae_base.specs.Budgets.{Reaches};
 ghost use Rattle.dae_core.specs.Held.{CanHold};

@@ -1,3 +1,5 @@
+// What a machine begins with: depths that reach the budget, memory, and both processors.
+
 ghost use Rattle.std.specs.Prelude.{◌≡◌, ◌≤◌, ◌+◌, ◌-◌, ◌++◌, length, replicate, IfOk, IfErr, None, ◌≢◌, ◌<◌, ◌^◌};
 ghost use Rattle.dae_base.specs.Budgets.{depth, Reaches};
 ghost use Rattle.dae_base.specs.declared.Side.TheVariants.{A, E};

@@ -1,3 +1,5 @@
+// The words by which a schedule chooses its turns.
+
 ghost use Rattle.std.specs.Prelude.{◌≡◌, ℕ, ◌+◌};
 ghost use Rattle.dae_machine.specs.Schedules.{coming, next_number, word_of};
 

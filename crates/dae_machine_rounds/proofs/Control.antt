@@ -57,7 +57,7 @@ module _ (setup : Setup) (p : Program) (body_a body_e : ℕ → Actions) (most :
 
   -- A decides, and tells E
   pub told_by_a : (s : State) (base : ℕ) (m : Mark) (t : Test) (xa ya ka : Actions) (ba : Behind) (xe ye ke : Actions) (be : Behind) (ca ce : List Waiting) (b : Sides) (w : World) → Stands setup most At_a At_e (point (If m (Tells t) xa ya ka) ba, point (If m Hears xe ye ke) be) ca ce b w s → IsSound setup w → 1 ≤ setup.depths.ab → base + 2 ≤ 8 * w.items + 8
-      → Arrived setup most At_a At_e s base 0 (point (if holds t b.a then xa else ya) (After ka ba), point (if holds t b.a then xe else ye) (After ke be)) ca ce b (ticked w)
+      → Arrived setup most At_a At_e s base 1 (point (if holds t b.a then xa else ya) (After ka ba), point (if holds t b.a then xe else ye) (After ke be)) ca ce b (ticked w)
   told_by_a s base m t xa ya ka ba xe ye ke be ca ce b w stands sound room cost =
       let x = stands.counts in
       let q = resting (level x) in
@@ -65,19 +65,19 @@ module _ (setup : Setup) (p : Program) (body_a body_e : ℕ → Actions) (most :
       let word : ℕ = if told then 1 else 0 in
       let q1 = held (level x) [] [] [] (word ∷ []) [] [] in
       let part_a : Part setup p true body_a w.memory (spot (point (If m (Tells t) xa ya ka) ba) b.a w ca) q [] (Arrives (spot (point (if told then xa else ya) (After ka ba)) b.a w ca)) q1 1 0 =
-      record { moves = 1; fills = 0; instructions = 0; does = does_one (tells w) (grants {q = q} (lt-ltb 0 setup.depths.ab (omega arith)) refl ends) (tt, tt); few = omega arith; some = omega arith } in
-      let part_e : Part setup p false body_e w.memory (spot (point (If m Hears xe ye ke) be) b.e w ce) q1 [] (Arrives (spot (point (if told then xe else ye) (After ke be)) b.e w ce)) q 1 0 =
-      record { moves = 1; fills = 0; instructions = 0; does = does_one (hears w told) (grants {q = q1} refl refl ends) (told_word told, tt); few = omega arith; some = omega arith } in
-      let played = play setup p body_a body_e most At_a At_e code_a code_e positive w.memory s (spot (point (If m (Tells t) xa ya ka) ba) b.a w ca) (spot (point (If m Hears xe ye ke) be) b.e w ce) q q (level x) 0 0 [] [] [] (word ∷ []) [] [] [] (Arrives (spot (point (if told then xa else ya) (After ka ba)) b.a w ca)) (Arrives (spot (point (if told then xe else ye) (After ke be)) b.e w ce)) 1 1 0 0
+      record { moves = 1; fills = 0; instructions = 1; does = does_one (tells w) (grants {q = q} (lt-ltb 0 setup.depths.ab (omega arith)) refl ends) (tt, tt); few = omega arith; some = omega arith } in
+      let part_e : Part setup p false body_e w.memory (spot (point (If m Hears xe ye ke) be) b.e w ce) q1 [] (Arrives (spot (point (if told then xe else ye) (After ke be)) b.e w ce)) q 1 1 =
+      record { moves = 1; fills = 0; instructions = 1; does = does_one (hears w told) (grants {q = q1} refl refl ends) (told_word told, tt); few = omega arith; some = omega arith } in
+      let played = play setup p body_a body_e most At_a At_e code_a code_e positive w.memory s (spot (point (If m (Tells t) xa ya ka) ba) b.a w ca) (spot (point (If m Hears xe ye ke) be) b.e w ce) q q (level x) 0 0 [] [] [] (word ∷ []) [] [] [] (Arrives (spot (point (if told then xa else ya) (After ka ba)) b.a w ca)) (Arrives (spot (point (if told then xe else ye) (After ke be)) b.e w ce)) 1 1 0 1
       stands.a stands.e stands.queues (rest_words (level x)) stands.memory (none_waits 0) part_a (λ wait. part_e) in
       let t' = state_of played.a played.e q s.memory (s.printed ++ []) played.total in
-      arrives setup p body_a body_e most At_a At_e code_a code_e positive s t' base (ticked w) (point (if told then xa else ya) (After ka ba), point (if told then xe else ye) (After ke be)) ca ce b (1 + 0 + 1 + 0) 0 (rest_empty s.queues (level x) stands.queues)
-      (ends_with setup p body_a body_e most At_a At_e code_a code_e positive s t' _ _ [] q _ 0 0 played [] [] nothing (inl refl) (omega arith) refl) (omega arith)
+      arrives setup p body_a body_e most At_a At_e code_a code_e positive s t' base (ticked w) (point (if told then xa else ya) (After ka ba), point (if told then xe else ye) (After ke be)) ca ce b (1 + 0 + 1 + 0) 1 (rest_empty s.queues (level x) stands.queues)
+      (ends_with setup p body_a body_e most At_a At_e code_a code_e positive s t' _ _ [] q _ 1 0 played [] [] nothing (inl refl) (omega arith) refl) (omega arith)
       (record { a = played.agrees_a; e = played.agrees_e; counts = x; queues = refl; memory = stands.memory; printed = append-nil s.printed ∙ stands.printed }) (record { size = sound.size; bytes = sound.bytes })
 
   -- E decides, and tells A
   pub told_by_e : (s : State) (base : ℕ) (m : Mark) (t : Test) (xa ya ka : Actions) (ba : Behind) (xe ye ke : Actions) (be : Behind) (ca ce : List Waiting) (b : Sides) (w : World) → Stands setup most At_a At_e (point (If m Hears xa ya ka) ba, point (If m (Tells t) xe ye ke) be) ca ce b w s → IsSound setup w → 1 ≤ setup.depths.eb → base + 2 ≤ 8 * w.items + 8
-      → Arrived setup most At_a At_e s base 0 (point (if holds t b.e then xa else ya) (After ka ba), point (if holds t b.e then xe else ye) (After ke be)) ca ce b (ticked w)
+      → Arrived setup most At_a At_e s base 1 (point (if holds t b.e then xa else ya) (After ka ba), point (if holds t b.e then xe else ye) (After ke be)) ca ce b (ticked w)
   told_by_e s base m t xa ya ka ba xe ye ke be ca ce b w stands sound room cost =
       let x = stands.counts in
       let q = resting (level x) in
@@ -87,18 +87,18 @@ module _ (setup : Setup) (p : Program) (body_a body_e : ℕ → Actions) (most :
       let sa = spot (point (If m Hears xa ya ka) ba) b.a w ca in
       let sa' = spot (point (if told then xa else ya) (After ka ba)) b.a w ca in
       let se' = spot (point (if told then xe else ye) (After ke be)) b.e w ce in
-      let part_e : Part setup p false body_e w.memory (spot (point (If m (Tells t) xe ye ke) be) b.e w ce) q [] (Arrives se') q1 1 0 =
-      record { moves = 1; fills = 0; instructions = 0; does = does_one (tells w) (grants {q = q} (lt-ltb 0 setup.depths.eb (omega arith)) refl ends) (tt, tt); few = omega arith; some = omega arith } in
-      let played = play setup p body_a body_e most At_a At_e code_a code_e positive w.memory s sa (spot (point (If m (Tells t) xe ye ke) be) b.e w ce) q q1 (level x) 0 0 [] [] [] [] [] [] [] (Arrives sa) (Arrives se') 0 1 0 0
+      let part_e : Part setup p false body_e w.memory (spot (point (If m (Tells t) xe ye ke) be) b.e w ce) q [] (Arrives se') q1 1 1 =
+      record { moves = 1; fills = 0; instructions = 1; does = does_one (tells w) (grants {q = q} (lt-ltb 0 setup.depths.eb (omega arith)) refl ends) (tt, tt); few = omega arith; some = omega arith } in
+      let played = play setup p body_a body_e most At_a At_e code_a code_e positive w.memory s sa (spot (point (If m (Tells t) xe ye ke) be) b.e w ce) q q1 (level x) 0 0 [] [] [] [] [] [] [] (Arrives sa) (Arrives se') 0 1 0 1
       stands.a stands.e stands.queues (rest_words (level x)) stands.memory (none_waits 0) no_move (λ wait. part_e) in
       let s3 = state_of played.a played.e q1 s.memory (s.printed ++ []) played.total in
-      let does : Does setup p true body_a s.memory 1 0 0 sa q1 [] (Arrives sa') q = does_one (hears w told) (grants {q = q1} refl refl ends) (told_word told, tt) in
+      let does : Does setup p true body_a s.memory 1 0 1 sa q1 [] (Arrives sa') q = does_one (hears w told) (grants {q = q1} refl refl ends) (told_word told, tt) in
       let heard = did_a setup p body_a most At_a code_a s.memory s3 refl refl played.agrees_a does in
       let ran = heard.ran in
       let count = ran.count in let few' = heard.few in
       let t' = state_of heard.after played.e q s.memory (s.printed ++ []) ran.total in
-      arrives setup p body_a body_e most At_a At_e code_a code_e positive s t' base (ticked w) (point (if told then xa else ya) (After ka ba), point (if told then xe else ye) (After ke be)) ca ce b (0 + 0 + 1 + 1) 0 (rest_empty s.queues (level x) stands.queues)
-      (ends_with setup p body_a body_e most At_a At_e code_a code_e positive s t' _ _ [] q1 _ 0 1 played ran.picks [] ran.access (inl refl) (omega arith) (subst (λ (zs : List Pick). Runs setup s3 zs t') (sym (append-nil ran.picks)) ran.runs)) (omega arith)
+      arrives setup p body_a body_e most At_a At_e code_a code_e positive s t' base (ticked w) (point (if told then xa else ya) (After ka ba), point (if told then xe else ye) (After ke be)) ca ce b (0 + 0 + 1 + 1) 1 (rest_empty s.queues (level x) stands.queues)
+      (ends_with setup p body_a body_e most At_a At_e code_a code_e positive s t' _ _ [] q1 _ 1 1 played ran.picks [] ran.access (inl refl) (omega arith) (subst (λ (zs : List Pick). Runs setup s3 zs t') (sym (append-nil ran.picks)) ran.runs)) (omega arith)
       (record { a = heard.agrees; e = played.agrees_e; counts = x; queues = refl; memory = stands.memory; printed = append-nil s.printed ∙ stands.printed }) (record { size = sound.size; bytes = sound.bytes })
 
   -- both halt

@@ -118,22 +118,29 @@ abbrev pub came : Outcome → (Env → Spot) → Came
 came (Leaves env) go = Arrives (go env)
 came (Quits quit) go = Halted quit
 
--- one move, over a memory of this size, where body f is the side's code of function f. The number is 1 where the side begins
--- a loop's body again, which is to take an instruction at least, and else 0
+-- how many instructions a side takes at least to begin this body again: one, but where the body itself begins with a test that
+-- is told, whose message is one
+abbrev pub turn_least : Actions → ℕ
+turn_least (If m (Tells t) x y k) = 0
+turn_least (If m Hears x y k) = 0
+turn_least code = 1
+
+-- one move, over a memory of this size, where body f is the side's code of function f. The number is how many instructions it
+-- takes at least, as far as the turns of loops need it
 pub data Moves (p : Program) (by_a : Bool) (size : ℕ) (body : ℕ → Actions) : ℕ → Spot → List Use → Came → Type 0 where
   acts : {m : Mark} {x : Action} {k : Actions} {b : Behind} {env : Env} {calls : List Waiting} {uses : List Use} {o : Outcome} (w : World) → is_deed x ≡ true → length w.memory ≡ size → Follows (deed p by_a x w env) uses o
       → Moves p by_a size body 0 (spot (point (Do m x k) b) env w calls) uses (came o (λ (env : Env). spot (point k b) env w calls))
   goes_behind : {k : Actions} {b : Behind} {env : Env} {calls : List Waiting} (w : World) → Moves p by_a size body 0 (spot (point Done (After k b)) env w calls) [] (Arrives (spot (point k b) env w calls))
   ends_body : {x y k : Actions} {b : Behind} {env : Env} {calls : List Waiting} (w : World) → Moves p by_a size body 0 (spot (point Done (Body x y k b)) env w calls) [] (Arrives (spot (point y (Turn x y k b)) env w calls))
-  ends_step : {x y k : Actions} {b : Behind} {env : Env} {calls : List Waiting} (w : World) → Moves p by_a size body 1 (spot (point Done (Turn x y k b)) env w calls) [] (Arrives (spot (point x (Body x y k b)) env w calls))
+  ends_step : {x y k : Actions} {b : Behind} {env : Env} {calls : List Waiting} (w : World) → Moves p by_a size body (turn_least x) (spot (point Done (Turn x y k b)) env w calls) [] (Arrives (spot (point x (Body x y k b)) env w calls))
   breaks : {m : Mark} {k : Actions} {b : Behind} {env : Env} {calls : List Waiting} (w : World) → Moves p by_a size body 0 (spot (point (Do m Break k) b) env w calls) [] (Arrives (spot (left b) env w calls))
   continues : {m : Mark} {k : Actions} {b : Behind} {env : Env} {calls : List Waiting} (w : World) → Moves p by_a size body 1 (spot (point (Do m Continue k) b) env w calls) [] (Arrives (spot (skipped b) env w calls))
   branches : {m : Mark} {t : Test} {x y k : Actions} {b : Behind} {env : Env} {calls : List Waiting} (w : World)
       → Moves p by_a size body 0 (spot (point (If m (Silent t) x y k) b) env w calls) [] (Arrives (spot (point (if holds t env then x else y) (After k b)) env w calls))
   tells : {m : Mark} {t : Test} {x y k : Actions} {b : Behind} {env : Env} {calls : List Waiting} (w : World)
-      → Moves p by_a size body 0 (spot (point (If m (Tells t) x y k) b) env w calls) (Pushes (told_on by_a) (if holds t env then 1 else 0) ∷ []) (Arrives (spot (point (if holds t env then x else y) (After k b)) env w calls))
+      → Moves p by_a size body 1 (spot (point (If m (Tells t) x y k) b) env w calls) (Pushes (told_on by_a) (if holds t env then 1 else 0) ∷ []) (Arrives (spot (point (if holds t env then x else y) (After k b)) env w calls))
   hears : {m : Mark} {x y k : Actions} {b : Behind} {env : Env} {calls : List Waiting} (w : World) (told : Bool)
-      → Moves p by_a size body 0 (spot (point (If m Hears x y k) b) env w calls) (Takes (heard_on by_a) (if told then 1 else 0) ∷ []) (Arrives (spot (point (if told then x else y) (After k b)) env w calls))
+      → Moves p by_a size body 1 (spot (point (If m Hears x y k) b) env w calls) (Takes (heard_on by_a) (if told then 1 else 0) ∷ []) (Arrives (spot (point (if told then x else y) (After k b)) env w calls))
   enters : {m : Mark} {x y k : Actions} {b : Behind} {env : Env} {calls : List Waiting} (w : World) → Moves p by_a size body 0 (spot (point (Loop m x y k) b) env w calls) [] (Arrives (spot (point x (Body x y k b)) env w calls))
   calls_it : {m : Mark} {v : Option ℕ} {f : ℕ} {xs : List Argument} {k : Actions} {b : Behind} {env : Env} {calls : List Waiting} (w : World) → length w.memory ≡ size → fault p (Room f) w env ≡ None
       → Moves p by_a size body 0 (spot (point (Do m (Call v f xs) k) b) env w calls) [] (Arrives (spot (point (body f) Ends) (given xs env) (deeper p f w) (waits v (point k b) env w ∷ calls)))

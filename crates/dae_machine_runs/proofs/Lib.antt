@@ -1,3 +1,4 @@
+mod Turned
 mod Stretches
 mod Sided
 mod RegionsA

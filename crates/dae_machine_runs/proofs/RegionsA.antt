@@ -25,6 +25,7 @@ use Rattle.dae_ir_pair.specs.Budget.{is_own_part, is_test, any_part, OwnWithin}
 use Rattle.dae_core.specs.Queues.{Queues}
 use Rattle.dae_machine_rounds.specs.Spots.{Arrives, Behind, After, Body, Turn, point, left, skipped, Waiting, spot, breaks, continues}
 use Rattle.dae_machine_rounds.proofs.Laws.{LoadsWords, does_to, Does, here, Counts, Loads, resting, sending, words_for, HasRoom, Comes, parts_come, with_al, IsMessage, silent, message_is, rest_is}
+use Rattle.dae_machine_runs.proofs.Turned.{inside_turn}
 use Rattle.dae_machine_runs.proofs.Sided.{exit, still_itself, still_ticked, Reached, Does_as, List_does, Spare_does, spare_less, IsBlock, then_does, moved, branch_does, loop_does}
 
 -- one stretch and another and another
@@ -235,7 +236,7 @@ module _ (setup : Setup) (p : Program) (body : ℕ → Actions) (m : List ℕ) (
       let xs = inside_of true of c 0 (rounds c cap false y []) Done in
       let ys = inside_of true of c 0 (rounds c cap false z []) Done in
       spare_less setup p true body m calls n _ k b (exec region_a n (Loop place y z rest))
-      (loop_does setup p true body m calls n xs ys k' b (exec region_a n y) (exec region_a n z) (region_a_does y fits.0 [] tt 0 Done (Body xs ys k' b)) (region_a_does z fits.1 [] tt 0 Done (Turn xs ys k' b)) (mark place ng) k (exec region_a n rest) (region_a_does rest fits.2 [] tt ng k b))))
+      (loop_does setup p true body m calls n xs ys k' b (exec region_a n y) (exec region_a n z) (inside_turn of c true 0 (rounds c cap false y [])) (region_a_does y fits.0 [] tt 0 Done (Body xs ys k' b)) (region_a_does z fits.1 [] tt 0 Done (Turn xs ys k' b)) (mark place ng) k (exec region_a n rest) (region_a_does rest fits.2 [] tt ng k b))))
 
   -- a whole region, with two units to spare
   pub whole_region_a : (code : Form) → IsBlock code → Each IsItem (λ (t : Test). Unit {0}) code → (ng : ℕ) (k : Actions) (b : Behind) → Spare_does setup p true body m calls n (inside_of true of c ng (rounds c cap false code []) k) k b (exec region_a n code)
@@ -249,4 +250,4 @@ module _ (setup : Setup) (p : Program) (body : ℕ → Actions) (m : List ℕ) (
       let k' = inside_of true of c ng (rounds c cap false rest []) k in
       let xs = inside_of true of c 0 (rounds c cap false y []) Done in
       let ys = inside_of true of c 0 (rounds c cap false z []) Done in
-      loop_does setup p true body m calls n xs ys k' b (exec region_a n y) (exec region_a n z) (region_a_does y fits.0 [] tt 0 Done (Body xs ys k' b)) (region_a_does z fits.1 [] tt 0 Done (Turn xs ys k' b)) (mark place ng) k (exec region_a n rest) (region_a_does rest fits.2 [] tt ng k b)
+      loop_does setup p true body m calls n xs ys k' b (exec region_a n y) (exec region_a n z) (inside_turn of c true 0 (rounds c cap false y [])) (region_a_does y fits.0 [] tt 0 Done (Body xs ys k' b)) (region_a_does z fits.1 [] tt 0 Done (Turn xs ys k' b)) (mark place ng) k (exec region_a n rest) (region_a_does rest fits.2 [] tt ng k b)

@@ -25,6 +25,7 @@ use Rattle.dae_ir.specs.declared.stream.Last.TheVariants.{Prints}
 use Rattle.dae_ir_pair.specs.Budget.{is_test, any_part}
 use Rattle.dae_machine_rounds.specs.Spots.{Arrives, Behind, After, Body, Turn, Point, point, left, skipped, Waiting, Spot, spot, breaks, continues}
 use Rattle.dae_machine_rounds.proofs.Laws.{LoadsWords, does_to, Does, here, resting, with_al, parts_taken, IsMessage, silent, message_is, emit_does}
+use Rattle.dae_machine_runs.proofs.Turned.{inside_turn}
 use Rattle.dae_machine_runs.proofs.Sided.{exit, Still, still_itself, still_ticked, still_on, Reached, Does_as, List_does, Spare_does, spare_less, IsBlock, then_does, moved, branch_does, loop_does}
 use Rattle.dae_machine_runs.proofs.RegionsA.{item_of, run_parts, parts_then}
 
@@ -194,7 +195,7 @@ module _ (setup : Setup) (p : Program) (body : ℕ → Actions) (m : List ℕ) (
       let xs = inside_of false of c 0 (rounds c cap false y []) Done in
       let ys = inside_of false of c 0 (rounds c cap false z []) Done in
       spare_less setup p false body m calls n _ k b (exec region_e n (Loop place y z rest))
-      (loop_does setup p false body m calls n xs ys k' b (exec region_e n y) (exec region_e n z) (region_e_does y fits.0 [] tt 0 Done (Body xs ys k' b)) (region_e_does z fits.1 [] tt 0 Done (Turn xs ys k' b)) (mark place ng) k (exec region_e n rest) (region_e_does rest fits.2 [] tt ng k b))))
+      (loop_does setup p false body m calls n xs ys k' b (exec region_e n y) (exec region_e n z) (inside_turn of c false 0 (rounds c cap false y [])) (region_e_does y fits.0 [] tt 0 Done (Body xs ys k' b)) (region_e_does z fits.1 [] tt 0 Done (Turn xs ys k' b)) (mark place ng) k (exec region_e n rest) (region_e_does rest fits.2 [] tt ng k b))))
 
   -- a whole region, with two units to spare
   pub whole_region_e : (code : Form) → IsBlock code → Each IsItem (λ (t : Test). Unit {0}) code → (ng : ℕ) (k : Actions) (b : Behind) → Spare_does setup p false body m calls n (inside_of false of c ng (rounds c cap false code []) k) k b (exec region_e n code)
@@ -208,4 +209,4 @@ module _ (setup : Setup) (p : Program) (body : ℕ → Actions) (m : List ℕ) (
       let k' = inside_of false of c ng (rounds c cap false rest []) k in
       let xs = inside_of false of c 0 (rounds c cap false y []) Done in
       let ys = inside_of false of c 0 (rounds c cap false z []) Done in
-      loop_does setup p false body m calls n xs ys k' b (exec region_e n y) (exec region_e n z) (region_e_does y fits.0 [] tt 0 Done (Body xs ys k' b)) (region_e_does z fits.1 [] tt 0 Done (Turn xs ys k' b)) (mark place ng) k (exec region_e n rest) (region_e_does rest fits.2 [] tt ng k b)
+      loop_does setup p false body m calls n xs ys k' b (exec region_e n y) (exec region_e n z) (inside_turn of c false 0 (rounds c cap false y [])) (region_e_does y fits.0 [] tt 0 Done (Body xs ys k' b)) (region_e_does z fits.1 [] tt 0 Done (Turn xs ys k' b)) (mark place ng) k (exec region_e n rest) (region_e_does rest fits.2 [] tt ng k b)

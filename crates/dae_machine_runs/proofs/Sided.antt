@@ -10,7 +10,7 @@ use Rattle.dae_ir.specs.Streams.{Actions}
 use Rattle.dae_ir.specs.declared.form.Test.{Test}
 use Rattle.dae_ir.specs.declared.stream.Mark.{Mark}
 use Rattle.dae_ir.specs.declared.stream.Branch.TheVariants.{Silent}
-use Rattle.dae_machine_rounds.specs.Spots.{weight, Behind, Ends, After, Body, Turn, Point, point, left, skipped, Waiting, Spot, spot, Arrives, Moves, goes_behind, ends_body, ends_step, branches, enters}
+use Rattle.dae_machine_rounds.specs.Spots.{turn_least, weight, Behind, Ends, After, Body, Turn, Point, point, left, skipped, Waiting, Spot, spot, Arrives, Moves, goes_behind, ends_body, ends_step, branches, enters}
 use Rattle.dae_machine.specs.Walks.{ends}
 use Rattle.dae_machine_rounds.proofs.Laws.{Does, here, does_same, does_both, does_one, Counts, resting, with_al, least_of}
 
@@ -173,7 +173,7 @@ module _ (setup : Setup) (p : Program) (by_a : Bool) (body : ℕ → Actions) (m
     by true y = onward xs f i y
     by false y = onward ys g j y
 
-  module _ (n : ℕ) (xs ys k' : Actions) (b : Behind) (f g : Run Env) (i : List_does n xs Done (Body xs ys k' b) f) (i' : List_does n ys Done (Turn xs ys k' b) g) where
+  module _ (n : ℕ) (xs ys k' : Actions) (b : Behind) (f g : Run Env) (one : turn_least xs ≡ 1) (i : List_does n xs Done (Body xs ys k' b) f) (i' : List_does n ys Done (Turn xs ys k' b) g) where
     abbrev at_body : Point
     at_body = point xs (Body xs ys k' b)
 
@@ -191,8 +191,8 @@ module _ (setup : Setup) (p : Program) (by_a : Bool) (body : ℕ → Actions) (m
         (λ env' w' z. (
         let c = z.cost in
         let x' = with_al z.al_taken z.al_reserved x in
-        let again = moved x' w' w' (8 * w'.items - 1) 1 (spot (point Done (Turn xs ys k' b)) env' w' calls) at_body env' (ends_step w') (still_itself w') (omega arith) refl in
-        then_does _ x' w' (8 * w'.items - 4) 3 (8 * w'.items - 1) (8 * w'.items + 3) 1 j (suc j) at_body (exit k' b) env' w' (turns f g j env' w') (omega arith) (omega arith) (omega arith) again (turns_do env' w' x' (z.still.memory ∙ mem))))
+        let again = moved x' w' w' (8 * w'.items - 1) (turn_least xs) (spot (point Done (Turn xs ys k' b)) env' w' calls) at_body env' (ends_step w') (still_itself w') (omega arith) refl in
+        then_does _ x' w' (8 * w'.items - 4) 3 (8 * w'.items - 1) (8 * w'.items + 3) (turn_least xs) j (suc j) at_body (exit k' b) env' w' (turns f g j env' w') (omega arith) (omega arith) (omega arith) again (turns_do env' w' x' (z.still.memory ∙ mem))))
         (λ env' w' z. (
         let c = z.cost in
         let x' = with_al z.al_taken z.al_reserved x in

@@ -1,3 +1,5 @@
+// Tests of shelves and sinks: in memory, with room for so much, and of real files.
+
 ghost use Rattle.std.specs.Prelude.{◌≡◌, ◌≢◌, ◌∷◌, [], ◌++◌, take, IfSome};
 ghost use Rattle.std.specs.Io.KnownBytes.{Appends};
 ghost use Rattle.dae_io.specs.Faults.{Rose, fetch_of};

@@ -1,19 +1,23 @@
 -- Words of lists of steps, as far as they are counted, and lists with none.
 use Rattle.std.proofs.Common.{◌≡◌, ℕ, ◌+◌, ◌-◌, ◌*◌, ◌^◌, ◌<◌, ◌≤◌, Bool, true, false, List, [], ◌∷◌, length, drop, get_or, refl, ap, sym, ◌∙◌, arith}
-use Rattle.std.specs.Prelude.{Vec, nat_eq, nat_lt, if◌then◌else◌}
+use Rattle.std.specs.Prelude.{Option, Some, None, Vec, nat_eq, nat_lt, if◌then◌else◌, ◌&&◌}
 use Rattle.std.specs.declared.alloc.Global.{Global}
 use Rattle.std.proofs.lemmas.Bool.Decides.{nat_tests}
 use Rattle.std.proofs.lemmas.List.{drop_all}
 use Rattle.dae_ir.specs.Code.{Done, If, Loop}
 use Rattle.dae_ir.specs.Streams.{Actions, actions_of, step_onto}
 use Rattle.dae_ir.specs.declared.stream.Mark.{Mark}
+use Rattle.dae_ir.specs.declared.stream.Action.{Action}
 use Rattle.dae_ir.specs.declared.stream.Branch.{Branch}
 use Rattle.dae_ir.specs.declared.stream.Step.{Step, Act, If', Loop'}
 use Rattle.dae_ir.specs.declared.stream.Step.TheVariants as step
 use Rattle.dae_select_live.proofs.Laws.{onto_if, onto_loop, drop_at}
-use Rattle.dae_select_blocks.specs.Code.{does_nothing}
+use Rattle.dae_select_walks.specs.Compiled.{is_told}
+use Rattle.dae_select_blocks.specs.Code.{does_nothing, is_break, only_breaks, leaves_first}
 use Rattle.dae_select_blocks.specs.Sizes.{most_words_in}
 use Rattle.dae_select.specs.Counting.{capped}
+use Rattle.dae_select.specs.Growing.{first_test}
+use Rattle.dae_select.specs.declared.making.PlacedBranch.{PlacedBranch}
 
 -- a sum of what is counted counts as much as the sum
 pub capped_sum : (k m n : ℕ) → capped (k + capped m + capped n) ≡ capped (k + m + n)
@@ -85,3 +89,69 @@ empty_does_nothing [] = refl
 empty_does_nothing (Act m x ∷ steps) = some_step (Act m x) steps
 empty_does_nothing (If' m b s p t q ∷ steps) = some_step (If' m b s p t q) steps
 empty_does_nothing (Loop' m s p t q ∷ steps) = some_step (Loop' m s p t q) steps
+
+-- a sum that is below the bound is below any that isn't
+pub capped_near : (m n : ℕ) → nat_lt (capped m + capped n) 900 ≡ nat_lt (m + n) 900
+capped_near m n = by (nat_lt m (2 ^ 17)) (nat_lt n (2 ^ 17)) refl refl
+  where
+    far : (v w : ℕ) → 900 ≤ v → 900 ≤ w → nat_lt v 900 ≡ nat_lt w 900
+    far v w h g = (let a : nat_lt v 900 ≡ false = grind (arith, nat_tests) in let b : nat_lt w 900 ≡ false = grind (arith, nat_tests) in rw (a, b) refl)
+
+    by : (a b : Bool) → nat_lt m (2 ^ 17) ≡ a → nat_lt n (2 ^ 17) ≡ b → nat_lt ((if a then m else 2 ^ 17) + (if b then n else 2 ^ 17)) 900 ≡ nat_lt (m + n) 900
+    by true true e h = refl
+    by true false e h = (let le : (2 ^ 17 ≤ n) = grind (arith, nat_tests) in far (m + 2 ^ 17) (m + n) (omega arith) (omega arith))
+    by false b e h = (let le : (2 ^ 17 ≤ m) = grind (arith, nat_tests) in far (2 ^ 17 + (if b then n else 2 ^ 17)) (m + n) (omega arith) (omega arith))
+
+and_no : (b : Bool) → (b && false) ≡ false
+and_no true = refl
+and_no false = refl
+
+-- a list that only breaks has one step
+pub only_one : (steps : List Step) → nat_eq (length steps) 1 ≡ false → only_breaks (actions_of steps) ≡ false
+only_one [] e = refl
+only_one (s ∷ t ∷ steps) e = two s t (actions_of steps)
+  where
+    two : (s t : Step) (k : Actions) → only_breaks (step_onto s (step_onto t k)) ≡ false
+    two (Act m a) (Act m' b) k = and_no (is_break a)
+    two (Act m a) (If' m' b i p j q) k = and_no (is_break a)
+    two (Act m a) (Loop' m' i p j q) k = and_no (is_break a)
+    two (If' m b i p j q) t k = refl
+    two (Loop' m i p j q) t k = refl
+only_one (s ∷ []) e = absurd cc
+
+-- ---- the test that a body begins with
+
+begins_with : (body : List Step) (s : Step) → 0 < length body → s ≡ get_or body 0 s → (k : Actions) × (actions_of body ≡ step_onto s k)
+begins_with [] s some is = absurd (omega arith)
+begins_with (x ∷ xs) s some is = (actions_of xs, ap (λ (z : Step). step_onto z (actions_of xs)) (sym is))
+
+pub leaving_if : (body : List Step) (s : Step) (m : Mark) (b : Branch) (p q : Vec Step Global) → 0 < length body → s ≡ get_or body 0 s → s ≡ step.If m b p q
+    → (first_test (actions_of body) ≡ Some (record { place = m.place; branch = b })) × (leaves_first (actions_of body) ≡ (is_told b && (does_nothing (actions_of p.items) && only_breaks (actions_of q.items))))
+leaving_if body s m b p q some is e =
+    let begins = begins_with body s some is in
+    let whole : actions_of body ≡ If m b (actions_of p.items) (actions_of q.items) begins.0 = begins.1 ∙ ap (λ (z : Step). step_onto z begins.0) e ∙ onto_if m b p q begins.0 in
+    (ap first_test whole, ap leaves_first whole)
+
+pub leaving_act : (body : List Step) (s : Step) (m : Mark) (a : Action) → 0 < length body → s ≡ get_or body 0 s → s ≡ step.Act m a → leaves_first (actions_of body) ≡ false
+leaving_act body s m a some is e = (let begins = begins_with body s some is in ap leaves_first (begins.1 ∙ ap (λ (z : Step). step_onto z begins.0) e))
+
+pub leaving_loop : (body : List Step) (s : Step) (m : Mark) (p q : Vec Step Global) → 0 < length body → s ≡ get_or body 0 s → s ≡ step.Loop m p q → leaves_first (actions_of body) ≡ false
+leaving_loop body s m p q some is e =
+    let begins = begins_with body s some is in
+    ap leaves_first (begins.1 ∙ ap (λ (z : Step). step_onto z begins.0) e ∙ onto_loop m p q begins.0)
+
+pub none_if : (t : Bool) (o : Option PlacedBranch) → t ≡ false → None ≡ (if t then o else None)
+none_if t o e = rw e refl
+
+pub some_if : (t : Bool) (o : Option PlacedBranch) (x : PlacedBranch) → t ≡ true → o ≡ Some x → Some x ≡ (if t then o else None)
+some_if t o x e h = rw (e, h) refl
+
+pub all_three : (a b c : Bool) → a ≡ true → b ≡ true → c ≡ true → (a && (b && c)) ≡ true
+all_three a b c e h k = rw (e, h, k) refl
+
+pub not_first : (a b : Bool) → a ≡ false → (a && b) ≡ false
+not_first a b e = rw e refl
+
+pub not_last : (a b : Bool) → b ≡ false → (a && b) ≡ false
+not_last true b e = e
+not_last false b e = refl

@@ -1,5 +1,6 @@
 -- Code in front of code, with the words at which actions begin.
-use Rattle.std.proofs.Common.{◌≡◌, ℕ, ◌+◌, Bool, true, ◌||◌, List, [], ◌∷◌, ◌++◌, length, map, reverse, refl, ap, sym, ◌∙◌, arith, append_assoc, length-append}
+use Rattle.std.proofs.Common.{◌≡◌, ◌≤◌, ℕ, ◌+◌, Bool, true, false, ◌||◌, Option, Some, None, List, [], ◌∷◌, ◌++◌, length, map, reverse, refl, ap, sym, ◌∙◌, arith, append_assoc, length-append}
+use Rattle.std.specs.Prelude.{is_some, if◌then◌else◌}
 use Rattle.std.proofs.lemmas.List.{append-nil, map-append, reverse-append}
 use Rattle.dae_base.specs.declared.Place.{Place}
 use Rattle.dae_encode.specs.declared.Inst.{Inst}
@@ -11,10 +12,14 @@ use Rattle.dae_select_walks.specs.declared.Standing.{Standing}
 use Rattle.dae_select_walks.specs.declared.Standing.TheVariants.{Settled}
 use Rattle.dae_select_walks.specs.Multiples.{unknown, multiples_behind, is_placed}
 use Rattle.dae_select_walks.specs.Live.{Ways, behind, live, step_ways, body_ways}
-use Rattle.dae_select_blocks.specs.Blocks.{jump_words, jump_back}
-use Rattle.dae_select_blocks.specs.Code.{standing_behind, block_code, branch_code, does_nothing, past_code, either_code, code_of, followed}
+use Rattle.dae_select_blocks.specs.Blocks.{jump_words, jump_over, jump_back}
+use Rattle.dae_select_blocks.specs.Sizes.{most_words_in}
+use Rattle.dae_select_blocks.proofs.LawsOfBlocks.{code_length}
+use Rattle.dae_ir.specs.declared.stream.Branch.TheVariants.{Hears}
+use Rattle.dae_select_blocks.specs.Code.{standing_behind, block_code, branch_code, back_branch, has_bottom, loop_code, bottom_code, does_nothing, past_code, either_code, code_of, followed}
 use Rattle.dae_select.specs.Grown.{Grown, no_code, advance, in_front}
-use Rattle.dae_select.specs.Growing.{marked_code}
+use Rattle.dae_select.specs.Growing.{words_behind, turned, marked_code}
+use Rattle.dae_select.specs.declared.making.PlacedBranch.{PlacedBranch}
 use Rattle.dae_select.specs.declared.growing.PlacedWord.{PlacedWord}
 
 abbrev grown : List Inst → List PlacedWord → Grown
@@ -69,8 +74,34 @@ module _ (short : Bool) (plan : Plan) (variables : ℕ → ℕ) (f : ℕ) where
   abbrev marked : Actions → Ways → ℕ → ℕ → Grown
   marked = marked_code short plan variables f Settled unknown
 
-  abbrev turned : List Inst → List Inst → List Inst → List Inst
-  turned body step rest = body ++ (step ++ (jump_back short (length body + length step) ++ rest))
+  -- a loop, from its parts
+  abbrev loop_of : Option PlacedBranch → (ℕ → ℕ → Grown) → (ℕ → ℕ → Grown) → (ℕ → ℕ → Grown) → Grown → Grown
+  loop_of test tail body step rest =
+      let words = words_behind (plan.home f) short test in
+      let again = step words 0 in
+      let to = length again.code + words in
+      turned (plan.home f) short test (if is_some test then tail to 0 else body to 0) again rest
+
+  looped_code : (below : Bool) (t : PlacedBranch) (tail body step : ℕ → ℕ → Grown) (tail' body' step' : ℕ → ℕ → List Inst) (rest : Grown) (rest' : List Inst) → ((l s : ℕ) → (tail l s).code ≡ tail' l s) → ((l s : ℕ) → (body l s).code ≡ body' l s) → ((l s : ℕ) → (step l s).code ≡ step' l s) → rest.code ≡ rest'
+      → (loop_of (if below then Some t else None) tail body step rest).code ≡ (if below then bottom_code short tail' step' (back_branch (plan.home f) t.branch true) rest' else loop_code short body' (step' (jump_words short) 0) rest')
+  looped_code true t tail body step tail' body' step' rest rest' same_tail same_body same_step same_rest =
+      let words = length (back_branch (plan.home f) t.branch true 0) in
+      let whole : List Inst → List Inst → List Inst → List Inst = λ g d r. jump_over short (length g + length d) ++ (g ++ (d ++ (back_branch (plan.home f) t.branch true (length g + length d) ++ r))) in
+      let r = rest.code in
+      let d = (step words 0).code in let again = step' words 0 in
+      let ed : d ≡ again = same_step words 0 in
+      let g = (tail (length d + words) 0).code in let turn = tail' (length again + words) 0 in
+      let eg : g ≡ turn = same_tail (length d + words) 0 ∙ ap (λ (c : List Inst). tail' (length c + words) 0) ed in
+      ap (λ (c : List Inst). whole g d c) same_rest ∙ ap (λ (c : List Inst). whole g c rest') ed ∙ ap (λ (c : List Inst). whole c again rest') eg
+  looped_code false t tail body step tail' body' step' rest rest' same_tail same_body same_step same_rest =
+      let words = jump_words short in
+      let whole : List Inst → List Inst → List Inst → List Inst = λ g d r. g ++ (d ++ (jump_back short (length g + length d) ++ r)) in
+      let r = rest.code in
+      let d = (step words 0).code in let again = step' words 0 in
+      let ed : d ≡ again = same_step words 0 in
+      let g = (body (length d + words) 0).code in let turn = body' (length again + words) 0 in
+      let eg : g ≡ turn = same_body (length d + words) 0 ∙ ap (λ (c : List Inst). body' (length c + words) 0) ed in
+      ap (λ (c : List Inst). whole g d c) same_rest ∙ ap (λ (c : List Inst). whole g c rest') ed ∙ ap (λ (c : List Inst). whole c again rest') eg
 
   pub same_code : (g : Standing) (known : VariableSet) (c : Actions) (x : Ways) (l s : ℕ) → (marked_code short plan variables f g known c x l s).code ≡ code_of short plan variables f g known c x l s
   same_code g' known Done x l s = refl
@@ -91,15 +122,26 @@ module _ (short : Bool) (plan : Plan) (variables : ℕ → ℕ) (f : ℕ) where
       let first = code p y (far second rest + l) (far second rest + s) in
       let eg : g ≡ first = same_code Settled unknown p y (n + l) (n + s) ∙ ap (λ (c : List Inst). code p y (far c r + l) (far c r + s)) ed ∙ ap (λ (c : List Inst). code p y (far second c + l) (far second c + s)) er in
       ap (λ (c : List Inst). whole g d c) er ∙ ap (λ (c : List Inst). whole g c rest) ed ∙ ap (λ (c : List Inst). whole c second rest) eg
-  same_code g' known (Loop m body step k) x l s =
-      let n = live k x in
-      let r = (marked k x l s).code in let rest = code k x l s in
-      let er : r ≡ rest = same_code Settled unknown k x l s in
-      let d = (marked step (step_ways body step n) (jump_words short) 0).code in let again = code step (step_ways body step n) (jump_words short) 0 in
-      let ed : d ≡ again = same_code Settled unknown step (step_ways body step n) (jump_words short) 0 in
-      let g = (marked body (body_ways body step n) (length d + jump_words short) 0).code in let turn = code body (body_ways body step n) (length again + jump_words short) 0 in
-      let eg : g ≡ turn = same_code Settled unknown body (body_ways body step n) (length d + jump_words short) 0 ∙ ap (λ (c : List Inst). code body (body_ways body step n) (length c + jump_words short) 0) ed in
-      ap (λ (c : List Inst). turned g d c) er ∙ ap (λ (c : List Inst). turned g c rest) ed ∙ ap (λ (c : List Inst). turned c again rest) eg
+  same_code g' known (Loop m Done step k) x l s =
+      let n = live k x in let y = body_ways Done step n in
+      looped_code false (record { place = m.place; branch = Hears }) (λ l s. no_code) (marked Done y) (marked step (step_ways Done step n)) (λ l s. []) (code Done y) (code step (step_ways Done step n)) (marked k x l s) (code k x l s)
+      (λ l s. refl) (λ l s. same_code Settled unknown Done y l s) (λ l s. same_code Settled unknown step (step_ways Done step n) l s) (same_code Settled unknown k x l s)
+  same_code g' known (Loop m (Do m' a t) step k) x l s =
+      let n = live k x in let y = body_ways (Do m' a t) step n in
+      looped_code false (record { place = m.place; branch = Hears }) (λ l s. no_code) (marked (Do m' a t) y) (marked step (step_ways (Do m' a t) step n)) (λ l s. []) (code (Do m' a t) y) (code step (step_ways (Do m' a t) step n)) (marked k x l s) (code k x l s)
+      (λ l s. refl) (λ l s. same_code Settled unknown (Do m' a t) y l s) (λ l s. same_code Settled unknown step (step_ways (Do m' a t) step n) l s) (same_code Settled unknown k x l s)
+  same_code g' known (Loop m (Loop m' c d t) step k) x l s =
+      let n = live k x in let y = body_ways (Loop m' c d t) step n in
+      looped_code false (record { place = m.place; branch = Hears }) (λ l s. no_code) (marked (Loop m' c d t) y) (marked step (step_ways (Loop m' c d t) step n)) (λ l s. []) (code (Loop m' c d t) y) (code step (step_ways (Loop m' c d t) step n)) (marked k x l s) (code k x l s)
+      (λ l s. refl) (λ l s. same_code Settled unknown (Loop m' c d t) y l s) (λ l s. same_code Settled unknown step (step_ways (Loop m' c d t) step n) l s) (same_code Settled unknown k x l s)
+  same_code g' known (Loop m (If m' b p q t) step k) x l s =
+      let n = live k x in let y = body_ways (If m' b p q t) step n in
+      looped_code (has_bottom (If m' b p q t) step) (record { place = m'.place; branch = b }) (marked t y) (marked (If m' b p q t) y) (marked step (step_ways (If m' b p q t) step n)) (code t y) (code (If m' b p q t) y) (code step (step_ways (If m' b p q t) step n)) (marked k x l s) (code k x l s)
+      (λ l s. same_code Settled unknown t y l s) (λ l s. same_code Settled unknown (If m' b p q t) y l s) (λ l s. same_code Settled unknown step (step_ways (If m' b p q t) step n) l s) (same_code Settled unknown k x l s)
+
+  -- how many words it has at most
+  pub marked_length : (c : Actions) (x : Ways) (l s : ℕ) → length (marked c x l s).code ≤ most_words_in c
+  marked_length c x l s = (let h = code_length short plan variables f Settled unknown c x l s in let e = ap length (same_code Settled unknown c x l s) in omega arith)
 
   -- what does nothing has no code
   pub nothing_marked : (c : Actions) (x : Ways) (l s : ℕ) → does_nothing c ≡ true → length (marked c x l s).code ≡ 0

@@ -1,5 +1,5 @@
 -- The lists inside of a step are no deeper than it, which is why the walk ends.
-use Rattle.std.proofs.Common.{◌≡◌, ℕ, ◌+◌, ◌*◌, ◌<◌, ◌≤◌, List, length, get_or, sym, subst, arith}
+use Rattle.std.proofs.Common.{◌≡◌, ℕ, zero, suc, ◌+◌, ◌*◌, ◌<◌, ◌≤◌, List, [], ◌∷◌, length, drop, get_or, sym, subst, arith}
 use Rattle.std.specs.Prelude.{Vec}
 use Rattle.std.specs.declared.alloc.Global.{Global}
 use denote.Param.Weighed.{most, at_most}
@@ -33,3 +33,13 @@ pub step_below : (xs : List Step) (i : ℕ) (s : Step) → i < length xs → s �
 step_below xs i s lt e =
     let h : the_size s ≤ deepest xs = subst (λ (z : Step). the_size z ≤ deepest xs) (sym e) (at_most (λ (x : Step). the_size x) xs i s lt) in
     omega (arith, h)
+
+-- what is left of a list is no deeper
+pub drop_below : (xs : List Step) (n : ℕ) → deepest (drop n xs) ≤ deepest xs
+drop_below [] zero = omega arith
+drop_below [] (suc n) = omega arith
+drop_below (x ∷ xs) zero = omega arith
+drop_below (x ∷ xs) (suc n) = (let h = drop_below xs n in omega arith)
+
+pub rest_below : (xs ys : List Step) (n : ℕ) (s : Step) → xs ≡ drop n ys → deepest ys < the_size s → 2 * deepest xs + 1 < 2 * the_size s + 0
+rest_below xs ys n s e lt = (let h = drop_below ys n in rw e (omega (arith, lt, h)))

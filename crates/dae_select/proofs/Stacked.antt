@@ -1,6 +1,6 @@
 -- The code of steps before other code.
-use Rattle.std.proofs.Common.{◌≡◌, ℕ, zero, suc, Option, Some, None, ◌+◌, ◌-◌, ◌<◌, ◌≤◌, Bool, true, false, ◌||◌, List, [], ◌∷◌, length, drop, get_or, refl, ap, sym, subst, ◌∙◌, ◌++◌, arith, length-append, append_assoc}
-use Rattle.std.specs.Prelude.{Vec, slice_get, if◌then◌else◌}
+use Rattle.std.proofs.Common.{◌≡◌, ℕ, zero, suc, Option, Some, None, ◌+◌, ◌-◌, ◌<◌, ◌≤◌, Bool, true, false, ◌&&◌, ◌||◌, List, [], ◌∷◌, length, drop, get_or, refl, ap, sym, subst, ◌∙◌, ◌++◌, arith, length-append, append_assoc}
+use Rattle.std.specs.Prelude.{Vec, slice_get, is_some, if◌then◌else◌}
 use Rattle.std.proofs.lemmas.List.{drop_all}
 use Rattle.std.specs.declared.alloc.Global.{Global}
 use Rattle.dae_ir.specs.Code.{Done, Do, If, Loop}
@@ -17,16 +17,19 @@ use Rattle.dae_select_walks.specs.Agrees.{Plan}
 use Rattle.dae_select_walks.specs.declared.Standing.{Standing}
 use Rattle.dae_select_walks.specs.declared.Standing.TheVariants.{Settled, Early, Late}
 use Rattle.dae_select_walks.specs.Live.{Ways, ways, live, before, decided, with_all, turn, body_ways, step_ways, none, nowhere}
-use Rattle.dae_select_walks.proofs.LawsOfWalks.{turn_again}
 use Rattle.dae_select_live.specs.Members.{member}
 use Rattle.dae_select_live.proofs.Laws.{onto_if, onto_loop, drop_at}
 use Rattle.dae_select_blocks.proofs.LawsOfBlocks.{by_pairs}
-use Rattle.dae_select_blocks.specs.Blocks.{jump_words, jump_over, jump_back}
-use Rattle.dae_select_blocks.specs.Code.{reads_once, standing_behind, if_settled, pair_standing, block_code, branch_code, does_nothing, past_code}
+use Rattle.dae_select_blocks.specs.Blocks.{jump_over, jump_back}
+use Rattle.dae_select_blocks.specs.Code.{reads_once, standing_behind, if_settled, pair_standing, block_code, branch_code, back_branch, leaves_first, is_near, has_bottom, does_nothing, past_code}
 use Rattle.dae_select.specs.Grown.{Grown, no_code, glue, acting, in_front}
 use Rattle.dae_select.specs.Placed.{multiples_after, is_placed_step, placed_flags, multiples_at}
-use Rattle.dae_select.specs.Growing.{marked_code, IsCodeOf, standing_after, standing_between, step_before, standing_before, IsTakenBy, IsTakenByStep, IsStepCode}
-use Rattle.dae_select.proofs.InFront.{front_of_none, front_assoc, nothing_marked}
+use Rattle.dae_select.specs.declared.making.PlacedBranch.{PlacedBranch}
+use Rattle.dae_select.specs.Growing.{first_test, bottom_of, IsNearTurn, words_behind, turned, marked_code, marked_tail, IsCodeOf, standing_after, standing_between, step_before, standing_before, IsTakenBy, IsTakenByStep, IsStepCode}
+use Rattle.dae_select.proofs.InFront.{front_of_none, front_assoc, nothing_marked, marked_length}
+use Rattle.dae_select.proofs.Counted.{onto_words}
+use Rattle.dae_select_blocks.specs.Sizes.{most_words_in}
+use Rattle.std.proofs.lemmas.Bool.Decides.{nat_tests}
 use Rattle.dae_select.specs.declared.making.Exits.{Exits}
 
 module _ (short : Bool) (plan : Plan) (variables : ℕ → ℕ) (f : ℕ) where
@@ -128,38 +131,85 @@ module _ (short : Bool) (plan : Plan) (variables : ℕ → ℕ) (f : ℕ) where
   four : (a b j r base : Grown) → in_front a (in_front b (in_front j (in_front r base))) ≡ in_front (in_front a (in_front b (in_front j r))) base
   four a b j r base = sym (front_assoc a _ base ∙ ap (λ (g : Grown). in_front a g) (front_assoc b _ base ∙ ap (λ (g : Grown). in_front b g) (front_assoc j r base)))
 
-  pub looped : (exits : Exits) (placed : Bool) (g g' : Standing) (s : Step) (m : Mark) (p q : Vec Step Global) (old : Grown) (next turned again set : List ℕ) (c1 c2 new : Grown) → s ≡ step.Loop m p q
-      → member turned ≡ turn (actions_of p.items) (actions_of q.items) (member next)
-      → IsCodeOf short plan variables f Settled unknown no_code (jump_words short) 0 (ways (member turned) (member next) (member turned)) (actions_of q.items) c1 again
-      → IsCodeOf short plan variables f Settled unknown no_code (length c1.code + jump_words short) 0 (ways (member again) (member next) (member again)) (actions_of p.items) c2 set
-      → new ≡ in_front c2 (in_front c1 (in_front (glue (jump_back short (length c2.code + length c1.code))) old))
-      → IsStepCode short plan variables f placed g g' exits s old next new set
-  looped exits placed g g' s m p q old next turned again set c1 c2 new is first step body made known base k n test stood h0 =
+  -- in front of code in front of other code
+  turned_assoc : (test : Option PlacedBranch) (a b r base : Grown) → turned (plan.home f) short test a b (in_front r base) ≡ in_front (turned (plan.home f) short test a b r) base
+  turned_assoc None a b r base = four a b (glue (jump_back short (length a.code + length b.code))) r base
+  turned_assoc (Some t) a b r base = (let n = length a.code + length b.code in five (glue (jump_over short n)) a b (acting t.place (back_branch (plan.home f) t.branch true n)) r base)
+
+  -- what of a body stands before the step
+  abbrev inner_of : Option PlacedBranch → Actions → Ways → ℕ → Grown
+  inner_of test body y l = if is_some test then marked_tail short plan variables f body y l 0 else marked_code short plan variables f Settled unknown body y l 0
+
+  inner_is : (steps : List Step) (again : Actions) (test : Option PlacedBranch) (y : Ways) (l : ℕ) → test ≡ bottom_of (actions_of steps) again
+      → marked_code short plan variables f Settled unknown (actions_of (drop (if is_some test then 1 else 0) steps)) y l 0 ≡ inner_of test (actions_of steps) y l
+  inner_is steps again None y l e = refl
+  inner_is [] again (Some t) y l e = absurd cc
+  inner_is (Act m a ∷ steps) again (Some t) y l e = absurd cc
+  inner_is (If' m b i p j q ∷ steps) again (Some t) y l e = refl
+  inner_is (Loop' m i p j q ∷ steps) again (Some t) y l e = absurd cc
+
+  some_is : (c : Bool) (o : Option PlacedBranch) (t : PlacedBranch) → Some t ≡ (if c then o else None) → c ≡ true
+  some_is true o t e = refl
+  some_is false o t e = absurd cc
+
+  both_are : (b c : Bool) → (b && c) ≡ true → c ≡ true
+  both_are true c e = e
+  both_are false c e = absurd cc
+
+  tail_short : (steps : List Step) → most_words_in (actions_of (drop 1 steps)) ≤ most_words_in (actions_of steps)
+  tail_short [] = omega arith
+  tail_short (s ∷ steps) = (let e = onto_words s (actions_of steps) in omega arith)
+
+  pub near_turn : (test : Option PlacedBranch) (steps again : List Step) (tail : List Step) (l k : ℕ) (x y : Ways) (c1 c2 : Grown) (set other : List ℕ) → test ≡ bottom_of (actions_of steps) (actions_of again) → tail ≡ drop (if is_some test then 1 else 0) steps
+      → IsCodeOf short plan variables f Settled unknown no_code l 0 x (actions_of again) c1 set → IsCodeOf short plan variables f Settled unknown no_code k 0 y (actions_of tail) c2 other → IsNearTurn test c2 c1
+  near_turn None steps again tail l k x y c1 c2 set other below left one two = tt
+  near_turn (Some t) steps again tail l k x y c1 c2 set other below left one two =
+      let B = actions_of steps in let S = actions_of again in
+      let is : is_near B S ≡ true = both_are (leaves_first B) (is_near B S) (some_is (has_bottom B S) (first_test B) t below) in
+      let near : most_words_in B + most_words_in S < 900 = grind (arith, nat_tests) in
+      let e1 = ap (λ (g : Grown). length g.code) (one.code ∙ front_of_none _) in
+      let e2 = ap (λ (g : Grown). length g.code) (two.code ∙ front_of_none _) in
+      let l1 = marked_length short plan variables f S x (0 + l) 0 in
+      let l2 = marked_length short plan variables f (actions_of tail) y (0 + k) 0 in
+      let shorter = tail_short steps in
+      let same : most_words_in (actions_of tail) ≡ most_words_in (actions_of (drop 1 steps)) = ap (λ (z : List Step). most_words_in (actions_of z)) left in
+      omega arith
+
+  pub looped : (exits : Exits) (placed : Bool) (g g' : Standing) (s : Step) (m : Mark) (p q : Vec Step Global) (old : Grown) (next begins again set : List ℕ) (c1 c2 new : Grown) (test : Option PlacedBranch) (words : ℕ) (tail : List Step) → s ≡ step.Loop m p q
+      → member begins ≡ turn (actions_of p.items) (actions_of q.items) (member next)
+      → test ≡ bottom_of (actions_of p.items) (actions_of q.items) → words ≡ words_behind (plan.home f) short test → tail ≡ drop (if is_some test then 1 else 0) p.items
+      → IsCodeOf short plan variables f Settled unknown no_code words 0 (ways (member begins) (member next) (member begins)) (actions_of q.items) c1 again
+      → IsCodeOf short plan variables f Settled unknown no_code (length c1.code + words) 0 (ways (member again) (member next) (member again)) (actions_of tail) c2 set
+      → new ≡ turned (plan.home f) short test c2 c1 old
+      → IsStepCode short plan variables f placed g g' exits s old next new begins
+  looped exits placed g g' s m p q old next begins again set c1 c2 new test words tail is first below count left step body made known base k n placed_is stood h0 =
       let x = ways n (member exits.leaves_live) (member exits.skips_live) in
       let h = subst (λ (z : Step). IsCodeOf short plan variables f Settled (multiples_after z known) base exits.leaves exits.skips x k old next) is
       (subst (λ (st : Standing). IsCodeOf short plan variables f st (multiples_after s known) base exits.leaves exits.skips x k old next) (stood ∙ ap (λ (z : Step). standing_after z k x) is) h0) in
       let rest = marked_code short plan variables f Settled unknown k x (length base.code + exits.leaves) (length base.code + exits.skips) in
       let B = actions_of p.items in let S = actions_of q.items in let N : VariableSet = live k x in
-      let back : ℕ → Grown → Grown = λ w g. in_front (glue (jump_back short w)) g in
-      let T : member turned ≡ turn B S N = first ∙ ap (turn B S) h.live in
+      let W = words_behind (plan.home f) short test in
+      let T : member begins ≡ turn B S N = first ∙ ap (turn B S) h.live in
       let steps : VariableSet → VariableSet → Ways = λ t u. ways t u t in
-      let again_ways : ways (member turned) (member next) (member turned) ≡ step_ways B S N = ap (λ (t : VariableSet). steps t (member next)) T ∙ ap (λ (u : VariableSet). steps (turn B S N) u) h.live in
-      let step_made = marked_code short plan variables f Settled unknown S (step_ways B S N) (jump_words short) 0 in
-      let zero : 0 + jump_words short ≡ jump_words short = omega arith in
-      let is1 : c1 ≡ step_made = step.code ∙ front_of_none _ ∙ ap (λ (l : ℕ). marked_code short plan variables f Settled unknown S (ways (member turned) (member next) (member turned)) l 0) zero ∙ ap (λ (y : Ways). marked_code short plan variables f Settled unknown S y (jump_words short) 0) again_ways in
+      let again_ways : ways (member begins) (member next) (member begins) ≡ step_ways B S N = ap (λ (t : VariableSet). steps t (member next)) T ∙ ap (λ (u : VariableSet). steps (turn B S N) u) h.live in
+      let step_made = marked_code short plan variables f Settled unknown S (step_ways B S N) W 0 in
+      let zero : 0 + words ≡ W = omega arith in
+      let is1 : c1 ≡ step_made = step.code ∙ front_of_none _ ∙ ap (λ (l : ℕ). marked_code short plan variables f Settled unknown S (ways (member begins) (member next) (member begins)) l 0) zero ∙ ap (λ (y : Ways). marked_code short plan variables f Settled unknown S y W 0) again_ways in
       let step_live : member again ≡ live S (step_ways B S N) = step.live ∙ ap (live S) again_ways in
       let turn_ways : ways (member again) (member next) (member again) ≡ body_ways B S N = ap (λ (t : VariableSet). steps t (member next)) step_live ∙ ap (λ (u : VariableSet). steps (live S (step_ways B S N)) u) h.live in
-      let body_made = marked_code short plan variables f Settled unknown B (body_ways B S N) (length step_made.code + jump_words short) 0 in
-      let none : 0 + (length c1.code + jump_words short) ≡ length step_made.code + jump_words short = ap (λ (g : Grown). 0 + (length g.code + jump_words short)) is1 ∙ omega arith in
-      let is2 : c2 ≡ body_made = body.code ∙ front_of_none _ ∙ ap (λ (y : Ways). marked_code short plan variables f Settled unknown B y (0 + (length c1.code + jump_words short)) 0) turn_ways ∙ ap (λ (l : ℕ). marked_code short plan variables f Settled unknown B (body_ways B S N) l 0) none in
-      let body_live : member set ≡ turn B S N = body.live ∙ ap (live B) turn_ways ∙ turn_again B S N in
-      let all : new ≡ in_front body_made (in_front step_made (back (length body_made.code + length step_made.code) (in_front rest base))) =
-      made ∙ ap (λ (g : Grown). in_front g (in_front c1 (back (length g.code + length c1.code) old))) is2 ∙ ap (λ (g : Grown). in_front body_made (in_front g (back (length body_made.code + length g.code) old))) is1
-      ∙ ap (λ (g : Grown). in_front body_made (in_front step_made (back (length body_made.code + length step_made.code) g))) h.code in
+      let to = length step_made.code + W in
+      let body_made = inner_of test B (body_ways B S N) to in
+      let none : 0 + (length c1.code + words) ≡ to = ap (λ (g : Grown). 0 + (length g.code + words)) is1 ∙ omega arith in
+      let is2 : c2 ≡ body_made = body.code ∙ front_of_none _ ∙ ap (λ (y : Ways). marked_code short plan variables f Settled unknown (actions_of tail) y (0 + (length c1.code + words)) 0) turn_ways ∙ ap (λ (l : ℕ). marked_code short plan variables f Settled unknown (actions_of tail) (body_ways B S N) l 0) none
+      ∙ ap (λ (l : List Step). marked_code short plan variables f Settled unknown (actions_of l) (body_ways B S N) to 0) left ∙ inner_is p.items S test (body_ways B S N) to below in
+      let all : new ≡ turned (plan.home f) short test body_made step_made (in_front rest base) =
+      made ∙ ap (λ (g : Grown). turned (plan.home f) short test g c1 old) is2 ∙ ap (λ (g : Grown). turned (plan.home f) short test body_made g old) is1 ∙ ap (λ (g : Grown). turned (plan.home f) short test body_made step_made g) h.code in
+      let loop : Option PlacedBranch → Grown = λ o.
+      (let step' = marked_code short plan variables f Settled unknown S (step_ways B S N) (words_behind (plan.home f) short o) 0 in turned (plan.home f) short o (inner_of o B (body_ways B S N) (length step'.code + words_behind (plan.home f) short o)) step' rest) in
       let whole : step_onto s k ≡ Loop m B S k = ap (λ (z : Step). step_onto z k) is ∙ onto_loop m p q k in
       record {
-        code = all ∙ four body_made step_made (glue (jump_back short (length body_made.code + length step_made.code))) rest base ∙ sym (ap (λ (c : Actions). in_front (marked_code short plan variables f g known c x (length base.code + exits.leaves) (length base.code + exits.skips)) base) whole);
-        live = body_live ∙ sym (ap (λ (c : Actions). live c x) whole);
+        code = all ∙ turned_assoc test body_made step_made rest base ∙ ap (λ (o : Option PlacedBranch). in_front (loop o) base) below ∙ sym (ap (λ (c : Actions). in_front (marked_code short plan variables f g known c x (length base.code + exits.leaves) (length base.code + exits.skips)) base) whole);
+        live = T ∙ sym (ap (λ (c : Actions). live c x) whole);
       }
 
   -- ---- a list of steps

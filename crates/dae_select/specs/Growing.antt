@@ -1,5 +1,5 @@
 -- The code of actions, with the words of it at which they begin.
-use Rattle.std.specs.Prelude.{◌≡◌, ℕ, zero, suc, ◌+◌, Bool, true, ◌||◌, if◌then◌else◌, List, length, slice_get, Option, Some, None}
+use Rattle.std.specs.Prelude.{◌≡◌, ◌≤◌, ℕ, zero, suc, ◌+◌, Bool, true, ◌||◌, if◌then◌else◌, List, length, slice_get, Option, Some, None, is_some}
 use Rattle.dae_ir.specs.Code.{Done, Do, If, Loop}
 use Rattle.dae_ir.specs.Classes.{VariableSet}
 use Rattle.dae_ir.specs.Streams.{Actions, step_onto}
@@ -12,34 +12,72 @@ use Rattle.dae_select_walks.specs.Agrees.{Plan}
 use Rattle.dae_select_walks.specs.declared.Standing.{Standing}
 use Rattle.dae_select_walks.specs.declared.Standing.TheVariants.{Settled, Early}
 use Rattle.dae_select_live.specs.Members.{member}
+use Rattle.dae_select_walks.specs.declared.Home.{Home}
 use Rattle.dae_select_blocks.specs.Blocks.{jump_words, jump_over, jump_back}
-use Rattle.dae_select_blocks.specs.Code.{reads_once, standing_behind, pair_standing, if_settled, block_code, branch_code, does_nothing, past_code, entry_code}
+use Rattle.dae_select_blocks.specs.Code.{reads_once, standing_behind, pair_standing, if_settled, block_code, branch_code, back_branch, has_bottom, does_nothing, past_code, entry_code}
 use Rattle.dae_select_blocks.specs.Sizes.{is_short}
 use Rattle.dae_select.specs.Grown.{Grown, no_code, glue, acting, in_front, from_front}
 use Rattle.dae_select.specs.Placed.{multiples_after, is_placed_step}
 use Rattle.dae_select.specs.declared.growing.PlacedWord.{PlacedWord}
 use Rattle.dae_select.specs.declared.making.Exits.{Exits}
+use Rattle.dae_select.specs.declared.making.PlacedBranch.{PlacedBranch}
+
+-- the test that a list begins with
+abbrev pub first_test : Actions → Option PlacedBranch
+first_test (If m b p q k) = Some (record { place = m.place; branch = b })
+first_test code = None
+
+-- the test of a loop, where it stands behind the step
+abbrev pub bottom_of : Actions → Actions → Option PlacedBranch
+bottom_of body step = if has_bottom body step then first_test body else None
+
+-- how many words come behind a loop's step: a jump back, or such a test
+abbrev pub words_behind : (ℕ → Home) → Bool → Option PlacedBranch → ℕ
+words_behind home short None = jump_words short
+words_behind home short (Some test) = length (back_branch home test.branch true 0)
+
+-- a turn of a loop and its step: a jump leads back from their end, or one over them to the test that leads back
+abbrev pub turned : (ℕ → Home) → Bool → Option PlacedBranch → Grown → Grown → Grown → Grown
+turned home short None turn again rest =
+    in_front turn (in_front again (in_front (glue (jump_back short (length turn.code + length again.code))) rest))
+turned home short (Some test) turn again rest =
+    let n = length turn.code + length again.code in
+    in_front (glue (jump_over short n)) (in_front turn (in_front again (in_front (acting test.place (back_branch home test.branch true n)) rest)))
+
+-- a branch reaches back over the turn and its step, where the test is to stand behind it
+abbrev pub IsNearTurn : Option PlacedBranch → Grown → Grown → Type 0
+IsNearTurn None turn again = Unit {0}
+IsNearTurn (Some test) turn again = length turn.code + length again.code ≤ 900
 
 -- the code of actions, block by block
-abbrev pub marked_code : Bool → Plan → (ℕ → ℕ) → ℕ → Standing → VariableSet → Actions → Ways → ℕ → ℕ → Grown
-marked_code short plan variables f standing known Done x leaves skips = no_code
-marked_code short plan variables f standing known (Do m a k) x leaves skips =
-    let next = standing_behind a k x in
-    let rest = marked_code short plan variables f next (multiples_behind a known) k x leaves skips in
-    in_front (acting m.place (block_code plan variables f (is_placed known a) standing a next (live k x) (jump_over short (length rest.code + leaves)) (jump_over short (length rest.code + skips)))) rest
-marked_code short plan variables f standing known (If m b p q k) x leaves skips =
-    let rest = marked_code short plan variables f Settled unknown k x leaves skips in
-    let second = marked_code short plan variables f Settled unknown q (behind (live k x) x) (length rest.code + leaves) (length rest.code + skips) in
-    let past = past_code short (does_nothing p || does_nothing q) (length second.code) in
-    let far = length past + length second.code + length rest.code in
-    let first = marked_code short plan variables f Settled unknown p (behind (live k x) x) (far + leaves) (far + skips) in
-    let n = if does_nothing p then length second.code else length first.code + length past in
-    in_front (acting m.place (branch_code (plan.home f) short b (does_nothing p) n)) (in_front first (in_front (glue past) (in_front second rest)))
-marked_code short plan variables f standing known (Loop m body step k) x leaves skips =
-    let rest = marked_code short plan variables f Settled unknown k x leaves skips in
-    let again = marked_code short plan variables f Settled unknown step (step_ways body step (live k x)) (jump_words short) 0 in
-    let turn = marked_code short plan variables f Settled unknown body (body_ways body step (live k x)) (length again.code + jump_words short) 0 in
-    in_front turn (in_front again (in_front (glue (jump_back short (length turn.code + length again.code))) rest))
+abbrev mutual
+  pub marked_code : Bool → Plan → (ℕ → ℕ) → ℕ → Standing → VariableSet → Actions → Ways → ℕ → ℕ → Grown
+  marked_code short plan variables f standing known Done x leaves skips = no_code
+  marked_code short plan variables f standing known (Do m a k) x leaves skips =
+      let next = standing_behind a k x in
+      let rest = marked_code short plan variables f next (multiples_behind a known) k x leaves skips in
+      in_front (acting m.place (block_code plan variables f (is_placed known a) standing a next (live k x) (jump_over short (length rest.code + leaves)) (jump_over short (length rest.code + skips)))) rest
+  marked_code short plan variables f standing known (If m b p q k) x leaves skips =
+      let rest = marked_code short plan variables f Settled unknown k x leaves skips in
+      let second = marked_code short plan variables f Settled unknown q (behind (live k x) x) (length rest.code + leaves) (length rest.code + skips) in
+      let past = past_code short (does_nothing p || does_nothing q) (length second.code) in
+      let far = length past + length second.code + length rest.code in
+      let first = marked_code short plan variables f Settled unknown p (behind (live k x) x) (far + leaves) (far + skips) in
+      let n = if does_nothing p then length second.code else length first.code + length past in
+      in_front (acting m.place (branch_code (plan.home f) short b (does_nothing p) n)) (in_front first (in_front (glue past) (in_front second rest)))
+  marked_code short plan variables f standing known (Loop m body step k) x leaves skips =
+      let rest = marked_code short plan variables f Settled unknown k x leaves skips in
+      let test = bottom_of body step in
+      let words = words_behind (plan.home f) short test in
+      let again = marked_code short plan variables f Settled unknown step (step_ways body step (live k x)) words 0 in
+      let to = length again.code + words in
+      let turn = if is_some test then marked_tail short plan variables f body (body_ways body step (live k x)) to 0 else marked_code short plan variables f Settled unknown body (body_ways body step (live k x)) to 0 in
+      turned (plan.home f) short test turn again rest
+
+  -- the code behind the test that a list begins with
+  pub marked_tail : Bool → Plan → (ℕ → ℕ) → ℕ → Actions → Ways → ℕ → ℕ → Grown
+  marked_tail short plan variables f (If m b p q k) x leaves skips = marked_code short plan variables f Settled unknown k x leaves skips
+  marked_tail short plan variables f code x leaves skips = no_code
 
 -- the words of a function's code at which its actions begin
 abbrev pub function_places : Plan → (ℕ → ℕ) → ℕ → Actions → List PlacedWord

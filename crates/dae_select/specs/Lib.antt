@@ -3,5 +3,6 @@ pub mod Layouts
 pub mod Growing
 pub mod Grown
 pub mod Counting
+pub mod Fronts
 pub mod Placed
 pub mod Makings

@@ -5,6 +5,7 @@ ghost use Rattle.dae_ir.specs.Code.{Done};
 ghost use Rattle.dae_ir.specs.Sizes.{action_weight};
 ghost use Rattle.dae_ir.specs.Streams.{actions_of, step_onto};
 ghost use Rattle.dae_select_blocks.specs.Sizes.{one_call, most_words_in, is_short};
+ghost use Rattle.dae_select_blocks.specs.Code.{is_near};
 ghost use Rattle.dae_select.specs.Counting.{capped};
 
 use dae_ir::{Action, Step};
@@ -60,4 +61,11 @@ pub fn is_short(body: &[Step]) -> bool
     ensures { result ≡ is_short (actions_of body.now) }
 {
     list_words(body) < LONG
+}
+
+/// Whether a branch reaches back over a loop's body and its step in any case.
+pub fn is_near(body: &[Step], step: &[Step]) -> bool
+    ensures { result ≡ is_near (actions_of body.now) (actions_of step.now) }
+{
+    list_words(body) + list_words(step) < 900
 }

@@ -1,10 +1,11 @@
 // Transfers: jumps over instructions and back, the way into a function, and branches.
 
-ghost use Rattle.std.specs.Prelude.{◌≡◌, ℕ, ◌+◌, ◌*◌, ◌++◌, ◌∷◌, [], ◌<◌, ◌≤◌, ◌^◌, OnOk};
+ghost use Rattle.std.specs.Prelude.{◌≡◌, ℕ, ◌+◌, ◌*◌, ◌++◌, ◌∷◌, [], ◌<◌, ◌≤◌, ◌^◌, OnOk, IfOk};
 ghost use Rattle.dae_encode.specs.declared.Inst.TheVariants.{Jal};
 ghost use Rattle.dae_select_blocks.specs.Blocks.{near_offset, jump_by, jump_words, jump_over, jump_back, enter_code};
-ghost use Rattle.dae_select_blocks.specs.Blocks.{source, against_zero, immediate_of, branch_inst, opposite, one_way, goes_code};
-ghost use Rattle.dae_select_blocks.specs.Code.{past_code, told_code, branch_code};
+ghost use Rattle.dae_select_blocks.specs.Blocks.{source, against_zero, immediate_of, branch_inst, opposite, one_way, goes_code, back_offset};
+ghost use Rattle.dae_select_blocks.specs.Code.{past_code, told_by, branch_by, branch_code, back_branch};
+ghost use Rattle.dae_select.specs.Fronts.{IsFront};
 ghost use Rattle.dae_select_walks.specs.Homes.{home_in};
 ghost use Rattle.dae_select.specs.Tables.{AreNear};
 
@@ -15,7 +16,7 @@ use dae_encode::Inst;
 use dae_ir::{Branch, Operand, Test};
 use dae_meaning::Comparison;
 use dae_select_walks::Home;
-use std::alloc::AllocError;
+use std::alloc::{AllocError, Global};
 
 /// As many words as the bytes of all addresses are.
 const WORDS: u64 = 1_073_741_824;
@@ -163,23 +164,25 @@ fn goes_code(
     }
 }
 
-/// The same for the operands of a test, which are in their registers: where the test holds, or just where not.
-fn goes_by_operands(
-    code: &mut Vec<Inst>,
-    homes: &[Home],
-    short: bool,
-    test: Test,
-    way: bool,
-    words: u64,
-) -> Result<(), AllocError>
-    ensures { OnOk result (code.new.items ≡ code.old.items
-        ++ goes_code short (one_way way test.comparison) (source (home_in homes.now) 5 test.left)
-        (source (home_in homes.now) 6 test.right) words) }
+/// How two registers are to compare.
+#[derive(Clone, Copy)]
+struct Compared {
+    relation: Comparison,
+    first: u8,
+    second: u8,
+}
+
+/// The operands of a test, which are in their registers: where the test holds, or just where not.
+fn compared_operands(homes: &[Home], test: Test, way: bool) -> Compared
+    ensures relation { result.relation ≡ one_way way test.comparison }
+    ensures first { result.first ≡ source (home_in homes.now) 5 test.left }
+    ensures second { result.second ≡ source (home_in homes.now) 6 test.right }
 {
-    let left = source(homes, 5, test.left);
-    let right = source(homes, 6, test.right);
-    let relation = one_way(way, test.comparison);
-    goes_code(code, short, relation, left, right, words)
+    Compared {
+        relation: one_way(way, test.comparison),
+        first: source(homes, 5, test.left),
+        second: source(homes, 6, test.right),
+    }
 }
 
 /// How x7 compares with 0 where a comparison with a number holds that was told.
@@ -212,30 +215,61 @@ fn immediate_of(comparison: Comparison, operand: Operand) -> Option<u32>
     }
 }
 
-/// A test is told, and a branch follows: on its operands, which are still in their registers, or else on x7.
-fn told_code(
+/// What comes before the branch where a test is told: it goes on elsewhere where its operands compare so, which are still in
+/// their registers, or else x7 with 0.
+fn told_front(
     code: &mut Vec<Inst>,
     homes: &[Home],
-    short: bool,
     test: Test,
     way: bool,
-    words: u64,
-) -> Result<(), AllocError>
+) -> Result<Compared, AllocError>
     requires { AreNear homes.now }
-    ensures { OnOk result (code.new.items ≡ code.old.items
-        ++ told_code (immediate_of test.comparison test.right) (home_in homes.now) short test way
-        words) }
+    ensures { IfOk result (λ compared. IsFront (told_by
+        (immediate_of test.comparison test.right) (home_in homes.now)) test way code.old.items
+        code.new.items compared.relation compared.first compared.second) }
 {
     match immediate_of(test.comparison, test.right) {
         None => {
             test_code(code, homes, 29, test)?;
-            goes_by_operands(code, homes, short, test, way, words)
+            Ok(compared_operands(homes, test, way))
         }
         Some(number) => {
             fetch(code, homes, 5, test.left)?;
             tell_number(code, test.comparison, source(homes, 5, test.left), number)?;
-            let relation = one_way(way, against_zero(test.comparison));
-            goes_code(code, short, relation, 7, 0, words)
+            Ok(Compared {
+                relation: one_way(way, against_zero(test.comparison)),
+                first: 7,
+                second: 0,
+            })
+        }
+    }
+}
+
+/// What comes before the branch itself: it goes on elsewhere where two registers compare so, which is where the test holds, or
+/// where a number other than 0 is heard, or just where not.
+fn branch_front(
+    code: &mut Vec<Inst>,
+    homes: &[Home],
+    branch: Branch,
+    way: bool,
+) -> Result<Compared, AllocError>
+    requires { AreNear homes.now }
+    ensures { IfOk result (λ compared. IsFront (branch_by (home_in homes.now)) branch way
+        code.old.items code.new.items compared.relation compared.first compared.second) }
+{
+    match branch {
+        Branch::Silent(test) => {
+            fetch(code, homes, 5, test.left)?;
+            fetch(code, homes, 6, test.right)?;
+            Ok(compared_operands(homes, test, way))
+        }
+        Branch::Tells(test) => told_front(code, homes, test, way),
+        Branch::Hears => {
+            Ok(Compared {
+                relation: one_way(way, Comparison::NotEqual),
+                first: 29,
+                second: 0,
+            })
         }
     }
 }
@@ -254,16 +288,44 @@ pub fn branch_code(
     ensures { OnOk result (code.new.items ≡ code.old.items
         ++ branch_code (home_in homes.now) short branch way words) }
 {
-    match branch {
-        Branch::Silent(test) => {
-            fetch(code, homes, 5, test.left)?;
-            fetch(code, homes, 6, test.right)?;
-            goes_by_operands(code, homes, short, test, way, words)
-        }
-        Branch::Tells(test) => told_code(code, homes, short, test, way, words),
-        Branch::Hears => {
-            let relation = one_way(way, Comparison::NotEqual);
-            goes_code(code, short, relation, 29, 0, words)
-        }
-    }
+    let compared = branch_front(code, homes, branch, way)?;
+    let Compared {
+        relation,
+        first,
+        second,
+    } = compared;
+    goes_code(code, short, relation, first, second, words)
+}
+
+/// The offset of a branch back by so many words.
+fn back_offset(words: u64) -> i32
+    requires { words ≤ 1000 }
+    ensures { result ≡ back_offset words }
+{
+    -4 * words as i32
+}
+
+/// The block of a branch back to what stands so many words before it.
+pub fn back_branch(
+    alloc: Global,
+    homes: &[Home],
+    branch: Branch,
+    way: bool,
+    words: u64,
+) -> Result<Vec<Inst>, AllocError>
+    requires near { AreNear homes.now }
+    requires words { words ≤ 900 }
+    ensures { IfOk result (λ block. block.items
+        ≡ back_branch (home_in homes.now) branch way words) }
+{
+    let mut block = Vec::new(alloc);
+    let compared = branch_front(&mut block, homes, branch, way)?;
+    let distance = words + block.len() as u64;
+    let Compared {
+        relation,
+        first,
+        second,
+    } = compared;
+    block.push(branch_inst(relation, first, second, back_offset(distance)))?;
+    Ok(block)
 }

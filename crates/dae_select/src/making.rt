@@ -1,6 +1,7 @@
 // What the code of a function is made from.
 
 use crate::layouts::Layouts;
+use dae_base::Place;
 use dae_ir::Branch;
 use dae_select_live::LiveSet;
 use dae_select_walks::{Home, Standing};
@@ -40,6 +41,13 @@ pub struct Around {
     pub placed: bool,
     pub before: Standing,
     pub after: Standing,
+}
+
+/// A branch that stands at a place.
+#[derive(Clone, Copy)]
+pub struct PlacedBranch {
+    pub place: Place,
+    pub branch: Branch,
 }
 
 /// A branch, and whether its first list is empty.

@@ -1,17 +1,19 @@
 // The code of structured actions, from the last to the first: what a transfer leads over is there before it.
 
-ghost use Rattle.std.specs.Prelude.{◌≡◌, ℕ, ◌+◌, ◌-◌, ◌++◌, [], ◌<◌, ◌^◌, List, Bool, length, not, ◌&&◌, ◌||◌, if◌then◌else◌, IfOk, OnOk};
+ghost use Rattle.std.specs.Prelude.{◌≡◌, ℕ, ◌+◌, ◌-◌, ◌++◌, [], ◌<◌, ◌≤◌, ◌^◌, List, Bool, true, length, drop, not, ◌&&◌, ◌||◌, if◌then◌else◌, None, Some, is_some, IfOk, OnOk};
 ghost use Rattle.dae_encode.specs.declared.Inst.{Inst as AnInst};
 ghost use Rattle.dae_ir.specs.Classes.{VariableSet};
 ghost use Rattle.dae_ir.specs.Streams.{Actions, actions_of, step_onto};
 ghost use Rattle.dae_select_walks.specs.Live.{ways, is};
 ghost use Rattle.dae_select_walks.specs.Multiples.{unknown};
 ghost use Rattle.dae_select_live.specs.Members.{member};
-ghost use Rattle.dae_select_blocks.specs.Blocks.{take_code, own_code, jump_words, jump_over, jump_back};
+ghost use Rattle.dae_select_blocks.specs.Blocks.{take_code, own_code, jump_over};
 ghost use Rattle.dae_select_blocks.specs.Code.{action_code, block_code, call_code, branch_code};
-ghost use Rattle.dae_select_blocks.specs.Code.{does_nothing, past_code};
+ghost use Rattle.dae_select_blocks.specs.Code.{does_nothing, past_code, only_breaks, leaves_first};
+ghost use Rattle.dae_select_walks.specs.Compiled.{is_told};
 ghost use Rattle.dae_select.specs.Grown.{glue, acting, in_front};
 ghost use Rattle.dae_select.specs.Growing.{IsCodeOf, IsStepCode, IsTakenBy, IsTakenByStep};
+ghost use Rattle.dae_select.specs.Growing.{first_test, bottom_of, words_behind, turned, IsNearTurn};
 ghost use Rattle.dae_select_walks.specs.declared.Standing.TheVariants.{Settled as IsSettled};
 ghost use Rattle.dae_select.specs.Makings.{plan_by, variables_by, IsSound};
 ghost use Rattle.dae_select_walks.specs.Homes.{home_in};
@@ -23,10 +25,11 @@ use crate::accessing::{
 use crate::assigning::set_code;
 use crate::calling::{Callee, call_code, leave_code};
 use crate::checking::{check_code, placed_code};
+use crate::counting::is_near;
 use crate::fetching::{home_of, move_code};
 use crate::growing::GrowingCode;
-use crate::jumping::{branch_code, jump_back, jump_over, jump_words, past_code};
-use crate::making::{Around, Exits, Fork, Making, Onward};
+use crate::jumping::{back_branch, branch_code, jump_back, jump_over, jump_words, past_code};
+use crate::making::{Around, Exits, Fork, Making, Onward, PlacedBranch};
 use crate::multiples::{flag_at, placed_flags};
 use crate::pairing::{late_code, standing_between, taking_code};
 use dae_base::{LoadKind, Place};
@@ -245,52 +248,137 @@ fn put_branch(
     code.put_action(place, block.as_slice())
 }
 
-/// Where a loop's step leads: behind the loop and to the jump back.
-fn exits_of_step(making: &Making, next: &LiveSet, turn: &LiveSet) -> Result<Exits, AllocError>
+/// Whether a list only breaks.
+fn only_breaks(steps: &[Step]) -> bool
+    ensures { result ≡ only_breaks (actions_of steps.now) }
+{
+    steps.len() == 1 && matches!(&steps[0], Step::Act(_, Action::Break))
+}
+
+fn is_told(branch: Branch) -> bool
+    ensures { result ≡ is_told branch }
+{
+    !matches!(branch, Branch::Silent(_))
+}
+
+/// The test that a loop's body begins with, where it is told, and does nothing or leaves the loop.
+fn leaving_test(body: &[Step]) -> Option<PlacedBranch>
+    ensures { result
+        ≡ (if leaves_first (actions_of body.now) then first_test (actions_of body.now) else None) }
+{
+    if body.is_empty() {
+        return None;
+    }
+    match &body[0] {
+        Step::If(mark, branch, p, q) => {
+            if is_told(*branch) && does_nothing(p) && only_breaks(q) {
+                Some(PlacedBranch {
+                    place: mark.place,
+                    branch: *branch,
+                })
+            } else {
+                None
+            }
+        }
+        Step::Act(_, _) => None,
+        Step::Loop(_, _, _) => None,
+    }
+}
+
+/// The test of a loop, where it stands behind the step.
+fn bottom_of(body: &[Step], step: &[Step]) -> Option<PlacedBranch>
+    ensures { result ≡ bottom_of (actions_of body.now) (actions_of step.now) }
+{
+    match leaving_test(body) {
+        None => None,
+        Some(test) => {
+            if is_near(body, step) {
+                Some(test)
+            } else {
+                None
+            }
+        }
+    }
+}
+
+/// What of a loop's body stands before its step: all, or what is behind the test.
+fn behind_test(body: &[Step], test: Option<PlacedBranch>) -> &[Step]
+    requires { is_some test ≡ true → 1 ≤ length body.now }
+    ensures { result.now ≡ drop (if is_some test then 1 else 0) body.now }
+{
+    match test {
+        None => body,
+        Some(_) => &body[1..],
+    }
+}
+
+/// How many words come behind a loop's step: a jump back, or its test.
+fn words_behind(making: &Making, test: Option<PlacedBranch>) -> Result<u64, AllocError>
+    requires { IsSound making.now }
+    ensures words { IfOk result (λ words. words
+        ≡ words_behind (home_in making.now.homes.now) making.now.short test) }
+    ensures few { IfOk result (λ words. words ≤ 12) }
+{
+    match test {
+        None => Ok(u64::from(jump_words(making.short))),
+        Some(test) => {
+            let block = back_branch(making.alloc, making.homes, test.branch, true, 0)?;
+            Ok(block.len() as u64)
+        }
+    }
+}
+
+/// Where a loop's step leads: behind the loop, over so many words, and to their begin.
+fn exits_of_step(
+    making: &Making,
+    next: &LiveSet,
+    turn: &LiveSet,
+    words: u64,
+) -> Result<Exits, AllocError>
     ensures leaves_live { IfOk result (λ exits. exits.leaves_live ≡ next.now) }
     ensures skips_live { IfOk result (λ exits. exits.skips_live ≡ turn.now) }
-    ensures leaves { IfOk result (λ exits. exits.leaves ≡ jump_words making.now.short) }
+    ensures leaves { IfOk result (λ exits. exits.leaves ≡ words) }
     ensures skips { IfOk result (λ exits. exits.skips ≡ 0) }
 {
     Ok(Exits {
         leaves_live: next.copy(making.alloc)?,
         skips_live: turn.copy(making.alloc)?,
-        leaves: u64::from(jump_words(making.short)),
+        leaves: words,
         skips: 0,
     })
 }
 
-/// Where a loop's body leads: over the step and the jump back, and to the step.
+/// Where a loop's body leads: over the step and so many words behind it, and to the step.
 fn exits_of_body(
     making: &Making,
     next: LiveSet,
     again: &LiveSet,
-    words: usize,
+    step: usize,
+    words: u64,
 ) -> Result<Exits, AllocError>
-    requires { words + 2 < 2 ^ 64 }
+    requires { step + words < 2 ^ 64 }
     ensures leaves_live { IfOk result (λ exits. exits.leaves_live ≡ next) }
     ensures skips_live { IfOk result (λ exits. exits.skips_live ≡ again.now) }
-    ensures leaves { IfOk result (λ exits. exits.leaves ≡ words + jump_words making.now.short) }
+    ensures leaves { IfOk result (λ exits. exits.leaves ≡ step + words) }
     ensures skips { IfOk result (λ exits. exits.skips ≡ 0) }
 {
     Ok(Exits {
         leaves_live: next,
         skips_live: again.copy(making.alloc)?,
-        leaves: words as u64 + u64::from(jump_words(making.short)),
+        leaves: step as u64 + words,
         skips: 0,
     })
 }
 
 /// The body of a loop, its step and the jump back come before other code.
-fn put_loop(
+fn put_top_loop(
     code: &mut GrowingCode,
     making: &Making,
     body: GrowingCode,
     step: GrowingCode,
 ) -> Result<(), AllocError>
     ensures { OnOk result (code.new
-        ≡ in_front body (in_front step (in_front (glue (jump_back making.now.short
-        (length body.code + length step.code))) code.old))) }
+        ≡ turned (home_in making.now.homes.now) making.now.short None body step code.old) }
 {
     let mut block = Vec::new(making.alloc);
     jump_back(
@@ -302,6 +390,48 @@ fn put_loop(
     code.put_before(block.as_slice())?;
     code.put_code(step)?;
     code.put_code(body)
+}
+
+/// The way into a loop, what is behind the test that its body begins with, its step and that test come before other code.
+fn put_bottom_loop(
+    code: &mut GrowingCode,
+    making: &Making,
+    test: PlacedBranch,
+    body: GrowingCode,
+    step: GrowingCode,
+) -> Result<(), AllocError>
+    requires sound { IsSound making.now }
+    requires near { length body.code + length step.code ≤ 900 }
+    ensures { OnOk result (code.new
+        ≡ turned (home_in making.now.homes.now) making.now.short (Some test) body step code.old) }
+{
+    let words = body.len() as u64 + step.len() as u64;
+    let block = back_branch(making.alloc, making.homes, test.branch, true, words)?;
+    code.put_action(test.place, block.as_slice())?;
+    code.put_code(step)?;
+    code.put_code(body)?;
+    let mut over = Vec::new(making.alloc);
+    jump_over(&mut over, making.short, words, 0)?;
+    code.put_before(over.as_slice())
+}
+
+/// A turn of a loop, its step and what leads back come before other code.
+fn put_loop(
+    code: &mut GrowingCode,
+    making: &Making,
+    test: Option<PlacedBranch>,
+    body: GrowingCode,
+    step: GrowingCode,
+) -> Result<(), AllocError>
+    requires sound { IsSound making.now }
+    requires near { IsNearTurn test body step }
+    ensures { OnOk result (code.new
+        ≡ turned (home_in making.now.homes.now) making.now.short test body step code.old) }
+{
+    match test {
+        None => put_top_loop(code, making, body, step),
+        Some(test) => put_bottom_loop(code, making, test, body, step),
+    }
 }
 
 #[cycle(code)]
@@ -342,15 +472,18 @@ fn step_code(
         }
         Step::Loop(_, body, step) => {
             let turn = live_at_turn(making.alloc, body, step, &next)?;
-            let step_exits = exits_of_step(making, &next, &turn)?;
+            let test = bottom_of(body, step);
+            let words = words_behind(making, test)?;
+            let step_exits = exits_of_step(making, &next, &turn, words)?;
             let mut again = GrowingCode::new(making.alloc);
-            let step_live = list_code(&mut again, making, step, turn, &step_exits)?;
-            let words = again.len();
-            let body_exits = exits_of_body(making, next, &step_live, words)?;
+            let set = turn.copy(making.alloc)?;
+            let step_live = list_code(&mut again, making, step, set, &step_exits)?;
+            let body_exits = exits_of_body(making, next, &step_live, again.len(), words)?;
             let mut turned = GrowingCode::new(making.alloc);
-            let live = list_code(&mut turned, making, body, step_live, &body_exits)?;
-            put_loop(code, making, turned, again)?;
-            Ok(live)
+            let tail = behind_test(body, test);
+            list_code(&mut turned, making, tail, step_live, &body_exits)?;
+            put_loop(code, making, test, turned, again)?;
+            Ok(turn)
         }
     }
 }

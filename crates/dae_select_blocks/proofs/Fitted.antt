@@ -1,5 +1,5 @@
 -- The code of a whole function, and the code that begins, have instructions whose fields their words can hold.
-use Rattle.std.proofs.Common.{ℕ, ◌+◌, ◌-◌, ◌*◌, ◌%◌, ◌^◌, ◌<◌, Bool, true, false, ◌&&◌, List, [], ◌∷◌, ◌++◌, length, Option, Some, arith, pos, negsuc, ◌||◌}
+use Rattle.std.proofs.Common.{ℕ, ◌+◌, ◌-◌, ◌*◌, ◌%◌, ◌^◌, ◌<◌, ◌≤◌, ◌≡◌, Bool, true, false, ◌&&◌, List, [], ◌∷◌, ◌++◌, length, Option, Some, arith, pos, negsuc, ◌||◌}
 use Rattle.std.specs.Prelude.{nat_eq, if◌then◌else◌}
 use Rattle.std.specs.List.{AllByRecursion}
 use Rattle.std.proofs.lemmas.Int.{ints}
@@ -25,11 +25,14 @@ use Rattle.dae_select_walks.specs.Live.{Ways, none, live, behind, body_ways, ste
 use Rattle.dae_select_walks.specs.Multiples.{unknown, multiples_behind, is_placed}
 use Rattle.dae_select_walks.specs.Agrees.{Plan}
 use Rattle.dae_select_blocks.specs.Blocks.{lower, is_immediate, more_code, less_code, is_register, number_code, register_or, source, call_number, jump_over, jump_back, enter_code, arguments_code, waits_at, save_code, restore_code, deeper_code, back_code, leave_code, jump_words}
-use Rattle.dae_select_blocks.specs.Code.{some_below, filtered, home_registers, registers_in, call_code, action_code, branch_code, standing_behind, with_home, early_code, late_code, placed_code, block_code, code_of, entry_code, function_code, finish_code, start_code, does_nothing, past_code}
+use Rattle.dae_select_blocks.specs.Code.{some_below, filtered, home_registers, registers_in, call_code, action_code, branch_code, standing_behind, with_home, early_code, late_code, placed_code, block_code, code_of, entry_code, function_code, finish_code, start_code, does_nothing, past_code, tail_of, has_bottom, leaves_first, is_near, bottom_test}
 use Rattle.dae_select_blocks.proofs.Ranges.{AllFit, fit_append, fit_either, lui_fits, jalr_fits, addi_fits, addi_small, sw_small, add_fits, number_fits, load_fits, store_fits, register_fits, fetch_fits, move_fits, keep_fits, over_fits, back_fits}
-use Rattle.dae_select_blocks.proofs.Fitting.{ecall_fits, issue_fits, address_fits, source_fits, value_fit, value_fits, take_fits, branch_fits, system_fits, stop_fits, leave_fits, result_fits, hear_fits, placed_fits, check_fits}
+use Rattle.dae_select_blocks.proofs.Fitting.{ecall_fits, issue_fits, address_fits, source_fits, value_fit, value_fits, take_fits, branch_fits, back_branch_fits, system_fits, stop_fits, leave_fits, result_fits, hear_fits, placed_fits, check_fits}
 use Rattle.dae_select_blocks.proofs.Pairs.{by_pairs}
-use Rattle.dae_select_blocks.specs.Sizes.{is_short}
+use Rattle.std.proofs.lemmas.Bool.Decides.{nat_tests}
+use Rattle.dae_select_blocks.specs.Sizes.{most_words_in, is_short}
+use Rattle.dae_select_blocks.proofs.Sizes.{code_length, tail_length}
+use Rattle.dae_select_blocks.proofs.Lengths.{before_short}
 
 -- ---- registers of variables
 
@@ -76,6 +79,12 @@ number_small Byte = omega arith
 number_small Signed = omega arith
 number_small Unsigned = omega arith
 number_small Hexadecimal = omega arith
+
+near_is : (body step : Actions) (n : ℕ) → has_bottom body step ≡ true → n ≤ most_words_in body + most_words_in step → n ≤ 900
+near_is body step n e l = by (leaves_first body) e where
+  by : (c : Bool) → (c && is_near body step) ≡ true → n ≤ 900
+  by true e = grind (arith, nat_tests)
+  by false e = absurd cc
 
 module _ (plan : Plan) (variables : ℕ → ℕ) (good : (f v : ℕ) → IsHome (variables f) (plan.home f v)) where
   arguments_fit : (f g : ℕ) (xs : List Argument) → AllFit (arguments_code plan f g xs)
@@ -162,29 +171,55 @@ module _ (plan : Plan) (variables : ℕ → ℕ) (good : (f v : ℕ) → IsHome 
     past_fits true n = tt
     past_fits false n = over_fits short n
 
-    pub code_fits : (f : ℕ) (standing : Standing) (known : VariableSet) (code : Actions) (x : Ways) (leaves skips : ℕ) → AllFit (code_of short plan variables f standing known code x leaves skips)
-    code_fits f standing known Done x leaves skips = tt
-    code_fits f standing known (Do m a k) x leaves skips = fit_append _ _ (block_fits f known standing x _ _ a k) (code_fits f (standing_behind a k x) (multiples_behind a known) k x leaves skips)
-    code_fits f standing known (If m b p q k) x leaves skips =
-        let none = does_nothing p in
-        let rest = code_of short plan variables f Settled unknown k x leaves skips in
-        let second = code_of short plan variables f Settled unknown q (behind (live k x) x) (length rest + leaves) (length rest + skips) in
-        let past = past_code short (none || does_nothing q) (length second) in
-        let far = length past + length second + length rest in
-        let first = code_of short plan variables f Settled unknown p (behind (live k x) x) (far + leaves) (far + skips) in
-        let n = if none then length second else length first + length past in
-        fit_append (branch_code (plan.home f) short b none n) (first ++ (past ++ (second ++ rest))) (branch_fits (variables f) (plan.home f) (good f) short b none n)
-        (fit_append first (past ++ (second ++ rest)) (code_fits f Settled unknown p (behind (live k x) x) (far + leaves) (far + skips))
-        (fit_append past (second ++ rest) (past_fits (none || does_nothing q) (length second))
-        (fit_append second rest (code_fits f Settled unknown q (behind (live k x) x) (length rest + leaves) (length rest + skips)) (code_fits f Settled unknown k x leaves skips))))
-    code_fits f standing known (Loop m body step k) x leaves skips =
-        let rest = code_of short plan variables f Settled unknown k x leaves skips in
-        let again = code_of short plan variables f Settled unknown step (step_ways body step (live k x)) (jump_words short) 0 in
-        let turned = code_of short plan variables f Settled unknown body (body_ways body step (live k x)) (length again + jump_words short) 0 in
-        let back = jump_back short (length turned + length again) in
-        fit_append turned (again ++ (back ++ rest)) (code_fits f Settled unknown body (body_ways body step (live k x)) (length again + jump_words short) 0)
-        (fit_append again (back ++ rest) (code_fits f Settled unknown step (step_ways body step (live k x)) (jump_words short) 0)
-        (fit_append back rest (back_fits short (length turned + length again)) (code_fits f Settled unknown k x leaves skips)))
+    bottom_fits : (f : ℕ) (code : Actions) (n : ℕ) → n ≤ 900 → AllFit (bottom_test (plan.home f) code n)
+    bottom_fits f (If m b p q k) n near = let h = before_short (plan.home f) b true in back_branch_fits (variables f) (plan.home f) (good f) b true n (omega arith)
+    bottom_fits f Done n near = tt
+    bottom_fits f (Do m a k) n near = tt
+    bottom_fits f (Loop m body step k) n near = tt
+
+    mutual
+      pub code_fits : (f : ℕ) (standing : Standing) (known : VariableSet) (code : Actions) (x : Ways) (leaves skips : ℕ) → AllFit (code_of short plan variables f standing known code x leaves skips)
+      code_fits f standing known Done x leaves skips = tt
+      code_fits f standing known (Do m a k) x leaves skips = fit_append _ _ (block_fits f known standing x _ _ a k) (code_fits f (standing_behind a k x) (multiples_behind a known) k x leaves skips)
+      code_fits f standing known (If m b p q k) x leaves skips =
+          let none = does_nothing p in
+          let rest = code_of short plan variables f Settled unknown k x leaves skips in
+          let second = code_of short plan variables f Settled unknown q (behind (live k x) x) (length rest + leaves) (length rest + skips) in
+          let past = past_code short (none || does_nothing q) (length second) in
+          let far = length past + length second + length rest in
+          let first = code_of short plan variables f Settled unknown p (behind (live k x) x) (far + leaves) (far + skips) in
+          let n = if none then length second else length first + length past in
+          fit_append (branch_code (plan.home f) short b none n) (first ++ (past ++ (second ++ rest))) (branch_fits (variables f) (plan.home f) (good f) short b none n)
+          (fit_append first (past ++ (second ++ rest)) (code_fits f Settled unknown p (behind (live k x) x) (far + leaves) (far + skips))
+          (fit_append past (second ++ rest) (past_fits (none || does_nothing q) (length second))
+          (fit_append second rest (code_fits f Settled unknown q (behind (live k x) x) (length rest + leaves) (length rest + skips)) (code_fits f Settled unknown k x leaves skips))))
+      code_fits f standing known (Loop m body step k) x leaves skips =
+          let after' = live k x in
+          let rest = code_of short plan variables f Settled unknown k x leaves skips in
+          let again = code_of short plan variables f Settled unknown step (step_ways body step after') (jump_words short) 0 in
+          let turned = code_of short plan variables f Settled unknown body (body_ways body step after') (length again + jump_words short) 0 in
+          let back = jump_back short (length turned + length again) in
+          let words = length (bottom_test (plan.home f) body 0) in
+          let again' = code_of short plan variables f Settled unknown step (step_ways body step after') words 0 in
+          let tail = tail_of short plan variables f body (body_ways body step after') (length again' + words) 0 in
+          let n = length tail + length again' in
+          let test = bottom_test (plan.home f) body n in
+          let few = tail_length short plan variables f body (body_ways body step after') (length again' + words) 0 in
+          let few' = code_length short plan variables f Settled unknown step (step_ways body step after') words 0 in
+          fit_either (has_bottom body step) (jump_over short n ++ (tail ++ (again' ++ (test ++ rest)))) (turned ++ (again ++ (back ++ rest)))
+          (λ e. fit_append (jump_over short n) (tail ++ (again' ++ (test ++ rest))) (over_fits short n)
+          (fit_append tail (again' ++ (test ++ rest)) (tail_fits f body (body_ways body step after') (length again' + words) 0)
+          (fit_append again' (test ++ rest) (code_fits f Settled unknown step (step_ways body step after') words 0)
+          (fit_append test rest (bottom_fits f body n (near_is body step n e (omega arith))) (code_fits f Settled unknown k x leaves skips)))))
+          (λ e. fit_append turned (again ++ (back ++ rest)) (code_fits f Settled unknown body (body_ways body step after') (length again + jump_words short) 0)
+          (fit_append again (back ++ rest) (code_fits f Settled unknown step (step_ways body step after') (jump_words short) 0)
+          (fit_append back rest (back_fits short (length turned + length again)) (code_fits f Settled unknown k x leaves skips))))
+
+      pub tail_fits : (f : ℕ) (code : Actions) (x : Ways) (leaves skips : ℕ) → AllFit (tail_of short plan variables f code x leaves skips)
+      tail_fits f (If m b p q k) x leaves skips = code_fits f Settled unknown k x leaves skips
+      tail_fits f Done x leaves skips = tt
+      tail_fits f (Do m a k) x leaves skips = tt
+      tail_fits f (Loop m body step k) x leaves skips = tt
 
   pub entry_fits : (f : ℕ) (live : VariableSet) → AllFit (entry_code plan variables f live)
   entry_fits f live = (sw_small 2 1 0 (omega arith) (omega arith) (omega arith), restore_fits _ (live_registers plan (variables f) f live))

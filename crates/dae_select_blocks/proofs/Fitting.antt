@@ -1,5 +1,5 @@
 -- The blocks of values, accesses and branches have instructions whose fields their words can hold.
-use Rattle.std.proofs.Common.{◌≡◌, ℕ, ◌+◌, ◌-◌, ◌%◌, ◌^◌, ◌<◌, Bool, true, false, List, [], ◌∷◌, ◌++◌, Option, Some, None, refl, subst, arith, pos, negsuc, ◌*◌}
+use Rattle.std.proofs.Common.{◌≡◌, ℕ, ◌+◌, ◌-◌, ◌%◌, ◌^◌, ◌<◌, ◌≤◌, zero, suc, Bool, true, false, List, [], ◌∷◌, ◌++◌, Option, Some, None, refl, subst, arith, pos, negsuc, ◌*◌}
 use Rattle.std.specs.Prelude.{nat_lt, nat_eq, if◌then◌else◌}
 use Rattle.std.proofs.lemmas.Option.{same_Some, cond_some}
 use Rattle.dae_ir.specs.declared.form.Check.{Check}
@@ -30,8 +30,8 @@ use Rattle.dae_ir.specs.declared.stream.Branch.{Branch}
 use Rattle.dae_ir.specs.declared.stream.Branch.TheVariants.{Silent, Tells, Hears}
 use Rattle.dae_select_walks.specs.declared.Home.{Home}
 use Rattle.dae_select_walks.specs.Homes.{IsHome}
-use Rattle.dae_select_blocks.specs.Blocks.{lower, is_immediate, number_code, register_or, source, fetch, move_code, operation_code, exponent, power_code, immediate_code, commutes, exchanged_code, behind_or, combine_registers, binary_code, extend_code, compare_code, takes_number, compare_number_code, compare_registers, compare_operands, test_code, frame_code, value_code, issue_code, address_code, take_code, fail_code, over, align_code, bounds_code, room_code, check_code, system_code, hear_code, stop_code, leave_code, result_code, branch_inst, opposite, one_way, goes_by, goes_code, frames_room_code, tell_number_code, against_zero, immediate_of}
-use Rattle.dae_select_blocks.specs.Code.{placed_code, branch_code, told_code}
+use Rattle.dae_select_blocks.specs.Blocks.{lower, is_immediate, number_code, register_or, source, fetch, move_code, operation_code, exponent, power_code, immediate_code, commutes, exchanged_code, behind_or, combine_registers, binary_code, extend_code, compare_code, takes_number, compare_number_code, compare_registers, compare_operands, test_code, frame_code, value_code, issue_code, address_code, take_code, fail_code, over, align_code, bounds_code, room_code, check_code, system_code, hear_code, stop_code, leave_code, result_code, branch_inst, opposite, one_way, goes_by, goes_code, frames_room_code, tell_number_code, against_zero, immediate_of, back_offset, goes_back}
+use Rattle.dae_select_blocks.specs.Code.{placed_code, branch_code, told_by, branch_by, ahead_by, before_branch, back_branch}
 use Rattle.dae_select_blocks.proofs.Ranges.{move_fit, AllFit, fit_append, fit_either, lower_fits, addi_fits, addi_small, lw_small, add_fits, number_fits, register_fits, fetch_fits, move_fits, keep_fits, over_fits}
 use Rattle.dae_select_blocks.proofs.Values.{power_of_two}
 
@@ -131,6 +131,19 @@ branch_inst_fits LessSigned x y n a b l e = (a, b, ((omega (arith, ints), omega 
 branch_inst_fits AtLeastSigned x y n a b l e = (a, b, ((omega (arith, ints), omega (arith, ints)), e))
 branch_inst_fits LessUnsigned x y n a b l e = (a, b, ((omega (arith, ints), omega (arith, ints)), e))
 branch_inst_fits AtLeastUnsigned x y n a b l e = (a, b, ((omega (arith, ints), omega (arith, ints)), e))
+
+some_back_fits : (relation : Comparison) (x y n : ℕ) → x < 32 → y < 32 → n < 1000 → InRange (branch_inst relation x y (negsuc (4 * n + 3)))
+unfolding InRange layout
+some_back_fits Equal x y n a b l = (a, b, ((omega (arith, ints), omega (arith, ints)), omega arith))
+some_back_fits NotEqual x y n a b l = (a, b, ((omega (arith, ints), omega (arith, ints)), omega arith))
+some_back_fits LessSigned x y n a b l = (a, b, ((omega (arith, ints), omega (arith, ints)), omega arith))
+some_back_fits AtLeastSigned x y n a b l = (a, b, ((omega (arith, ints), omega (arith, ints)), omega arith))
+some_back_fits LessUnsigned x y n a b l = (a, b, ((omega (arith, ints), omega (arith, ints)), omega arith))
+some_back_fits AtLeastUnsigned x y n a b l = (a, b, ((omega (arith, ints), omega (arith, ints)), omega arith))
+
+back_inst_fits : (relation : Comparison) (x y n : ℕ) → x < 32 → y < 32 → n ≤ 1000 → InRange (branch_inst relation x y (back_offset n))
+back_inst_fits relation x y zero a b l = branch_inst_fits relation x y 0 a b (omega arith) refl
+back_inst_fits relation x y (suc n) a b l = some_back_fits relation x y n a b (omega arith)
 
 pub bne_fits : (x y n : ℕ) → x < 32 → y < 32 → n < 2 ^ 11 → n % 2 ≡ 0 → InRange (Bne x y (pos n))
 bne_fits x y n a b l e = branch_inst_fits NotEqual x y n a b (omega arith) e
@@ -248,17 +261,26 @@ module _ (n : ℕ) (home : ℕ → Home) (good : (v : ℕ) → IsHome n (home v)
   pub take_fits : (q v : ℕ) → q < 32 → AllFit (take_code q (home v))
   take_fits q v h = (addi_small (register_or 5 (home v)) q 0 (register_fits n 5 (home v) (good v) (omega arith)) h (omega arith), keep_fits (home v))
 
-  told_fits : (o : Option ℕ) (short : Bool) (t : Test) (way : Bool) (n : ℕ) → AllFit (told_code o home short t way n)
-  told_fits None short t way n =
-      fit_append (test_code home 29 t) _ (test_fits 29 t (omega arith)) (goes_fits short (one_way way t.comparison) (source home 5 t.left) (source home 6 t.right) n (source_fits 5 t.left (omega arith)) (source_fits 6 t.right (omega arith)))
-  told_fits (Some j) short t way n =
+  abbrev AreFit : (Comparison → ℕ → ℕ → List Inst) → Type 0
+  AreFit go = (relation : Comparison) (x y : ℕ) → x < 32 → y < 32 → AllFit (go relation x y)
+
+  told_fits : (o : Option ℕ) (go : Comparison → ℕ → ℕ → List Inst) (t : Test) (way : Bool) → AreFit go → AllFit (told_by o home go t way)
+  told_fits None go t way fit =
+      fit_append (test_code home 29 t) _ (test_fits 29 t (omega arith)) (fit (one_way way t.comparison) (source home 5 t.left) (source home 6 t.right) (source_fits 5 t.left (omega arith)) (source_fits 6 t.right (omega arith)))
+  told_fits (Some j) go t way fit =
       fetched_fit 5 t.left _ (omega arith) (fit_append (tell_number_code t.comparison (source home 5 t.left) j) _ (tells_number_fit t.comparison (source home 5 t.left) j (source_fits 5 t.left (omega arith)))
-      (goes_fits short (one_way way (against_zero t.comparison)) 7 0 n (omega arith) (omega arith)))
+      (fit (one_way way (against_zero t.comparison)) 7 0 (omega arith) (omega arith)))
+
+  by_branch_fits : (go : Comparison → ℕ → ℕ → List Inst) (b : Branch) (way : Bool) → AreFit go → AllFit (branch_by home go b way)
+  by_branch_fits go (Silent t) way fit = fetched_fit 5 t.left _ (omega arith) (fetched_fit 6 t.right _ (omega arith) (fit (one_way way t.comparison) (source home 5 t.left) (source home 6 t.right) (source_fits 5 t.left (omega arith)) (source_fits 6 t.right (omega arith))))
+  by_branch_fits go (Tells t) way fit = told_fits (immediate_of t.comparison t.right) go t way fit
+  by_branch_fits go Hears way fit = fit (one_way way NotEqual) 29 0 (omega arith) (omega arith)
 
   pub branch_fits : (short : Bool) (b : Branch) (way : Bool) (n : ℕ) → AllFit (branch_code home short b way n)
-  branch_fits short (Silent t) way n = fetched_fit 5 t.left _ (omega arith) (fetched_fit 6 t.right _ (omega arith) (goes_fits short (one_way way t.comparison) (source home 5 t.left) (source home 6 t.right) n (source_fits 5 t.left (omega arith)) (source_fits 6 t.right (omega arith))))
-  branch_fits short (Tells t) way n = told_fits (immediate_of t.comparison t.right) short t way n
-  branch_fits short Hears way n = goes_fits short (one_way way NotEqual) 29 0 n (omega arith) (omega arith)
+  branch_fits short b way n = by_branch_fits (ahead_by short n) b way (λ relation x y h k. goes_fits short relation x y n h k)
+
+  pub back_branch_fits : (b : Branch) (way : Bool) (n : ℕ) → n + before_branch home b way ≤ 1000 → AllFit (back_branch home b way n)
+  back_branch_fits b way n near = by_branch_fits (goes_back (n + before_branch home b way)) b way (λ relation x y h k. (back_inst_fits relation x y (n + before_branch home b way) h k near, tt))
 
   pub system_fits : (k : ℕ) (x : Operand) → k < 2 ^ 11 → AllFit (system_code home k x)
   system_fits k x h = fit_append _ _ (move_fits n home good 10 x (omega arith)) (addi_small 17 0 k (omega arith) (omega arith) h, (ecall_fits, tt))

@@ -1,6 +1,6 @@
 -- Jumps and branches: the processor goes on elsewhere, and agrees with the same moment.
 use Rattle.std.proofs.Common.{◌≡◌, ℕ, ◌+◌, ◌-◌, ◌*◌, ◌/◌, ◌%◌, ◌^◌, ◌<◌, ◌≤◌, Bool, true, false, not, List, [], ◌∷◌, ◌++◌, length, refl, sym, ap, ◌∙◌, subst, arith, append-nil, append_assoc, length-append}
-use Rattle.std.specs.Prelude.{nat_eq, nat_lt, int_lt, if◌then◌else◌, slice_get, Option, Some, None, ℤ, pos}
+use Rattle.std.specs.Prelude.{zero, suc, nat_eq, nat_lt, int_lt, if◌then◌else◌, slice_get, Option, Some, None, ℤ, pos}
 use Rattle.std.proofs.lemmas.Bool.Decides.{nat_tests}
 use Rattle.dae_base.specs.Words.{plus, word, signed}
 use Rattle.dae_base.specs.declared.Queue.{Queue}
@@ -31,8 +31,8 @@ use Rattle.dae_select_walks.specs.Agrees.{Plan, Moment, Shows, Stands}
 use Rattle.dae_select_walks.proofs.LawsOfWalks.{comes_here, nears_map, comes_map, comes_more, comes_then, acts_map}
 use Rattle.dae_select_walks.specs.Layout.{CodeAt}
 use Rattle.dae_select_walks.proofs.LawsOfWalks.{put, read, step}
-use Rattle.dae_select_blocks.specs.Blocks.{upper, lower, source, fetch, near_offset, jump_by, jump_words, jump_over, jump_back, branch_inst, opposite, one_way, goes_by, goes_code, test_code, tell_number_code, against_zero, immediate_of}
-use Rattle.dae_select_blocks.specs.Code.{told_code, branch_code}
+use Rattle.dae_select_blocks.specs.Blocks.{upper, lower, source, fetch, near_offset, jump_by, jump_words, jump_over, jump_back, branch_inst, opposite, one_way, goes_by, goes_code, test_code, tell_number_code, against_zero, immediate_of, back_offset, goes_back}
+use Rattle.dae_select_blocks.specs.Code.{told_by, branch_by, ahead_by}
 use Rattle.dae_select_blocks.proofs.Runs.{runs_nothing, runs_push, code_take, code_drop}
 use Rattle.dae_ir.specs.declared.stream.Branch.TheVariants.{Silent, Tells, Hears}
 use Rattle.dae_select_blocks.specs.Fits.{Fits}
@@ -209,12 +209,6 @@ module _ (s : Setting) (plan : Plan) (variables : ℕ → ℕ) (fine : Fits s pl
       acts_map s (λ q shows. comes_here s {n = 2} (record { contents = h.contents; shows = subst (λ (j : ℕ). Shows plan.private h.contents j q) end shows; agrees = h.agrees }))
       (branch_goes (opposite relation) x y given (jump_words short) at.0 u true (omega arith) (omega arith) legal other at.1 at.2 h.shows)
 
-  goes : {live : VariableSet} {m : Moment} {k : ℕ} {p : Processor} (short way : Bool) (relation : Comparison) (x y given n : ℕ) (u : QueueUse) (b : Bool) → k + length (goes_code short (one_way way relation) x y n) + n < 2 ^ 29 → (short ≡ true → n + 1 < 2 ^ 18) →
-      queue_use s.copies s.side (Computes 0 x y) ≡ Some u → (h : Stands plan live m k p) → compared relation (read h.contents given x) (read h.contents given y) ≡ b → CodeAt s.code k (goes_code short (one_way way relation) x y n) →
-      Acts s p (event u 0 given []) (λ q. Comes s 2 q (Stands plan live m (if goes_if way b then k + length (goes_code short (one_way way relation) x y n) + n else k + length (goes_code short (one_way way relation) x y n))))
-  goes short way relation x y given n u b small reach legal h is at =
-      by_goes (nat_lt n 1000) short (one_way way relation) x y given n u (goes_if way b) (λ e. grind (arith, nat_tests)) small reach legal h (one_way_compared way relation (read h.contents given x) (read h.contents given y) ∙ ap (goes_if way) is) at
-
   -- ---- the three branches: n words ahead of the code, or behind its end
 
   -- the operands of a test are in their registers
@@ -236,27 +230,68 @@ module _ (s : Setting) (plan : Plan) (variables : ℕ → ℕ) (fine : Fits s pl
       (λ c1 h1 got got'. runs_nothing s plan.private to (λ j q shows. record { contents = c1; shows = shows; ready = h1; left = got; right = got' })) in
       (rw append-nil at run).from k small at p h.shows
 
-  pub silent_done : {live : VariableSet} {m : Moment} {k : ℕ} {p : Processor} (short way : Bool) (t : Test) (n : ℕ) → k + length (branch_code (plan.home m.function) short (Silent t) way n) + n < 2 ^ 29 → (short ≡ true → n + 1 < 2 ^ 18) →
-      CodeAt s.code k (branch_code (plan.home m.function) short (Silent t) way n) → ((u : ℕ) → in_test t u ≡ true → live u ≡ true) → IsNumber t.left → IsNumber t.right → Stands plan live m k p →
-      Comes s (length (branch_code (plan.home m.function) short (Silent t) way n) + 2) p (Stands plan live m (if goes_if way (holds t m.env) then k + length (branch_code (plan.home m.function) short (Silent t) way n) + n else k + length (branch_code (plan.home m.function) short (Silent t) way n)))
-  silent_done {live} {m} {k} {p} short way t n small reach at reads left right h =
+  -- what goes on elsewhere, at far, where two registers compare so, and else behind its code; the second may also be the front
+  -- of a queue
+  abbrev pub GoesTo : (Comparison → ℕ → ℕ → List Inst) → ℕ → ℕ → Type 0
+  GoesTo go k far =
+      (relation : Comparison) (x y : ℕ) (live : VariableSet) (m : Moment) (p : Processor) (given : ℕ) (u : QueueUse) (b : Bool) → queue_use s.copies s.side (Computes 0 x y) ≡ Some u → (h : Stands plan live m k p) →
+      compared relation (read h.contents given x) (read h.contents given y) ≡ b → CodeAt s.code k (go relation x y) → Acts s p (event u 0 given []) (λ q. Comes s 2 q (Stands plan live m (if b then far else k + length (go relation x y))))
+
+  -- it is so many words long
+  abbrev pub AllLong : (Comparison → ℕ → ℕ → List Inst) → ℕ → Type 0
+  AllLong go n = (relation : Comparison) (x y : ℕ) → length (go relation x y) ≡ n
+
+  abbrev pub GoesFrom : (Comparison → ℕ → ℕ → List Inst) → ℕ → ℕ → ℕ → Type 0
+  GoesFrom go words end far = (k : ℕ) → k + words ≡ end → GoesTo go k far
+
+  -- n words ahead of its end
+  pub ahead_long : (short : Bool) (n : ℕ) → AllLong (ahead_by short n) (length (goes_code short NotEqual 29 0 n))
+  ahead_long short n relation x y = by (nat_lt n 1000) where
+    by : (t : Bool) → length (goes_by t short relation x y n) ≡ length (goes_by t short NotEqual 29 0 n)
+    by true = refl
+    by false = refl
+
+  pub ahead_goes : (short : Bool) (n end : ℕ) → end + n < 2 ^ 29 → (short ≡ true → n + 1 < 2 ^ 18) → GoesFrom (ahead_by short n) (length (goes_code short NotEqual 29 0 n)) end (end + n)
+  ahead_goes short n end small reach k is relation x y live m p given u b legal h compares at =
+      let long = ahead_long short n relation x y in
+      acts_map s (λ q c. comes_map s 2 (omega arith) (λ r g. moved b (omega arith) refl g) c) (by_goes (nat_lt n 1000) short relation x y given n u b (λ e. grind (arith, nat_tests)) (omega arith) reach legal h compares at)
+
+  -- back to what stands n words before it
+  pub back_long_all : (n : ℕ) → AllLong (goes_back n) 1
+  back_long_all n relation x y = refl
+
+  pub back_goes : (n end far : ℕ) → end < 2 ^ 29 → far + n + 1 ≡ end → GoesFrom (goes_back n) 1 end far
+  back_goes n end far small from k is relation x y live m p given u b legal h compares at =
+      let one = step s plan.private (branch_inst relation x y (back_offset n)) 0 x y given (if b then far else k + 1) at.0 (λ pc x y. 0) (λ pc x y. plus pc (if compared relation x y then word (back_offset n) else 4)) u h.shows at.1 at.2 (branch_is relation x y (back_offset n)) legal (omega arith) (rw compares (lands b n (omega arith))) in
+      acts_map s (λ q shows. comes_here s {n = 2} (record { contents = h.contents; shows = rw (put_nowhere 0 0 h.contents refl) at shows; agrees = h.agrees })) one
+    where
+      lands : (t : Bool) (n : ℕ) → far + n ≡ k → plus (4 * k) (if t then word (back_offset n) else 4) ≡ 4 * (if t then far else k + 1)
+      lands true zero e = omega arith
+      lands true (suc n) e = omega arith
+      lands false n e = omega arith
+
+  pub silent_done : {live : VariableSet} {m : Moment} {k : ℕ} {p : Processor} (go : Comparison → ℕ → ℕ → List Inst) (words far : ℕ) (way : Bool) (t : Test) → AllLong go words → k + length (branch_by (plan.home m.function) go (Silent t) way) < 2 ^ 29 → GoesFrom go words (k + length (branch_by (plan.home m.function) go (Silent t) way)) far →
+      CodeAt s.code k (branch_by (plan.home m.function) go (Silent t) way) → ((u : ℕ) → in_test t u ≡ true → live u ≡ true) → IsNumber t.left → IsNumber t.right → 1 ≤ words → Stands plan live m k p →
+      Comes s (length (branch_by (plan.home m.function) go (Silent t) way) + 2) p (Stands plan live m (if goes_if way (holds t m.env) then far else k + length (branch_by (plan.home m.function) go (Silent t) way)))
+  silent_done {live} {m} {k} {p} go words far way t alike small goes at reads left right some h =
       let x : ℕ = source (plan.home m.function) 5 t.left in let y : ℕ = source (plan.home m.function) 6 t.right in
       let to : ℕ → Env → Processor → Type 0 = λ k env q. Unit {0} in
       let low = source_plain s plan variables fine to m.function 5 t.left (omega arith) in let low' = source_plain s plan variables fine to m.function 6 t.right (omega arith) in
       let first : List Inst = operands m.function t in
-      let last : List Inst = goes_code short (one_way way t.comparison) x y n in
-      let some = goes_some short (one_way way t.comparison) x y n in
+      let last : List Inst = go (one_way way t.comparison) x y in
+      let words' = alike (one_way way t.comparison) x y in
       let long = length-append first last in
-      let whole : first ++ last ≡ branch_code (plan.home m.function) short (Silent t) way n = append_assoc (fetch (plan.home m.function) 5 t.left) (fetch (plan.home m.function) 6 t.right) last in
+      let whole : first ++ last ≡ branch_by (plan.home m.function) go (Silent t) way = append_assoc (fetch (plan.home m.function) 5 t.left) (fetch (plan.home m.function) 6 t.right) last in
       let same = ap length whole in
       let at' : CodeAt s.code k (first ++ last) = subst (λ (is : List Inst). CodeAt s.code k is) (sym whole) at in
       let here = code_take s.code k first last at' in
       let there = code_drop s.code k first last at' in
       let all = comes_then s (fetches t (omega arith) here reads left right h) (λ q d.
       let is : compared t.comparison (read d.contents 0 x) (read d.contents 0 y) ≡ holds t m.env = rw (plain_read d.contents 0 x low, plain_read d.contents 0 y low', d.left, d.right) refl in
-      let a = goes short way t.comparison x y 0 n Nothing (holds t m.env) (omega arith) reach (plain_computes s.copies s.side 0 x y (omega arith) low low') (record { contents = d.contents; shows = d.shows; agrees = d.ready.agrees }) is there in
+      let is' = one_way_compared way t.comparison (read d.contents 0 x) (read d.contents 0 y) ∙ ap (goes_if way) is in
+      let a = goes (k + length first) (omega arith) (one_way way t.comparison) x y live m q 0 Nothing (goes_if way (holds t m.env)) (plain_computes s.copies s.side 0 x y (omega arith) low low') (record { contents = d.contents; shows = d.shows; agrees = d.ready.agrees }) is' there in
       comes_more s a.goes a.holds) in
-      comes_map s (length (branch_code (plan.home m.function) short (Silent t) way n) + 2) (omega arith) (λ q g. moved (goes_if way (holds t m.env)) (omega arith) (omega arith) g) all
+      comes_map s (length (branch_by (plan.home m.function) go (Silent t) way) + 2) (omega arith) (λ q g. moved (goes_if way (holds t m.env)) refl (omega arith) g) all
 
   -- a test is told, and two registers compare so where it holds
   record Told (live : VariableSet) (m : Moment) (relation : Comparison) (x y : ℕ) (b : Bool) (k : ℕ) (p : Processor) : Type 0 where
@@ -266,19 +301,20 @@ module _ (s : Setting) (plan : Plan) (variables : ℕ → ℕ) (fine : Fits s pl
     pub decides : compared relation (contents.register x) (contents.register y) ≡ b
 
   -- behind what tells it, a branch on these registers
-  told_goes : {live : VariableSet} {m : Moment} {p : Processor} {queue : Queue} {v : ℕ} (k : ℕ) (first : List Inst) (short way : Bool) (relation : Comparison) (x y n : ℕ) (b : Bool) → x < 28 → y < 28 → k + length (first ++ goes_code short (one_way way relation) x y n) + n < 2 ^ 29 → (short ≡ true → n + 1 < 2 ^ 18) →
-      CodeAt s.code k (first ++ goes_code short (one_way way relation) x y n) → Does s (length first) (Push queue v (Went m.env)) (λ env. Told live m relation x y b (k + length first)) p →
-      Does s (length (first ++ goes_code short (one_way way relation) x y n) + 2) (Push queue v (Went m.env)) (λ env. Stands plan live m (if goes_if way b then k + length (first ++ goes_code short (one_way way relation) x y n) + n else k + length (first ++ goes_code short (one_way way relation) x y n))) p
-  told_goes {live} {m} k first short way relation x y n b low low' small reach at told =
-      let last : List Inst = goes_code short (one_way way relation) x y n in
-      let some = goes_some short (one_way way relation) x y n in
+  told_goes : {live : VariableSet} {m : Moment} {p : Processor} {queue : Queue} {v : ℕ} (k : ℕ) (first : List Inst) (go : Comparison → ℕ → ℕ → List Inst) (words far : ℕ) (way : Bool) (relation : Comparison) (x y : ℕ) (b : Bool) → x < 28 → y < 28 → AllLong go words → 1 ≤ words → GoesFrom go words (k + length (first ++ go (one_way way relation) x y)) far →
+      CodeAt s.code k (first ++ go (one_way way relation) x y) → Does s (length first) (Push queue v (Went m.env)) (λ env. Told live m relation x y b (k + length first)) p →
+      Does s (length (first ++ go (one_way way relation) x y) + 2) (Push queue v (Went m.env)) (λ env. Stands plan live m (if goes_if way b then far else k + length (first ++ go (one_way way relation) x y))) p
+  told_goes {live} {m} k first go words far way relation x y b low low' alike some goes at told =
+      let last : List Inst = go (one_way way relation) x y in
+      let words' = alike (one_way way relation) x y in
       let long = length-append first last in
       let there = code_drop s.code k first last at in (
         told.0,
         nears_map s {n = length first + 3} (omega arith) (λ l q h. h) (nears_more s 3 (λ l q a. acts_map s (λ r c. comes_then s c (λ o d.
             let is : compared relation (read d.contents 0 x) (read d.contents 0 y) ≡ b = rw (plain_read d.contents 0 x low, plain_read d.contents 0 y low') (d.decides) in
-            let g = goes short way relation x y 0 n Nothing b (omega arith) reach (plain_computes s.copies s.side 0 x y (omega arith) low low') (record { contents = d.contents; shows = d.shows; agrees = d.ready.agrees }) is there in
-            comes_map s 3 (omega arith) (λ e f. moved (goes_if way b) (omega arith) (omega arith) f) (comes_more s g.goes g.holds))) a) told.1),
+            let is' = one_way_compared way relation (read d.contents 0 x) (read d.contents 0 y) ∙ ap (goes_if way) is in
+            let g = goes (k + length first) (omega arith) (one_way way relation) x y live m o 0 Nothing (goes_if way b) (plain_computes s.copies s.side 0 x y (omega arith) low low') (record { contents = d.contents; shows = d.shows; agrees = d.ready.agrees }) is' there in
+            comes_map s 3 (omega arith) (λ e f. moved (goes_if way b) refl (omega arith) f) (comes_more s g.goes g.holds))) a) told.1),
       )
 
   -- its operands are still in their registers
@@ -313,36 +349,39 @@ module _ (s : Setting) (plan : Plan) (variables : ℕ → ℕ) (fine : Fits s pl
       (runs_nothing s plan.private to (λ j q shows. record { contents = c1; shows = shows; ready = r; decides = rw (r.zero) (left ∙ same) }))) in
       (rw append-nil at run).from k small at p h.shows
 
-  pub tells_done : {live : VariableSet} {m : Moment} {k : ℕ} {p : Processor} (short way : Bool) (t : Test) (n : ℕ) → k + length (branch_code (plan.home m.function) short (Tells t) way n) + n < 2 ^ 29 → (short ≡ true → n + 1 < 2 ^ 18) →
-      CodeAt s.code k (branch_code (plan.home m.function) short (Tells t) way n) → ((u : ℕ) → in_test t u ≡ true → live u ≡ true) → IsNumber t.left → IsNumber t.right → Stands plan live m k p →
-      Does s (length (branch_code (plan.home m.function) short (Tells t) way n) + 2) (Push (told_on plan.by_a) (flag (holds t m.env)) (Went m.env)) (λ env. Stands plan live m (if goes_if way (holds t m.env) then k + length (branch_code (plan.home m.function) short (Tells t) way n) + n else k + length (branch_code (plan.home m.function) short (Tells t) way n))) p
-  tells_done {live} {m} {k} {p} short way t n small reach at reads left right h = by (immediate_of t.comparison t.right) refl small at
+  pub tells_done : {live : VariableSet} {m : Moment} {k : ℕ} {p : Processor} (go : Comparison → ℕ → ℕ → List Inst) (words far : ℕ) (way : Bool) (t : Test) → AllLong go words → 1 ≤ words → k + length (branch_by (plan.home m.function) go (Tells t) way) < 2 ^ 29 → GoesFrom go words (k + length (branch_by (plan.home m.function) go (Tells t) way)) far →
+      CodeAt s.code k (branch_by (plan.home m.function) go (Tells t) way) → ((u : ℕ) → in_test t u ≡ true → live u ≡ true) → IsNumber t.left → IsNumber t.right → Stands plan live m k p →
+      Does s (length (branch_by (plan.home m.function) go (Tells t) way) + 2) (Push (told_on plan.by_a) (flag (holds t m.env)) (Went m.env)) (λ env. Stands plan live m (if goes_if way (holds t m.env) then far else k + length (branch_by (plan.home m.function) go (Tells t) way))) p
+  tells_done {live} {m} {k} {p} go words far way t alike some small goes at reads left right h = by (immediate_of t.comparison t.right) refl small goes at
     where
       Done' : List Inst → Type 0
-      Done' is = Does s (length is + 2) (Push (told_on plan.by_a) (flag (holds t m.env)) (Went m.env)) (λ env. Stands plan live m (if goes_if way (holds t m.env) then k + length is + n else k + length is)) p
+      Done' is = Does s (length is + 2) (Push (told_on plan.by_a) (flag (holds t m.env)) (Went m.env)) (λ env. Stands plan live m (if goes_if way (holds t m.env) then far else k + length is)) p
 
-      by : (o : Option ℕ) → immediate_of t.comparison t.right ≡ o → k + length (told_code o (plan.home m.function) short t way n) + n < 2 ^ 29 → CodeAt s.code k (told_code o (plan.home m.function) short t way n) → Done' (told_code o (plan.home m.function) short t way n)
-      by None e small at =
+      by : (o : Option ℕ) → immediate_of t.comparison t.right ≡ o → k + length (told_by o (plan.home m.function) go t way) < 2 ^ 29 → GoesFrom go words (k + length (told_by o (plan.home m.function) go t way)) far → CodeAt s.code k (told_by o (plan.home m.function) go t way) → Done' (told_by o (plan.home m.function) go t way)
+      by None e small goes at =
           let x : ℕ = source (plan.home m.function) 5 t.left in let y : ℕ = source (plan.home m.function) 6 t.right in
           let to : ℕ → Env → Processor → Type 0 = λ k env q. Unit {0} in
           let first : List Inst = test_code (plan.home m.function) 29 t in
-          let last : List Inst = goes_code short (one_way way t.comparison) x y n in
+          let last : List Inst = go (one_way way t.comparison) x y in
           let long = length-append first last in
-          told_goes k first short way t.comparison x y n (holds t m.env) (source_plain s plan variables fine to m.function 5 t.left (omega arith)) (source_plain s plan variables fine to m.function 6 t.right (omega arith)) small reach at
+          told_goes k first go words far way t.comparison x y (holds t m.env) (source_plain s plan variables fine to m.function 5 t.left (omega arith)) (source_plain s plan variables fine to m.function 6 t.right (omega arith)) alike some goes at
           (tells t e (omega arith) (code_take s.code k first last at) reads left right h)
-      by (Some j) e small at =
+      by (Some j) e small goes at =
           let first : List Inst = tell_immediate m.function t j in
-          let last : List Inst = goes_code short (one_way way (against_zero t.comparison)) 7 0 n in
-          let whole : first ++ last ≡ told_code (Some j) (plan.home m.function) short t way n = append_assoc (fetch (plan.home m.function) 5 t.left) (tell_number_code t.comparison (source (plan.home m.function) 5 t.left) j) last in
+          let last : List Inst = go (one_way way (against_zero t.comparison)) 7 0 in
+          let whole : first ++ last ≡ told_by (Some j) (plan.home m.function) go t way = append_assoc (fetch (plan.home m.function) 5 t.left) (tell_number_code t.comparison (source (plan.home m.function) 5 t.left) j) last in
           let long = length-append first last in let same = ap length whole in
           let at' : CodeAt s.code k (first ++ last) = subst (λ (is : List Inst). CodeAt s.code k is) (sym whole) at in
-          subst Done' whole (told_goes k first short way (against_zero t.comparison) 7 0 n (holds t m.env) (omega arith) (omega arith) (omega arith) reach at'
+          let goes' : GoesFrom go words (k + length (first ++ last)) far = subst (λ (is : List Inst). GoesFrom go words (k + length is) far) (sym whole) goes in
+          subst Done' whole (told_goes k first go words far way (against_zero t.comparison) 7 0 (holds t m.env) (omega arith) (omega arith) alike some goes' at'
           (tells_immediate t j e (omega arith) (code_take s.code k first last at') reads left right h))
 
-  pub hears_done : {live : VariableSet} {m : Moment} {k : ℕ} {p : Processor} (short way : Bool) (n : ℕ) → k + length (branch_code (plan.home m.function) short Hears way n) + n < 2 ^ 29 → (short ≡ true → n + 1 < 2 ^ 18) →
-      CodeAt s.code k (branch_code (plan.home m.function) short Hears way n) → Stands plan live m k p → (x : ℕ) →
-      Acts s p (event (Takes (heard_on plan.by_a)) 0 x []) (λ r. Comes s 2 r (Stands plan live m (if goes_if way (not (nat_eq x 0)) then k + length (branch_code (plan.home m.function) short Hears way n) + n else k + length (branch_code (plan.home m.function) short Hears way n))))
-  hears_done {live} {m} {k} {p} short way n small reach at h x =
+  pub hears_done : {live : VariableSet} {m : Moment} {k : ℕ} {p : Processor} (go : Comparison → ℕ → ℕ → List Inst) (words far : ℕ) (way : Bool) → AllLong go words → GoesFrom go words (k + length (branch_by (plan.home m.function) go Hears way)) far →
+      CodeAt s.code k (branch_by (plan.home m.function) go Hears way) → Stands plan live m k p → (x : ℕ) →
+      Acts s p (event (Takes (heard_on plan.by_a)) 0 x []) (λ r. Comes s 2 r (Stands plan live m (if goes_if way (not (nat_eq x 0)) then far else k + length (branch_by (plan.home m.function) go Hears way))))
+  hears_done {live} {m} {k} {p} go words far way alike goes at h x =
       let zero = h.shows.zero in
       let is : compared NotEqual (read h.contents x 29) (read h.contents x 0) ≡ not (nat_eq x 0) = rw zero (differs x 0) in
-      goes short way NotEqual 29 0 x n (Takes (heard_on plan.by_a)) (not (nat_eq x 0)) small reach (rw fine.side (hears_message s.copies plan.by_a)) h is at
+      let is' = one_way_compared way NotEqual (read h.contents x 29) (read h.contents x 0) ∙ ap (goes_if way) is in
+      let words' = alike (one_way way NotEqual) 29 0 in
+      goes k (omega arith) (one_way way NotEqual) 29 0 live m p x (Takes (heard_on plan.by_a)) (goes_if way (not (nat_eq x 0))) (rw fine.side (hears_message s.copies plan.by_a)) h is' at

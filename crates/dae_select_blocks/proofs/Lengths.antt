@@ -29,8 +29,8 @@ use Rattle.dae_select_walks.specs.declared.Home.{Home}
 use Rattle.dae_select_walks.specs.declared.Home.TheVariants.{Register, Slot}
 use Rattle.dae_select_walks.specs.Homes.{slot_at, kept_at}
 use Rattle.dae_select_walks.specs.Agrees.{Plan}
-use Rattle.dae_select_blocks.specs.Blocks.{operation_code, issue_code, address_code, call_number, over, is_register, number_code, load_code, store_code, register_or, source, fetch_home, fetch, keep, compare_code, test_code, extend_code, value_code, fail_code, align_code, bounds_code, room_code, check_code, take_code, hear_code, stop_code, arguments_code, save_code, restore_code, deeper_code, back_code, result_code, leave_code, waits_at, enter_code, more_code, less_code, is_immediate, move_code, immediate_code, exchanged_code, behind_or, combine_registers, binary_code, takes_number, compare_number_code, compare_registers, compare_operands, frame_code, system_code, one_way, jump_over, jump_back, goes_by, goes_code, frames_room_code, tell_number_code, against_zero, immediate_of}
-use Rattle.dae_select_blocks.specs.Code.{placed_code, some_below, filtered, home_registers, registers_in, with_home, early_code, action_code, branch_code, entry_code, start_code, finish_code, past_code, told_code}
+use Rattle.dae_select_blocks.specs.Blocks.{operation_code, issue_code, address_code, call_number, over, is_register, number_code, load_code, store_code, register_or, source, fetch_home, fetch, keep, compare_code, test_code, extend_code, value_code, fail_code, align_code, bounds_code, room_code, check_code, take_code, hear_code, stop_code, arguments_code, save_code, restore_code, deeper_code, back_code, result_code, leave_code, waits_at, enter_code, more_code, less_code, is_immediate, move_code, immediate_code, exchanged_code, behind_or, combine_registers, binary_code, takes_number, compare_number_code, compare_registers, compare_operands, frame_code, system_code, one_way, jump_over, jump_back, goes_by, goes_code, frames_room_code, tell_number_code, against_zero, immediate_of, goes_back}
+use Rattle.dae_select_blocks.specs.Code.{placed_code, some_below, filtered, home_registers, registers_in, with_home, early_code, action_code, branch_code, entry_code, start_code, finish_code, past_code, told_by, branch_by, ahead_by, before_branch, back_branch}
 use Rattle.dae_select_blocks.proofs.Simple.{IsSimple}
 
 either_short : (b : Bool) (x y : List Inst) (n : ℕ) → length x ≤ n → length y ≤ n → length (if b then x else y) ≤ n
@@ -227,24 +227,56 @@ tell_number_short AtLeastSigned x n = omega arith
 tell_number_short LessUnsigned x n = omega arith
 tell_number_short AtLeastUnsigned x n = omega arith
 
-told_short : (o : Option ℕ) (home : ℕ → Home) (short : Bool) (t : Test) (way : Bool) (n : ℕ) → length (told_code o home short t way n) ≤ 12
-told_short None home short t way n =
-    let last : List Inst = goes_code short (one_way way t.comparison) (source home 5 t.left) (source home 6 t.right) n in
-    let k = goes_short short (one_way way t.comparison) (source home 5 t.left) (source home 6 t.right) n in
+abbrev AreShort : (Comparison → ℕ → ℕ → List Inst) → Type 0
+AreShort go = (relation : Comparison) (x y : ℕ) → length (go relation x y) ≤ 3
+
+told_short : (o : Option ℕ) (home : ℕ → Home) (go : Comparison → ℕ → ℕ → List Inst) (t : Test) (way : Bool) → AreShort go → length (told_by o home go t way) ≤ 12
+told_short None home go t way few =
+    let last : List Inst = go (one_way way t.comparison) (source home 5 t.left) (source home 6 t.right) in
+    let k = few (one_way way t.comparison) (source home 5 t.left) (source home 6 t.right) in
     let l = test_short home 29 t in let both = length-append (test_code home 29 t) last in omega arith
-told_short (Some j) home short t way n =
-    let last : List Inst = goes_code short (one_way way (against_zero t.comparison)) 7 0 n in
-    let k = goes_short short (one_way way (against_zero t.comparison)) 7 0 n in
+told_short (Some j) home go t way few =
+    let last : List Inst = go (one_way way (against_zero t.comparison)) 7 0 in
+    let k = few (one_way way (against_zero t.comparison)) 7 0 in
     let tell : List Inst = tell_number_code t.comparison (source home 5 t.left) j in
     let l = tell_number_short t.comparison (source home 5 t.left) j in let both = length-append tell last in
     let all = behind_short home 5 5 t.left (tell ++ last) (omega arith) in omega arith
 
+by_branch_short : (home : ℕ → Home) (go : Comparison → ℕ → ℕ → List Inst) (b : Branch) (way : Bool) → AreShort go → length (branch_by home go b way) ≤ 12
+by_branch_short home go (Silent t) way few =
+    let last : List Inst = go (one_way way t.comparison) (source home 5 t.left) (source home 6 t.right) in
+    let l = behind_short home 5 6 t.left (fetch home 6 t.right ++ last) (behind_short home 6 3 t.right last (few (one_way way t.comparison) (source home 5 t.left) (source home 6 t.right))) in omega arith
+by_branch_short home go (Tells t) way few = told_short (immediate_of t.comparison t.right) home go t way few
+by_branch_short home go Hears way few = let l = few (one_way way NotEqual) 29 0 in omega arith
+
 pub branch_short : (home : ℕ → Home) (short : Bool) (b : Branch) (way : Bool) (n : ℕ) → length (branch_code home short b way n) ≤ 12
-branch_short home short (Silent t) way n =
-    let last : List Inst = goes_code short (one_way way t.comparison) (source home 5 t.left) (source home 6 t.right) n in
-    let l = behind_short home 5 6 t.left (fetch home 6 t.right ++ last) (behind_short home 6 3 t.right last (goes_short short (one_way way t.comparison) (source home 5 t.left) (source home 6 t.right) n)) in omega arith
-branch_short home short (Tells t) way n = told_short (immediate_of t.comparison t.right) home short t way n
-branch_short home short Hears way n = let l = goes_short short (one_way way NotEqual) 29 0 n in omega arith
+branch_short home short b way n = by_branch_short home (ahead_by short n) b way (λ relation x y. goes_short short relation x y n)
+
+pub back_branch_short : (home : ℕ → Home) (b : Branch) (way : Bool) (n : ℕ) → length (back_branch home b way n) ≤ 12
+back_branch_short home b way n = by_branch_short home (goes_back (n + before_branch home b way)) b way (λ relation x y. omega arith)
+
+pub before_short : (home : ℕ → Home) (b : Branch) (way : Bool) → before_branch home b way ≤ 12
+before_short home b way = by_branch_short home (λ relation x y. []) b way (λ relation x y. omega arith)
+
+-- the branch itself is one word behind the others
+pub back_branch_long : (home : ℕ → Home) (b : Branch) (way : Bool) (n : ℕ) → length (back_branch home b way n) ≡ before_branch home b way + 1
+back_branch_long home b way n = long b (n + before_branch home b way) where
+  told_long : (o : Option ℕ) (t : Test) (j : ℕ) → length (told_by o home (goes_back j) t way) ≡ length (told_by o home (λ relation x y. []) t way) + 1
+  told_long None t j =
+      let l1 = length-append (test_code home 29 t) (goes_back j (one_way way t.comparison) (source home 5 t.left) (source home 6 t.right)) in
+      let l2 = length-append (test_code home 29 t) [] in omega arith
+  told_long (Some i) t j =
+      let tell : List Inst = tell_number_code t.comparison (source home 5 t.left) i in
+      let l1 = length-append tell (goes_back j (one_way way (against_zero t.comparison)) 7 0) in let l2 = length-append tell [] in
+      let l3 = length-append (fetch home 5 t.left) (tell ++ goes_back j (one_way way (against_zero t.comparison)) 7 0) in let l4 = length-append (fetch home 5 t.left) (tell ++ []) in omega arith
+
+  long : (b : Branch) (j : ℕ) → length (branch_by home (goes_back j) b way) ≡ length (branch_by home (λ relation x y. []) b way) + 1
+  long (Silent t) j =
+      let last : List Inst = goes_back j (one_way way t.comparison) (source home 5 t.left) (source home 6 t.right) in
+      let l1 = length-append (fetch home 6 t.right) last in let l2 = length-append (fetch home 6 t.right) [] in
+      let l3 = length-append (fetch home 5 t.left) (fetch home 6 t.right ++ last) in let l4 = length-append (fetch home 5 t.left) (fetch home 6 t.right ++ []) in omega arith
+  long (Tells t) j = told_long (immediate_of t.comparison t.right) t j
+  long Hears j = omega arith
 
 -- ---- calls
 

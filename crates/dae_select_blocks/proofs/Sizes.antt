@@ -1,5 +1,5 @@
 -- How long the code of actions is at most.
-use Rattle.std.proofs.Common.{◌≡◌, ℕ, ◌+◌, ◌*◌, ◌≤◌, Bool, true, false, ◌||◌, List, ◌++◌, length, refl, arith, length-append}
+use Rattle.std.proofs.Common.{◌≡◌, [], ℕ, ◌+◌, ◌*◌, ◌≤◌, Bool, true, false, ◌||◌, List, ◌++◌, length, refl, arith, length-append}
 use Rattle.std.specs.Prelude.{Option, not, ◌&&◌, if◌then◌else◌}
 use Rattle.dae_encode.specs.declared.Inst.{Inst}
 use Rattle.dae_ir.specs.Code.{Done, Do, If, Loop}
@@ -17,14 +17,22 @@ use Rattle.dae_select_walks.specs.Live.{Ways, none, behind, live, is, step_ways,
 use Rattle.dae_select_walks.specs.Multiples.{unknown, multiples_behind, is_placed}
 use Rattle.dae_select_walks.specs.Agrees.{Plan}
 use Rattle.dae_select_blocks.specs.Blocks.{arguments_code, save_code, restore_code, deeper_code, back_code, result_code, enter_code, jump_words, jump_over}
-use Rattle.dae_select_blocks.specs.Code.{registers_in, action_code, call_code, does_nothing, standing_behind, late_code, placed_code, block_code, code_of}
+use Rattle.dae_select_blocks.specs.Code.{registers_in, action_code, call_code, does_nothing, standing_behind, late_code, placed_code, block_code, code_of, tail_of, loop_code, bottom_code, bottom_test, has_bottom, leaves_first, is_near}
 use Rattle.dae_select_blocks.specs.Sizes.{one_call, most_words_in}
 use Rattle.dae_select_blocks.proofs.Simple.{IsSimple}
 use Rattle.dae_select_blocks.proofs.Pairs.{by_pairs}
-use Rattle.dae_select_blocks.proofs.Lengths.{value_short, simple_short, early_short, branch_short, over_short, back_short, past_short, placed_short, prepared_short, resumed_short, leave_short}
+use Rattle.dae_select_blocks.proofs.Lengths.{value_short, simple_short, early_short, branch_short, back_branch_short, over_short, back_short, past_short, placed_short, prepared_short, resumed_short, leave_short}
 
 pub append_short : (xs ys : List Inst) (m n : ℕ) → length xs ≤ m → length ys ≤ n → length (xs ++ ys) ≤ m + n
 append_short xs ys m n h k = let l = length-append xs ys in omega arith
+
+and_left : (b c : Bool) → (b && c) ≡ true → b ≡ true
+and_left true c e = refl
+and_left false c e = absurd cc
+
+either_length : (c : Bool) (xs ys : List Inst) (n : ℕ) → (c ≡ true → length xs ≤ n) → length ys ≤ n → length (if c then xs else ys) ≤ n
+either_length true xs ys n h k = h refl
+either_length false xs ys n h k = k
 
 module _ (short : Bool) (plan : Plan) (variables : ℕ → ℕ) (f : ℕ) where
   call_length : (v : Option ℕ) (g : ℕ) (xs : List Argument) (k : VariableSet) → length (call_code plan variables f v g xs k) ≤ 56 + 6 * length xs
@@ -90,16 +98,33 @@ module _ (short : Bool) (plan : Plan) (variables : ℕ → ℕ) (f : ℕ) where
       by_pairs (BlockFits known Settled x l s) x (λ a k. settled_length (is_placed known a) a (live k x) l s) (λ t y m b k e passes dead. omega arith)
       (λ v m d y k e once dead. (let h = early_short (plan.home f) 30 v d y in omega arith)) (λ v m d y k e once dead. (let h = early_short (plan.home f) 28 v d y in omega arith)) a k
 
-  pub code_length : (standing : Standing) (known : VariableSet) (code : Actions) (x : Ways) (l s : ℕ) → length (code_of short plan variables f standing known code x l s) ≤ most_words_in code
-  code_length standing known Done x l s = omega arith
-  code_length standing known (Do m a k) x l s =
-      let h : length (code_of short plan variables f standing known (Do m a k) x l s) ≤ (14 * action_weight a + 42 * one_call a) + most_words_in k
-      = append_short _ _ _ _ (block_length known standing x _ _ a k) (code_length (standing_behind a k x) (multiples_behind a known) k x l s) in omega arith
-  code_length standing known (If m b y n k) x l s =
-      let h : length (code_of short plan variables f standing known (If m b y n k) x l s) ≤ 12 + (most_words_in y + (2 + (most_words_in n + most_words_in k)))
-      = append_short _ _ 12 _ (branch_short (plan.home f) short b (does_nothing y) _) (append_short _ _ _ _ (code_length Settled unknown y (behind (live k x) x) _ _)
-      (append_short _ _ 2 _ (past_short short (does_nothing y || does_nothing n) _) (append_short _ _ _ _ (code_length Settled unknown n (behind (live k x) x) _ _) (code_length Settled unknown k x l s)))) in omega arith
-  code_length standing known (Loop m body step k) x l s =
-      let h : length (code_of short plan variables f standing known (Loop m body step k) x l s) ≤ most_words_in body + (most_words_in step + (2 + most_words_in k))
-      = append_short _ _ _ _ (code_length Settled unknown body (body_ways body step (live k x)) _ _) (append_short _ _ _ _ (code_length Settled unknown step (step_ways body step (live k x)) (jump_words short) 0)
-      (append_short _ _ 2 _ (back_short short _) (code_length Settled unknown k x l s))) in omega arith
+  mutual
+    pub code_length : (standing : Standing) (known : VariableSet) (code : Actions) (x : Ways) (l s : ℕ) → length (code_of short plan variables f standing known code x l s) ≤ most_words_in code
+    code_length standing known Done x l s = omega arith
+    code_length standing known (Do m a k) x l s =
+        let h : length (code_of short plan variables f standing known (Do m a k) x l s) ≤ (14 * action_weight a + 42 * one_call a) + most_words_in k
+        = append_short _ _ _ _ (block_length known standing x _ _ a k) (code_length (standing_behind a k x) (multiples_behind a known) k x l s) in omega arith
+    code_length standing known (If m b y n k) x l s =
+        let h : length (code_of short plan variables f standing known (If m b y n k) x l s) ≤ 12 + (most_words_in y + (2 + (most_words_in n + most_words_in k)))
+        = append_short _ _ 12 _ (branch_short (plan.home f) short b (does_nothing y) _) (append_short _ _ _ _ (code_length Settled unknown y (behind (live k x) x) _ _)
+        (append_short _ _ 2 _ (past_short short (does_nothing y || does_nothing n) _) (append_short _ _ _ _ (code_length Settled unknown n (behind (live k x) x) _ _) (code_length Settled unknown k x l s)))) in omega arith
+    code_length standing known (Loop m body step k) x l s =
+        let top : length (loop_code short (code_of short plan variables f Settled unknown body (body_ways body step (live k x))) (code_of short plan variables f Settled unknown step (step_ways body step (live k x)) (jump_words short) 0) (code_of short plan variables f Settled unknown k x l s)) ≤ most_words_in body + (most_words_in step + (2 + most_words_in k))
+        = append_short _ _ _ _ (code_length Settled unknown body (body_ways body step (live k x)) _ _) (append_short _ _ _ _ (code_length Settled unknown step (step_ways body step (live k x)) (jump_words short) 0)
+        (append_short _ _ 2 _ (back_short short _) (code_length Settled unknown k x l s))) in
+        let bottom : (leaves_first body ≡ true → length (bottom_code short (tail_of short plan variables f body (body_ways body step (live k x))) (code_of short plan variables f Settled unknown step (step_ways body step (live k x))) (bottom_test (plan.home f) body) (code_of short plan variables f Settled unknown k x l s)) ≤ 2 + (most_words_in body + (most_words_in step + (12 + most_words_in k))))
+        = λ is. append_short _ _ 2 _ (over_short short _) (append_short _ _ _ _ (tail_length body (body_ways body step (live k x)) _ _) (append_short _ _ _ _ (code_length Settled unknown step (step_ways body step (live k x)) _ 0)
+        (append_short _ _ 12 _ (bottom_short body is _) (code_length Settled unknown k x l s)))) in
+        either_length (has_bottom body step) _ _ _ (λ e. (let h = bottom (and_left (leaves_first body) (is_near body step) e) in omega arith)) (omega arith)
+
+    bottom_short : (code : Actions) → leaves_first code ≡ true → (n : ℕ) → length (bottom_test (plan.home f) code n) ≤ 12
+    bottom_short (If m b p q k) is n = back_branch_short (plan.home f) b true n
+    bottom_short Done is n = omega arith
+    bottom_short (Do m a k) is n = omega arith
+    bottom_short (Loop m body step k) is n = omega arith
+
+    pub tail_length : (code : Actions) (x : Ways) (l s : ℕ) → length (tail_of short plan variables f code x l s) ≤ most_words_in code
+    tail_length (If m b p q k) x l s = let h = code_length Settled unknown k x l s in omega arith
+    tail_length Done x l s = omega arith
+    tail_length (Do m a k) x l s = omega arith
+    tail_length (Loop m body step k) x l s = omega arith

@@ -1,6 +1,6 @@
 -- The code of structured actions does them, wherever it stands: an induction on the actions, in which each jump is told by
 -- the lengths of what it leads over.
-use Rattle.std.proofs.Common.{◌≡◌, ℕ, ◌+◌, ◌^◌, ◌<◌, ◌≤◌, Bool, true, false, not, ◌||◌, List, [], ◌∷◌, ◌++◌, Option, length, refl, sym, ap, subst, arith, length-append}
+use Rattle.std.proofs.Common.{◌≡◌, ℕ, ◌+◌, ◌^◌, ◌<◌, ◌≤◌, Bool, true, false, not, ◌||◌, ◌&&◌, List, [], ◌∷◌, ◌++◌, Option, length, refl, sym, ap, subst, arith, length-append}
 use Rattle.std.specs.Prelude.{nat_eq, if◌then◌else◌}
 use Rattle.std.specs.List.{AllByRecursion}
 use Rattle.dae_base.specs.declared.Queue.TheVariants.{Ld, Cq}
@@ -31,18 +31,21 @@ use Rattle.dae_select_walks.specs.Multiples.{AreMultiples, unknown, is_multiple,
 use Rattle.dae_select_walks.specs.Agrees.{Plan, Moment, Stands}
 use Rattle.dae_select_walks.specs.declared.Standing.{Standing}
 use Rattle.dae_select_walks.specs.declared.Standing.TheVariants.{Settled, Early, Late}
-use Rattle.dae_select_walks.specs.Compiled.{Exit, Exits, exit, exits, ways_of, with_env, IsWorldOf, At, Leads, Turns, ActionDone, BranchDone, CodeDone, bit}
-use Rattle.dae_select_walks.proofs.LawsOfWalks.{comes_here, nears_here, comes_map, does_map, acts_map, turn_again}
+use Rattle.dae_select_walks.specs.Compiled.{Exit, Exits, exit, exits, ways_of, with_env, IsWorldOf, At, Leads, Turns, GoesBack, is_told, begins_told, ActionDone, BranchDone, CodeDone, bit}
+use Rattle.dae_select_walks.proofs.LawsOfWalks.{comes_here, comes_more, nears_here, comes_map, does_map, acts_map, turn_again}
 use Rattle.dae_select_walks.specs.Layout.{CodeAt}
-use Rattle.dae_select_blocks.specs.Blocks.{value_code, jump_words, jump_over, jump_back}
-use Rattle.dae_select_blocks.specs.Code.{written_last, action_code, branch_code, does_nothing, past_code, standing_behind, early_code, placed_code, block_code, code_of}
+use Rattle.dae_meaning.specs.declared.Comparison.{Comparison}
+use Rattle.dae_meaning.specs.declared.Comparison.TheVariants.{NotEqual}
+use Rattle.dae_select_blocks.specs.Blocks.{value_code, jump_words, jump_over, jump_back, one_way, goes_code, goes_back}
+use Rattle.dae_select_blocks.specs.Code.{written_last, action_code, branch_by, ahead_by, branch_code, before_branch, back_branch, bottom_test, only_breaks, is_break, leaves_first, is_near, has_bottom, tail_of, loop_code, bottom_code, does_nothing, past_code, standing_behind, early_code, placed_code, block_code, code_of}
 use Rattle.dae_select_blocks.specs.Fits.{Fits}
 use Rattle.dae_select_blocks.specs.Wanted.{IsWanted, IsWantedBranch, IsPlanOf, IsRight}
 use Rattle.dae_select_blocks.proofs.Runs.{code_take, code_drop}
 use Rattle.dae_select_blocks.proofs.Uses.{takes_load_left, takes_load_right, takes_copy_left, takes_copy_right}
 use Rattle.dae_select_blocks.proofs.Simple.{IsSimple, around, e_side, simple_done, placed_done}
 use Rattle.dae_select_blocks.proofs.Pairs.{passed_on, by_pairs, entered_at, Suits, suits_behind, AreLateNumbers, late_first, late_second, late_sent, early_first, early_second}
-use Rattle.dae_select_blocks.proofs.Jumps.{goes_if, jump_long, back_long, hears_some, leads_over, turns_over, turns_back, stands_less, silent_done, tells_done, hears_done}
+use Rattle.dae_select_blocks.proofs.Lengths.{back_branch_long}
+use Rattle.dae_select_blocks.proofs.Jumps.{goes_if, jump_long, back_long, hears_some, leads_over, turns_over, turns_back, stands_less, silent_done, tells_done, hears_done, AllLong, GoesFrom, ahead_long, ahead_goes, back_long_all, back_goes}
 
 -- parts of a list of places
 all_left : (P : VariableSet → Type 0) (xs ys : List VariableSet) → AllByRecursion P (xs ++ ys) → AllByRecursion P xs
@@ -88,6 +91,7 @@ module _ (s : Setting) (plan : Plan) (variables : ℕ → ℕ) (fine : Fits s pl
       (early_short : (f q v d : ℕ) (y : Value) → length (early_code (plan.home f) q v d y) ≤ most)
       (sent_short : (f : ℕ) (y : Value) → length (value_code (plan.home f) 30 y) ≤ most)
       (branches : (f : ℕ) (b : Branch) (way : Bool) (n : ℕ) → length (branch_code (plan.home f) short b way n) + 2 ≤ most)
+      (backs : (f : ℕ) (b : Branch) (way : Bool) (n : ℕ) → length (back_branch (plan.home f) b way n) + 2 ≤ most)
       (calls : (f g : ℕ) (v : Option ℕ) (xs : List Argument) (k : VariableSet) (x : Exits) (leaves skips here : ℕ) → Stood f (Call v g xs) k (ways_of x) leaves skips here → Done' f unknown (Call v g xs) k x leaves skips here)
       (returns : (f : ℕ) (y : Option Operand) (k : VariableSet) (x : Exits) (leaves skips here : ℕ) → Stood f (Return y) k (ways_of x) leaves skips here → Done' f unknown (Return y) k x leaves skips here)
       (lo hi : ℕ) (high : hi < 2 ^ 29) (reach : short ≡ true → hi ≤ lo + 2 ^ 17) (some : 2 ≤ most) where
@@ -226,44 +230,45 @@ module _ (s : Setting) (plan : Plan) (variables : ℕ → ℕ) (fine : Fits s pl
     abbrev Chooses : ℕ → Branch → VariableSet → Exit → Exit → ℕ → Type 0
     Chooses f b live first second here = BranchDone s plan program entries most widest f b (exit here live) first second
 
-    chosen : (f : ℕ) (m : Moment) (live : VariableSet) (first second : Exit) (way b : Bool) (end n : ℕ) (q : Processor) → m.function ≡ f → first.standing ≡ Settled → second.standing ≡ Settled → first.word ≡ (if way then end + n else end) → second.word ≡ (if way then end else end + n) →
+    chosen : (f : ℕ) (m : Moment) (live : VariableSet) (first second : Exit) (way b : Bool) (end far : ℕ) (q : Processor) → m.function ≡ f → first.standing ≡ Settled → second.standing ≡ Settled → first.word ≡ (if way then far else end) → second.word ≡ (if way then end else far) →
         ((u : ℕ) → first.live u ≡ true → live u ≡ true) → ((u : ℕ) → second.live u ≡ true → live u ≡ true) →
-        Stands plan live m (if goes_if way b then end + n else end) q → At s plan program entries most widest f (if b then first else second) m q
-    chosen f m live first second true true end n q e e1 e2 to to' yes' no' h = (e, rw e1 (stands_less s plan variables fine yes' (rw to h)))
-    chosen f m live first second true false end n q e e1 e2 to to' yes' no' h = (e, rw e2 (stands_less s plan variables fine no' (rw to' h)))
-    chosen f m live first second false true end n q e e1 e2 to to' yes' no' h = (e, rw e1 (stands_less s plan variables fine yes' (rw to h)))
-    chosen f m live first second false false end n q e e1 e2 to to' yes' no' h = (e, rw e2 (stands_less s plan variables fine no' (rw to' h)))
+        Stands plan live m (if goes_if way b then far else end) q → At s plan program entries most widest f (if b then first else second) m q
+    chosen f m live first second true true end far q e e1 e2 to to' yes' no' h = (e, rw e1 (stands_less s plan variables fine yes' (rw to h)))
+    chosen f m live first second true false end far q e e1 e2 to to' yes' no' h = (e, rw e2 (stands_less s plan variables fine no' (rw to' h)))
+    chosen f m live first second false true end far q e e1 e2 to to' yes' no' h = (e, rw e1 (stands_less s plan variables fine yes' (rw to h)))
+    chosen f m live first second false false end far q e e1 e2 to to' yes' no' h = (e, rw e2 (stands_less s plan variables fine no' (rw to' h)))
 
-    -- the code of a branch leads n words ahead of its end, or behind it
-    branch_done : (f : ℕ) (b : Branch) (way : Bool) (live : VariableSet) (first second : Exit) (here n : ℕ) → first.standing ≡ Settled → second.standing ≡ Settled → IsWantedBranch b → ((u : ℕ) → decided b u ≡ true → live u ≡ true) → ((u : ℕ) → first.live u ≡ true → live u ≡ true) → ((u : ℕ) → second.live u ≡ true → live u ≡ true) →
-        lo ≤ here → here + length (branch_code (plan.home f) short b way n) + n ≤ hi → CodeAt s.code here (branch_code (plan.home f) short b way n) →
-        first.word ≡ (if way then here + length (branch_code (plan.home f) short b way n) + n else here + length (branch_code (plan.home f) short b way n)) →
-        second.word ≡ (if way then here + length (branch_code (plan.home f) short b way n) else here + length (branch_code (plan.home f) short b way n) + n) → Chooses f b live first second here
-    branch_done f (Silent t) way live first second here n e1 e2 wanted reads yes' no' low near at to to' = λ m r h.
-        subst (λ (g : ℕ). here + length (branch_code (plan.home g) short (Silent t) way n) + n ≤ hi → CodeAt s.code here (branch_code (plan.home g) short (Silent t) way n) → length (branch_code (plan.home g) short (Silent t) way n) + 2 ≤ most →
-        first.word ≡ (if way then here + length (branch_code (plan.home g) short (Silent t) way n) + n else here + length (branch_code (plan.home g) short (Silent t) way n)) →
-        second.word ≡ (if way then here + length (branch_code (plan.home g) short (Silent t) way n) else here + length (branch_code (plan.home g) short (Silent t) way n) + n) →
+    -- the code of a branch leads to far, or behind its end
+    branch_done : (f : ℕ) (b : Branch) (way : Bool) (live : VariableSet) (first second : Exit) (here : ℕ) (go : Comparison → ℕ → ℕ → List Inst) (words far : ℕ) → AllLong s plan variables fine go words → 1 ≤ words → GoesFrom s plan variables fine go words (here + length (branch_by (plan.home f) go b way)) far →
+        length (branch_by (plan.home f) go b way) + 2 ≤ most → first.standing ≡ Settled → second.standing ≡ Settled → IsWantedBranch b → ((u : ℕ) → decided b u ≡ true → live u ≡ true) → ((u : ℕ) → first.live u ≡ true → live u ≡ true) → ((u : ℕ) → second.live u ≡ true → live u ≡ true) →
+        here + length (branch_by (plan.home f) go b way) < 2 ^ 29 → CodeAt s.code here (branch_by (plan.home f) go b way) →
+        first.word ≡ (if way then far else here + length (branch_by (plan.home f) go b way)) →
+        second.word ≡ (if way then here + length (branch_by (plan.home f) go b way) else far) → Chooses f b live first second here
+    branch_done f (Silent t) way live first second here go words far alike some goes few e1 e2 wanted reads yes' no' small at to to' = λ m r h.
+        subst (λ (g : ℕ). GoesFrom s plan variables fine go words (here + length (branch_by (plan.home g) go (Silent t) way)) far → here + length (branch_by (plan.home g) go (Silent t) way) < 2 ^ 29 → CodeAt s.code here (branch_by (plan.home g) go (Silent t) way) → length (branch_by (plan.home g) go (Silent t) way) + 2 ≤ most →
+        first.word ≡ (if way then far else here + length (branch_by (plan.home g) go (Silent t) way)) →
+        second.word ≡ (if way then here + length (branch_by (plan.home g) go (Silent t) way) else far) →
         Comes s most r (At s plan program entries most widest g (if holds t m.env then first else second) m)) h.0
-        (λ near at few to to'. comes_map s most few (λ o g. chosen m.function m live first second way (holds t m.env) (here + length (branch_code (plan.home m.function) short (Silent t) way n)) n o refl e1 e2 to to' yes' no' g)
-        (silent_done s plan variables fine short way t n (omega arith) (λ e. (let r = reach e in omega arith)) at reads wanted.0 wanted.1 h.1)) near at (branches f (Silent t) way n) to to'
-    branch_done f (Tells t) way live first second here n e1 e2 wanted reads yes' no' low near at to to' = λ m r h.
-        subst (λ (g : ℕ). here + length (branch_code (plan.home g) short (Tells t) way n) + n ≤ hi → CodeAt s.code here (branch_code (plan.home g) short (Tells t) way n) → length (branch_code (plan.home g) short (Tells t) way n) + 2 ≤ most →
-        first.word ≡ (if way then here + length (branch_code (plan.home g) short (Tells t) way n) + n else here + length (branch_code (plan.home g) short (Tells t) way n)) →
-        second.word ≡ (if way then here + length (branch_code (plan.home g) short (Tells t) way n) else here + length (branch_code (plan.home g) short (Tells t) way n) + n) →
+        (λ goes small at few to to'. comes_map s most few (λ o g. chosen m.function m live first second way (holds t m.env) (here + length (branch_by (plan.home m.function) go (Silent t) way)) far o refl e1 e2 to to' yes' no' g)
+        (silent_done s plan variables fine go words far way t alike small goes at reads wanted.0 wanted.1 some h.1)) goes small at few to to'
+    branch_done f (Tells t) way live first second here go words far alike some goes few e1 e2 wanted reads yes' no' small at to to' = λ m r h.
+        subst (λ (g : ℕ). GoesFrom s plan variables fine go words (here + length (branch_by (plan.home g) go (Tells t) way)) far → here + length (branch_by (plan.home g) go (Tells t) way) < 2 ^ 29 → CodeAt s.code here (branch_by (plan.home g) go (Tells t) way) → length (branch_by (plan.home g) go (Tells t) way) + 2 ≤ most →
+        first.word ≡ (if way then far else here + length (branch_by (plan.home g) go (Tells t) way)) →
+        second.word ≡ (if way then here + length (branch_by (plan.home g) go (Tells t) way) else far) →
         Does s most (Push (told_on plan.by_a) (bit (holds t m.env)) (Went m.env)) (λ env. At s plan program entries most widest g (if holds t m.env then first else second) m) r) h.0
-        (λ near at few to to'.
-        let end : ℕ = here + length (branch_code (plan.home m.function) short (Tells t) way n) in
-        does_map s (λ env. Stands plan live m (if goes_if way (holds t m.env) then end + n else end)) (λ env. At s plan program entries most widest m.function (if holds t m.env then first else second) m)
-        (length (branch_code (plan.home m.function) short (Tells t) way n) + 2) most few (λ env o g. chosen m.function m live first second way (holds t m.env) end n o refl e1 e2 to to' yes' no' g)
+        (λ goes small at few to to'.
+        let end : ℕ = here + length (branch_by (plan.home m.function) go (Tells t) way) in
+        does_map s (λ env. Stands plan live m (if goes_if way (holds t m.env) then far else end)) (λ env. At s plan program entries most widest m.function (if holds t m.env then first else second) m)
+        (length (branch_by (plan.home m.function) go (Tells t) way) + 2) most few (λ env o g. chosen m.function m live first second way (holds t m.env) end far o refl e1 e2 to to' yes' no' g)
         (Push (told_on plan.by_a) (bit (holds t m.env)) (Went m.env)) r
-        (tells_done s plan variables fine short way t n (omega arith) (λ e. (let r = reach e in omega arith)) at reads wanted.0 wanted.1 h.1)) near at (branches f (Tells t) way n) to to'
-    branch_done f Hears way live first second here n e1 e2 wanted reads yes' no' low near at to to' = λ m r h.
-        let end : ℕ = here + length (branch_code (plan.home f) short Hears way n) in
-        let few = branches f Hears way n in let some' = hears_some short way n in
+        (tells_done s plan variables fine go words far way t alike some small goes at reads wanted.0 wanted.1 h.1)) goes small at few to to'
+    branch_done f Hears way live first second here go words far alike some goes few e1 e2 wanted reads yes' no' small at to to' = λ m r h.
+        let end : ℕ = here + length (branch_by (plan.home f) go Hears way) in
+        let words' = alike (one_way way NotEqual) 29 0 in
         nears_here s 2 (omega arith) (λ x fits. (
           0,
-          acts_map s (λ o c. comes_map s 2 (omega arith) (λ z g. chosen f m live first second way (not (nat_eq x 0)) end n z h.0 e1 e2 to to' yes' no' g) c)
-              (hears_done s plan variables fine short way n (omega arith) (λ e. (let r = reach e in omega arith)) at h.1 x),
+          acts_map s (λ o c. comes_map s 2 (omega arith) (λ z g. chosen f m live first second way (not (nat_eq x 0)) end far z h.0 e1 e2 to to' yes' no' g) c)
+              (hears_done s plan variables fine go words far way alike goes at h.1 x),
         ))
 
     -- ---- structured code
@@ -300,6 +305,158 @@ module _ (s : Setting) (plan : Plan) (variables : ℕ → ℕ) (fine : Fits s pl
     ahead : (none : Bool) (n first past second : ℕ) → n ≡ (if none then second else first + past) → n ≤ first + past + second
     ahead true n first past second is = omega arith
     ahead false n first past second is = omega arith
+
+    -- that the code of a list does it, wherever it stands
+    abbrev CodeIs : ℕ → VariableSet → Actions → Type 0
+    CodeIs f known code =
+        (x : Exits) (leaves skips here : ℕ) → AreSettled x → Each (IsWanted plan s.copies entries) IsWantedBranch code → AllByRecursion (IsRight (plan.home f) (variables f)) (lives code (ways_of x)) →
+        CodeAt s.code here (code_of short plan variables f Settled known code (ways_of x) leaves skips) → lo ≤ here → here + length (code_of short plan variables f Settled known code (ways_of x) leaves skips) ≤ hi →
+        here + length (code_of short plan variables f Settled known code (ways_of x) leaves skips) + leaves ≡ x.leaves.word → here + length (code_of short plan variables f Settled known code (ways_of x) leaves skips) + skips ≡ x.skips.word → x.leaves.word ≤ hi → x.skips.word ≤ hi →
+        Leads s plan program entries most widest f (exit (here + length (code_of short plan variables f Settled known code (ways_of x) leaves skips)) x.next.live) x.next → CodeDone s plan program entries most widest f known code (exit here (live code (ways_of x))) x
+
+    -- these words stand here, and lead where the code goes on
+    abbrev Put : ℕ → List Inst → Exits → ℕ → ℕ → ℕ → Type 0
+    Put f is x leaves skips here =
+        CodeAt s.code here is × (here + length is ≤ hi) × (here + length is + leaves ≡ x.leaves.word) × (here + length is + skips ≡ x.skips.word) × Leads s plan program entries most widest f (exit (here + length is) x.next.live) x.next
+
+    either_put : (c : Bool) (xs ys : List Inst) (f : ℕ) (x : Exits) (leaves skips here : ℕ) (D : Type 0) → (c ≡ true → Put f xs x leaves skips here → D) → (c ≡ false → Put f ys x leaves skips here → D) → Put f (if c then xs else ys) x leaves skips here → D
+    either_put true xs ys f x leaves skips here D h k put = h refl put
+    either_put false xs ys f x leaves skips here D h k put = k refl put
+
+    turns_back_so : (f : ℕ) (t : Bool) (here there : Exit) → Turns s plan program entries most widest f here there → GoesBack s plan program entries most widest f t here there
+    turns_back_so f true here there h = λ m p at. (let a = h m p at in comes_more s a.1.goes a.1.holds)
+    turns_back_so f false here there h = h
+
+    -- the test that is told is the turn's instruction
+    back_here : (f : ℕ) (t : Bool) (here : Exit) → t ≡ true → GoesBack s plan program entries most widest f t here here
+    back_here f true here e = λ m p h. comes_here s h
+    back_here f false here e = absurd cc
+
+    -- a loop whose turn ends with a jump back
+    top_done : (f : ℕ) (known : VariableSet) (mark : Mark) (body step k : Actions) (x : Exits) (leaves skips here : ℕ) → CodeIs f unknown body → CodeIs f unknown step → CodeIs f unknown k → AreSettled x → Each (IsWanted plan s.copies entries) IsWantedBranch (Loop mark body step k) → AllByRecursion (IsRight (plan.home f) (variables f)) (lives (Loop mark body step k) (ways_of x)) →
+        lo ≤ here → x.leaves.word ≤ hi → x.skips.word ≤ hi → Put f (loop_code short (code_of short plan variables f Settled unknown body (body_ways body step (live k (ways_of x)))) (code_of short plan variables f Settled unknown step (step_ways body step (live k (ways_of x))) (jump_words short) 0) (code_of short plan variables f Settled unknown k (ways_of x) leaves skips)) x leaves skips here →
+        CodeDone s plan program entries most widest f known (Loop mark body step k) (exit here (live (Loop mark body step k) (ways_of x))) x
+    top_done f known mark body step k x leaves skips here in_body in_step in_rest settled wanted apart low near close put =
+        let at = put.0 in let small = put.1 in let to_leave = put.2 in let to_skip = put.3 in let ends = put.4 in
+        let after' : VariableSet = live k (ways_of x) in
+        let rest : List Inst = code_of short plan variables f Settled unknown k (ways_of x) leaves skips in
+        let again_code : List Inst = code_of short plan variables f Settled unknown step (step_ways body step after') (jump_words short) 0 in
+        let turn_code : List Inst = code_of short plan variables f Settled unknown body (body_ways body step after') (length again_code + jump_words short) 0 in
+        let n : ℕ = length turn_code + length again_code in
+        let back : List Inst = jump_back short n in
+        let l1 = length-append turn_code (again_code ++ (back ++ rest)) in
+        let l2 = length-append again_code (back ++ rest) in
+        let l3 = length-append back rest in
+        let long = back_long short n in
+        let again : ℕ = here + length turn_code in
+        let end : ℕ = again + length again_code in
+        let next : ℕ = end + length back in
+        let d1 = code_drop s.code here turn_code (again_code ++ (back ++ rest)) at in
+        let d2 = code_drop s.code again again_code (back ++ rest) d1 in
+        let d3 = code_drop s.code end back rest d2 in
+        let done : next + length rest ≡ here + length (turn_code ++ (again_code ++ (back ++ rest))) = omega arith in
+        let lasts = all_right (IsRight (plan.home f) (variables f)) (lives body (body_ways body step after')) (lives step (step_ways body step after') ++ lives k (ways_of x)) apart.1 in (
+          exit here (turn body step after'),
+          exit again (live step (step_ways body step after')),
+          exit end (turn body step after'),
+          exit next after',
+          (λ m r h. comes_here s h),
+          subst (λ (v : VariableSet). CodeDone s plan program entries most widest f unknown body (exit here v) (exits (exit again (live step (step_ways body step after'))) (exit next after') (exit again (live step (step_ways body step after'))))) (turn_again body step after')
+              (in_body (exits (exit again (live step (step_ways body step after'))) (exit next after') (exit again (live step (step_ways body step after')))) (length again_code + jump_words short) 0 here (record { leaves = refl; skips = refl }) wanted.0 (all_left (IsRight (plan.home f) (variables f)) (lives body (body_ways body step after')) (lives step (step_ways body step after') ++ lives k (ways_of x)) apart.1) (code_take s.code here turn_code (again_code ++ (back ++ rest)) at) low (omega arith) (omega arith) (omega arith) (omega arith) (omega arith)
+              (λ m r h. comes_here s h)),
+          in_step (exits (exit end (turn body step after')) (exit next after') (exit end (turn body step after'))) (jump_words short) 0 again (record { leaves = refl; skips = refl }) wanted.1 (all_left (IsRight (plan.home f) (variables f)) (lives step (step_ways body step after')) (lives k (ways_of x)) lasts) (code_take s.code again again_code (back ++ rest) d1) (omega arith) (omega arith) (omega arith) (omega arith) (omega arith) (omega arith)
+              (λ m r h. comes_here s h),
+          turns_back_so f (begins_told body) (exit end (turn body step after')) (exit here (turn body step after')) (λ m r h.
+              (let a = turns_back s plan variables fine short here n (omega arith) (λ e. (let r = reach e in omega arith)) (subst (λ (j : ℕ). CodeAt s.code j back) (omega arith) (code_take s.code end back rest d2)) (subst (λ (j : ℕ). Stands plan (turn body step after') m j r) (omega arith) h.1) in
+              (a.0, acts_map s (λ r c. comes_map s 1 (omega arith) (λ q g. (h.0, g)) c) a.1))),
+          in_rest x leaves skips next settled wanted.2 (all_right (IsRight (plan.home f) (variables f)) (lives step (step_ways body step after')) (lives k (ways_of x)) lasts) d3 (omega arith) (omega arith) (omega arith) (omega arith) near close
+              (subst (λ (j : ℕ). Leads s plan program entries most widest f (exit j x.next.live) x.next) (sym done) ends),
+        )
+
+    -- a list that only breaks
+    is_a_break : (a : Action) → is_break a ≡ true → a ≡ Break
+    is_a_break Break e = refl
+    is_a_break a e = absurd cc
+
+    both_true : (b c : Bool) → (b && c) ≡ true → (b ≡ true) × (c ≡ true)
+    both_true true c e = (refl, e)
+    both_true false c e = absurd cc
+
+    breaks_done : (f : ℕ) (code : Actions) (x : Exits) (here : ℕ) → only_breaks code ≡ true → x.leaves.standing ≡ Settled → here ≡ x.leaves.word → Leads s plan program entries most widest f (exit x.next.word x.next.live) x.next → CodeDone s plan program entries most widest f unknown code (exit here (live code (ways_of x))) x
+    breaks_done f (Do m a k) x here is settled there ends =
+        let two = both_true (is_break a) (does_nothing k) is in
+        let so = is_a_break a two.0 in
+        subst (λ (a : Action). CodeDone s plan program entries most widest f unknown (Do m a k) (exit here (live (Do m a k) (ways_of x))) x) (sym so) (
+          exit x.next.word (live k (ways_of x)),
+          (λ n p h. comes_here s (h.0, rw settled (stands_less s plan variables fine (λ u e. rw e refl) (subst (λ (j : ℕ). Stands plan (live (Do m Break k) (ways_of x)) n j p) there h.1)))),
+          nothing_done f unknown k x x.next.word two.1 ends,
+        )
+    breaks_done f Done x here is settled there ends = absurd cc
+    breaks_done f (If m b p q k) x here is settled there ends = absurd cc
+    breaks_done f (Loop m body step k) x here is settled there ends = absurd cc
+
+    -- a loop whose test stands behind its step
+    bottom_done : (f : ℕ) (known : VariableSet) (mark m : Mark) (b : Branch) (p q t step k : Actions) (x : Exits) (leaves skips here : ℕ) → leaves_first (If m b p q t) ≡ true → CodeIs f unknown t → CodeIs f unknown step → CodeIs f unknown k → AreSettled x → Each (IsWanted plan s.copies entries) IsWantedBranch (Loop mark (If m b p q t) step k) → AllByRecursion (IsRight (plan.home f) (variables f)) (lives (Loop mark (If m b p q t) step k) (ways_of x)) →
+        lo ≤ here → x.leaves.word ≤ hi → x.skips.word ≤ hi → Put f (bottom_code short (tail_of short plan variables f (If m b p q t) (body_ways (If m b p q t) step (live k (ways_of x)))) (code_of short plan variables f Settled unknown step (step_ways (If m b p q t) step (live k (ways_of x)))) (bottom_test (plan.home f) (If m b p q t)) (code_of short plan variables f Settled unknown k (ways_of x) leaves skips)) x leaves skips here →
+        CodeDone s plan program entries most widest f known (Loop mark (If m b p q t) step k) (exit here (live (Loop mark (If m b p q t) step k) (ways_of x))) x
+    bottom_done f known mark m b p q t step k x leaves skips here is in_tail in_step in_rest settled wanted apart low near close put =
+        let at = put.0 in let small = put.1 in let to_leave = put.2 in let to_skip = put.3 in let ends = put.4 in
+        let told = both_true (is_told b) (does_nothing p && only_breaks q) is in
+        let two = both_true (does_nothing p) (only_breaks q) told.1 in
+        let body : Actions = If m b p q t in
+        let after' : VariableSet = live k (ways_of x) in
+        let begins : VariableSet = turn body step after' in
+        let ways' : Ways = body_ways body step after' in
+        let inner : Ways = behind (live t ways') ways' in
+        let rest : List Inst = code_of short plan variables f Settled unknown k (ways_of x) leaves skips in
+        let words : ℕ = length (back_branch (plan.home f) b true 0) in
+        let again_code : List Inst = code_of short plan variables f Settled unknown step (step_ways body step after') words 0 in
+        let turn_code : List Inst = code_of short plan variables f Settled unknown t ways' (length again_code + words) 0 in
+        let n : ℕ = length turn_code + length again_code in
+        let jump : List Inst = jump_over short n in
+        let test : List Inst = back_branch (plan.home f) b true n in
+        let l0 = length-append jump (turn_code ++ (again_code ++ (test ++ rest))) in
+        let l1 = length-append turn_code (again_code ++ (test ++ rest)) in
+        let l2 = length-append again_code (test ++ rest) in
+        let l3 = length-append test rest in
+        let long = jump_long short n in
+        let tested = back_branch_long (plan.home f) b true n in
+        let tested' = back_branch_long (plan.home f) b true 0 in
+        let top : ℕ = here + length jump in
+        let again : ℕ = top + length turn_code in
+        let end : ℕ = again + length again_code in
+        let next : ℕ = end + length test in
+        let d0 = code_drop s.code here jump (turn_code ++ (again_code ++ (test ++ rest))) at in
+        let d1 = code_drop s.code top turn_code (again_code ++ (test ++ rest)) d0 in
+        let d2 = code_drop s.code again again_code (test ++ rest) d1 in
+        let d3 = code_drop s.code end test rest d2 in
+        let done : next + length rest ≡ here + length (jump ++ (turn_code ++ (again_code ++ (test ++ rest)))) = omega arith in
+        let of_body = all_left (IsRight (plan.home f) (variables f)) (lives body ways') (lives step (step_ways body step after') ++ lives k (ways_of x)) apart.1 in
+        let of_lists = all_right (IsRight (plan.home f) (variables f)) (lives p inner) (lives q inner ++ lives t ways') of_body.1 in
+        let lasts = all_right (IsRight (plan.home f) (variables f)) (lives body ways') (lives step (step_ways body step after') ++ lives k (ways_of x)) apart.1 in
+        let again' : Exit = exit again (live step (step_ways body step after')) in
+        let inside : Exits = exits again' (exit next after') again' in
+        let behind' : Exits = record inside { next = exit top (live t ways') } in (
+          exit end begins,
+          again',
+          exit end begins,
+          exit next after',
+          jumped f here n begins (exit end begins) refl low (omega arith) (code_take s.code here jump (turn_code ++ (again_code ++ (test ++ rest))) at) (omega arith) (λ u e. e),
+          subst (λ (v : VariableSet). CodeDone s plan program entries most widest f unknown body (exit end v) inside) (turn_again body step after') (
+            exit top (live p inner),
+            exit next (live q inner),
+            exit top (live t ways'),
+            branch_done f b true (live body ways') (exit top (live p inner)) (exit next (live q inner)) end (goes_back (n + before_branch (plan.home f) b true)) 1 top (back_long_all s plan variables fine (n + before_branch (plan.home f) b true)) (omega arith) (back_goes s plan variables fine (n + before_branch (plan.home f) b true) next top (omega arith) (omega arith)) (backs f b true n) refl refl wanted.0.0 (λ u e. rw e refl) (λ u e. rw e (any (decided b u) (live q inner u))) (λ u e. rw e (last (decided b u) (live p inner u)))
+                (omega arith) (code_take s.code end test rest d2) refl refl,
+            nothing_done f unknown p behind' top two.0 (λ m r h. comes_here s h),
+            breaks_done f q behind' next two.1 refl refl (λ m r h. comes_here s h),
+            in_tail inside (length again_code + words) 0 top (record { leaves = refl; skips = refl }) wanted.0.3 (all_right (IsRight (plan.home f) (variables f)) (lives q inner) (lives t ways') of_lists) (code_take s.code top turn_code (again_code ++ (test ++ rest)) d0) (omega arith) (omega arith) (omega arith) (omega arith) (omega arith) (omega arith) (λ m r h. comes_here s h),
+          ),
+          in_step (exits (exit end begins) (exit next after') (exit end begins)) words 0 again (record { leaves = refl; skips = refl }) wanted.1 (all_left (IsRight (plan.home f) (variables f)) (lives step (step_ways body step after')) (lives k (ways_of x)) lasts) (code_take s.code again again_code (test ++ rest) d1) (omega arith) (omega arith) (omega arith) (omega arith) (omega arith) (omega arith) (λ m r h. comes_here s h),
+          back_here f (is_told b) (exit end begins) told.0,
+          in_rest x leaves skips next settled wanted.2 (all_right (IsRight (plan.home f) (variables f)) (lives step (step_ways body step after')) (lives k (ways_of x)) lasts) d3 (omega arith) (omega arith) (omega arith) (omega arith) near close
+              (subst (λ (j : ℕ). Leads s plan program entries most widest f (exit j x.next.live) x.next) (sym done) ends),
+        )
 
     pub code_done : (f : ℕ) (standing : Standing) (known : VariableSet) (code : Actions) (x : Exits) (leaves skips here : ℕ) → Suits standing code (ways_of x) → AreLateNumbers standing → AreSettled x → Each (IsWanted plan s.copies entries) IsWantedBranch code → AllByRecursion (IsRight (plan.home f) (variables f)) (lives code (ways_of x)) →
         CodeAt s.code here (code_of short plan variables f standing known code (ways_of x) leaves skips) → lo ≤ here → here + length (code_of short plan variables f standing known code (ways_of x) leaves skips) ≤ hi →
@@ -351,8 +508,8 @@ module _ (s : Setting) (plan : Plan) (variables : ℕ → ℕ) (fine : Fits s pl
           exit (if none then a3 else a1) (live p ways'),
           exit a2 (live q ways'),
           exit a3 (live k (ways_of x)),
-          branch_done f b none (live (If mark b p q k) (ways_of x)) (exit (if none then a3 else a1) (live p ways')) (exit a2 (live q ways')) here n refl refl wanted.0 (λ u e. rw e refl) (λ u e. rw e (any (decided b u) (live q ways' u))) (λ u e. rw e (last (decided b u) (live p ways' u)))
-              low (omega arith) (code_take s.code here test (first ++ (past ++ (second ++ rest))) at) (to_first none a1 n (length first) (length past) (length second) refl empty) (to_second none a1 n (length first) (length past) (length second) refl empty),
+          branch_done f b none (live (If mark b p q k) (ways_of x)) (exit (if none then a3 else a1) (live p ways')) (exit a2 (live q ways')) here (ahead_by short n) (length (goes_code short NotEqual 29 0 n)) (a1 + n) (ahead_long s plan variables fine short n) (hears_some short true n) (ahead_goes s plan variables fine short n a1 (omega arith) (λ e. (let r = reach e in omega arith))) (branches f b none n) refl refl wanted.0 (λ u e. rw e refl) (λ u e. rw e (any (decided b u) (live q ways' u))) (λ u e. rw e (last (decided b u) (live p ways' u)))
+              (omega arith) (code_take s.code here test (first ++ (past ++ (second ++ rest))) at) (to_first none a1 n (length first) (length past) (length second) refl empty) (to_second none a1 n (length first) (length past) (length second) refl empty),
           either_done f unknown p x' none a3 a1 (λ e. nothing_done f unknown p x' a3 e (λ m r h. comes_here s h))
               (λ e. code_done f Settled unknown p x' (far + leaves) (far + skips) a1 tt tt (record { leaves = settled.leaves; skips = settled.skips }) wanted.1 (all_left (IsRight (plan.home f) (variables f)) (lives p ways') (lives q ways' ++ lives k (ways_of x)) apart.1) (code_take s.code a1 first (past ++ (second ++ rest)) d1) (omega arith) (omega arith) (omega arith) (omega arith) near close
               (let same : past_code short (none || does_nothing q) (length second) ≡ past_code short (does_nothing q) (length second) = rw e refl in
@@ -366,40 +523,19 @@ module _ (s : Setting) (plan : Plan) (variables : ℕ → ℕ) (fine : Fits s pl
         )
     code_done f (Early v y) known (If mark b p q k) x leaves skips here suits numbers settled wanted apart at low small to_leave to_skip near close ends = absurd suits
     code_done f (Late t y) known (If mark b p q k) x leaves skips here suits numbers settled wanted apart at low small to_leave to_skip near close ends = absurd suits
-    code_done f Settled known (Loop mark body step k) x leaves skips here suits numbers settled wanted apart at low small to_leave to_skip near close ends =
-        let after' : VariableSet = live k (ways_of x) in
-        let rest : List Inst = code_of short plan variables f Settled unknown k (ways_of x) leaves skips in
-        let again_code : List Inst = code_of short plan variables f Settled unknown step (step_ways body step after') (jump_words short) 0 in
-        let turn_code : List Inst = code_of short plan variables f Settled unknown body (body_ways body step after') (length again_code + jump_words short) 0 in
-        let n : ℕ = length turn_code + length again_code in
-        let back : List Inst = jump_back short n in
-        let l1 = length-append turn_code (again_code ++ (back ++ rest)) in
-        let l2 = length-append again_code (back ++ rest) in
-        let l3 = length-append back rest in
-        let long = back_long short n in
-        let again : ℕ = here + length turn_code in
-        let end : ℕ = again + length again_code in
-        let next : ℕ = end + length back in
-        let d1 = code_drop s.code here turn_code (again_code ++ (back ++ rest)) at in
-        let d2 = code_drop s.code again again_code (back ++ rest) d1 in
-        let d3 = code_drop s.code end back rest d2 in
-        let done : next + length rest ≡ here + length (turn_code ++ (again_code ++ (back ++ rest))) = omega arith in
-        let lasts = all_right (IsRight (plan.home f) (variables f)) (lives body (body_ways body step after')) (lives step (step_ways body step after') ++ lives k (ways_of x)) apart.1 in (
-          exit here (turn body step after'),
-          exit again (live step (step_ways body step after')),
-          exit end (turn body step after'),
-          exit next after',
-          (λ m r h. comes_here s h),
-          subst (λ (v : VariableSet). CodeDone s plan program entries most widest f unknown body (exit here v) (exits (exit again (live step (step_ways body step after'))) (exit next after') (exit again (live step (step_ways body step after'))))) (turn_again body step after')
-              (code_done f Settled unknown body (exits (exit again (live step (step_ways body step after'))) (exit next after') (exit again (live step (step_ways body step after')))) (length again_code + jump_words short) 0 here tt tt (record { leaves = refl; skips = refl }) wanted.0 (all_left (IsRight (plan.home f) (variables f)) (lives body (body_ways body step after')) (lives step (step_ways body step after') ++ lives k (ways_of x)) apart.1) (code_take s.code here turn_code (again_code ++ (back ++ rest)) at) low (omega arith) (omega arith) (omega arith) (omega arith) (omega arith)
-              (λ m r h. comes_here s h)),
-          code_done f Settled unknown step (exits (exit end (turn body step after')) (exit next after') (exit end (turn body step after'))) (jump_words short) 0 again tt tt (record { leaves = refl; skips = refl }) wanted.1 (all_left (IsRight (plan.home f) (variables f)) (lives step (step_ways body step after')) (lives k (ways_of x)) lasts) (code_take s.code again again_code (back ++ rest) d1) (omega arith) (omega arith) (omega arith) (omega arith) (omega arith) (omega arith)
-              (λ m r h. comes_here s h),
-          (λ m r h.
-              (let a = turns_back s plan variables fine short here n (omega arith) (λ e. (let r = reach e in omega arith)) (subst (λ (j : ℕ). CodeAt s.code j back) (omega arith) (code_take s.code end back rest d2)) (subst (λ (j : ℕ). Stands plan (turn body step after') m j r) (omega arith) h.1) in
-              (a.0, acts_map s (λ r c. comes_map s 1 (omega arith) (λ q g. (h.0, g)) c) a.1))),
-          code_done f Settled unknown k x leaves skips next tt tt settled wanted.2 (all_right (IsRight (plan.home f) (variables f)) (lives step (step_ways body step after')) (lives k (ways_of x)) lasts) d3 (omega arith) (omega arith) (omega arith) (omega arith) near close
-              (subst (λ (j : ℕ). Leads s plan program entries most widest f (exit j x.next.live) x.next) (sym done) ends),
-        )
+    code_done f Settled known (Loop mark Done step k) x leaves skips here suits numbers settled wanted apart at low small to_leave to_skip near close ends =
+        top_done f known mark Done step k x leaves skips here (λ x leaves skips here settled wanted apart at low small to_leave to_skip near close ends. code_done f Settled unknown Done x leaves skips here tt tt settled wanted apart at low small to_leave to_skip near close ends) (λ x leaves skips here settled wanted apart at low small to_leave to_skip near close ends. code_done f Settled unknown step x leaves skips here tt tt settled wanted apart at low small to_leave to_skip near close ends) (λ x leaves skips here settled wanted apart at low small to_leave to_skip near close ends. code_done f Settled unknown k x leaves skips here tt tt settled wanted apart at low small to_leave to_skip near close ends) settled wanted apart low near close (at, small, to_leave, to_skip, ends)
+    code_done f Settled known (Loop mark (Do m a t) step k) x leaves skips here suits numbers settled wanted apart at low small to_leave to_skip near close ends =
+        top_done f known mark (Do m a t) step k x leaves skips here (λ x leaves skips here settled wanted apart at low small to_leave to_skip near close ends. code_done f Settled unknown (Do m a t) x leaves skips here tt tt settled wanted apart at low small to_leave to_skip near close ends) (λ x leaves skips here settled wanted apart at low small to_leave to_skip near close ends. code_done f Settled unknown step x leaves skips here tt tt settled wanted apart at low small to_leave to_skip near close ends) (λ x leaves skips here settled wanted apart at low small to_leave to_skip near close ends. code_done f Settled unknown k x leaves skips here tt tt settled wanted apart at low small to_leave to_skip near close ends) settled wanted apart low near close (at, small, to_leave, to_skip, ends)
+    code_done f Settled known (Loop mark (Loop m body again t) step k) x leaves skips here suits numbers settled wanted apart at low small to_leave to_skip near close ends =
+        top_done f known mark (Loop m body again t) step k x leaves skips here (λ x leaves skips here settled wanted apart at low small to_leave to_skip near close ends. code_done f Settled unknown (Loop m body again t) x leaves skips here tt tt settled wanted apart at low small to_leave to_skip near close ends) (λ x leaves skips here settled wanted apart at low small to_leave to_skip near close ends. code_done f Settled unknown step x leaves skips here tt tt settled wanted apart at low small to_leave to_skip near close ends) (λ x leaves skips here settled wanted apart at low small to_leave to_skip near close ends. code_done f Settled unknown k x leaves skips here tt tt settled wanted apart at low small to_leave to_skip near close ends) settled wanted apart low near close (at, small, to_leave, to_skip, ends)
+    code_done f Settled known (Loop mark (If m b p q t) step k) x leaves skips here suits numbers settled wanted apart at low small to_leave to_skip near close ends =
+        either_put (has_bottom (If m b p q t) step)
+        (bottom_code short (tail_of short plan variables f (If m b p q t) (body_ways (If m b p q t) step (live k (ways_of x)))) (code_of short plan variables f Settled unknown step (step_ways (If m b p q t) step (live k (ways_of x)))) (bottom_test (plan.home f) (If m b p q t)) (code_of short plan variables f Settled unknown k (ways_of x) leaves skips))
+        (loop_code short (code_of short plan variables f Settled unknown (If m b p q t) (body_ways (If m b p q t) step (live k (ways_of x)))) (code_of short plan variables f Settled unknown step (step_ways (If m b p q t) step (live k (ways_of x))) (jump_words short) 0) (code_of short plan variables f Settled unknown k (ways_of x) leaves skips))
+        f x leaves skips here _
+        (λ e. bottom_done f known mark m b p q t step k x leaves skips here (both_true (leaves_first (If m b p q t)) (is_near (If m b p q t) step) e).0 (λ x leaves skips here settled wanted apart at low small to_leave to_skip near close ends. code_done f Settled unknown t x leaves skips here tt tt settled wanted apart at low small to_leave to_skip near close ends) (λ x leaves skips here settled wanted apart at low small to_leave to_skip near close ends. code_done f Settled unknown step x leaves skips here tt tt settled wanted apart at low small to_leave to_skip near close ends) (λ x leaves skips here settled wanted apart at low small to_leave to_skip near close ends. code_done f Settled unknown k x leaves skips here tt tt settled wanted apart at low small to_leave to_skip near close ends) settled wanted apart low near close)
+        (λ e. top_done f known mark (If m b p q t) step k x leaves skips here (λ x leaves skips here settled wanted apart at low small to_leave to_skip near close ends. code_done f Settled unknown (If m b p q t) x leaves skips here tt tt settled wanted apart at low small to_leave to_skip near close ends) (λ x leaves skips here settled wanted apart at low small to_leave to_skip near close ends. code_done f Settled unknown step x leaves skips here tt tt settled wanted apart at low small to_leave to_skip near close ends) (λ x leaves skips here settled wanted apart at low small to_leave to_skip near close ends. code_done f Settled unknown k x leaves skips here tt tt settled wanted apart at low small to_leave to_skip near close ends) settled wanted apart low near close)
+        (at, small, to_leave, to_skip, ends)
     code_done f (Early v y) known (Loop mark body step k) x leaves skips here suits numbers settled wanted apart at low small to_leave to_skip near close ends = absurd suits
     code_done f (Late t y) known (Loop mark body step k) x leaves skips here suits numbers settled wanted apart at low small to_leave to_skip near close ends = absurd suits

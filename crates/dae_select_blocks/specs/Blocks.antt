@@ -397,6 +397,15 @@ goes_by false short relation x y n = branch_inst (opposite relation) x y (pos (4
 abbrev pub goes_code : Bool → Comparison → ℕ → ℕ → ℕ → List Inst
 goes_code short relation x y n = goes_by (nat_lt n 1000) short relation x y n
 
+-- so many bytes back
+abbrev pub back_offset : ℕ → ℤ
+back_offset zero = pos 0
+back_offset (suc n) = negsuc (4 * n + 3)
+
+-- where the registers x and y compare so, back to what stands n words before this branch
+abbrev pub goes_back : ℕ → Comparison → ℕ → ℕ → List Inst
+goes_back n relation x y = branch_inst relation x y (back_offset n) ∷ []
+
 -- ---- calls
 
 -- where an argument waits for its parameter in the frame of the function that is called; the last one is given first

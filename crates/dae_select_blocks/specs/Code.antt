@@ -1,6 +1,6 @@
 -- The code of structured actions. Every jump is told by the lengths of what it leads over, so no labels are needed: the
 -- code of a list stands anywhere, and depends only on the words at which functions are entered.
-use Rattle.std.specs.Prelude.{ℕ, zero, suc, ◌+◌, ◌-◌, Bool, true, false, not, ◌&&◌, ◌||◌, nat_eq, List, [], ◌∷◌, ◌++◌, length, Option, Some, pos, if◌then◌else◌, None}
+use Rattle.std.specs.Prelude.{ℕ, zero, suc, ◌+◌, ◌-◌, Bool, true, false, not, ◌&&◌, ◌||◌, nat_eq, nat_lt, List, [], ◌∷◌, ◌++◌, length, Option, Some, pos, if◌then◌else◌, None}
 use Rattle.dae_encode.specs.declared.Inst.{Inst}
 use Rattle.dae_encode.specs.declared.Inst.TheVariants.{Sw, Addi, Ecall}
 use Rattle.dae_ir.specs.Code.{Done, Do, If, Loop}
@@ -16,16 +16,18 @@ use Rattle.dae_ir.specs.declared.stream.Action.{Action}
 use Rattle.dae_ir.specs.declared.stream.Action.TheVariants.{Set as Compute, Issue, Own, Receive, Address, Datum, Offer, Accept, Emit, Probe, Tell, Hear, Stop, Break, Continue, Call, Return}
 use Rattle.dae_ir.specs.declared.stream.Branch.{Branch}
 use Rattle.dae_ir.specs.declared.stream.Branch.TheVariants.{Silent, Tells, Hears}
+use Rattle.dae_meaning.specs.declared.Comparison.{Comparison}
 use Rattle.dae_meaning.specs.declared.Comparison.TheVariants.{NotEqual}
 use Rattle.dae_select_walks.specs.declared.Home.{Home}
 use Rattle.dae_select_walks.specs.declared.Home.TheVariants.{Register}
 use Rattle.dae_select_walks.specs.Live.{Ways, in_operand, behind, live, is, nowhere, step_ways, body_ways}
 use Rattle.dae_select_walks.specs.Multiples.{unknown, multiples_behind, is_placed}
 use Rattle.dae_select_walks.specs.Agrees.{Plan}
+use Rattle.dae_select_walks.specs.Compiled.{is_told}
 use Rattle.dae_select_walks.specs.declared.Standing.{Standing}
 use Rattle.dae_select_walks.specs.declared.Standing.TheVariants.{Settled, Early, Late}
-use Rattle.dae_select_blocks.specs.Blocks.{number_code, register_or, source, fetch, keep, value_code, issue_code, address_code, take_code, own_code, move_code, call_number, system_code, hear_code, stop_code, check_code, bounds_code, test_code, jump_over, jump_back, enter_code, arguments_code, is_register, save_code, restore_code, deeper_code, back_code, result_code, leave_code, jump_words, one_way, goes_code, tell_number_code, against_zero, immediate_of}
-use Rattle.dae_select_blocks.specs.Sizes.{is_short}
+use Rattle.dae_select_blocks.specs.Blocks.{number_code, register_or, source, fetch, keep, value_code, issue_code, address_code, take_code, own_code, move_code, call_number, system_code, hear_code, stop_code, check_code, bounds_code, test_code, jump_over, jump_back, enter_code, goes_back, arguments_code, is_register, save_code, restore_code, deeper_code, back_code, result_code, leave_code, jump_words, one_way, goes_code, tell_number_code, against_zero, immediate_of}
+use Rattle.dae_select_blocks.specs.Sizes.{most_words_in, is_short}
 
 -- ---- the registers that a call keeps
 
@@ -74,20 +76,34 @@ action_code plan variables f (Call v g xs) live leaves skips = call_code plan va
 action_code plan variables f (Return x) live leaves skips = leave_code (plan.home f) x
 
 -- a test is told, and a branch follows: on its operands, which are still in their registers, or else on x7
-abbrev pub told_code : Option ℕ → (ℕ → Home) → Bool → Test → Bool → ℕ → List Inst
-told_code None home short t way n =
-    test_code home 29 t ++ goes_code short (one_way way t.comparison) (source home 5 t.left) (source home 6 t.right) n
-told_code (Some k) home short t way n =
-    fetch home 5 t.left
-    ++ (tell_number_code t.comparison (source home 5 t.left) k ++ goes_code short (one_way way (against_zero t.comparison)) 7 0 n)
+abbrev pub told_by : Option ℕ → (ℕ → Home) → (Comparison → ℕ → ℕ → List Inst) → Test → Bool → List Inst
+told_by None home go t way = test_code home 29 t ++ go (one_way way t.comparison) (source home 5 t.left) (source home 6 t.right)
+told_by (Some k) home go t way =
+    fetch home 5 t.left ++ (tell_number_code t.comparison (source home 5 t.left) k ++ go (one_way way (against_zero t.comparison)) 7 0)
+
+-- the code of a branch, by what goes on elsewhere where two registers compare so
+abbrev pub branch_by : (ℕ → Home) → (Comparison → ℕ → ℕ → List Inst) → Branch → Bool → List Inst
+branch_by home go (Silent t) way =
+    fetch home 5 t.left ++ (fetch home 6 t.right ++ go (one_way way t.comparison) (source home 5 t.left) (source home 6 t.right))
+branch_by home go (Tells t) way = told_by (immediate_of t.comparison t.right) home go t way
+branch_by home go Hears way = go (one_way way NotEqual) 29 0
+
+-- ahead by n words
+abbrev pub ahead_by : Bool → ℕ → Comparison → ℕ → ℕ → List Inst
+ahead_by short n relation x y = goes_code short relation x y n
 
 -- the code of a branch goes on n words ahead of its end where its test holds, or where a number other than 0 is heard (way is
 -- true), or just where not (way is false). Else it goes on behind its end
 abbrev pub branch_code : (ℕ → Home) → Bool → Branch → Bool → ℕ → List Inst
-branch_code home short (Silent t) way n =
-    fetch home 5 t.left ++ (fetch home 6 t.right ++ goes_code short (one_way way t.comparison) (source home 5 t.left) (source home 6 t.right) n)
-branch_code home short (Tells t) way n = told_code (immediate_of t.comparison t.right) home short t way n
-branch_code home short Hears way n = goes_code short (one_way way NotEqual) 29 0 n
+branch_code home short b way n = branch_by home (ahead_by short n) b way
+
+-- the words of the code of a branch back, but for the branch itself
+abbrev pub before_branch : (ℕ → Home) → Branch → Bool → ℕ
+before_branch home b way = length (branch_by home (λ relation x y. []) b way)
+
+-- the code of a branch goes back to what stands n words before it
+abbrev pub back_branch : (ℕ → Home) → Branch → Bool → ℕ → List Inst
+back_branch home b way n = branch_by home (goes_back (n + before_branch home b way)) b way
 
 -- ---- peephole: two adjacent actions by one block
 
@@ -200,6 +216,41 @@ if_code short none none' branch p q rest leaves skips =
     let far = length past + length second + length rest in
     either_code none branch (p (far + leaves) (far + skips)) past second rest
 
+-- a list that only breaks
+abbrev pub is_break : Action → Bool
+is_break Break = true
+is_break a = false
+
+abbrev pub only_breaks : Actions → Bool
+only_breaks (Do m a k) = is_break a && does_nothing k
+only_breaks code = false
+
+-- a body that begins with a test that is told, of which one list is empty and the other leaves the loop: it may stand behind the
+-- step, where its access is the turn's instruction
+abbrev pub leaves_first : Actions → Bool
+leaves_first (If m b p q k) = is_told b && (does_nothing p && only_breaks q)
+leaves_first code = false
+
+-- a branch reaches back over such a loop in any case
+abbrev pub is_near : Actions → Actions → Bool
+is_near body step = nat_lt (most_words_in body + most_words_in step) 900
+
+abbrev pub has_bottom : Actions → Actions → Bool
+has_bottom body step = leaves_first body && is_near body step
+
+-- the test that a list begins with, as a branch back to what stands n words before it
+abbrev pub bottom_test : (ℕ → Home) → Actions → ℕ → List Inst
+bottom_test home (If m b p q k) n = back_branch home b true n
+bottom_test home code n = []
+
+-- a loop whose test stands behind its step
+abbrev pub bottom_code : Bool → (ℕ → ℕ → List Inst) → (ℕ → ℕ → List Inst) → (ℕ → List Inst) → List Inst → List Inst
+bottom_code short tail step test rest =
+    let again = step (length (test 0)) 0 in
+    let turn = tail (length again + length (test 0)) 0 in
+    let n = length turn + length again in
+    jump_over short n ++ (turn ++ (again ++ (test n ++ rest)))
+
 -- a Break in the body leads over the step and the jump back, and one in the step over the jump back
 abbrev pub loop_code : Bool → (ℕ → ℕ → List Inst) → List Inst → List Inst → List Inst
 loop_code short body step rest =
@@ -208,19 +259,29 @@ loop_code short body step rest =
 
 -- short says whether jumps are to be; so things stand before the list, and these variables are multiples of four there. Before a branch
 -- or a loop things are settled, and in it and behind it no multiples are known
-abbrev pub code_of : Bool → Plan → (ℕ → ℕ) → ℕ → Standing → VariableSet → Actions → Ways → ℕ → ℕ → List Inst
-code_of short plan variables f standing known Done x leaves skips = []
-code_of short plan variables f standing known (Do m a k) x leaves skips =
-    followed short (block_code plan variables f (is_placed known a) standing a (standing_behind a k x) (live k x))
-    (code_of short plan variables f (standing_behind a k x) (multiples_behind a known) k x leaves skips) leaves skips
-code_of short plan variables f standing known (If m b p q k) x leaves skips =
-    if_code short (does_nothing p) (does_nothing q) (branch_code (plan.home f) short b)
-    (code_of short plan variables f Settled unknown p (behind (live k x) x)) (code_of short plan variables f Settled unknown q (behind (live k x) x))
-    (code_of short plan variables f Settled unknown k x leaves skips) leaves skips
-code_of short plan variables f standing known (Loop m body step k) x leaves skips =
-    loop_code short (code_of short plan variables f Settled unknown body (body_ways body step (live k x)))
-    (code_of short plan variables f Settled unknown step (step_ways body step (live k x)) (jump_words short) 0)
-    (code_of short plan variables f Settled unknown k x leaves skips)
+abbrev mutual
+  pub code_of : Bool → Plan → (ℕ → ℕ) → ℕ → Standing → VariableSet → Actions → Ways → ℕ → ℕ → List Inst
+  code_of short plan variables f standing known Done x leaves skips = []
+  code_of short plan variables f standing known (Do m a k) x leaves skips =
+      followed short (block_code plan variables f (is_placed known a) standing a (standing_behind a k x) (live k x))
+      (code_of short plan variables f (standing_behind a k x) (multiples_behind a known) k x leaves skips) leaves skips
+  code_of short plan variables f standing known (If m b p q k) x leaves skips =
+      if_code short (does_nothing p) (does_nothing q) (branch_code (plan.home f) short b)
+      (code_of short plan variables f Settled unknown p (behind (live k x) x)) (code_of short plan variables f Settled unknown q (behind (live k x) x))
+      (code_of short plan variables f Settled unknown k x leaves skips) leaves skips
+  code_of short plan variables f standing known (Loop m body step k) x leaves skips =
+      if has_bottom body step then bottom_code short (tail_of short plan variables f body (body_ways body step (live k x)))
+      (code_of short plan variables f Settled unknown step (step_ways body step (live k x)))
+      (bottom_test (plan.home f) body)
+      (code_of short plan variables f Settled unknown k x leaves skips)
+      else loop_code short (code_of short plan variables f Settled unknown body (body_ways body step (live k x)))
+      (code_of short plan variables f Settled unknown step (step_ways body step (live k x)) (jump_words short) 0)
+      (code_of short plan variables f Settled unknown k x leaves skips)
+
+  -- the code behind the test that a list begins with
+  pub tail_of : Bool → Plan → (ℕ → ℕ) → ℕ → Actions → Ways → ℕ → ℕ → List Inst
+  tail_of short plan variables f (If m b p q k) x leaves skips = code_of short plan variables f Settled unknown k x leaves skips
+  tail_of short plan variables f code x leaves skips = []
 
 -- ---- functions
 

@@ -111,6 +111,16 @@ waiting_of v live back m =
 abbrev pub called : Plan → ℕ → List Argument → Waiting → Moment → Moment
 called plan f xs w m = record { function = f; env = given xs m.env; frame = top_of plan m; waiting = w ∷ m.waiting }
 
+-- the other side hears of this test, or has told of it: such a branch has an access
+abbrev pub is_told : Branch → Bool
+is_told (Silent t) = false
+is_told (Tells t) = true
+is_told Hears = true
+
+abbrev pub begins_told : Actions → Bool
+begins_told (If m b p q k) = is_told b
+begins_told code = false
+
 abbrev pub bit : Bool → ℕ
 bit b = if b then 1 else 0
 
@@ -128,6 +138,11 @@ module _ (s : Setting) (plan : Plan) (program : Program) (entries : ℕ → Vari
   -- the same in one instruction at least
   abbrev pub Turns : ℕ → Exit → Exit → Type 0
   Turns f here there = (m : Moment) (p : Processor) → At f here m p → (v : ℕ) × Acts s p (event Nothing v 0 []) (λ q. Comes s 1 q (At f there m))
+
+  -- a turn ends with an instruction, but where the next one begins with a test that is told, whose access is one
+  abbrev pub GoesBack : ℕ → Bool → Exit → Exit → Type 0
+  GoesBack f true here there = Leads f here there
+  GoesBack f false here there = Turns f here there
 
   -- from each processor that agrees with a moment before the action there is a walk to one that agrees with it after, where
   -- these variables are multiples of four before it
@@ -175,5 +190,5 @@ module _ (s : Setting) (plan : Plan) (program : Program) (entries : ℕ → Vari
       (begin : Exit) × (again : Exit) × (end : Exit) × (next : Exit)
       × Leads f here begin
       × CodeDone f unknown body begin (exits again next again) × CodeDone f unknown step again (exits end next end)
-      × Turns f end begin
+      × GoesBack f (begins_told body) end begin
       × CodeDone f unknown k next x

@@ -1,3 +1,5 @@
+// What of a machine can be looked at from outside.
+
 ghost use Rattle.std.specs.Prelude.{◌≡◌, ◌<◌, slice_get};
 ghost use Rattle.dae_encode.specs.Processor.{held};
 ghost use Rattle.dae_core.specs.Queues.{count, loads_of};

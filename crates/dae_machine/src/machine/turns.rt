@@ -1,3 +1,5 @@
+// Turns of a schedule: which pick is next, and what a turn does.
+
 ghost use Rattle.std.specs.Prelude.{◌≡◌, ◌<◌, ◌%◌, ◌++◌, Some, None, is_some, if◌then◌else◌, length, slice_get, Option, IfSome, IsSome, IsTrue, ◌↔◌, []};
 ghost use Rattle.dae_base.specs.declared.Side.TheVariants.{A, E};
 ghost use Rattle.dae_machine.specs.Machine.{step, IsQuiet};

@@ -1,5 +1,5 @@
 use Rattle.std.proofs.Common.{◌≡◌, ℕ, suc, ◌+◌, ◌-◌, ◌*◌, ◌<◌, Bool, false, ◌||◌, List, length, refl, ap, ◌∙◌, subst, arith}
-use Rattle.std.specs.Prelude.{Option, drop, slice_get, unwrap_or, if◌then◌else◌}
+use Rattle.std.specs.Prelude.{Option, is_some, drop, slice_get, unwrap_or, if◌then◌else◌}
 use Rattle.std.proofs.lemmas.Result.{IfOk-weaker}
 use Rattle.dae_ir.specs.Classes.{VariableSet}
 use Rattle.dae_ir.specs.Streams.{actions_of}
@@ -9,15 +9,14 @@ use Rattle.dae_select_walks.specs.declared.Home.{Home}
 use Rattle.dae_select_walks.specs.Live.{ways, turn}
 use Rattle.dae_select_walks.specs.Multiples.{unknown}
 use Rattle.dae_select_live.specs.Members.{member}
-use Rattle.dae_select_blocks.specs.Blocks.{jump_words}
 use Rattle.dae_select_blocks.specs.Code.{branch_code, does_nothing, past_code}
 use Rattle.dae_select.specs.Grown.{Grown, no_code, glue, acting, in_front}
 use Rattle.dae_select_walks.specs.declared.Standing.TheVariants.{Settled}
 use Rattle.dae_select.specs.Placed.{multiples_after, is_placed_step, multiples_at}
-use Rattle.dae_select.specs.Growing.{IsCodeOf, step_before, standing_before}
+use Rattle.dae_select.specs.Growing.{bottom_of, words_behind, turned, IsCodeOf, step_before, standing_before}
 use Rattle.dae_select.specs.Makings.{plan_by, variables_by}
-use Rattle.dae_select.proofs.Sizes.{deepest, first_in_if, second_in_if, first_in_loop, second_in_loop, list_below, step_below}
-use Rattle.dae_select.proofs.Stacked.{acted, branched, looped, none_done, one_more, moved_code, before_is, stands_at_end, stands_before, taken_behind, multiples_next, flag_of}
+use Rattle.dae_select.proofs.Sizes.{deepest, first_in_if, second_in_if, first_in_loop, second_in_loop, list_below, rest_below, step_below}
+use Rattle.dae_select.proofs.Stacked.{acted, branched, near_turn, looped, none_done, one_more, moved_code, before_is, stands_at_end, stands_before, taken_behind, multiples_next, flag_of}
 use Rattle.dae_select.proofs.walking.+code.Goals as goal
 
 pub step_code-list_code-requires : goal.step_code-list_code-requires
@@ -35,14 +34,57 @@ step_code-list_code-requires-in-If t c =
 pub step_code-list_code-requires-in-Loop : goal.step_code-list_code-requires-in-Loop
 step_code-list_code-requires-in-Loop t c =
     let i = c.in-Loop in
-    let below = list_below c.deref-in-Loop-3.result.now i.step.items c.args.step.now c.deref-in-Loop-3.ensures.value (second_in_loop i.field-0 i.body i.step c.args.step.now i.is) in
-    (subst (λ (n : ℕ). 2 * deepest c.deref-in-Loop-3.result.now + 1 < n) c.decreases below, c.requires.sound)
+    let below = list_below c.deref-in-Loop-5.result.now i.step.items c.args.step.now c.deref-in-Loop-5.ensures.value (second_in_loop i.field-0 i.body i.step c.args.step.now i.is) in
+    (subst (λ (n : ℕ). 2 * deepest c.deref-in-Loop-5.result.now + 1 < n) c.decreases below, c.requires.sound)
 
 pub step_code-list_code-requires-in-Loop-2 : goal.step_code-list_code-requires-in-Loop-2
 step_code-list_code-requires-in-Loop-2 t c =
     let i = c.in-Loop in
-    let below = list_below c.deref-in-Loop-4.result.now i.body.items c.args.step.now c.deref-in-Loop-4.ensures.value (first_in_loop i.field-0 i.body i.step c.args.step.now i.is) in
-    (subst (λ (n : ℕ). 2 * deepest c.deref-in-Loop-4.result.now + 1 < n) c.decreases below, c.requires.sound)
+    let n = if is_some c.bottom_of-test.result then 1 else 0 in
+    let left = c.behind_test-tail.ensures ∙ ap (λ (l : List Step). drop n l) c.deref-in-Loop-6.ensures.value in
+    let below = rest_below c.behind_test-tail.result.now i.body.items n c.args.step.now left (first_in_loop i.field-0 i.body i.step c.args.step.now i.is) in
+    (subst (λ (n : ℕ). 2 * deepest c.behind_test-tail.result.now + 1 < n) c.decreases below, c.requires.sound)
+
+pub step_code-put_loop-requires-clause-near : goal.step_code-put_loop-requires-clause-near
+step_code-put_loop-requires-clause-near t c =
+    let a = c.args in let i = c.in-Loop in
+    let m = a.making.now in let S = m.short in let P = plan_by m in let V = variables_by m in let f = m.function in
+    let test = c.bottom_of-test.result in
+    let begins = c.in_ok-turn-in-Loop.turn in let again = c.in_ok-step_live-in-Loop.step_live in let set = c.in_ok-list_code-in-Loop.field-0 in
+    let s = c.in_ok-step_exits-in-Loop in let b = c.in_ok-body_exits-in-Loop in
+    let c1 = c.list_code-in-Loop.new.code in let c2 = c.list_code-in-Loop-2.new.code in
+    let tail = c.behind_test-tail.result.now in
+    let below = c.bottom_of-test.ensures ∙ ap (λ (l : List Step). bottom_of (actions_of l) (actions_of c.deref-in-Loop-4.result.now)) c.deref-in-Loop-3.ensures.value
+    ∙ ap (λ (l : List Step). bottom_of (actions_of i.body.items) (actions_of l)) c.deref-in-Loop-4.ensures.value in
+    let left = c.behind_test-tail.ensures ∙ ap (λ (l : List Step). drop (if is_some test then 1 else 0) l) c.deref-in-Loop-6.ensures.value in
+    let step = moved_code S P V f Settled unknown c.new-again.result no_code s.step_exits.leaves s.step_exits.leaves s.step_exits.skips 0 c.in_ok-set-in-Loop.set s.step_exits.leaves_live a.next s.step_exits.skips_live begins c.deref-in-Loop-5.result.now i.step.items c1 again
+    c.new-again.ensures refl s.ensures.skips s.ensures.leaves_live s.ensures.skips_live c.deref-in-Loop-5.ensures.value c.in_ok-step_live-in-Loop.ensures in
+    let body = moved_code S P V f Settled unknown c.new-turned.result no_code b.body_exits.leaves b.body_exits.leaves b.body_exits.skips 0 again b.body_exits.leaves_live a.next b.body_exits.skips_live again tail tail c2 set
+    c.new-turned.ensures refl b.ensures.skips b.ensures.leaves_live b.ensures.skips_live refl c.in_ok-list_code-in-Loop.ensures in
+    near_turn S P V f test i.body.items i.step.items tail s.step_exits.leaves b.body_exits.leaves (ways (member c.in_ok-set-in-Loop.set) (member a.next) (member begins)) (ways (member again) (member a.next) (member again)) c1 c2 again set below left step body
+
+pub step_code-returns-in_ok-put_loop-in-Loop : goal.step_code-returns-in_ok-put_loop-in-Loop
+step_code-returns-in_ok-put_loop-in-Loop t c =
+    let a = c.args in let i = c.in-Loop in
+    let m = a.making.now in let S = m.short in let P = plan_by m in let V = variables_by m in let f = m.function in let x = a.exits.now in
+    let test = c.bottom_of-test.result in let words = c.in_ok-words-in-Loop.words in
+    let begins = c.in_ok-turn-in-Loop.turn in let again = c.in_ok-step_live-in-Loop.step_live in let set = c.in_ok-list_code-in-Loop.field-0 in
+    let s = c.in_ok-step_exits-in-Loop in let b = c.in_ok-body_exits-in-Loop in
+    let c1 = c.list_code-in-Loop.new.code in let c2 = c.list_code-in-Loop-2.new.code in
+    let tail = c.behind_test-tail.result.now in
+    let first = c.in_ok-turn-in-Loop.ensures ∙ ap (λ (l : List Step). turn (actions_of l) (actions_of c.deref-in-Loop-2.result.now) (member a.next)) c.deref-in-Loop.ensures.value
+    ∙ ap (λ (l : List Step). turn (actions_of i.body.items) (actions_of l) (member a.next)) c.deref-in-Loop-2.ensures.value in
+    let below = c.bottom_of-test.ensures ∙ ap (λ (l : List Step). bottom_of (actions_of l) (actions_of c.deref-in-Loop-4.result.now)) c.deref-in-Loop-3.ensures.value
+    ∙ ap (λ (l : List Step). bottom_of (actions_of i.body.items) (actions_of l)) c.deref-in-Loop-4.ensures.value in
+    let count = c.in_ok-words-in-Loop.ensures.words ∙ ap (λ (home : ℕ → Home). words_behind home S test) c.requires.sound.homes in
+    let left = c.behind_test-tail.ensures ∙ ap (λ (l : List Step). drop (if is_some test then 1 else 0) l) c.deref-in-Loop-6.ensures.value in
+    let step = moved_code S P V f Settled unknown c.new-again.result no_code s.step_exits.leaves words s.step_exits.skips 0 c.in_ok-set-in-Loop.set s.step_exits.leaves_live a.next s.step_exits.skips_live begins c.deref-in-Loop-5.result.now i.step.items c1 again
+    c.new-again.ensures s.ensures.leaves s.ensures.skips s.ensures.leaves_live s.ensures.skips_live c.deref-in-Loop-5.ensures.value c.in_ok-step_live-in-Loop.ensures in
+    let step' = subst (λ (n : List ℕ). IsCodeOf S P V f Settled unknown no_code words 0 (ways (member n) (member a.next) (member begins)) (actions_of i.step.items) c1 again) c.in_ok-set-in-Loop.ensures step in
+    let body = moved_code S P V f Settled unknown c.new-turned.result no_code b.body_exits.leaves (length c1.code + words) b.body_exits.skips 0 again b.body_exits.leaves_live a.next b.body_exits.skips_live again tail tail c2 set
+    c.new-turned.ensures (b.ensures.leaves ∙ ap (λ (n : ℕ). n + words) c.len.ensures) b.ensures.skips b.ensures.leaves_live b.ensures.skips_live refl c.in_ok-list_code-in-Loop.ensures in
+    let made = c.in_ok-put_loop-in-Loop.ensures ∙ ap (λ (home : ℕ → Home). turned home S test c2 c1 a.code.now) c.requires.sound.homes in
+    looped S P V f x a.around.placed a.around.before a.around.after a.step.now i.field-0 i.body i.step a.code.now a.next begins again set c1 c2 c.put_loop.new.code test words tail i.is first below count left step' body made
 
 pub step_code-returns-in_ok-put_action-in-Act : goal.step_code-returns-in_ok-put_action-in-Act
 step_code-returns-in_ok-put_action-in-Act t c =
@@ -66,21 +108,6 @@ step_code-returns-in_ok-put_branch-in-If t c =
     let e4 = c.in_ok-put_branch-in-If.ensures ∙ ap (λ (home : ℕ → Home). led home c.does_nothing.result c.len-rest.result c.len-behind.result) c.requires.sound.homes ∙ ap (λ (y : Bool). led (P.home f) y c.len-rest.result c.len-behind.result) none
     ∙ ap (λ (n : ℕ). led (P.home f) (does_nothing (actions_of i.p.items)) n c.len-behind.result) c.len-rest.ensures ∙ ap (λ (n : ℕ). led (P.home f) (does_nothing (actions_of i.p.items)) (length a.code.now.code) n) c.len-behind.ensures in
     IfOk-weaker c.live_with_branch.result _ _ (λ set h. branched S P V f x a.around.placed a.around.before a.around.after a.step.now i.mark i.branch i.p i.q a.code.now a.next set first second c1 c2 c3 c.put_branch.new.code i.is q' e2 p e4 h) c.live_with_branch.ensures
-
-pub step_code-returns-in_ok-put_loop-in-Loop : goal.step_code-returns-in_ok-put_loop-in-Loop
-step_code-returns-in_ok-put_loop-in-Loop t c =
-    let a = c.args in let i = c.in-Loop in
-    let m = a.making.now in let S = m.short in let P = plan_by m in let V = variables_by m in let f = m.function in let x = a.exits.now in
-    let turned = c.in_ok-turn-in-Loop.turn in let again = c.in_ok-step_live-in-Loop.step_live in let set = c.in_ok-live-in-Loop.live in
-    let s = c.in_ok-step_exits-in-Loop in let b = c.in_ok-body_exits-in-Loop in
-    let c1 = c.list_code-in-Loop.new.code in let c2 = c.list_code-in-Loop-2.new.code in
-    let first = c.in_ok-turn-in-Loop.ensures ∙ ap (λ (l : List Step). turn (actions_of l) (actions_of c.deref-in-Loop-2.result.now) (member a.next)) c.deref-in-Loop.ensures.value
-    ∙ ap (λ (l : List Step). turn (actions_of i.body.items) (actions_of l) (member a.next)) c.deref-in-Loop-2.ensures.value in
-    let step = moved_code S P V f Settled unknown c.new-again.result no_code s.step_exits.leaves (jump_words S) s.step_exits.skips 0 turned s.step_exits.leaves_live a.next s.step_exits.skips_live turned c.deref-in-Loop-3.result.now i.step.items c1 again
-    c.new-again.ensures s.ensures.leaves s.ensures.skips s.ensures.leaves_live s.ensures.skips_live c.deref-in-Loop-3.ensures.value c.in_ok-step_live-in-Loop.ensures in
-    let body = moved_code S P V f Settled unknown c.new-turned.result no_code b.body_exits.leaves (length c1.code + jump_words S) b.body_exits.skips 0 again b.body_exits.leaves_live a.next b.body_exits.skips_live again c.deref-in-Loop-4.result.now i.body.items c2 set
-    c.new-turned.ensures (b.ensures.leaves ∙ ap (λ (n : ℕ). n + jump_words S) c.len-words.ensures) b.ensures.skips b.ensures.leaves_live b.ensures.skips_live c.deref-in-Loop-4.ensures.value c.in_ok-live-in-Loop.ensures in
-    looped S P V f x a.around.placed a.around.before a.around.after a.step.now i.field-0 i.body i.step a.code.now a.next turned again set c1 c2 c.put_loop.new.code i.is first step body c.in_ok-put_loop-in-Loop.ensures
 
 pub list_code-step_code-requires : goal.list_code-step_code-requires
 list_code-step_code-requires t c =
