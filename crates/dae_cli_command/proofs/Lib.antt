@@ -1,10 +1,2 @@
-mod NoImage
-mod Fetched
-mod OnWay
-mod Longest
-mod Early
-mod Keeping
-mod Stopped
-mod Runs
-mod OneDue
-mod NeverStuck
+mod Calm
+mod Found

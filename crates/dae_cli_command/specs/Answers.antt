@@ -1,25 +1,51 @@
 -- What is due for the words after the program's name.
-use Rattle.std.specs.Prelude.{ℕ, List}
-use Rattle.dae_compile.specs.declared.options.Options.{Options}
-use Rattle.dae_cli_drive.specs.declared.options.RunOptions.{RunOptions}
+use Rattle.std.specs.Prelude.{◌≡◌, ℕ, List}
+use Rattle.dae_cli_debug_job.specs.Debugging.{DueOfDebugging, long_line as long_script_line, most_script}
 use Rattle.dae_cli_drive.specs.Images.{DueOfImage}
-use Rattle.dae_cli_drive.specs.Lines.{words_line}
+use Rattle.dae_cli_drive.specs.Lines.{memory_line, words_line}
 use Rattle.dae_cli_drive.specs.Puts.{Answer, told}
-use Rattle.dae_cli_command.specs.ImageFiles.{DueOfImageFile}
-use Rattle.dae_cli_command.specs.Keeping.{DueOfKeeping}
-use Rattle.dae_cli_command.specs.Shelves.{FailsToFetch, ShelfSeen}
-use Rattle.dae_cli_command.specs.Sources.{DueOfFiles}
-use Rattle.dae_cli_jobs.specs.Words.{SpellsCompile, SpellsExec, SpellsNone, SpellsRun}
+use Rattle.dae_cli_files.specs.ImageFiles.{DueOfImageFile}
+use Rattle.dae_cli_files.specs.Shelves.{ShelfSeen}
+use Rattle.dae_cli_files.specs.TextFiles.{DueOfImageAndText}
+use Rattle.dae_cli_guard_job.specs.Guarding.{DueOfGuard, long_line as long_certificate_line, most_certificate}
+use Rattle.dae_cli_listing_job.specs.Listings.{DueOfListing, DueOfShortImageFile}
+use Rattle.dae_cli_report_job.specs.Reporting.{DueOfReporting}
+use Rattle.dae_cli_source_jobs.specs.Kept.{DueOfKept}
+use Rattle.dae_cli_source_jobs.specs.Sources.{DueOfFiles}
+use Rattle.dae_cli_time_job.specs.Due.{DueOfTiming}
+use Rattle.dae_cli_trace_jobs.specs.Checking.{DueOfChecking, long_line, most_trace}
+use Rattle.dae_cli_trace_jobs.specs.Tracing.{DueOfTracing}
+use Rattle.dae_cli_words.specs.Asked.{Asked, Run, Big, Compile, Report, Exec, Trace, Time, Check, Debug, Guard, Asm, Dis}
+use Rattle.dae_cli_words.specs.Words.{SpellsJob}
 
--- what is due for the words in a job that ends with this status: for files that they ask to run; for an image that they ask to
--- run; for files of which they ask to keep the image; or they spell no job
+-- what is due for a job that the program has no part for: the same as for words that spell none
+abbrev pub DueOfNoJob : Answer → Type 0
+DueOfNoJob a = a ≡ told 64 words_line
+
+-- what is due for a job, by what is seen of the shelf, in a run of the program that ends with this status
+abbrev pub DueOfJob : Asked → ShelfSeen → (status : ℕ) → Answer → Type 0
+DueOfJob (Run c o files) s status = DueOfFiles files s c (λ image. DueOfImage image o)
+DueOfJob (Compile c to files) s status = DueOfFiles files s c (DueOfKept s status to)
+DueOfJob (Exec o name) s status = DueOfImageFile name s (λ image. DueOfImage image o)
+DueOfJob (Big c o functions) s status = DueOfNoJob
+DueOfJob (Report c files) s status = DueOfReporting files s c
+DueOfJob (Trace o name) s status = DueOfImageFile name s (λ image. DueOfTracing image o)
+DueOfJob (Time o k ticks name) s status =
+    DueOfImageFile name s (λ image. DueOfTiming image o k ticks)
+DueOfJob (Check d name trace) s status =
+    DueOfImageAndText name trace most_trace long_line s (λ image text. DueOfChecking image d text)
+DueOfJob (Debug d name script) s status =
+    DueOfImageAndText name script most_script long_script_line s
+    (λ image text. DueOfDebugging image d text)
+DueOfJob (Guard d name certificate) s status =
+    DueOfImageAndText name certificate most_certificate long_certificate_line s
+    (λ image text. DueOfGuard image d text)
+DueOfJob (Asm to name) s status = DueOfNoJob
+DueOfJob (Dis name) s status = DueOfShortImageFile name s DueOfListing
+
+-- an answer is due: for the job that the words spell, or since they spell none; or memory was wanting to read them
 pub data IsDue (words : List (List ℕ)) (s : ShelfSeen) (status : ℕ) : Answer → Type 0 where
-  due_run : {a : Answer} (c : Options) (o : RunOptions) (files : List (List ℕ))
-      → SpellsRun words c o files →
-      DueOfFiles files s c (λ image. DueOfImage image o) a → IsDue words s status a
-  due_exec : {a : Answer} (o : RunOptions) (name : List ℕ) → SpellsExec words o name →
-      DueOfImageFile name (s.told name) (FailsToFetch s name) o a → IsDue words s status a
-  due_compile : {a : Answer} (c : Options) (to : List ℕ) (files : List (List ℕ))
-      → SpellsCompile words c to files →
-      DueOfFiles files s c (DueOfKeeping s status to) a → IsDue words s status a
-  due_words : SpellsNone words → IsDue words s status (told 64 words_line)
+  due_job : {a : Answer} (job : Asked) → SpellsJob words job → DueOfJob job s status a
+      → IsDue words s status a
+  due_words : ((job : Asked) → ¬ (SpellsJob words job)) → IsDue words s status (told 64 words_line)
+  due_memory_for_words : IsDue words s status (told 7 memory_line)

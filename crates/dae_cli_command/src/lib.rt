@@ -3,13 +3,6 @@
 // order, or up to the first that fails.
 #![tactic(auto)]
 
-pub use laws::{never_stuck, one_answer_for_words, runs_keep_meaning};
 pub use top::{answer_calmly, dae_main};
 
-mod compile;
-mod exec;
-mod fetching;
-mod laws;
-mod run;
-mod sources;
 mod top;

@@ -1,16 +1,21 @@
-// The top call: words to a job, and each job by the file of its name.
+// The top call: words to a job, and each job by the call of its crate.
 ghost use Rattle.std.specs.Prelude.{◌≡◌, ◌≢◌, map, string_bytes, None};
 ghost use Rattle.dae_io.specs.Told.{TellsSame};
-ghost use Rattle.dae_cli_command.specs.Answers.{IsDue};
-ghost use Rattle.dae_cli_command.specs.Keeping.{KeepsAsAsked, Leaves};
-ghost use Rattle.dae_cli_command.specs.Shelves.{calm_told, shelf_seen};
 ghost use Rattle.dae_cli_drive.specs.Puts.{Answer, GivesDue, sinks};
+ghost use Rattle.dae_cli_files.specs.Shelves.{calm_told, shelf_seen};
+ghost use Rattle.dae_cli_command.specs.Answers.{IsDue};
+ghost use Rattle.dae_cli_command.specs.Leaving.{KeepsAsAsked, Leaves};
 
-use crate::compile::compile_files;
-use crate::exec::exec;
-use crate::run::run;
-use dae_cli_drive::noted;
-use dae_cli_jobs::{Job, spelled_job};
+use dae_cli_debug_job::{DebugFiles, debug};
+use dae_cli_drive::{Stop, noted};
+use dae_cli_guard_job::guard;
+use dae_cli_image_jobs::exec;
+use dae_cli_listing_job::dis;
+use dae_cli_report_job::report;
+use dae_cli_source_jobs::{compile_files, run};
+use dae_cli_time_job::{TimeOptions, time};
+use dae_cli_trace_jobs::{check, trace};
+use dae_cli_words::{Job, spelled_job};
 use dae_io::{CalmShelf, CalmSink, Shelf, Sink};
 use std::alloc::Global;
 
@@ -37,15 +42,36 @@ pub fn dae_main<F: Shelf, O: Sink, N: Sink>(
     // Memory is wanting only before a machine is opened, so that nothing was put on out.
     ensures unopened { result ≡ 7 → O.seen out.new ≡ O.seen out.old }
 {
-    match spelled_job(words) {
-        Some(Job::Run(compiled, options, files)) => {
+    let Ok(found) = spelled_job(alloc, words) else {
+        return Stop::Memory.tell(note);
+    };
+    let Some(job) = found else {
+        return noted(note, b"words\n", 64);
+    };
+    match job {
+        Job::Run(compiled, options, files) => {
             run(alloc, files, compiled, &options, shelf, out, note)
         }
-        Some(Job::Exec(options, name)) => exec(alloc, name, &options, shelf, out, note),
-        Some(Job::Compile(options, to, files)) => {
-            compile_files(alloc, files, options, to, shelf, note)
+        Job::Exec(options, name) => exec(alloc, name, &options, shelf, out, note),
+        Job::Compile(options, to, files) => compile_files(alloc, files, options, to, shelf, note),
+        Job::Report(options, files) => report(alloc, files, options, shelf, out, note),
+        Job::Trace(options, name) => trace(alloc, name, &options, shelf, out, note),
+        Job::Check(depths, name, text) => check(alloc, name, text, &depths, shelf, note),
+        Job::Time(run, costs, ticks, name) => {
+            let options = TimeOptions { run, costs, ticks };
+            time(alloc, name, &options, shelf, out, note)
         }
-        None => noted(note, b"words\n", 64),
+        Job::Debug(depths, image, script) => {
+            let files = DebugFiles { image, script };
+            debug(alloc, files, &depths, shelf, out, note)
+        }
+        Job::Guard(depths, name, text) => guard(alloc, name, text, &depths, shelf, note),
+        Job::Dis(name) => dis(alloc, name, shelf, out, note),
+        // The program has no part for the others.
+        other => {
+            drop(other);
+            noted(note, b"words\n", 64)
+        }
     }
 }
 

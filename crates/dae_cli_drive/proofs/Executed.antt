@@ -1,11 +1,8 @@
 -- What a drive came to is due.
 use Rattle.std.proofs.Common.{◌≡◌, ℕ, suc, ◌+◌, ◌-◌, List, [], ◌∷◌, ◌++◌, map, refl, ap, sym, ◌∙◌, subst, arith}
-use Rattle.std.specs.Prelude.{Option, Some, None}
+use Rattle.std.specs.Prelude.{Option, None}
 use Rattle.std.proofs.lemmas.List.{map-append}
 use Rattle.dae_io.specs.Sinks.{SinkState}
-use Rattle.dae_base.specs.declared.Queue.{Queue}
-use Rattle.dae_base.specs.Budgets.{first_below}
-use Rattle.dae_base.proofs.Laws.{none_below}
 use Rattle.dae_image.specs.declared.Image.{Image}
 use Rattle.dae_machine.specs.declared.Pick.{Pick}
 use Rattle.dae_machine.specs.Machine.{Setup, State, IsCounted}
@@ -13,16 +10,16 @@ use Rattle.dae_machine.specs.Opened.{opened}
 use Rattle.dae_machine.specs.Schedules.{Standing, coming, scheduled, word_of}
 use Rattle.dae_cli_drive.specs.declared.driving.Driven.{Driven}
 use Rattle.dae_cli_drive.specs.declared.driving.Driven.TheVariants.{Final, Stuck, Spent, SinkFailed}
-use Rattle.dae_cli_drive.specs.declared.options.RunOptions.{RunOptions}
-use Rattle.dae_cli_drive.specs.declared.options.Shown.{Shown}
+use Rattle.dae_cli_options.specs.declared.options.RunOptions.{RunOptions}
+use Rattle.dae_cli_options.specs.declared.options.Shown.{Shown}
 use Rattle.dae_machine.specs.declared.End.TheVariants.{Ended, Trapped}
 use Rattle.dae_cli_drive.specs.Notes.{end_puts}
 use Rattle.dae_cli_drive.specs.Turns.{DrivesOn, StopsAt, Turns, puts_of_turns}
 use Rattle.dae_cli_drive.specs.Pieces.{pieces, unprinted}
-use Rattle.dae_cli_drive.specs.Puts.{Answer, answer, Put, Out, sinks, AreMade, AreCut, Gives, gives_part, GivesDue}
-use Rattle.dae_cli_drive.specs.Images.{DueAfterBudget, due_depth, due_memory_for_machine, DueOfRun, due_end, status_of}
-use Rattle.dae_cli_drive.proofs.OnTheWay.{Made}
-use Rattle.dae_cli_drive.proofs.Outcome.{Good, comes_out, picks_later, same_turns}
+use Rattle.dae_cli_drive.specs.Puts.{answer, Put, Out, sinks, AreMade, AreCut, Gives, gives_part, GivesDue}
+use Rattle.dae_cli_drive.specs.Images.{DueOfRun, due_end, status_of}
+use Rattle.dae_cli_drive.proofs.LawsOfTurns.{Made, picks_later, same_turns}
+use Rattle.dae_cli_drive.proofs.Outcome.{Good, comes_out}
 use Rattle.dae_cli_drive.proofs.Printed.{pieces_after}
 use Rattle.dae_cli_drive.proofs.Puts.{cut_after, cut_here, cut_more, gives_same, gives_then}
 
@@ -30,7 +27,7 @@ pub opened_counted : (image : Image) → IsCounted (opened image)
 opened_counted image = record { ld = record { numbers = refl; stamps = tt }; al = record { numbers = refl; stamps = tt }; sa = refl }
 
 -- the notes after a run don't depend on what was printed
-same_lines : (how : Driven) (setup : Setup) (s : State) (show : Option Shown) → end_puts how setup (unprinted s) show ≡ end_puts how setup s show
+pub same_lines : (how : Driven) (setup : Setup) (s : State) (show : Option Shown) → end_puts how setup (unprinted s) show ≡ end_puts how setup s show
 same_lines (Final (Ended status)) setup s show = refl
 same_lines (Final (Trapped code)) setup s show = refl
 same_lines Stuck setup s show = refl
@@ -86,10 +83,3 @@ module _ (setup : Setup) (s now : State) (o : RunOptions) (words words_now : Sta
         due_end way.last way.how way.made (rw steps at way.rested),
         gives_part refl (cut_more all_puts (end_puts way.how setup way.last o.show) (sinks out n) (sinks out_now n) all),
       )
-
--- something is always due after the line with the budget
-pub some_due : (image : Image) (o : RunOptions) → (due : Answer) × DueAfterBudget image o due
-some_due image o = by_queue (first_below o.depths image.budget) refl where
-  by_queue : (q : Option Queue) → first_below o.depths image.budget ≡ q → (due : Answer) × DueAfterBudget image o due
-  by_queue None e = (_, due_memory_for_machine ((none_below o.depths image.budget).0 e))
-  by_queue (Some queue) e = (_, due_depth queue e)

@@ -1,8 +1,9 @@
 mod Puts
 mod Printed
-mod Depths
+mod Budgeted
 mod OnTheWay
 mod Outcome
 mod Executed
 mod OneAnswer
+pub mod LawsOfTurns
 pub mod Laws

@@ -1,135 +1,25 @@
 -- A machine on its way through the turns of a schedule, with all that it printed put out.
-use Rattle.std.proofs.Common.{◌≡◌, ℕ, zero, suc, ◌+◌, ◌-◌, ◌≤◌, List, [], ◌∷◌, ◌++◌, length, map, refl, ap, sym, ◌∙◌, subst, append-nil, arith}
-use Rattle.std.specs.Prelude.{◌≢◌, Option, Some, None, option_map, option_and_then}
+use Rattle.std.proofs.Common.{◌≡◌, ℕ, suc, ◌+◌, ◌-◌, ◌≤◌, List, [], ◌∷◌, ◌++◌, map, refl, ap, sym, ◌∙◌, subst, append-nil, arith}
+use Rattle.std.specs.Prelude.{◌≢◌, Option, Some}
 use Rattle.std.proofs.lemmas.List.{map-append}
-use Rattle.std.proofs.lemmas.Option.{same_Some}
 use Rattle.dae_io.specs.Sinks.{SinkState, IsPutFailed}
-use Rattle.dae_base.specs.declared.Side.TheVariants.{A, E}
 use Rattle.dae_machine.specs.declared.Pick.{Pick}
-use Rattle.dae_machine.specs.declared.Pick.TheVariants.{A as MoveA, E as MoveE, Fill, Drain}
-use Rattle.dae_base.proofs.Laws.{and_then_some, map_some_is}
-use Rattle.dae_machine.specs.Memory.{fill, drain}
-use Rattle.dae_machine.specs.Machine.{Setup, State, move, moved_a, moved_e, filled, drained, step, IsQuiet}
+use Rattle.dae_machine.specs.Machine.{Setup, State, step, IsQuiet, IsFinal, IsStuck}
 use Rattle.dae_machine.specs.Printing.{behind}
-use Rattle.dae_machine.specs.Runs.{run_by}
-use Rattle.dae_machine.specs.Schedules.{Standing, and_then_on, coming, scheduled, turned}
+use Rattle.dae_machine.specs.Schedules.{Standing, coming, scheduled}
 use Rattle.dae_machine.specs.Turns.{pick_of}
-use Rattle.dae_machine.specs.Machine.{IsFinal, IsStuck}
 use Rattle.dae_machine.specs.Rests.{TurnedTo}
 use Rattle.dae_machine.specs.declared.End.{End}
 use Rattle.dae_machine.specs.declared.Turn.TheVariants as turn
-use Rattle.dae_machine.proofs.LawsOfRuns.{final_behind, pick_behind, quiet_behind, step_behind, stuck_behind}
+use Rattle.dae_machine.proofs.LawsOfRuns.{quiet_behind}
 use Rattle.dae_cli_drive.specs.declared.driving.Driven.{Driven}
 use Rattle.dae_cli_drive.specs.declared.driving.Driven.TheVariants.{Final, Stuck, Spent, SinkFailed}
-use Rattle.dae_cli_drive.specs.Turns.{AreOut, DrivesOn, Drives, Rested, StandsLater, StopsAt, Turns, puts_of_turns, words_taken}
+use Rattle.dae_cli_drive.specs.Turns.{AreOut, DrivesOn, Drives, Rested, StandsLater, StopsAt, puts_of_turns, words_taken}
 use Rattle.dae_cli_drive.specs.Pieces.{pieces, pieces_on, then_later, unprinted}
 use Rattle.dae_cli_drive.specs.Puts.{Put, Out, AreMade, sinks}
+use Rattle.dae_cli_drive.proofs.LawsOfTurns.{Made, kept, kept_text, no_more, one_more, picks_more, printing, rested_behind, step_counts, turn_is}
 use Rattle.dae_cli_drive.proofs.Printed.{pieces_after}
 use Rattle.dae_cli_drive.proofs.Puts.{made_then}
-
--- so many turns were made, each of them a step
-pub record Made (setup : Setup) (s : State) (words : ℕ → ℕ) (turns : ℕ) (t : State) : Type 0 where
-  pub run : Turns setup s words turns t
-  pub all : length (scheduled setup s words turns) ≡ turns
-
--- a turn is the step of its pick
-pub turn_steps : (setup : Setup) (s : State) (word : ℕ) (r : Pick × State) → turned setup s word ≡ Some r → step setup s r.0 ≡ Some r.1
-turn_steps setup s word r h =
-    let x = and_then_some (λ (p : Pick). option_map (λ (t : State). (p, t)) (step setup s p)) (pick_of setup s word) r h in
-    let y = map_some_is (λ (t : State). (x.0, t)) (step setup s x.0) r x.2 in
-    rw (← y.2) y.1
-
-quiet_turn : (setup : Setup) (s : State) (word : ℕ) → IsQuiet setup s → turned setup s word ≡ None
-quiet_turn setup s word quiet = by_pick (pick_of setup s word) where
-  by_pick : (o : Option Pick) → option_and_then {U = Pick × State} (λ (p : Pick). option_map (λ (t : State). (p, t)) (step setup s p)) o ≡ None
-  by_pick None = refl
-  by_pick (Some p) = rw (quiet p) refl
-
-pub list_after : (setup : Setup) (s : State) (words : ℕ → ℕ) (k : ℕ) (o : Option (Pick × State)) → turned setup s (words 0) ≡ o → scheduled setup s words (suc k) ≡ and_then_on o (λ t. scheduled setup t (λ i. words (i + 1)) k)
-list_after setup s words k o h = ap (λ (o : Option (Pick × State)). and_then_on o (λ t. scheduled setup t (λ i. words (i + 1)) k)) h
-
-suc_is : (m n : ℕ) → suc m ≡ suc n → m ≡ n
-suc_is m n h = omega arith
-
--- what stands after the first turn
-module _ (setup : Setup) (s t : State) (words : ℕ → ℕ) (k : ℕ) where
-  pub made_none : turned setup s (words 0) ≡ None → Made setup s words (suc k) t → ⊥
-  made_none h made = let e : 0 ≡ suc k = ap length (sym (list_after setup s words k None h)) ∙ made.all in absurd (omega arith)
-
-  pub made_rest : (r : Pick × State) → turned setup s (words 0) ≡ Some r → Made setup s words (suc k) t → Made setup r.1 (λ i. words (i + 1)) k t
-  made_rest r h made =
-      let list = list_after setup s words k (Some r) h in
-      let run : option_and_then (λ (v : State). run_by (step setup) v (scheduled setup r.1 (λ i. words (i + 1)) k)) (step setup s r.0) ≡ Some t = rw list at made.run in
-      record {
-        run = rw (turn_steps setup s (words 0) r h) at run;
-        all = suc_is _ _ (rw list at made.all);
-      }
-
-  made_before : (r : Pick × State) → turned setup s (words 0) ≡ Some r → Made setup r.1 (λ i. words (i + 1)) k t → Made setup s words (suc k) t
-  made_before r h made =
-      let list = list_after setup s words k (Some r) h in
-      record {
-        run = rw (list, turn_steps setup s (words 0) r h) made.run;
-        all = rw list (ap suc made.all);
-      }
-
-pub nothing_made : (setup : Setup) (s : State) (words : ℕ → ℕ) → Made setup s words 0 s
-nothing_made setup s words = record { run = refl; all = refl }
-
--- one turn more
-pub one_more : (setup : Setup) (s t : State) (words : ℕ → ℕ) (k : ℕ) (r : Pick × State) → Made setup s words k t → turned setup t (words k) ≡ Some r → Made setup s words (suc k) r.1
-one_more setup s t words zero r made h =
-    let same : s ≡ t = same_Some s t made.run in
-    made_before setup s r.1 words 0 r (subst (λ (v : State). turned setup v (words 0) ≡ Some r) (sym same) h) (nothing_made setup r.1 (λ i. words (i + 1)))
-one_more setup s t words (suc k) r made h = by_first (turned setup s (words 0)) refl (λ q. one_more setup q.1 t (λ i. words (i + 1)) k r) where
-  by_first : (o : Option (Pick × State)) → turned setup s (words 0) ≡ o → ((q : Pick × State) → Made setup q.1 (λ i. words (i + 1)) k t → turned setup t (words (k + 1)) ≡ Some r → Made setup q.1 (λ i. words (i + 1)) (suc k) r.1) → Made setup s words (suc (suc k)) r.1
-  by_first None e later = absurd (made_none setup s t words k e made)
-  by_first (Some q) e later =
-      let same : suc k ≡ k + 1 = omega arith in
-      made_before setup s r.1 words (suc k) q e
-      (later q (made_rest setup s t words k q e made) (subst (λ (i : ℕ). turned setup t (words i) ≡ Some r) same h))
-
--- the picks of one turn more
-pub picks_more : (setup : Setup) (s t : State) (words : ℕ → ℕ) (k : ℕ) (r : Pick × State) → Made setup s words k t → turned setup t (words k) ≡ Some r → scheduled setup s words (suc k) ≡ scheduled setup s words k ++ r.0 ∷ []
-picks_more setup s t words zero r made h =
-    let same : s ≡ t = same_Some s t made.run in
-    list_after setup s words 0 (Some r) (subst (λ (v : State). turned setup v (words 0) ≡ Some r) (sym same) h)
-picks_more setup s t words (suc k) r made h = by_first (turned setup s (words 0)) refl (λ q. picks_more setup q.1 t (λ i. words (i + 1)) k r) where
-  by_first : (o : Option (Pick × State)) → turned setup s (words 0) ≡ o → ((q : Pick × State) → Made setup q.1 (λ i. words (i + 1)) k t → turned setup t (words (k + 1)) ≡ Some r → scheduled setup q.1 (λ i. words (i + 1)) (suc k) ≡ scheduled setup q.1 (λ i. words (i + 1)) k ++ r.0 ∷ []) → scheduled setup s words (suc (suc k)) ≡ scheduled setup s words (suc k) ++ r.0 ∷ []
-  by_first None e later = absurd (made_none setup s t words k e made)
-  by_first (Some q) e later =
-      let same : suc k ≡ k + 1 = omega arith in
-      list_after setup s words (suc k) (Some q) e
-      ∙ ap (λ (ps : List Pick). q.0 ∷ ps) (later q (made_rest setup s t words k q e made) (subst (λ (i : ℕ). turned setup t (words i) ≡ Some r) same h))
-      ∙ ap (λ (ps : List Pick). ps ++ r.0 ∷ []) (sym (list_after setup s words k (Some q) e))
-
-none_more : (n : ℕ) → 0 + suc n ≡ suc n
-none_more n = omega arith
-
--- where no pick is enabled, more turns are no more steps
-pub no_more : (setup : Setup) (s t : State) (words : ℕ → ℕ) (k more : ℕ) → Made setup s words k t → IsQuiet setup t → scheduled setup s words (k + more) ≡ scheduled setup s words k
-no_more setup s t words zero zero made quiet = refl
-no_more setup s t words zero (suc more) made quiet =
-    let same : s ≡ t = same_Some s t made.run in
-    let still : turned setup s (words 0) ≡ None = rw same (quiet_turn setup t (words 0) quiet) in
-    ap (scheduled setup s words) (none_more more) ∙ list_after setup s words more None still
-no_more setup s t words (suc k) more made quiet = by_first (turned setup s (words 0)) refl (λ q rest. no_more setup q.1 t (λ i. words (i + 1)) k more rest quiet) where
-  by_first : (o : Option (Pick × State)) → turned setup s (words 0) ≡ o → ((q : Pick × State) → Made setup q.1 (λ i. words (i + 1)) k t → scheduled setup q.1 (λ i. words (i + 1)) (k + more) ≡ scheduled setup q.1 (λ i. words (i + 1)) k) → scheduled setup s words (suc k + more) ≡ scheduled setup s words (suc k)
-  by_first None e later = absurd (made_none setup s t words k e made)
-  by_first (Some q) e later =
-      let sum : suc k + more ≡ suc (k + more) = omega arith in
-      ap (scheduled setup s words) sum ∙ list_after setup s words (k + more) (Some q) e ∙ ap (λ (ps : List Pick). q.0 ∷ ps) (later q (made_rest setup s t words k q e made)) ∙ sym (list_after setup s words k (Some q) e)
-
--- a step counts itself
-pub step_counts : (setup : Setup) (s t : State) (p : Pick) → step setup s p ≡ Some t → t.steps ≡ s.steps + 1
-step_counts setup s t MoveA h = let x = map_some_is (moved_a s) (move setup A s.a s.queues) t h in sym (ap (λ z. z.steps) x.2)
-step_counts setup s t MoveE h = let x = map_some_is (moved_e s) (move setup E s.e s.queues) t h in sym (ap (λ z. z.steps) x.2)
-step_counts setup s t (Fill side number) h = let x = map_some_is (filled s) (fill side number s.queues s.memory) t h in sym (ap (λ z. z.steps) x.2)
-step_counts setup s t Drain h = let x = map_some_is (drained s) (drain s.queues s.memory) t h in sym (ap (λ z. z.steps) x.2)
-
--- the state with this text printed
-abbrev printing : List ℕ → State → State
-printing text s = record s { printed = text }
 
 -- ---- on the way: the turns so far were made, and all that they printed was put out
 
@@ -141,20 +31,6 @@ pub record OnTheWay (setup : Setup) (s : State) (words : Standing) (turns : ℕ)
   pub steps : now.steps ≡ s.steps + turns
   pub stands : StandsLater turns words words_now
   pub put : AreOut (puts_of_turns setup s (coming words) turns) out out_now
-
--- what a machine keeps of the state
-pub kept : (s : State) (done : List ℕ) → s.printed ≡ [] → s ≡ unprinted (behind done s)
-kept s done silent = ap (λ (text : List ℕ). record s { printed = text }) silent
-
-kept_text : (s : State) (text : List ℕ) → s.printed ≡ [] → s ≡ unprinted (record s { printed = text })
-kept_text s text silent = ap (λ (text : List ℕ). record s { printed = text }) silent
-
--- how a machine rests, whatever was printed before
-pub rested_behind : (result : Driven) (steps : ℕ) (setup : Setup) (s : State) (done : List ℕ) → Rested result steps setup s → Rested result steps setup (behind done s)
-rested_behind (Final end) steps setup s done r = (final_behind setup s done r.0, r.1)
-rested_behind Stuck steps setup s done r = stuck_behind setup s done r
-rested_behind Spent steps setup s done r = let found = r.1 in (r.0, (found.0, behind done found.1, step_behind setup s found.1 found.0 done found.2))
-rested_behind SinkFailed steps setup s done r = absurd r
 
 -- where no put failed, all turns were made
 pub drives_on : (result : Driven) (steps : ℕ) (setup : Setup) (s now : State) (words words_now : Standing) (out out_now : SinkState) → DrivesOn result steps setup s now words words_now out out_now → Drives result steps setup s now words words_now out out_now
@@ -168,11 +44,6 @@ drives_so (Final end) steps setup s now words words_now out out_now never d = d
 drives_so Stuck steps setup s now words words_now out out_now never d = d
 drives_so Spent steps setup s now words words_now out out_now never d = d
 drives_so SinkFailed steps setup s now words words_now out out_now never d = absurd (never refl)
-
--- the turn that a machine on its way makes
-turn_is : (setup : Setup) (now next : State) (done piece : List ℕ) (word : ℕ) (p : Pick) → pick_of setup now word ≡ Some p → step setup now p ≡ Some (printing piece next) → turned setup (behind done now) word ≡ Some (p, behind done (printing piece next))
-turn_is setup now next done piece word p picks steps =
-    rw (pick_behind setup now word done, picks, step_behind setup now (printing piece next) p done steps) refl
 
 module _ (setup : Setup) (s : State) (words : Standing) (turns : ℕ) (setup_now : Setup) (now : State) (words_now : Standing) (out out_now : SinkState) (way : OnTheWay setup s words turns setup_now now words_now out out_now) where
   word_is : (word : ℕ) → word ≡ coming words_now 0 → word ≡ coming words turns

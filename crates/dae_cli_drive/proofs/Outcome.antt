@@ -1,5 +1,5 @@
 -- How the turns of a schedule come out: they always lead somewhere, and there a machine is final or stuck, or can go on.
-use Rattle.std.proofs.Common.{◌≡◌, ◌⊎◌, ℕ, zero, suc, ◌+◌, Bool, true, false, List, [], ◌∷◌, ◌++◌, length, refl, ap, sym, ◌∙◌, subst, inl, inr, arith}
+use Rattle.std.proofs.Common.{◌≡◌, ◌⊎◌, ℕ, ◌+◌, Bool, true, false, List, [], ◌∷◌, length, refl, ap, sym, ◌∙◌, subst, inl, inr, arith}
 use Rattle.std.specs.Prelude.{Option, Some, None, is_some}
 use Rattle.std.proofs.lemmas.Option.{same_Some}
 use Rattle.dae_encode.specs.declared.Halt.{Halt}
@@ -11,7 +11,7 @@ use Rattle.dae_machine.specs.declared.End.TheVariants.{Ended, Trapped}
 use Rattle.dae_machine.specs.Held.{is_plain}
 use Rattle.dae_machine.specs.Machine.{Setup, State, step, Runs, IsCounted, IsFinal, IsQuiet}
 use Rattle.dae_machine.specs.Runs.{run_by}
-use Rattle.dae_machine.specs.Schedules.{scheduled, turned}
+use Rattle.dae_machine.specs.Schedules.{scheduled}
 use Rattle.dae_machine.specs.Turns.{pick_of}
 use Rattle.dae_machine.proofs.LawsOfRuns.{counted_step}
 use Rattle.dae_machine.proofs.LawsOfRuns.{unplain_after}
@@ -20,7 +20,7 @@ use Rattle.dae_machine.proofs.LawsOfRuns.{picked_goes, quiet_where_none}
 use Rattle.dae_cli_drive.specs.declared.driving.Driven.{Driven}
 use Rattle.dae_cli_drive.specs.declared.driving.Driven.TheVariants.{Final, Stuck, Spent}
 use Rattle.dae_cli_drive.specs.Turns.{Rested, Turns}
-use Rattle.dae_cli_drive.proofs.OnTheWay.{Made, list_after, made_none, made_rest, step_counts}
+use Rattle.dae_cli_drive.proofs.LawsOfTurns.{step_counts}
 
 -- what every state of a run from a good one is
 pub record Good (s : State) : Type 0 where
@@ -87,30 +87,3 @@ comes_out setup s words turns good = by_length (is_turned setup s words turns go
       let keeps = run_keeps setup s t (scheduled setup s words turns) good run in
       let out = by_access setup t (s.steps + turns) quiet (is_some t.a.halt) refl keeps.0.halts in
       record { last = t; made = run; how = out.0; rested = out.1 }
-
--- the picks of more turns begin with those of fewer
-pub picks_later : (setup : Setup) (s t : State) (words : ℕ → ℕ) (turns more : ℕ) → Made setup s words turns t → (rest : List Pick) × (scheduled setup s words (turns + more) ≡ scheduled setup s words turns ++ rest)
-picks_later setup s t words zero more made = let none : 0 + more ≡ more = omega arith in (scheduled setup s words more, ap (scheduled setup s words) none)
-picks_later setup s t words (suc turns) more made = by_first (turned setup s (words 0)) refl (λ q. picks_later setup q.1 t (λ i. words (i + 1)) turns more) where
-  by_first : (o : Option (Pick × State)) → turned setup s (words 0) ≡ o → ((q : Pick × State) → Made setup q.1 (λ i. words (i + 1)) turns t → (rest : List Pick) × (scheduled setup q.1 (λ i. words (i + 1)) (turns + more) ≡ scheduled setup q.1 (λ i. words (i + 1)) turns ++ rest)) → (rest : List Pick) × (scheduled setup s words (suc turns + more) ≡ scheduled setup s words (suc turns) ++ rest)
-  by_first None e later = absurd (made_none setup s t words turns e made)
-  by_first (Some q) e later =
-      let sum : suc turns + more ≡ suc (turns + more) = omega arith in
-      let r = later q (made_rest setup s t words turns q e made) in (
-        r.0,
-        ap (scheduled setup s words) sum ∙ list_after setup s words (turns + more) (Some q) e ∙ ap (λ (ps : List Pick). q.0 ∷ ps) r.1
-            ∙ ap (λ (ps : List Pick). ps ++ r.0) (sym (list_after setup s words turns (Some q) e)),
-      )
-
--- equal words select equal turns
-pub same_turns : (setup : Setup) (s : State) (words others : ℕ → ℕ) (turns : ℕ) → ((i : ℕ) → words i ≡ others i) → scheduled setup s words turns ≡ scheduled setup s others turns
-same_turns setup s words others zero same = refl
-same_turns setup s words others (suc turns) same =
-    by_first (turned setup s (words 0)) refl (λ q. same_turns setup q.1 (λ i. words (i + 1)) (λ i. others (i + 1)) turns (λ i. same (i + 1))) where
-      by_first : (o : Option (Pick × State)) → turned setup s (words 0) ≡ o → ((q : Pick × State) → scheduled setup q.1 (λ i. words (i + 1)) turns ≡ scheduled setup q.1 (λ i. others (i + 1)) turns) → scheduled setup s words (suc turns) ≡ scheduled setup s others (suc turns)
-      by_first None e later =
-          let e' : turned setup s (others 0) ≡ None = rw (← same 0) e in
-          list_after setup s words turns None e ∙ sym (list_after setup s others turns None e')
-      by_first (Some q) e later =
-          let e' : turned setup s (others 0) ≡ Some q = rw (← same 0) e in
-          list_after setup s words turns (Some q) e ∙ ap (λ (ps : List Pick). q.0 ∷ ps) (later q) ∙ sym (list_after setup s others turns (Some q) e')

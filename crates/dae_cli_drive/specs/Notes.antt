@@ -19,7 +19,7 @@ use Rattle.dae_machine.specs.Answers.{answer}
 use Rattle.dae_machine.specs.Machine.{Setup, State}
 use Rattle.dae_cli_drive.specs.declared.driving.Driven.{Driven}
 use Rattle.dae_cli_drive.specs.declared.driving.Driven.TheVariants.{Final, Stuck, Spent, SinkFailed}
-use Rattle.dae_cli_drive.specs.declared.options.Shown.{Shown}
+use Rattle.dae_cli_options.specs.declared.options.Shown.{Shown}
 use Rattle.dae_cli_drive.specs.Lines.{memory_line}
 use Rattle.dae_cli_drive.specs.Puts.{Put, Note}
 

@@ -73,6 +73,11 @@ GivesDue IsDue status before after = (due : Answer) × IsDue due × Gives due st
 abbrev pub GivesNotes : Answer → ℕ → SinkState → SinkState → Type 0
 GivesNotes due status note note_now = (out : SinkState) → Gives due status (sinks out note) (sinks out note_now)
 
+-- some answer is due, and it is given on note alone, whatever stands on out
+abbrev pub GivesNotesDue : (Answer → Type 0) → ℕ → SinkState → SinkState → Type 0
+GivesNotesDue IsDue status note note_now =
+    (out : SinkState) → GivesDue IsDue status (sinks out note) (sinks out note_now)
+
 -- these puts were made on note, whatever stands on out
 abbrev pub AreNoted : List Put → SinkState → SinkState → Type 0
 AreNoted puts note note_now = (out : SinkState) → AreMade puts (sinks out note) (sinks out note_now)

@@ -1,7 +1,7 @@
 // Laws of what is due.
 ghost use Rattle.std.specs.Prelude.{◌≡◌, ◌≢◌};
 ghost use Rattle.dae_image.specs.declared.Image.{Image};
-ghost use Rattle.dae_cli_drive.specs.declared.options.RunOptions.{RunOptions};
+ghost use Rattle.dae_cli_options.specs.declared.options.RunOptions.{RunOptions};
 ghost use Rattle.dae_cli_drive.specs.Puts.{Answer};
 ghost use Rattle.dae_cli_drive.specs.Images.{DueOfImage};
 

@@ -5,8 +5,8 @@ ghost use Rattle.dae_cli_drive.specs.Turns.{AreOut, Drives, Rested};
 ghost use Rattle.dae_cli_drive.specs.Pieces.{then_later};
 ghost use Rattle.dae_cli_drive.specs.Puts.{Out};
 
-use crate::options::RunOptions;
 use dae_base::Piece;
+use dae_cli_options::RunOptions;
 use dae_io::{Sink, SinkFailed};
 use dae_machine::{End, Machine, Rest, Turn, Words};
 

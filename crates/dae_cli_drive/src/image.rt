@@ -1,19 +1,23 @@
-// The part that every job with a machine has: an image is opened and run, and notes tell how it came out.
-ghost use Rattle.std.specs.Prelude.{◌≡◌, ◌≢◌, ℕ, List, Option, None, [], IfOk, OnOk, OnErr, string_bytes};
+// The part that every job with a machine has: the line with an image's budget, and why no machine was opened; and the run of an
+// image.
+ghost use Rattle.std.specs.Prelude.{◌≡◌, ◌≢◌, None, [], ◌∷◌, IfErr, IfOk, OnOk, string_bytes};
+ghost use Rattle.dae_base.specs.declared.Depths.{Depths};
+ghost use Rattle.dae_image.specs.declared.Image.{Image};
+ghost use Rattle.dae_machine.specs.Answers.{Refuses};
 ghost use Rattle.dae_machine.specs.Machine.{IsCounted};
-ghost use Rattle.dae_cli_drive.specs.declared.driving.Driven.TheVariants as Driven;
-ghost use Rattle.dae_cli_drive.specs.Notes.{budget_line, end_puts};
-ghost use Rattle.dae_cli_drive.specs.Images.{DueOfImage, DueOfRun, DueAfterBudget, status_of};
-ghost use Rattle.dae_cli_drive.specs.Puts.{answer, AreNoted, AreNotedInPart, GivesDue, GivesNotes, sinks};
+ghost use Rattle.dae_cli_drive.specs.Notes.{budget_line};
+ghost use Rattle.dae_cli_drive.specs.Images.{DueOfImage, DueOfNoMachine, DueOfRun, IsNotBudgeted};
+ghost use Rattle.dae_cli_drive.specs.Puts.{AreNoted, GivesDue, GivesNotesDue, Note, sinks};
 
 use crate::driving::{Driven, drive};
+use crate::ending::tell_end;
 use crate::line::Line;
 use crate::notes;
-use crate::options::{RunOptions, Shown};
 use crate::stop::{Stop, noted};
+use dae_cli_options::RunOptions;
 use dae_image::Image;
-use dae_io::{Sink, SinkFailed};
-use dae_machine::{End, Machine, OpenError, Words};
+use dae_io::Sink;
+use dae_machine::{Machine, OpenError, Words};
 use std::alloc::{AllocError, Global};
 
 /// Opens a machine on an image, runs it as the options say, and notes the budget and how the machine came out. All
@@ -25,15 +29,38 @@ pub fn run_image<O: Sink, N: Sink>(
     out: &mut O,
     note: &mut N,
 ) -> u8
-    ensures { GivesDue (DueOfImage image.now options.now) result
+    ensures gives { GivesDue (DueOfImage image.now options.now) result
         (sinks (O.seen out.old) (N.seen note.old)) (sinks (O.seen out.new) (N.seen note.new)) }
+    // Memory is wanting only before the machine is opened.
+    ensures unopened { result ≡ 7 → O.seen out.new ≡ O.seen out.old }
+{
+    let mut line = match put_budget(alloc, image, note) {
+        Ok(line) => line,
+        Err(status) => return status,
+    };
+    match Machine::open(alloc, image, options.values().depths) {
+        Ok(machine) => run_opened(machine, &mut line, options, out, note),
+        Err(error) => tell_refusal(error, &mut line, note),
+    }
+}
+
+/// Puts the line with an image's budget, and gives room for the lines after it.
+///
+/// # Errors
+///
+/// The status with which the job ends, where memory was wanting, which is told, or the put failed.
+pub fn put_budget<N: Sink>(alloc: Global, image: &Image, note: &mut N) -> Result<Line, u8>
+    ensures ok { OnOk result (AreNoted (Note (budget_line image.now.budget) ∷ [])
+        (N.seen note.old) (N.seen note.new)) }
+    ensures err { IfErr result (λ status.
+        IsNotBudgeted image.now status (N.seen note.old) (N.seen note.new)) }
 {
     let Ok((budget, line)) = lines(alloc, image) else {
-        return Stop::Memory.tell(note);
+        return Err(Stop::Memory.tell(note));
     };
     match note.put(budget.as_bytes()) {
-        Ok(()) => run_budgeted(alloc, image, options, line, out, note),
-        Err(_) => 6,
+        Ok(()) => Ok(line),
+        Err(_) => Err(6),
     }
 }
 
@@ -46,33 +73,24 @@ fn lines(alloc: Global, image: &Image) -> Result<(String, Line), AllocError>
     Ok((budget, line))
 }
 
-// Opens a machine and runs it, after the line with the budget was put.
-fn run_budgeted<O: Sink, N: Sink>(
-    alloc: Global,
-    image: &Image,
-    options: &RunOptions,
-    line: Line,
-    out: &mut O,
-    note: &mut N,
-) -> u8
-    ensures { GivesDue (DueAfterBudget image.now options.now) result
-        (sinks (O.seen out.old) (N.seen note.old)) (sinks (O.seen out.new) (N.seen note.new)) }
+/// Tells why no machine was opened, and answers with the status.
+pub fn tell_refusal<N: Sink>(error: OpenError, line: &mut Line, note: &mut N) -> u8
+    ensures { (image : Image) (d : Depths) → Refuses error image.budget d
+        → GivesNotesDue (DueOfNoMachine image d) result (N.seen note.old) (N.seen note.new) }
 {
-    let mut line = line;
-    match Machine::open(alloc, image, options.values().depths) {
-        Ok(machine) => run_opened(machine, line, options, out, note),
-        Err(OpenError::DepthBelow(queue, needs, has)) => {
-            notes::depth_line(&mut line, queue, needs, has);
+    match error {
+        OpenError::DepthBelow(queue, needs, has) => {
+            notes::depth_line(line, queue, needs, has);
             noted(note, line.as_slice(), 4)
         }
-        Err(OpenError::Memory) => Stop::Memory.tell(note),
+        OpenError::Memory => Stop::Memory.tell(note),
     }
 }
 
 // Lets an opened machine run as the options say, and notes how it came out. It takes no memory.
 fn run_opened<O: Sink, N: Sink>(
     machine: Machine,
-    line: Line,
+    line: &mut Line,
     options: &RunOptions,
     out: &mut O,
     note: &mut N,
@@ -80,74 +98,15 @@ fn run_opened<O: Sink, N: Sink>(
     requires begun { machine.state.steps ≡ 0 }
     requires counted { IsCounted machine.state }
     requires unhalted { machine.state.e.halt ≡ None }
-    ensures { GivesDue (DueOfRun machine.setup machine.state options.now) result
+    ensures gives { GivesDue (DueOfRun machine.setup machine.state options.now) result
         (sinks (O.seen out.old) (N.seen note.old)) (sinks (O.seen out.new) (N.seen note.new)) }
+    ensures has_memory { result ≢ 7 }
 {
-    let (mut machine, mut line) = (machine, line);
+    let mut machine = machine;
     let values = options.values();
     let mut words = Words::of(values.schedule);
     match drive(&mut machine, &mut words, options, out) {
         Driven::SinkFailed => 6,
-        driven => tell_end(&machine, driven, values.show, &mut line, note),
+        driven => tell_end(&machine, driven, values.show, line, note),
     }
-}
-
-// Notes how a machine came out, and answers with the status, or with 6 where a put failed.
-fn tell_end<N: Sink>(
-    machine: &Machine,
-    driven: Driven,
-    show: Option<Shown>,
-    line: &mut Line,
-    note: &mut N,
-) -> u8
-    requires whole { driven ≢ Driven.SinkFailed }
-    ensures { GivesNotes
-        (answer (status_of driven)
-        (end_puts driven machine.now.setup machine.now.state show)) result
-        (N.seen note.old) (N.seen note.new) }
-{
-    match note_end(machine, driven, show, line, note) {
-        Ok(()) => status_of(driven),
-        Err(_) => 6,
-    }
-}
-
-fn status_of(driven: Driven) -> u8
-    requires { driven ≢ Driven.SinkFailed }
-    ensures { result ≡ status_of driven }
-{
-    match driven {
-        Driven::Final(End::Ended(_)) => 0,
-        Driven::Final(End::Trapped(_)) => 1,
-        Driven::Stuck => 9,
-        Driven::Spent => 3,
-        Driven::SinkFailed => unreachable!(),
-    }
-}
-
-// Puts the lines that tell how a machine came out, one put each.
-fn note_end<N: Sink>(
-    machine: &Machine,
-    driven: Driven,
-    show: Option<Shown>,
-    line: &mut Line,
-    note: &mut N,
-) -> Result<(), SinkFailed>
-    requires whole { driven ≢ Driven.SinkFailed }
-    ensures made { OnOk result (AreNoted
-        (end_puts driven machine.now.setup machine.now.state show)
-        (N.seen note.old) (N.seen note.new)) }
-    ensures cut { OnErr result (AreNotedInPart
-        (end_puts driven machine.now.setup machine.now.state show)
-        (N.seen note.old) (N.seen note.new)) }
-{
-    notes::outcome_line(line, driven, machine);
-    note.put(line.as_slice())?;
-    notes::steps_line(line, machine.taken());
-    note.put(line.as_slice())?;
-    if let Some(shown) = show {
-        notes::shown_line(line, shown, machine.memory());
-        note.put(line.as_slice())?;
-    }
-    Ok(())
 }

@@ -1,20 +1,23 @@
 // What serves every job: answers, whose puts are made in their order or up to the first that fails; the fetch of a file;
-// and the run of an image, turn by turn, with its notes. All memory is taken before the first step.
+// the line with an image's budget, and why no machine was opened; and the run of an image, turn by turn, with its notes. All
+// memory is taken before the first step.
 #![tactic(auto)]
 
 pub use answers::one_answer;
+pub use dae_cli_options::{OptionValues, RunOptions, Shown};
 pub use driving::{Driven, drive};
+pub use ending::{note_end, status_of, tell_end};
 pub use fetch::fetched;
-pub use image::run_image;
-pub use notes::{budget_line, image_line};
-pub use options::{OptionValues, RunOptions, Shown};
+pub use image::{put_budget, run_image, tell_refusal};
+pub use line::Line;
+pub use notes::{budget_line, depth_line, ended_line, image_line, steps_line, trapped_line};
 pub use stop::{Stop, noted};
 
 mod answers;
 mod driving;
+mod ending;
 mod fetch;
 mod image;
 mod line;
 mod notes;
-mod options;
 mod stop;

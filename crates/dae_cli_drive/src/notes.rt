@@ -9,8 +9,8 @@ ghost use Rattle.dae_cli_drive.specs.Notes.{budget_line, depth_line, ended_line,
 
 use crate::driving::Driven;
 use crate::line::Line;
-use crate::options::Shown;
 use dae_base::{Depths, Queue, Side, decimal_piece};
+use dae_cli_options::Shown;
 use dae_core::{CoreAnswer, Fault};
 use dae_image::ImageError;
 use dae_machine::{End, Machine};
@@ -94,7 +94,8 @@ pub fn outcome_line(line: &mut Line, driven: Driven, machine: &Machine)
     }
 }
 
-fn ended_line(line: &mut Line, status: u32)
+/// The line that tells with which status a program ended.
+pub fn ended_line(line: &mut Line, status: u32)
     ensures { line.new ≡ ended_line status }
 {
     line.begin(b"ended ");
@@ -102,7 +103,8 @@ fn ended_line(line: &mut Line, status: u32)
     line.push(b"\n");
 }
 
-fn trapped_line(line: &mut Line, code: u32)
+/// The line that tells with which code a program trapped.
+pub fn trapped_line(line: &mut Line, code: u32)
     ensures { line.new ≡ trapped_line code }
 {
     line.begin(b"trapped ");

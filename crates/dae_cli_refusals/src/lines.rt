@@ -2,8 +2,8 @@
 ghost use Rattle.std.specs.Prelude.{◌≡◌, [], IfOk, map, slice_get, string_bytes, unwrap_or};
 ghost use Rattle.dae_cli_refusals.specs.Refusals.{construct_name, join_line, lex_line, place_text, refusal_line, refused_line, refused_twice_line, rule_name, too_long_line, tree_line};
 
+use dae_accept::CompileError;
 use dae_base::Place;
-use dae_compile::CompileError;
 use dae_parse::ParseError;
 use dae_tree::{Construct, LexError};
 use dae_types_kinds::Rule;

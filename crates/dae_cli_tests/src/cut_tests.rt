@@ -198,3 +198,25 @@ fn each_fetch_fails_in_turn(rt: HostRuntime) -> Result<(), Fail> {
     }
     Ok(())
 }
+
+/// The text of a file, which put on note fails in its compilation, the status, and whether an image is kept.
+const KEEPS: [(&[u8], u64, u8, bool); 4] = [
+    (TWO_PRINTS, 0, 0, true),
+    (TWO_PRINTS, 1, 6, false),
+    (TWO_PRINTS, 2, 6, true),
+    (b"int main(void){return 0}", 0, 2, false),
+];
+
+#[test]
+fn keeps_behind_the_budget(rt: HostRuntime) -> Result<(), Fail> {
+    let alloc = rt.alloc();
+    for (text, call, status, kept) in KEEPS {
+        let mut shelf = shelf_of(alloc, &[("p", text)], &[])?;
+        shelf.make_room(alloc, 1, 4096)?;
+        let failing = [FailingCall { call, taken: 1 }];
+        let answer = answer_over(alloc, "compile --to=q p", &mut shelf, (&[], &failing))?;
+        assert_eq!(rt; answer.0, status);
+        assert_eq!(rt; shelf.text_of("q").is_some(), kept);
+    }
+    Ok(())
+}

@@ -3,7 +3,7 @@
 use crate::calls::words_in;
 use dae_base::Depths;
 use dae_cli_drive::{RunOptions, Shown};
-use dae_cli_jobs::{Job, spelled_job};
+use dae_cli_words::{Job, spelled_job};
 use dae_machine::Schedule;
 use std::alloc::Global;
 use std::process::Abort;
@@ -49,7 +49,7 @@ const ALL_SET: &str = "exec --steps=1000000000000 --schedule=seed:1 --show=0,64 
 
 fn options_of<A: Abort>(rt: &A, alloc: Global, line: &str) -> Result<RunOptions, Fail> {
     let words = words_in(alloc, line)?;
-    match spelled_job(words.as_slice()) {
+    match spelled_job(alloc, words.as_slice())? {
         Some(Job::Exec(options, name)) => {
             assert_eq!(rt; name, "p");
             Ok(options)
@@ -66,7 +66,10 @@ fn options_of<A: Abort>(rt: &A, alloc: Global, line: &str) -> Result<RunOptions,
 fn no_job_is_spelled(rt: HostRuntime) -> Result<(), Fail> {
     for line in NONE {
         let words = words_in(rt.alloc(), line)?;
-        assert!(rt; spelled_job(words.as_slice()).is_none(), "{line}");
+        assert!(rt;
+            spelled_job(rt.alloc(), words.as_slice())?.is_none(),
+            "{line}"
+        );
     }
     Ok(())
 }
@@ -102,7 +105,7 @@ fn options_are_spelled(rt: HostRuntime) -> Result<(), Fail> {
 #[test]
 fn names_and_files_are_spelled(rt: HostRuntime) -> Result<(), Fail> {
     let words = words_in(rt.alloc(), "compile --calls=7 --to=x=y --cap=64 p q")?;
-    match spelled_job(words.as_slice()) {
+    match spelled_job(rt.alloc(), words.as_slice())? {
         Some(Job::Compile(options, to, files)) => {
             assert_eq!(rt; to, "x=y");
             assert_eq!(rt; files.len(), 2);

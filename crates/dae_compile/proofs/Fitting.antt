@@ -12,9 +12,11 @@ use Rattle.dae_program.specs.declared.program.Program.{Program}
 use Rattle.dae_lower_formed.specs.Formed.{IsLowered}
 use Rattle.dae_lower_forms.specs.Lowered.{HasRoom}
 use Rattle.dae_link.specs.Linked.{IsCompiledOf}
+use Rattle.dae_report.specs.Reports.{IsReportOf}
+use Rattle.dae_compile_generate.specs.declared.generating.Compiled.{Compiled}
 use Rattle.dae_compile_generate.specs.Generated.{FitsMachine, HasFramesWithin, IsShort, NeedsTooMuch, words_of_form}
 use Rattle.dae_compile_promise.specs.Promises.{KeepsMeaning, ImageKeepsMeaning}
-use Rattle.dae_compile.specs.Compiled.{IsCompiledFrom, HasTooMuchPrivate, HasTooMuchCode}
+use Rattle.dae_compile.specs.Compiled.{AreCompiledFrom, IsCompiledFrom, HasTooMuchPrivate, HasTooMuchCode}
 
 pub fits : (p : Program) (calls : ℕ) (ir : Ir) (content : List ℕ) (names : List (List ℕ)) → content ≡ p.content
     → IsLowered p ir → ir.calls ≡ calls → HasRoom p ir → 64 ≤ p.memory → p.memory % 16 ≡ 0 → 1 ≤ calls → calls ≤ 4096
@@ -39,24 +41,24 @@ keeps : (p : Program) (calls : ℕ) (ir : Ir) (image : Image) → ImageKeepsMean
 keeps p zero ir image law some lowered depth content does = absurd (omega (arith, some))
 keeps p (suc depth) ir image law some lowered is content does = law p depth ir image lowered is content does
 
-pub keeps_if : (p : Program) (calls : ℕ) (ir : Ir) (result : Result Image CodeError) → ImageKeepsMeaning → 1 ≤ calls → IsLowered p ir → ir.calls ≡ calls
-    → IfOk result (λ image. image.content ≡ p.content) → IfOk result (λ image. DoesForm ir image 14) → IfOk result (KeepsMeaning p calls)
-keeps_if p calls ir (Ok image) law some lowered depth is does = keeps p calls ir image law some lowered depth is does
+pub keeps_if : (p : Program) (calls : ℕ) (ir : Ir) (result : Result Compiled CodeError) → ImageKeepsMeaning → 1 ≤ calls → IsLowered p ir → ir.calls ≡ calls
+    → IfOk result (λ c. c.image.content ≡ p.content) → IfOk result (λ c. DoesForm ir c.image 14) → IfOk result (λ c. KeepsMeaning p calls c.image)
+keeps_if p calls ir (Ok c) law some lowered depth is does = keeps p calls ir c.image law some lowered depth is does
 keeps_if p calls ir (Err e) law some lowered depth is does = tt
 
-pub compiled_if : (p : Program) (calls cap : ℕ) (ir : Ir) (result : Result Image CodeError) → IsLowered p ir → ir.calls ≡ calls
-    → IfOk result (λ image. IsCompiledOf ir cap image) → IfOk result (λ image. DoesForm ir image 14) → IfOk result (λ image. image.content ≡ p.content) → IfOk result (λ image. IsShort ir image)
-    → IfOk result (λ image. HasFramesWithin ir image) → IfOk result (IsCompiledFrom p calls cap)
-compiled_if p calls cap ir (Ok image) lowered depth compiled does content short frames =
-    record { form = ir; lowered = lowered; depth = depth; compiled = compiled; does = does; content = content; short = short; frames = frames }
-compiled_if p calls cap ir (Err e) lowered depth compiled does content short frames = tt
+pub compiled_if : (p : Program) (calls cap : ℕ) (ir : Ir) (result : Result Compiled CodeError) → IsLowered p ir → ir.calls ≡ calls
+    → IfOk result (λ c. IsCompiledOf ir cap c.image) → IfOk result (λ c. IsReportOf ir c.report) → IfOk result (λ c. DoesForm ir c.image 14) → IfOk result (λ c. c.image.content ≡ p.content)
+    → IfOk result (λ c. IsShort ir c.image) → IfOk result (λ c. HasFramesWithin ir c.image) → IfOk result (AreCompiledFrom p calls cap)
+compiled_if p calls cap ir (Ok c) lowered depth compiled report does content short frames =
+    record { image = record { form = ir; lowered = lowered; depth = depth; compiled = compiled; does = does; content = content; short = short; frames = frames }; report = report }
+compiled_if p calls cap ir (Err e) lowered depth compiled report does content short frames = tt
 
-pub long_if : (p : Program) (ir : Ir) (result : Result Image CodeError) → IsLowered p ir → IfErr result (λ e. e ≡ errors.Code → 2 ^ 25 < words_of_form ir)
+pub long_if : (p : Program) (ir : Ir) (result : Result Compiled CodeError) → IsLowered p ir → IfErr result (λ e. e ≡ errors.Code → 2 ^ 25 < words_of_form ir)
     → IfErr result (λ e. e ≡ errors.Code → HasTooMuchCode p)
-long_if p ir (Ok image) lowered h = tt
+long_if p ir (Ok c) lowered h = tt
 long_if p ir (Err e) lowered h = λ code. record { form = ir; lowered = lowered; long = h code }
 
-pub deep_if : (p : Program) (calls : ℕ) (ir : Ir) (result : Result Image CodeError) → IsLowered p ir → ir.calls ≡ calls
+pub deep_if : (p : Program) (calls : ℕ) (ir : Ir) (result : Result Compiled CodeError) → IsLowered p ir → ir.calls ≡ calls
     → IfErr result (λ e. e ≡ errors.Private → NeedsTooMuch ir) → IfErr result (λ e. e ≡ errors.Private → HasTooMuchPrivate p calls)
-deep_if p calls ir (Ok image) lowered depth h = tt
+deep_if p calls ir (Ok c) lowered depth h = tt
 deep_if p calls ir (Err e) lowered depth h = λ private'. record { form = ir; lowered = lowered; depth = depth; needs = h private' }

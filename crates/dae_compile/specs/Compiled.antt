@@ -6,7 +6,9 @@ use Rattle.dae_machine_runs.specs.Promises.{DoesForm}
 use Rattle.dae_program.specs.declared.program.Program.{Program}
 use Rattle.dae_lower_formed.specs.Formed.{IsLowered}
 use Rattle.dae_link.specs.Linked.{IsCompiledOf}
+use Rattle.dae_report.specs.Reports.{IsReportOf}
 use Rattle.dae_compile_generate.specs.Generated.{HasFramesWithin, IsShort, NeedsTooMuch, words_of_form}
+use Rattle.dae_compile_generate.specs.declared.generating.Compiled.{Compiled}
 
 -- It has the program's data, memory and limit on calls, and is compiled of the form of the program, where a group
 -- holds at most cap loads for E and as many copies. It does the form in every order of steps, with at most 14
@@ -21,6 +23,11 @@ pub record IsCompiledFrom (p : Program) (calls cap : ℕ) (image : Image) : Type
   pub content : image.content ≡ p.content
   pub short : IsShort form image
   pub frames : HasFramesWithin form image
+
+-- an image that is compiled from a program, and the report of the same form
+pub record AreCompiledFrom (p : Program) (calls cap : ℕ) (c : Compiled) : Type 0 where
+  pub image : IsCompiledFrom p calls cap c.image
+  pub report : IsReportOf image.form c.report
 
 -- what bounds the code of its form is larger than an image's code may be
 pub record HasTooMuchCode (p : Program) : Type 0 where

@@ -1,5 +1,4 @@
 pub mod Accesses
 pub mod Compiled
 pub mod Images
-pub mod Options
 pub mod Sizes

@@ -1,17 +1,17 @@
-// The image of several texts.
+// The image of several texts, and its report.
 
 ghost use Rattle.std.specs.Prelude.{◌≡◌, ◌≤◌, length, IfErr, IfOk, IsTrue};
 ghost use Rattle.std.specs.List.{All, list_all};
 ghost use Rattle.dae_image.specs.Contents.{is_name};
 ghost use Rattle.dae_accept_sources.specs.Read.{IsShort, texts_in};
 ghost use Rattle.dae_accept.specs.Accepted.{IsRefusedFor};
-ghost use Rattle.dae_compile.specs.Images.{IsImageOf};
+ghost use Rattle.dae_compile.specs.Images.{IsCompilationOf};
 
-use crate::options::Options;
 use crate::programs::compile_program;
 use dae_accept::{CompileError, accept, read_are_within};
 use dae_base::{Items, Text};
-use dae_image::Image;
+use dae_cli_options::Options;
+use dae_compile_generate::Compiled;
 use dae_link_sides::CodeError;
 use dae_lower_bounds::{conditions_bounded, loads_bounded};
 use dae_lower_formed::lowered_do_programs;
@@ -20,8 +20,8 @@ use dae_sizes::{
 };
 use std::alloc::Global;
 
-/// The image of texts, which are those of the files with these names: at most 1,024, each of at most 1,048,576 bytes.
-/// It is small beside them, and names the files.
+/// The image of texts, which are those of the files with these names, and the report of its form: at most 1,024 texts, each
+/// of at most 1,048,576 bytes. The image is small beside them, and names the files.
 ///
 /// # Errors
 ///
@@ -32,12 +32,12 @@ pub fn compile(
     texts: &[Vec<u8>],
     names: Items<Text>,
     options: Options,
-) -> Result<Image, CompileError>
+) -> Result<Compiled, CompileError>
     requires few { length texts.now ≤ 1024 }
     requires short { All IsShort texts.now }
     requires each { length names ≡ length texts.now }
     requires named { IsTrue (list_all is_name names) }
-    ensures image { IfOk result (IsImageOf (texts_in texts.now) names options) }
+    ensures compiled { IfOk result (IsCompilationOf (texts_in texts.now) names options) }
     ensures refused { IfErr result (IsRefusedFor (texts_in texts.now) options.memory) }
 {
     read_are_within();
@@ -50,7 +50,7 @@ pub fn compile(
     lowered_do_programs();
     let program = accept(alloc, texts, options.memory)?;
     match compile_program(alloc, program, options.calls, options.cap, names) {
-        Ok(image) => Ok(image),
+        Ok(compiled) => Ok(compiled),
         Err(CodeError::Memory) => Err(CompileError::Memory),
         Err(CodeError::Code) => unreachable!(),
         Err(CodeError::Private) => unreachable!(),

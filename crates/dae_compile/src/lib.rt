@@ -6,9 +6,9 @@
 
 pub use compiling::compile;
 pub use dae_accept::CompileError;
-pub use options::Options;
+pub use dae_cli_options::Options;
+pub use dae_compile_generate::Compiled;
 pub use programs::compile_program;
 
 mod compiling;
-mod options;
 mod programs;

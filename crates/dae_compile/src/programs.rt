@@ -1,4 +1,4 @@
-// The image of a typed program.
+// The image of a typed program, and its report.
 
 ghost use Rattle.std.specs.Prelude.{◌≡◌, ◌<◌, ◌≤◌, ◌%◌, length, IfErr, IfOk, IsTrue};
 ghost use Rattle.std.specs.List.{All, list_all};
@@ -6,12 +6,11 @@ ghost use Rattle.dae_image.specs.Contents.{is_name};
 ghost use Rattle.dae_ir_pair.specs.Budget.{IsWithinCap};
 ghost use Rattle.dae_compile_promise.specs.Promises.{KeepsMeaning};
 ghost use Rattle.dae_link_sides.specs.declared.error.CodeError.TheVariants as errors;
-ghost use Rattle.dae_compile.specs.Compiled.{IsCompiledFrom, HasTooMuchPrivate, HasTooMuchCode};
+ghost use Rattle.dae_compile.specs.Compiled.{AreCompiledFrom, HasTooMuchPrivate, HasTooMuchCode};
 
 use dae_base::{Items, Text};
-use dae_compile_generate::generate;
+use dae_compile_generate::{Compiled, generate};
 use dae_compile_promise::image_keeps_meaning;
-use dae_image::Image;
 use dae_link_sides::CodeError;
 use dae_lower_forms::lower;
 use dae_program::Program;
@@ -22,7 +21,7 @@ fn see_bytes(bytes: &[u8])
     ensures { All (λ b. b < 256) bytes.now }
 {}
 
-/// The image of a program, with at most so many calls inside one another, where a group holds at most `cap` loads
+/// The image of a program and the report of its form, with at most so many calls inside one another, where a group holds at most `cap` loads
 /// for E and as many copies, from 1 to 64; the names are those of its files. In every order of steps it does what
 /// the program means.
 ///
@@ -36,7 +35,7 @@ pub fn compile_program(
     calls: u16,
     cap: u8,
     names: Items<Text>,
-) -> Result<Image, CodeError>
+) -> Result<Compiled, CodeError>
     requires least { 64 ≤ program.memory }
     requires aligned { program.memory % 16 ≡ 0 }
     requires called { 1 ≤ calls }
@@ -45,10 +44,10 @@ pub fn compile_program(
     requires few { cap ≤ 64 }
     requires files { length names ≤ 1024 }
     requires named { IsTrue (list_all is_name names) }
-    ensures keeps { IfOk result (KeepsMeaning program calls) }
-    ensures compiled { IfOk result (IsCompiledFrom program calls cap) }
-    ensures budget { IfOk result (λ image. IsWithinCap cap image.budget) }
-    ensures names { IfOk result (λ image. image.names ≡ names) }
+    ensures keeps { IfOk result (λ c. KeepsMeaning program calls c.image) }
+    ensures compiled { IfOk result (AreCompiledFrom program calls cap) }
+    ensures budget { IfOk result (λ c. IsWithinCap cap c.image.budget) }
+    ensures names { IfOk result (λ c. c.image.names ≡ names) }
     ensures long { IfErr result (λ e. e ≡ errors.Code → HasTooMuchCode program) }
     ensures deep { IfErr result (λ e. e ≡ errors.Private → HasTooMuchPrivate program calls) }
 {

@@ -2,6 +2,6 @@
 // every order of steps.
 #![tactic(auto)]
 
-pub use generating::generate;
+pub use generating::{Compiled, generate};
 
 mod generating;

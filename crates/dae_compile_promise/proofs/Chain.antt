@@ -92,8 +92,8 @@ module _ (p : Program) (depth : ℕ) (ir : Ir) (image : Image) (lowered : IsLowe
 
   -- ---- where the program is over
 
-  short : (steps items work : ℕ) → steps ≤ 14 * (8 * items + 14) → items ≤ 9 * work → steps ≤ 4096 * (work / 4 + 1)
-  short steps items work h k = omega (arith, h, k)
+  short : (steps items loads work : ℕ) → steps ≤ 14 * (8 * items + 14) → items + loads ≤ 9 * work → steps ≤ 4096 * (work / 4 + 1)
+  short steps items loads work h k = omega (arith, h, k)
 
   ends_at : (halt : Halt) (end : End) → ((m : ℕ) (w : World) → form_meaning m ≡ Over end w → Ends image 14 halt w) → IsOver end
       → (n : ℕ) → program_end (program_meaning n) ≡ end → OnlyEnds image halt (last_world (program_meaning n))
@@ -108,7 +108,7 @@ module _ (p : Program) (depth : ℕ) (ir : Ir) (image : Image) (lowered : IsLowe
       record {
         end = x.state;
         picks = x.picks;
-        short = short (length x.picks) _ _ x.short (subst (λ (w : World). w.items ≤ 9 * (let v = last_world (program_meaning n) in v.items)) world k.items);
+        short = short (length x.picks) _ _ _ x.short (subst (λ (w : World). w.items + w.loads ≤ 9 * (let v = last_world (program_meaning n) in v.items)) world k.items);
         halts = x.halt';
         memory = x.memory ∙ ap (λ (w : World). w.memory) (sym world) ∙ k.memory;
         printed = x.printed ∙ ap (λ (w : World). w.printed) (sym world) ∙ k.printed;

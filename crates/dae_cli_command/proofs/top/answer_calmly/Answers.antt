@@ -1,5 +1,5 @@
 use Rattle.std.proofs.Common.{refl}
-use Rattle.dae_cli_command.proofs.Fetched.{status_calm}
+use Rattle.dae_cli_command.proofs.Calm.{status_calm}
 use Rattle.dae_cli_command.proofs.top.answer_calmly.Goals as goal
 
 pub returns : goal.returns

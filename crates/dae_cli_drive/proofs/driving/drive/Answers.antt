@@ -1,5 +1,5 @@
 use Rattle.std.proofs.Common.{rules, ◌≡◌, ◌+◌, ◌-◌, suc, [], ◌∷◌, ap, map, subst, arith}
-use Rattle.dae_cli_drive.specs.declared.options.OptionValues.{OptionValues}
+use Rattle.dae_cli_options.specs.declared.options.OptionValues.{OptionValues}
 use Rattle.dae_cli_drive.specs.Turns.{AreOut}
 use Rattle.dae_cli_drive.specs.Pieces.{then_later}
 use Rattle.dae_cli_drive.specs.Puts.{Out}

@@ -4,20 +4,26 @@ use Rattle.dae_compile.proofs.Accesses.{keeps_accesses}
 use Rattle.dae_compile.proofs.Small.{never_deep, never_long, small}
 use Rattle.dae_compile.proofs.compiling.compile.Goals as goal
 
-pub returns-in-Ok-clause-image : goal.returns-in-Ok-clause-image
-returns-in-Ok-clause-image c =
+pub returns-in-Ok-clause-compiled : goal.returns-in-Ok-clause-compiled
+returns-in-Ok-clause-compiled c =
     let range = c.args.options.ranges in
+    let made = c.in-Ok.ensures.compiled in
+    let image = made.image in
+    let result = c.in-Ok.compiled in
     record {
-      program = c.in_ok-program.program;
-      accepted = c.in_ok-program.ensures.accepted;
-      compiled = c.in-Ok.ensures.compiled;
-      keeps = c.in-Ok.ensures.keeps;
-      accesses = keeps_accesses c.loads_bounded.ensures c.conditions_bounded.ensures c.lowered_do_programs.ensures c.functions_initialise_constants.ensures
-          (texts_in c.args.texts.now) c.in_ok-program.program c.args.options.calls c.args.options.cap c.in-Ok.image range.called c.in_ok-program.ensures.files c.in-Ok.ensures.compiled;
-      budget = c.in-Ok.ensures.budget;
-      small = small c.forms_are_within.ensures c.frames_are_within.ensures (texts_in c.args.texts.now) c.in_ok-program.program c.args.options.calls c.args.options.cap c.in-Ok.image
-          c.in_ok-program.ensures.files c.in-Ok.ensures.compiled;
-      named = c.in-Ok.ensures.names;
+      image = record {
+        program = c.in_ok-program.program;
+        accepted = c.in_ok-program.ensures.accepted;
+        compiled = image;
+        keeps = c.in-Ok.ensures.keeps;
+        accesses = keeps_accesses c.loads_bounded.ensures c.conditions_bounded.ensures c.lowered_do_programs.ensures c.functions_initialise_constants.ensures
+            (texts_in c.args.texts.now) c.in_ok-program.program c.args.options.calls c.args.options.cap result.image range.called c.in_ok-program.ensures.files image;
+        budget = c.in-Ok.ensures.budget;
+        small = small c.forms_are_within.ensures c.frames_are_within.ensures (texts_in c.args.texts.now) c.in_ok-program.program c.args.options.calls c.args.options.cap result.image
+            c.in_ok-program.ensures.files image;
+        named = c.in-Ok.ensures.names;
+      };
+      report = made.report;
     }
 
 pub unreachable-requires : goal.unreachable-requires

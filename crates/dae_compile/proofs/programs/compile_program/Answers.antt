@@ -20,7 +20,7 @@ pub returns-clause-compiled : goal.returns-clause-compiled
 returns-clause-compiled c =
     let made = c.in_ok-ir.ensures in
     compiled_if c.args.program c.args.calls c.args.cap c.in_ok-ir.ir c.generate.result made.lowered made.calls
-    c.generate.ensures.compiled c.generate.ensures.does c.generate.ensures.content c.generate.ensures.short c.generate.ensures.private
+    c.generate.ensures.compiled c.generate.ensures.report c.generate.ensures.does c.generate.ensures.content c.generate.ensures.short c.generate.ensures.private
 
 pub returns-clause-long : goal.returns-clause-long
 returns-clause-long c =

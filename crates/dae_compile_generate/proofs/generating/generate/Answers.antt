@@ -1,5 +1,7 @@
-use Rattle.std.proofs.Common.{sym, ◌∙◌}
+use Rattle.std.proofs.Common.{List, sym, ap, ◌∙◌}
 use Rattle.std.proofs.lemmas.Result.{err_from_is_err_and}
+use Rattle.dae_ir.specs.declared.stream.Class.{Class}
+use Rattle.dae_report.specs.Reports.{report_of}
 use Rattle.dae_compile_generate.proofs.Private.{needs_too_much, private_within}
 use Rattle.dae_compile_generate.proofs.Calls.{short_code, too_long}
 use Rattle.dae_compile_generate.proofs.generating.generate.Goals as goal
@@ -8,6 +10,15 @@ pub returns-clause-compiled : goal.returns-clause-compiled
 returns-clause-compiled c =
     let d = c.in_ok-decoupled.ensures in
     c.in_ok-image.ensures.compiled c.args.ir.now _ c.args.cap d.classes d.pair d.budget
+
+pub returns-clause-report : goal.returns-clause-report
+returns-clause-report c =
+    let d = c.in_ok-decoupled.ensures in
+    record {
+      tables = c.in_ok-decoupled.decoupled.classes;
+      classes = d.classes;
+      counts = c.in_ok-report.ensures ∙ ap (λ (tables : List (List Class)). report_of tables c.args.ir.now) c.as_slice.ensures;
+    }
 
 pub returns-clause-private : goal.returns-clause-private
 returns-clause-private c =

@@ -1,0 +1,5 @@
+mod Runs
+mod TimedRuns
+mod OneFile
+mod OneDue
+mod NeverStuck

@@ -1,5 +1,0 @@
-use Rattle.dae_cli_command.proofs.NeverStuck.{never_stuck_for_words}
-use Rattle.dae_cli_command.proofs.laws.never_stuck.Goals as goal
-
-pub returns : goal.returns
-returns c = never_stuck_for_words

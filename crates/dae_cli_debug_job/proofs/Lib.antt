@@ -1,0 +1,3 @@
+mod Served
+mod Single
+pub mod Laws

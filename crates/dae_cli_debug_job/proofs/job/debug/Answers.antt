@@ -1,0 +1,15 @@
+use Rattle.dae_cli_drive.specs.Puts.{stop_answer}
+use Rattle.dae_cli_files.proofs.Laws.{due_of_both, due_of_not_both}
+use Rattle.dae_cli_debug_job.proofs.job.debug.Goals as goal
+
+pub returns-in-Ok-clause-gives : goal.returns-in-Ok-clause-gives
+returns-in-Ok-clause-gives g c =
+    let r = c.debug_image.ensures.gives in
+    (r.0, due_of_both c.in-Ok.ensures.ok (rw c.as_slice.ensures.value at r.1), r.2)
+
+pub returns-in-Err-clause-gives : goal.returns-in-Err-clause-gives
+returns-in-Err-clause-gives g c = (
+  stop_answer c.in-Err.stop,
+  due_of_not_both c.in-Err.ensures.err,
+  c.tell.ensures (g.O.Sink.seen c.args.out.now),
+)

@@ -1,0 +1,4 @@
+pub mod Shelves
+pub mod ImageFiles
+pub mod TextFiles
+pub mod Keeping

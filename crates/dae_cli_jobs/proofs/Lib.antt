@@ -1,7 +1,0 @@
-mod Parts
-mod Named
-mod Spelling
-mod Choosing
-mod Ranges
-mod OneChosen
-pub mod Laws

@@ -1,5 +1,0 @@
-use Rattle.dae_cli_jobs.proofs.Spelling.{no_colon}
-use Rattle.dae_cli_jobs.proofs.options.seed_of.Goals as goal
-
-pub returns-in_err-kind : goal.returns-in_err-kind
-returns-in_err-kind c = rw c.from_residual.ensures (no_colon c.args.value.now c.in_err-kind.ensures.cases)

@@ -1,0 +1,3 @@
+mod OnWay
+mod Stopped
+pub mod Laws

@@ -1,0 +1,7 @@
+mod Printing
+mod OnTheWay
+mod Outcome
+mod Executed
+mod Noted
+mod Single
+pub mod Laws

@@ -1,0 +1,4 @@
+mod Traced
+mod Checked
+mod Single
+pub mod Laws

@@ -1,0 +1,4 @@
+pub mod Asked
+pub mod Values
+pub mod Parts
+pub mod Words
