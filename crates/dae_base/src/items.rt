@@ -1,3 +1,5 @@
+// Lists that a vector holds (`Items`), and texts of bytes (`Text`).
+
 ghost use Rattle.std.specs.Prelude.{◌≡◌, List, [], ◌∷◌, ◌++◌, length, vec_len, OnOk, OnErr, IfOk};
 ghost use Rattle.std.specs.String.{string_bytes};
 

@@ -1,3 +1,5 @@
+// What is printed at a time: a byte, or a word in decimal or hexadecimal digits.
+
 ghost use Rattle.std.specs.Prelude.{◌≡◌, ℕ, ◌<◌, ◌≤◌, List, [], length, take, nat_eq, true, false};
 ghost use Rattle.std.specs.Fmt.{digit_glyph};
 ghost use Rattle.dae_base.specs.Texts.{byte_text, decimal_text, hex_text, is_nothing, spelled};

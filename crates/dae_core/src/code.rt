@@ -1,3 +1,5 @@
+// Code as a processor keeps it: each word decoded once, with the queue that it uses.
+
 ghost use Rattle.std.specs.Prelude.{◌≡◌, map, IfOk};
 ghost use Rattle.dae_core.specs.Codes.{legal_word};
 

@@ -1,3 +1,5 @@
+// Loads and stores of 1, 2 and 4 bytes of a memory, little-endian.
+
 ghost use Rattle.std.specs.Prelude.{◌≡◌, slice_index, slice_set};
 ghost use Rattle.dae_base.specs.Words.{loaded, stored};
 

@@ -1,3 +1,5 @@
+// What a processor sees of the queues: may it take, may it push, and what is in front.
+
 ghost use Rattle.std.specs.Prelude.{◌≡◌, ℕ, Bool, true, is_some, IfSome, Option};
 ghost use Rattle.dae_base.specs.declared.Queue.{Queue};
 ghost use Rattle.dae_encode.specs.declared.QueueUse.{QueueUse};

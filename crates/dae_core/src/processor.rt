@@ -1,3 +1,5 @@
+// A processor: its registers, counter and private memory, and what one step of it does.
+
 ghost use Rattle.std.specs.Prelude.{◌≡◌, ◌≢◌, ℕ, ◌<◌, ◌^◌, Bool, true, false, length, slice_index, Option, None, is_some, IfOk, IfErr, IfSome, Some, [], option_map, slice_get, if◌then◌else◌};
 ghost use Rattle.dae_base.specs.Words.{plus, stored, loaded, width_of};
 ghost use Rattle.dae_encode.specs.Instructions.{form};

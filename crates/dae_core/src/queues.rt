@@ -1,3 +1,5 @@
+// The seven queues as one object: what each side takes and pushes, fills and drains.
+
 ghost use Rattle.std.specs.Prelude.{◌≡◌, IsSome, true, nat_lt, IfOk, filter, length, slice_get, refl};
 ghost use Rattle.dae_base.specs.Budgets.{depth};
 ghost use Rattle.dae_core.specs.Held.{CanCount, CanHold, HeldQueues};

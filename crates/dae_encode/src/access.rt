@@ -1,3 +1,5 @@
+// Which queue an instruction uses on a side, and which addresses and calls are good.
+
 ghost use Rattle.std.specs.Prelude.{◌≡◌, true, IfSome};
 ghost use Rattle.dae_base.specs.Words.{size};
 ghost use Rattle.dae_encode.specs.Instructions.{form};

@@ -1,3 +1,5 @@
+// A field of bits of a word.
+
 ghost use Rattle.std.specs.Prelude.{◌≡◌, ℕ, ◌<◌};
 ghost use Rattle.dae_encode.specs.Instructions.{field};
 

@@ -1,3 +1,5 @@
+// From a word to the instruction that it spells.
+
 ghost use Rattle.std.specs.Prelude.{◌≡◌, ◌≢◌, ℕ, ◌<◌, ◌^◌, IfSome, IfNone};
 ghost use Rattle.dae_encode.specs.Decoding.{branches, loads, stores, immediates, shifts, operations, multiplications, registers_only, by_fields};
 ghost use Rattle.dae_encode.specs.Instructions.{field, signed_in, imm_i, imm_s, imm_b, imm_u, imm_j};

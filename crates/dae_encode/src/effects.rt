@@ -1,3 +1,5 @@
+// What an instruction gives and where it goes on, for the values of its sources.
+
 ghost use Rattle.std.specs.Prelude.{◌≡◌, ℕ, ◌<◌, ◌^◌, ◌*ℤ◌, ◌-ℤ◌, ◌≤ℤ◌, ◌<ℤ◌, pos, if◌then◌else◌};
 ghost use Rattle.std.specs.Int.{int_shr};
 ghost use Rattle.dae_base.specs.Words.{word, signed, plus};

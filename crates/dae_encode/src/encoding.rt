@@ -1,3 +1,5 @@
+// From an instruction to its word.
+
 ghost use Rattle.std.specs.Prelude.{◌≡◌, ℕ, ◌<◌, ◌^◌, ◌+◌, ◌≤◌, Some};
 ghost use Rattle.dae_encode.specs.Instructions.{field};
 ghost use Rattle.dae_encode.specs.Spelling.{in_places, R, I, Shift, S, B, U, J, Fits, encoded, InRange, decode};

@@ -1,3 +1,5 @@
+// Whether an instruction's registers and immediate are in range.
+
 ghost use Rattle.std.specs.Prelude.{◌≡◌, ℕ, ◌<◌, ◌%◌, ◌^◌, pos, ◌≤ℤ◌, ◌<ℤ◌, ◌↔◌, IsTrue};
 ghost use Rattle.dae_base.specs.Words.{word};
 ghost use Rattle.dae_encode.specs.Spelling.{IsSigned, InRange};

@@ -1,3 +1,5 @@
+// How deep the parts of a text stand, and the first that stands too deep.
+
 ghost use Rattle.std.specs.Prelude.{◌≡◌, ◌<◌, ◌++◌, [], ◌∷◌, take, drop, length, IfOk, nat_le, slice_get, Some};
 ghost use Rattle.std.specs.Option.{unwrap_or};
 

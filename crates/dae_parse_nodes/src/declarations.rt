@@ -1,3 +1,5 @@
+// Nodes of initialisers, declarations and externals.
+
 ghost use Rattle.std.specs.Prelude.{◌≡◌, ◌≢◌, List, [], ◌∷◌, Option, Some, None, IfOk};
 ghost use Rattle.dae_base.specs.declared.Place.{Place};
 ghost use Rattle.dae_tree.specs.Trees as tree;

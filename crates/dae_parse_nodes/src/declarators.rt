@@ -1,3 +1,5 @@
+// Nodes of declarators and parameters.
+
 ghost use Rattle.std.specs.Prelude.{◌≡◌, true, List, [], ◌∷◌, Option, Some, None, IfOk, ◌||◌, if◌then◌else◌};
 ghost use Rattle.dae_tree.specs.Trees as tree;
 ghost use Rattle.dae_tree.specs.Names.{Names, is_bare, after_parameters};

@@ -1,3 +1,5 @@
+// Lists of nodes with nothing in them yet.
+
 ghost use Rattle.std.specs.Prelude.{◌≡◌, List, [], Option, Some, None};
 ghost use Rattle.dae_tree.specs.Trees as tree;
 ghost use Rattle.dae_tree.specs.Lists as lists;

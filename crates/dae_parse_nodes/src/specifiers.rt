@@ -1,3 +1,5 @@
+// Nodes of specifiers, members and enumerators.
+
 ghost use Rattle.std.specs.Prelude.{◌≡◌, List, [], ◌∷◌, Option, Some, None, IfOk, ◌||◌};
 ghost use Rattle.dae_tree.specs.Trees as tree;
 ghost use Rattle.dae_tree.specs.Names.{is_typedef_specifier, is_typedef_word};

@@ -1,3 +1,5 @@
+// Nodes of statements.
+
 ghost use Rattle.std.specs.Prelude.{◌≡◌, List, [], ◌∷◌, Option, Some, None, IfOk};
 ghost use Rattle.dae_tree.specs.Trees as tree;
 ghost use Rattle.dae_parse_grammar.specs.Frames as frames;

@@ -1,3 +1,5 @@
+// What names stand for in scopes that open and close, the innermost first.
+
 ghost use Rattle.std.specs.Prelude.{◌≡◌, ◌∷◌, [], IfOk};
 ghost use Rattle.dae_parse_scope.specs.Scopes.{bound_to, bound, opened, closed, innermost};
 ghost use Rattle.dae_parse_scope.specs.Shown.{bound_all};

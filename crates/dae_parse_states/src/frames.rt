@@ -1,3 +1,5 @@
+// Frames: what a parser has begun and awaits the rest of.
+
 use dae_base::Place;
 use dae_parse_nodes::{Declared, Loop, Operand, ParameterList, Specified};
 use dae_parse_parts::Read;

@@ -1,3 +1,5 @@
+// A parser's state: its frames, the names in scope and the tokens that are left.
+
 ghost use Rattle.std.specs.Prelude.{◌≡◌, ◌∷◌, List, IfOk};
 ghost use Rattle.dae_tree.specs.Names.{with_declarator};
 ghost use Rattle.dae_tree.specs.Trees.{Declarator};

@@ -1,3 +1,5 @@
+// Whether a name is a type's, and whether specifiers begin here.
+
 ghost use Rattle.std.specs.Prelude.{◌≡◌};
 ghost use Rattle.dae_tree.specs.Names.{is_type};
 ghost use Rattle.dae_tree.specs.Words as words;

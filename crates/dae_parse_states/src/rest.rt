@@ -1,3 +1,5 @@
+// The tokens that are left, and what is in front of them.
+
 ghost use Rattle.std.specs.Prelude.{◌≡◌, ◌∷◌, List, length, IfSome};
 ghost use Rattle.dae_tree.specs.Marks.{Mark, marks, mark, mark_of};
 ghost use Rattle.dae_base.specs.declared.Place.{Place};

@@ -1,3 +1,5 @@
+// Queues, first in, first out: what any does, one in a vector, and one in a ring.
+
 ghost use Rattle.std.specs.Prelude.{◌≡◌, ℕ, ◌<◌, true, List, [], ◌∷◌, ◌++◌, length, nat_lt, is_some, if◌then◌else◌, slice_get, IfOk, None, Some, refl};
 ghost use Rattle.dae_queues.specs.Lists.{first, rest};
 ghost use Rattle.dae_queues.specs.Fifos.{with_item, without_item, ends};

@@ -1,3 +1,5 @@
+// Load queues: slots reserved in order, filled in any order, taken in order.
+
 ghost use Rattle.std.specs.Prelude.{◌≡◌, ◌<◌, ◌^◌, drop, filter, length, nat_lt, is_some, if◌then◌else◌, IfOk, slice_get, slice_set, Some};
 ghost use Rattle.std.specs.List.{list_any};
 ghost use Rattle.circular_buffer.specs.Buffer.{buffer};

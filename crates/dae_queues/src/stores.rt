@@ -1,3 +1,5 @@
+// Store queues: addresses and data, which meet as they are drained.
+
 ghost use Rattle.std.specs.Prelude.{◌≡◌, ◌<◌, ◌^◌, length, nat_lt, is_some, if◌then◌else◌, IfOk, slice_get};
 ghost use Rattle.std.specs.List.{list_any};
 ghost use Rattle.dae_queues.specs.Lists.{with_address, with_datum, next_store, without_store, no_stores, bars};

@@ -1,3 +1,5 @@
+// Nodes of expressions, specifiers and declarators.
+
 use crate::constants::Constant;
 use crate::operators::{
     AssignmentOperator, BinaryOperator, MemberOperator, PostfixOperator, PrefixOperator,

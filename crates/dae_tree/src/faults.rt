@@ -1,3 +1,5 @@
+// Why a text has no tokens, and which constructs aren't taken.
+
 use dae_base::Place;
 
 /// What a text is refused for by name.

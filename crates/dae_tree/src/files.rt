@@ -1,3 +1,5 @@
+// The tree of a file, with its names, literals and headers.
+
 ghost use Rattle.std.specs.Prelude.{◌≡◌};
 ghost use Rattle.dae_tree.specs.Files.{IsFile, contents_include};
 

@@ -1,3 +1,5 @@
+// Pieces of a text: what kinds there are, and how they are spelled.
+
 use crate::constants::Constant;
 use crate::faults::{Construct, Fault};
 use crate::signs::Sign;

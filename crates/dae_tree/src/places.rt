@@ -1,3 +1,5 @@
+// The place of each node, and what a declarator declares.
+
 ghost use Rattle.std.specs.Prelude.{◌≡◌};
 ghost use Rattle.std.specs.Option.{option_copied, option_map};
 ghost use Rattle.dae_tree.specs.Depth.{place_of, place_before, place_of_specifier, place_of_specifiers, place_of_statement, place_of_external};

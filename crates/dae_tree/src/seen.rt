@@ -1,3 +1,5 @@
+// What the specifiers of a declaration say so far, and which word may follow.
+
 ghost use Rattle.std.specs.Prelude.{◌≡◌};
 ghost use Rattle.dae_tree.specs.Views.{view_specifier, views_specifiers};
 ghost use Rattle.dae_tree.specs.Words as words;

@@ -1,3 +1,5 @@
+// The signs of the language and their spellings.
+
 use crate::faults::Construct;
 use crate::pieces::PieceKind;
 

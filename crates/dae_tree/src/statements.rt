@@ -1,3 +1,5 @@
+// Nodes of initialisers, declarations, statements and externals.
+
 use crate::expressions::{Declarator, Expression, Specifier};
 use dae_base::Place;
 

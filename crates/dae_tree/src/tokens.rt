@@ -1,3 +1,5 @@
+// The tokens of a text, with their places, names and literals.
+
 ghost use Rattle.std.specs.Prelude.{◌≡◌, ◌<◌, length, IfSome, slice_get, slice_range};
 
 use crate::constants::Constant;

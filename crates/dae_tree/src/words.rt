@@ -1,3 +1,5 @@
+// The keywords of the language, and those that are refused.
+
 use crate::faults::Construct;
 
 /// A keyword that is taken (C90 6.1.1).
