@@ -2,7 +2,8 @@
 
 `count` gives how many instructions a program executes at an optimisation level, how many words of code it has, and what it
 prints. The functions of the C library that a program may call (printf, putchar, exit, abort) are done by this interpreter
-when the program comes to them, and cost nothing: only the program's own instructions are counted.
+when the program comes to them, and cost nothing: only the program's own instructions are counted, and those of memset, which
+gcc calls to set a local array to zero.
 """
 
 import os
@@ -22,11 +23,44 @@ HEADERS = {
 FLAGS = ["-march=rv32im", "-mabi=ilp32", "-std=c90", "-ffreestanding", "-fno-builtin", "-fwrapv", "-w", "-nostdlib", "-static"]
 
 
+# words as far as they go, and then bytes, from an address that is a multiple of four
+MEMSET = """.globl memset
+memset: andi a1, a1, 255
+    slli t0, a1, 8
+    or a1, a1, t0
+    slli t0, a1, 16
+    or a1, a1, t0
+    add t1, a0, a2
+    andi t2, t1, -4
+    mv t0, a0
+    bgeu t0, t2, 2f
+1:  sw a1, 0(t0)
+    addi t0, t0, 4
+    bltu t0, t2, 1b
+2:  bgeu t0, t1, 4f
+3:  sb a1, 0(t0)
+    addi t0, t0, 1
+    bltu t0, t1, 3b
+4:  ret
+"""
+
+PRODUCTS = ("mul", "mulh", "mulhsu", "mulhu")
+QUOTIENTS = ("div", "divu", "rem", "remu")
+
+
 class Alone(NamedTuple):
-    """What one processor executed, its words of code, and its output."""
+    """What one processor executed, its words of code, and its output; and of what it executed the loads of objects with static
+    storage, the products, and the quotients and remainders."""
     instructions: int
     words: int
     output: bytes
+    loads: int
+    products: int
+    quotients: int
+
+    def ticks(self, load, product, quotient):
+        """How long it takes where these instructions cost so many ticks, each other one 1, and the next one waits for each."""
+        return (self.instructions + self.loads * (load - 1) + self.products * (product - 1) + self.quotients * (quotient - 1))
 
 
 def is_there():
@@ -49,7 +83,7 @@ def build(sources, level, folder):
             file.write(text)
     library = os.path.join(folder, "library.s")
     with open(library, "w", encoding="ascii") as file:
-        file.write("".join(f".globl {name}\n{name}: ret\n" for name in ("_start",) + LIBRARY))
+        file.write("".join(f".globl {name}\n{name}: ret\n" for name in ("_start",) + LIBRARY) + MEMSET)
     linked, raw = os.path.join(folder, "linked"), os.path.join(folder, "raw")
     subprocess.run([COMPILER, *FLAGS, level, "-I", folder, "-o", linked, *sources, library], check=True)
     tools = COMPILER.removesuffix("gcc")
@@ -76,7 +110,8 @@ class Processor:
         self.counter = symbols["main"]
         self.library = {symbols[name]: name for name in LIBRARY}
         self.decoded = {}
-        self.instructions = 0
+        self.stack = max(symbols.values())
+        self.instructions = self.loads = self.products = self.quotients = 0
         self.output = b""
 
     def run(self):
@@ -101,8 +136,11 @@ class Processor:
             result = rv32.value(instruction, counter, x, y)
         elif instruction.form == "loads":
             result = rv32.load(self.memory, instruction.name, address)
+            self.loads += address < self.stack
         elif instruction.form == "stores":
             rv32.store(self.memory, rv32.WIDTHS[instruction.name], address, y)
+        self.products += instruction.name in PRODUCTS
+        self.quotients += instruction.name in QUOTIENTS
         if instruction.rd:
             registers[instruction.rd] = result
         self.counter = rv32.next_counter(instruction, counter, x, y)
@@ -140,4 +178,4 @@ def count(sources, level, folder):
     data, begin, symbols, words = build(sources, level, folder)
     processor = Processor(data, begin, symbols)
     processor.run()
-    return Alone(processor.instructions, words, processor.output)
+    return Alone(processor.instructions, words, processor.output, processor.loads, processor.products, processor.quotients)

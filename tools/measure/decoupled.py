@@ -16,12 +16,17 @@ ENDS = {0: "status", 5: "trap"}
 
 @dataclass
 class Image:
-    """An image's parts that a run needs."""
+    """An image's parts that a run needs, and what it tells of its source: the budget, the words of the two codes, for each side
+    its marks (the word, the number of the file, the line) and the names of the files."""
     memory: int
     private: dict
     entry: dict
     code: dict
     data: bytes
+    budget: dict
+    words: dict
+    marks: dict
+    names: list
 
 
 @dataclass
@@ -56,23 +61,44 @@ class Counts:
 
 def read_image(data):
     """The image that these bytes spell. The compiler's own images are read, so little is tested."""
-    fields = iter(struct.unpack_from(f"<{min(len(data) // 4, 20)}I", data, 4))
+    numbers = struct.unpack_from(f"<{min(len(data) // 4, 20)}I", data, 4)
     if data[:4] != b"DAE1":
         raise ValueError("no image")
+    fields = iter(numbers)
     version = next(fields)
-    for _ in QUEUES if version == 2 else QUEUES[:-1]:
-        next(fields)
+    budget = {queue: next(fields) if version == 2 or queue != "cq" else 0 for queue in QUEUES}
     memory, _calls = next(fields), next(fields)
     private = {side: next(fields) for side in "AE"}
     entry = {side: next(fields) for side in "AE"}
-    words = {side: next(fields) for side in "AE"}
-    length = next(fields)
+    count = {side: next(fields) for side in "AE"}
+    length, line_count, name_count = next(fields), next(fields), next(fields)
     place = 4 * (20 if version == 2 else 19)
-    code = {}
+    words = {}
     for side in "AE":
-        code[side] = [rv32.decode(word) for word in struct.unpack_from(f"<{words[side]}I", data, place)]
-        place += 4 * words[side]
-    return Image(memory, private, entry, code, data[place:place + length])
+        words[side] = struct.unpack_from(f"<{count[side]}I", data, place)
+        place += 4 * count[side]
+    code = {side: [rv32.decode(word) for word in words[side]] for side in "AE"}
+    bytes_of_data, place = data[place:place + length], place + length
+    marks, place = read_marks(data, place, line_count)
+    return Image(memory, private, entry, code, bytes_of_data, budget, words, marks, read_names(data, place, name_count))
+
+
+def read_marks(data, place, count):
+    """For each side its marks in order, and the place behind them."""
+    marks = {"A": [], "E": []}
+    for side, word, file, line in struct.iter_unpack("<4I", data[place:place + 16 * count]):
+        marks["AE"[side]].append((word, file, line))
+    return marks, place + 16 * count
+
+
+def read_names(data, place, count):
+    """The names of the files that marks number."""
+    names = []
+    for _ in range(count):
+        length, = struct.unpack_from("<I", data, place)
+        names.append(data[place + 4:place + 4 + length].decode("utf-8"))
+        place += 4 + length
+    return names
 
 
 class Processor:
@@ -93,9 +119,10 @@ class Machine:
     """The two processors, the queues between them and the common memory. A step is made by the first of four methods that
     can: each answers whether it made one."""
 
-    def __init__(self, image, depth):
+    def __init__(self, image, depths):
+        self.image = image
         self.processors = {side: Processor(side, image) for side in "AE"}
-        self.depth = depth
+        self.depths = depths
         self.memory = bytearray(image.memory)
         self.memory[16:16 + len(image.data)] = image.data
         self.slots = {"ld": [], "al": []}
@@ -124,7 +151,7 @@ class Machine:
         return self.slots[queue].pop(0).word if queue in self.slots else self.messages[queue].pop(0)
 
     def can_push(self, queue):
-        return len(self.data if queue == "sd" else self.messages[queue]) < self.depth
+        return len(self.data if queue == "sd" else self.messages[queue]) < self.depths[queue]
 
     def push(self, queue, word):
         (self.data if queue == "sd" else self.messages[queue]).append(word)
@@ -149,7 +176,7 @@ class Machine:
     def issue(self, processor, instruction):
         """A load of common memory into ld or al: a slot is reserved."""
         queue = "ld" if instruction.rd == 30 else "al"
-        if len(self.slots[queue]) >= self.depth:
+        if len(self.slots[queue]) >= self.depths[queue]:
             return False
         address = processor.registers[instruction.rs1] + instruction.immediate & rv32.MASK
         self.slots[queue].append(Slot(instruction.name, address, self.issued))
@@ -158,7 +185,7 @@ class Machine:
 
     def send_address(self, processor, instruction):
         """A store to common memory: its address waits for the datum."""
-        if len(self.addresses) >= self.depth:
+        if len(self.addresses) >= self.depths["sa"]:
             return False
         address = processor.registers[instruction.rs1] + instruction.immediate & rv32.MASK
         self.addresses.append((address, rv32.WIDTHS[instruction.name]))
@@ -217,31 +244,41 @@ class Machine:
 
     # ---- steps of the memory
 
-    def fills(self):
-        """The enabled fills, those for A first: slots that no earlier store overlaps."""
+    def can_fill(self, slot):
+        """Whether a slot waits, and no earlier store overlaps it."""
         first = self.issued - len(self.addresses)
-        return [slot for queue in ("al", "ld") for slot in self.slots[queue] if slot.word is None and not any(
-            overlap(slot, address, width) for address, width in self.addresses[:max(0, slot.stamp - first)])]
+        return slot.word is None and not any(
+            overlap(slot, address, width) for address, width in self.addresses[:max(0, slot.stamp - first)])
+
+    def fills(self):
+        """The enabled fills, those for A first."""
+        return [slot for queue in ("al", "ld") for slot in self.slots[queue] if self.can_fill(slot)]
 
     def fill(self, number):
         enabled = self.fills()
         if not enabled:
             return False
-        slot = enabled[number % len(enabled)]
-        slot.word = rv32.load(self.memory, slot.name, slot.address)
-        self.counts.fills += 1
+        self.fill_slot(enabled[number % len(enabled)])
         return True
 
-    def drain(self):
-        """The first address and datum go to memory, unless an earlier load of these bytes waits for its fill."""
+    def fill_slot(self, slot):
+        slot.word = rv32.load(self.memory, slot.name, slot.address)
+        self.counts.fills += 1
+
+    def can_drain(self):
+        """Whether an address and a datum wait, and no earlier load of these bytes waits for its fill."""
         if not self.addresses or not self.data:
             return False
         address, width = self.addresses[0]
         number = self.issued - len(self.addresses)
-        for slot in self.slots["al"] + self.slots["ld"]:
-            if slot.word is None and slot.stamp <= number and overlap(slot, address, width):
-                return False
-        self.addresses.pop(0)
+        return not any(slot.word is None and slot.stamp <= number and overlap(slot, address, width)
+                       for slot in self.slots["al"] + self.slots["ld"])
+
+    def drain(self):
+        """The first address and datum go to memory, where they can."""
+        if not self.can_drain():
+            return False
+        address, width = self.addresses.pop(0)
         rv32.store(self.memory, width, address, self.data.pop(0))
         self.counts.drains += 1
         return True
@@ -266,7 +303,7 @@ def overlap(slot, address, width):
 
 def run(image, schedule, depth=8):
     """The counts of a whole run under `round` or `a`, with each queue so deep."""
-    machine = Machine(image, depth)
+    machine = Machine(image, dict.fromkeys(QUEUES, depth))
     turn = 0
     while machine.turn(turn % 2 ** 32 if schedule == "round" else 0):
         machine.count_ahead()

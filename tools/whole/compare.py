@@ -10,6 +10,7 @@ folder of the independent one, which is in Python.
     changed FIRST COUNT         the same, with a token or two taken away, doubled, exchanged or replaced
     swapped FIRST COUNT         the same, with a name, type, operator or value put for another
     bytes FIRST COUNT           the same, with bytes taken away or put in
+    initialisers FIRST COUNT    programs of initialisers.py, from these seeds
     texts FILE                  texts in hexadecimal, one a line
 
 The option --tight runs each accepted program also with each queue at its budget, under each schedule, and with each queue one
@@ -36,6 +37,7 @@ from dae import budget, deep, front, lower, meaning, slices, split      # noqa: 
 from dae.tree import Refused                                            # noqa: E402
 from fuzz_gcc import generate                                           # noqa: E402
 from random_c import random_c                                           # noqa: E402
+from initialisers import initialisers                                   # noqa: E402
 
 SCHEDULES = ["round", "a", "e", "fill", "drain", "seed:1", "seed:4294967295"]
 QUEUES = ["ld", "al", "sa", "sd", "ab", "eb", "cq"]
@@ -361,7 +363,7 @@ def programs(job, words):
     else:
         first, count = int(words[0]), int(words[1])
         for seed in range(first, first + count):
-            text = text_of(seed)
+            text = initialisers(seed).encode() if job == "initialisers" else text_of(seed)
             if job == "changed":
                 text = changed(text, random.Random(seed))
             elif job == "swapped":

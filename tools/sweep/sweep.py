@@ -1,0 +1,166 @@
+#!/usr/bin/env python3
+"""sweep.py [OPTION..] SOURCE..
+
+An architect's table: the ticks of each program for each depth of the queues, latency of a load and cap of the compiler. It is
+written to FOLDER/table.csv and drawn as FOLDER/table.svg. The cells are kept in FOLDER/cells, each as soon as it is there, so that
+a sweep that was broken off goes on where it was.
+
+    --out=FOLDER        where all is kept (sweep)
+    --depths=N,..       depths, the same for all seven queues (1,2,4,8,16)
+    --loads=N,..        ticks of a load (1,8,64)
+    --caps=N,..         caps of a group's loads and copies (4)
+    --ticks=N           at most so many ticks a cell (1000000)
+    --command=WORDS     the program that compiles and runs (./dae)
+    --by=time|record    who counts: the program's job `time`, or tools/record, which takes longer (time)
+    --jobs=N            cells at once (as many as there are processors)
+    --list              makes no cell, but prints the command of each that is missing, one a line: for `parallel`, also with its
+                        --sshlogin over a shared folder, or for an array of Slurm; call again without it for the table
+
+A cell whose depth is below the image's budget has no ticks, and says `depth`. A program that doesn't end in time says `running`.
+"""
+
+import csv
+import itertools
+import json
+import math
+import os
+import shlex
+import subprocess
+import sys
+from concurrent.futures import ThreadPoolExecutor, as_completed
+
+sys.dont_write_bytecode = True
+HERE = os.path.dirname(os.path.realpath(__file__))
+sys.path.insert(0, f"{os.path.dirname(HERE)}/see")
+import svg                                                                      # noqa: E402
+
+DEFAULTS = {"out": "sweep", "depths": "1,2,4,8,16", "loads": "1,8,64", "caps": "4", "ticks": "1000000", "command": "./dae",
+            "by": "time", "jobs": str(os.cpu_count() or 1), "list": None}
+COLUMNS = ("program", "cap", "depth", "load", "end", "steps", "ticks")
+
+
+def options(words):
+    """The options and the sources that words spell."""
+    told, sources = dict(DEFAULTS), []
+    for word in words:
+        name, equals, value = word[2:].partition("=") if word.startswith("--") else ("", "", "")
+        if name and (name not in DEFAULTS or (name == "list") == bool(equals)):
+            sys.exit(__doc__)
+        if name:
+            told[name] = value
+        else:
+            sources.append(word)
+    if not sources or told["by"] not in ("record", "time"):
+        sys.exit(__doc__)
+    return told, sources
+
+
+def numbers(text):
+    return [int(it) for it in text.split(",")]
+
+
+def image_of(told, source, cap):
+    """The kept image of a program under a cap, which is compiled where it isn't there or older than its source."""
+    name = f"{told['out']}/images/{os.path.basename(source).removesuffix('.c')}-{cap}.img"
+    if not os.path.exists(name) or os.path.getmtime(name) < os.path.getmtime(source):
+        words = [*shlex.split(told["command"]), "compile", f"--cap={cap}", f"--to={name}", source]
+        done = subprocess.run(words, capture_output=True, text=True, check=False)
+        if done.returncode:
+            sys.exit(f"sweep.py: {shlex.join(words)}: {done.stderr}")
+    return name
+
+
+def cells(told, sources):
+    """Each cell: its row so far, its image, and the file in which it is kept."""
+    for source, cap in itertools.product(sources, numbers(told["caps"])):
+        image = image_of(told, source, cap)
+        program = os.path.basename(source).removesuffix(".c")
+        for depth, load in itertools.product(numbers(told["depths"]), numbers(told["loads"])):
+            row = {"program": program, "cap": cap, "depth": depth, "load": load}
+            yield row, image, f"{told['out']}/cells/{program}-{cap}-{depth}-{load}.json"
+
+
+def words_of(told, row, image, kept):
+    """The command that makes a cell and keeps it."""
+    by = shlex.join(["--command=" + told["command"]]) if told["by"] == "time" else ""
+    return (f"{shlex.quote(sys.executable)} {shlex.quote(HERE)}/cell.py --depth={row['depth']} --load={row['load']} "
+            f"--ticks={told['ticks']} --to={shlex.quote(kept)} {by} {shlex.quote(image)}")
+
+
+def is_kept(kept, image):
+    return os.path.exists(kept) and os.path.getmtime(kept) >= os.path.getmtime(image)
+
+
+def make(told, missing):
+    """Makes the cells, several at once, with a bar of progress."""
+    done = 0
+    with ThreadPoolExecutor(int(told["jobs"])) as pool:
+        running = [pool.submit(subprocess.run, words_of(told, *it), shell=True, check=True) for it in missing]
+        for it in as_completed(running):
+            it.result()
+            done += 1
+            bar = "#" * (40 * done // len(missing))
+            print(f"\r[{bar:<40}] {done} of {len(missing)} cells", end="", file=sys.stderr)
+    if missing:
+        print(file=sys.stderr)
+
+
+def rows_of(made):
+    for row, _, kept in made:
+        with open(kept, encoding="ascii") as file:
+            yield {**row, **json.load(file)}
+
+
+def shade(share):
+    """From white, where a cell is as fast as the fastest, to a dark blue."""
+    return "#" + "".join(f"{round(255 + (end - 255) * share):02x}" for end in (0, 82, 140))
+
+
+def draw(rows):
+    """A row for each program and cap, a group of columns for each latency, a column for each depth: how many times as long as the
+    fastest cell of the row and latency."""
+    lines = sorted({(it["program"], it["cap"]) for it in rows})
+    loads, depths = sorted({it["load"] for it in rows}), sorted({it["depth"] for it in rows})
+    wide, cell = 52 * len(depths) + 14, {(it["program"], it["cap"], it["load"], it["depth"]): it for it in rows}
+    picture = svg.Picture(210 + wide * len(loads), 110 + 22 * len(lines), "Ticks by depth of the queues and latency of a load",
+                          "darker: more ticks than the best depth of the same program and latency; white: as few")
+    for group, load in enumerate(loads):
+        picture.text(190 + group * wide, 66, f"a load takes {load}", weight="bold")
+        for place, depth in enumerate(depths):
+            picture.text(190 + group * wide + 52 * place + 25, 82, f"{depth}", anchor="middle", fill=svg.GREY)
+        for line, (program, cap) in enumerate(lines):
+            told = [cell[program, cap, load, depth] for depth in depths]
+            least = min((it["ticks"] for it in told if it["ticks"]), default=1)
+            for place, it in enumerate(told):
+                corner = (190 + group * wide + 52 * place, 90 + 22 * line)
+                share = min(1, math.log2(it["ticks"] / least) / 3) if it["ticks"] else 0
+                picture.box(corner, (50, 20), shade(share) if it["ticks"] else "#eeeeee", f"{program}, cap {cap}: {it['end']}")
+                picture.text(corner[0] + 25, corner[1] + 14, str(it["ticks"] or it["end"].split()[0]), size=9, anchor="middle",
+                             fill="#ffffff" if share > .5 else svg.INK)
+    for line, (program, cap) in enumerate(lines):
+        picture.text(180, 104 + 22 * line, f"{program}, cap {cap}", anchor="end")
+    return picture.svg()
+
+
+def main(words):
+    told, sources = options(words)
+    for part in ("images", "cells"):
+        os.makedirs(f"{told['out']}/{part}", exist_ok=True)
+    made = list(cells(told, sources))
+    missing = [it for it in made if not is_kept(it[2], it[1])]
+    if told["list"] is not None:
+        print(*(words_of(told, *it) for it in missing), sep="\n")
+        return
+    make(told, missing)
+    rows = list(rows_of(made))
+    with open(f"{told['out']}/table.csv", "w", encoding="ascii", newline="") as file:
+        table = csv.DictWriter(file, COLUMNS)
+        table.writeheader()
+        table.writerows(rows)
+    with open(f"{told['out']}/table.svg", "w", encoding="utf-8") as file:
+        file.write(draw(rows))
+    print(f"{len(rows)} cells, {len(missing)} of them made now: {told['out']}/table.csv and table.svg", file=sys.stderr)
+
+
+if __name__ == "__main__":
+    main(sys.argv[1:])
