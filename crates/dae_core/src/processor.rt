@@ -140,6 +140,7 @@ impl Core {
         is_within(0, self.private.len() as u32, width, addr)
     }
 
+    #[inline(always)]
     fn bad_address(
         &self,
         memory: u32,
@@ -164,6 +165,7 @@ impl Core {
     }
 
     #[tactic(auto, unfolding(dae_encode::specs::Processor::early_fault))]
+    #[inline(always)]
     fn early_fault(&self, memory: u32, access: QueueUse, form: &Form) -> Option<Fault>
         ensures { result ≡ early_fault self.now.side memory self.now.processor access form.now }
     {
@@ -192,6 +194,7 @@ impl Core {
     }
 
     /// The next instruction, or the fault of its counter or of its word.
+    #[inline(always)]
     fn fetch(&self) -> Result<Legal, Fault>
         requires { self.now.processor.halt ≡ None }
         ensures ok { IfOk result
@@ -214,6 +217,7 @@ impl Core {
         }
     }
 
+    #[inline(always)]
     fn entry(&self, at: usize) -> Option<Option<Legal>>
         ensures { result
             ≡ option_map (legal_word self.now.copies self.now.side) (slice_get self.now.code at) }
@@ -304,9 +308,9 @@ impl Core {
             → result ≡ put_word self.old.processor Nothing inst.now (Computes rd x y) }
     {
         let (first, second) = (self.read(given, x), self.read(given, y));
-        let counter = self.counter;
-        let result = value(inst, counter, first, second);
-        let after = next(inst, counter, first, second);
+        let (inst, counter) = (*inst, self.counter);
+        let result = value(&inst, counter, first, second);
+        let after = next(&inst, counter, first, second);
         self.go_on(rd, result, after);
         result
     }
@@ -314,6 +318,7 @@ impl Core {
     /// Does an instruction that is no call, where its access gives this word, and tells the word that goes into the queue
     /// where the access gives 0, or None where a private address is bad, and then nothing changes.
     #[tactic(auto, unfolding(dae_encode::specs::Processor::finish, dae_encode::specs::Processor::put_word))]
+    #[inline(always)]
     fn finish(&mut self, access: QueueUse, inst: &Inst, form: &Form, given: u32) -> Option<u32>
         requires { form.now ≢ Calls }
         ensures held { IsSame self.old self.new }
@@ -431,6 +436,7 @@ impl Core {
     }
 
     /// Does the next instruction, where it has a step, and tells what it prints, or None, and then nothing changes.
+    #[inline(always)]
     pub fn try_step<P: Ports>(&mut self, memory: u32, ports: &mut P) -> Option<Piece>
         requires { P.can_count ports.old }
         ensures held { IsSame self.old self.new }
@@ -448,7 +454,9 @@ impl Core {
         }
     }
 
-    // An instruction that only computes is done at once: no fault and no queue keeps it.
+    // An instruction that computes has no fault: it is kept by its queue alone, and done at once where it has none.
+    #[tactic(auto, unfolding(dae_encode::specs::Processor::early_fault, dae_encode::specs::Processor::finish, dae_encode::specs::Processor::put_word), using(crate::proofs::Commits::commits_alike))]
+    #[inline(always)]
     fn try_legal<P: Ports>(&mut self, memory: u32, legal: &Legal, ports: &mut P) -> Option<Piece>
         requires count { P.can_count ports.old }
         requires form { legal.now.form ≡ form legal.now.inst }
@@ -458,14 +466,29 @@ impl Core {
             (asked self.old.side memory self.old.processor legal.now)) self.old.processor ports.old
             self.new.processor ports.new }
     {
-        if let (QueueUse::Nothing, Form::Computes(rd, x, y)) = (legal.access, legal.form) {
-            let _ = self.compute(&legal.inst, rd, x, y, 0);
-            return Some(Piece::empty());
+        match (legal.access, legal.form) {
+            (QueueUse::Nothing, Form::Computes(rd, x, y)) => {
+                let _ = self.compute(&legal.inst, rd, x, y, 0);
+                Some(Piece::empty())
+            }
+            (QueueUse::Take(queue), Form::Computes(rd, x, y)) => {
+                let given = ports.offer(QueueUse::Take(queue))?;
+                let _ = self.compute(&legal.inst, rd, x, y, given);
+                ports.commit(QueueUse::Take(queue), 0);
+                Some(Piece::empty())
+            }
+            (QueueUse::Push(queue), Form::Computes(rd, x, y)) => {
+                let given = ports.offer(QueueUse::Push(queue))?;
+                let word = self.compute(&legal.inst, rd, x, y, given);
+                ports.commit(QueueUse::Push(queue), word);
+                Some(Piece::empty())
+            }
+            _ => self.try_access(memory, legal, ports),
         }
-        self.try_access(memory, legal, ports)
     }
 
     #[tactic(auto, unfolding(dae_encode::specs::Processor::finish, dae_encode::specs::Processor::put_word), using(crate::proofs::Commits::commits_alike))]
+    #[inline(always)]
     fn try_access<P: Ports>(&mut self, memory: u32, legal: &Legal, ports: &mut P) -> Option<Piece>
         requires count { P.can_count ports.old }
         requires form { legal.now.form ≡ form legal.now.inst }

@@ -1,10 +1,12 @@
 // The seven queues as one object: what each side takes and pushes, fills and drains.
 
-ghost use Rattle.std.specs.Prelude.{◌≡◌, IsSome, true, nat_lt, IfOk, filter, length, slice_get, refl};
+ghost use Rattle.std.specs.Prelude.{◌≡◌, IsSome, true, false, ◌||◌, nat_lt, IfOk, [], filter, length, slice_get, refl};
+ghost use Rattle.std.specs.List.{list_any};
+ghost use Rattle.dae_base.specs.declared.Side.{Side};
 ghost use Rattle.dae_base.specs.Budgets.{depth};
 ghost use Rattle.dae_core.specs.Held.{CanCount, CanHold, HeldQueues};
 ghost use Rattle.dae_core.specs.Queues.{Queues, commit, count, empty_queues, front, loads_of, pushed_to, ready, reserved_in, taken_from, with_loads_of, words_of};
-ghost use Rattle.dae_queues.specs.Lists.{can_be_filled, draining_of, filling_of, first_unfilled, next_store, with_address, with_value, without_store};
+ghost use Rattle.dae_queues.specs.Lists.{can_be_filled, draining_of, filling_of, first_unfilled, next_store, waits, with_address, with_value, without_store};
 
 use crate::Ports;
 use crate::memory::load;
@@ -66,6 +68,7 @@ impl Queues {
         })
     }
 
+    #[inline(always)]
     fn is_open(&self, access: QueueUse) -> bool
         ensures { result ≡ ready self.now.depths access self.now.queues }
     {
@@ -83,6 +86,7 @@ impl Queues {
         }
     }
 
+    #[inline(always)]
     fn front_of(&self, queue: Queue) -> Option<u32>
         ensures { result ≡ front queue self.now.queues }
     {
@@ -96,6 +100,7 @@ impl Queues {
         }
     }
 
+    #[inline(always)]
     fn take(&mut self, queue: Queue)
         requires some { IsSome (front queue self.old.queues) }
         ensures { self.new ≡ record self.old { queues = taken_from queue self.old.queues } }
@@ -110,6 +115,7 @@ impl Queues {
         };
     }
 
+    #[inline(always)]
     fn push(&mut self, queue: Queue, word: u32)
         requires room { nat_lt (count queue self.old.queues) (depth queue self.old.depths) ≡ true }
         ensures { self.new ≡ record self.old { queues = pushed_to queue word self.old.queues } }
@@ -131,6 +137,7 @@ impl Queues {
         }
     }
 
+    #[inline(always)]
     fn reserve(&mut self, queue: Queue, kind: LoadKind, addr: u32)
         requires count { CanCount self.old.queues }
         requires room { nat_lt (count queue self.old.queues) (depth queue self.old.depths) ≡ true }
@@ -149,6 +156,7 @@ impl Queues {
         }
     }
 
+    #[inline(always)]
     fn push_address(&mut self, width: Width, addr: u32)
         requires count { CanCount self.old.queues }
         requires room { nat_lt (count Queue.Sa self.old.queues) self.old.depths.sa ≡ true }
@@ -180,6 +188,7 @@ impl Ports for Queues {
 
     ghost nothing_changes = { λ q w. refl };
 
+    #[inline(always)]
     fn offer(&self, access: QueueUse) -> Option<u32> {
         match access {
             QueueUse::Take(queue) => self.front_of(queue),
@@ -187,6 +196,7 @@ impl Ports for Queues {
         }
     }
 
+    #[inline(always)]
     fn commit(&mut self, access: QueueUse, word: u32) {
         match access {
             QueueUse::Nothing => {}
@@ -200,6 +210,7 @@ impl Ports for Queues {
 
 /// What memory does to the queues.
 impl Queues {
+    #[inline(always)]
     fn loads(&self, side: Side) -> &SlotQueue
         ensures { result.now.held ≡ loads_of side self.now.queues }
     {
@@ -226,6 +237,7 @@ impl Queues {
 
     /// The word that a fill of the slot of this number for a side puts, where that fill is possible. No store is looked at.
     #[tactic(auto, using(crate::proofs::Fillings::filling_where))]
+    #[inline(always)]
     pub fn fill_word(&self, side: Side, number: u64, memory: &[u8]) -> Option<u32>
         requires some { IsSome
             (filling_of self.now.queues.stores.sa number
@@ -239,6 +251,7 @@ impl Queues {
     }
 
     /// Gives the waiting slot of this number for a side its value.
+    #[inline(always)]
     pub fn fill(&mut self, side: Side, number: u64, word: u32)
         ensures { self.new
             ≡ record self.old {
@@ -260,6 +273,18 @@ impl Queues {
         self.loads(side).first_unfilled()
     }
 
+    /// Whether a load waits for its value. Where none waits no slot may be filled, for neither side.
+    #[inline(always)]
+    pub fn has_waiting(&self) -> bool
+        ensures waits { result
+            ≡ (list_any waits self.now.queues.al.slots || list_any waits self.now.queues.ld.slots) }
+        ensures none { (side : Side) → result ≡ false
+            → filter (can_be_filled self.now.queues.stores.sa)
+            (loads_of side self.now.queues).slots ≡ [] }
+    {
+        self.al.waits() || self.ld.waits()
+    }
+
     /// How many slots may be filled for a side.
     pub fn fillable(&self, side: Side) -> u16
         ensures { result
@@ -271,6 +296,7 @@ impl Queues {
     }
 
     /// The slot at this place, counted from 0, of those that may be filled for a side, or None past the last.
+    #[inline(always)]
     pub fn nth_fillable(&self, side: Side, n: u16) -> Option<Slot>
         ensures { result
             ≡ slice_get
@@ -282,6 +308,7 @@ impl Queues {
 
     /// The store that may be drained, with its datum: the oldest one, where its datum is there and no older waiting load
     /// has a byte of it.
+    #[inline(always)]
     pub fn draining(&self) -> Option<(StoreAt, u32)>
         ensures { result
             ≡ draining_of self.now.queues.stores self.now.queues.ld.slots self.now.queues.al.slots }
@@ -295,6 +322,7 @@ impl Queues {
     }
 
     /// Takes the oldest store out with its datum.
+    #[inline(always)]
     pub fn drain(&mut self)
         requires some { IsSome (next_store self.old.queues.stores.sa self.old.queues.stores.sd) }
         ensures { self.new

@@ -39,6 +39,10 @@ pub first_right : (ps qs : List Pick) → slice_get ps 0 ≡ None → slice_get 
 first_right [] qs h = refl
 first_right (q ∷ ps) qs h = cc
 
+-- where no slot may be filled no fill is chosen
+pub chosen_of_none : (n : ℕ) (s : State) → filter (can_be_filled s.queues.stores.sa) s.queues.al.slots ≡ [] → filter (can_be_filled s.queues.stores.sa) s.queues.ld.slots ≡ [] → chosen n (fills_of A s ++ fills_of E s) ≡ None
+chosen_of_none n s a e = rw (a, e) refl
+
 pub chosen_none : (n : ℕ) (ps : List Pick) → chosen n ps ≡ None → ps ≡ []
 chosen_none n [] h = refl
 chosen_none n (p ∷ ps) h = let some = chosen_some n p ps in absurd (cc (h, some.1))

@@ -101,6 +101,7 @@ impl Machine {
     }
 
     /// The step of an enabled pick, and what it prints.
+    #[inline(always)]
     pub fn step(&mut self, pick: Pick) -> Piece
         requires enabled { IsSome (step self.old.setup self.old.state pick) }
         requires few { self.old.state.steps < 1000000000000 }
@@ -171,6 +172,7 @@ impl Machine {
     }
 
     #[tactic(auto, using(crate::proofs::Steps::fill_enabled))]
+    #[inline(always)]
     fn fill(&mut self, side: Side, number: u64)
         requires enabled { IsSome (step self.old.setup self.old.state (Pick.Fill side number)) }
         requires few { self.old.state.steps < 1000000000000 }

@@ -1,10 +1,11 @@
 -- The slots at the front that have their value.
-use Rattle.std.proofs.Common.{◌≡◌, ℕ, zero, suc, ◌+◌, ◌-◌, ◌≤◌, true, false, ◌||◌, filter, List, [], ◌∷◌, ◌++◌, drop, length, refl, ap, add-one, arith}
-use Rattle.std.specs.Prelude.{Option, Some, None, is_some, is_none, slice_get, slice_set}
+use Rattle.std.proofs.Common.{◌≡◌, ℕ, zero, suc, ◌+◌, ◌-◌, ◌≤◌, Bool, true, false, cond, ◌||◌, filter, List, [], ◌∷◌, ◌++◌, drop, length, refl, ap, ◌∙◌, add-one, arith}
+use Rattle.std.proofs.lemmas.Bool.Decides.{nat_tests}
+use Rattle.std.specs.Prelude.{Option, Some, None, is_some, is_none, nat_lt, slice_get, slice_set}
 use Rattle.std.specs.List.{list_any}
 use Rattle.dae_queues.specs.declared.Slot.{Slot}
 use Rattle.dae_queues.specs.declared.StoreAt.{StoreAt}
-use Rattle.dae_queues.specs.Lists.{can_be_filled, first_unfilled, holds, rest}
+use Rattle.dae_queues.specs.Lists.{can_be_filled, first_unfilled, holds, rest, waits}
 use Rattle.dae_queues.specs.Rings.{has_value, is_held, AreFilled}
 
 pub within : (n : ℕ) (ss : List Slot) → AreFilled n ss → n ≤ length ss
@@ -61,6 +62,31 @@ first_past zero [] h l = refl
 first_past zero (s ∷ ss) h l = absurd (omega (arith, l))
 first_past (suc n) [] h l = absurd h
 first_past (suc n) (s ∷ ss) h l = rw (not_none s.value h.0) (ap suc (first_past n ss h.1 (omega (arith, l))))
+
+zero_lt : (n : ℕ) → nat_lt 0 (suc n) ≡ true
+zero_lt n = grind (arith, nat_tests)
+
+lt_suc : (a b : ℕ) → nat_lt (suc a) (suc b) ≡ nat_lt a b
+lt_suc a b = by (nat_lt a b) refl where
+  by : (r : Bool) → nat_lt a b ≡ r → nat_lt (suc a) (suc b) ≡ r
+  by true e = grind (arith, nat_tests)
+  by false e = grind (arith, nat_tests)
+
+-- the first slot without a value is no place past the last exactly where some slot waits
+pub some_waits : (ss : List Slot) → nat_lt (first_unfilled ss) (length ss) ≡ list_any waits ss
+some_waits [] = refl
+some_waits (s ∷ ss) = go (is_none s.value) (some_waits ss) where
+  go : (b : Bool) → nat_lt (first_unfilled ss) (length ss) ≡ list_any waits ss → nat_lt (cond b 0 (suc (first_unfilled ss))) (suc (length ss)) ≡ (b || list_any waits ss)
+  go true so = zero_lt (length ss)
+  go false so = lt_suc (first_unfilled ss) (length ss) ∙ so
+
+-- where none waits none may be filled
+pub none_fillable : (sa : List StoreAt) (ss : List Slot) → list_any waits ss ≡ false → filter (can_be_filled sa) ss ≡ []
+none_fillable sa [] h = refl
+none_fillable sa (s ∷ ss) h = go (is_none s.value) refl h (none_fillable sa ss) where
+  go : (b : Bool) → is_none s.value ≡ b → (b || list_any waits ss) ≡ false → (list_any waits ss ≡ false → filter (can_be_filled sa) ss ≡ []) → filter (can_be_filled sa) (s ∷ ss) ≡ []
+  go true e k so = cc
+  go false e k so = rw e (so k)
 
 -- whether a slot holds a store, from a place on
 held_by : (a : StoreAt) (ss : List Slot) (i : ℕ) → list_any (holds a) (drop i ss) ≡ (is_held a (slice_get ss i) || list_any (holds a) (drop (suc i) ss))

@@ -44,6 +44,10 @@ abbrev pub first_value : List Slot → Option ℕ
 first_value [] = None
 first_value (s ∷ ss) = s.value
 
+-- a slot that waits for its value
+abbrev pub waits : Slot → Bool
+waits s = is_none s.value
+
 -- the place of the first slot that waits for its value, or past the last where none waits
 abbrev pub first_unfilled : List Slot → ℕ
 first_unfilled [] = 0

@@ -1,9 +1,10 @@
 // Load queues: slots reserved in order, filled in any order, taken in order.
 
-ghost use Rattle.std.specs.Prelude.{◌≡◌, ◌<◌, ◌^◌, drop, filter, length, nat_lt, is_some, if◌then◌else◌, IfOk, slice_get, slice_set, Some};
+ghost use Rattle.std.specs.Prelude.{◌≡◌, ◌<◌, ◌^◌, false, List, [], drop, filter, length, nat_lt, is_some, if◌then◌else◌, IfOk, slice_get, slice_set, Some};
 ghost use Rattle.std.specs.List.{list_any};
 ghost use Rattle.circular_buffer.specs.Buffer.{buffer};
-ghost use Rattle.dae_queues.specs.Lists.{first_unfilled, first_value, with_slot, without_front, waiting, with_value, no_slots, can_be_filled, holds};
+ghost use Rattle.dae_queues.specs.Lists.{first_unfilled, first_value, with_slot, without_front, waiting, waits, with_value, no_slots, can_be_filled, holds};
+ghost use Rattle.dae_queues.specs.declared.StoreAt.{StoreAt};
 ghost use Rattle.dae_queues.specs.Rings.{at_place, fillable_at, has_value, is_held, AreFilled};
 
 use crate::{Slot, StoreAt, StoreQueue, overlap};
@@ -149,6 +150,7 @@ impl SlotQueue {
     }
 
     /// The slot of this number, or None where no slot of this number waits for its value.
+    #[inline(always)]
     pub fn waiting(&self, number: u64) -> Option<Slot>
         ensures { result ≡ waiting number self.now.held.slots }
     {
@@ -156,6 +158,7 @@ impl SlotQueue {
     }
 
     /// Gives the slot of this number its value, or answers false where no slot of this number waits for one.
+    #[inline(always)]
     pub fn fill(&mut self, number: u64, value: u32) -> bool
         ensures found { result ≡ is_some (waiting number self.old.held.slots) }
         ensures slots { self.new
@@ -188,6 +191,17 @@ impl SlotQueue {
         self.len()
     }
 
+    /// Whether a slot waits for its value. Where none waits none may be filled.
+    #[tactic(auto, using(crate::proofs::Filled::some_waits, crate::proofs::Filled::none_fillable))]
+    #[inline(always)]
+    pub fn waits(&self) -> bool
+        ensures waits { result ≡ list_any waits self.now.held.slots }
+        ensures none { (sa : List StoreAt) → result ≡ false
+            → filter (can_be_filled sa) self.now.held.slots ≡ [] }
+    {
+        self.first_unfilled() < self.len()
+    }
+
     /// How many slots may be filled while these stores wait.
     #[tactic(auto, using(crate::proofs::Fills::count_from))]
     pub fn fillable(&self, stores: &StoreQueue) -> u16
@@ -205,6 +219,7 @@ impl SlotQueue {
     /// Of the slots that may be filled while these stores wait, by their numbers, the one at a place counted from 0,
     /// or None past the last.
     #[tactic(auto, using(crate::proofs::Fills::nth_here))]
+    #[inline(always)]
     pub fn nth_fillable(&self, stores: &StoreQueue, n: u16) -> Option<Slot>
         ensures { result
             ≡ slice_get (filter (can_be_filled stores.now.held.sa) self.now.held.slots) n }
@@ -221,12 +236,13 @@ impl SlotQueue {
         None
     }
 
+    #[inline(always)]
     fn fillable_at(&self, stores: &StoreQueue, at: u16) -> Option<Slot>
         ensures { result ≡ fillable_at stores.now.held.sa self.now.held.slots at }
     {
-        let slot = self.at(at)?;
-        if slot.value.is_none() && !stores.blocks(&slot) {
-            Some(slot)
+        let slot = self.ring.get(at as usize)?;
+        if slot.value.is_none() && !stores.blocks(slot) {
+            Some(*slot)
         } else {
             None
         }
@@ -247,6 +263,7 @@ impl SlotQueue {
     }
 }
 
+#[inline(always)]
 fn put_at(ring: &mut HeapCircularBuffer<Slot>, at: usize, mut slot: Slot, value: u32)
     requires { slice_get ring.old.items at ≡ Some slot }
     ensures { ring.new
@@ -259,6 +276,7 @@ fn put_at(ring: &mut HeapCircularBuffer<Slot>, at: usize, mut slot: Slot, value:
     }
 }
 
+#[inline(always)]
 fn slot_at(ring: &HeapCircularBuffer<Slot>, taken: u64, number: u64) -> Option<Slot>
     ensures { result ≡ at_place ring.now.items taken number }
 {

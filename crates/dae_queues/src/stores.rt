@@ -149,6 +149,7 @@ impl StoreQueue {
     }
 
     /// The store that is next to be drained, with its datum, or None where an address or a datum is absent.
+    #[inline(always)]
     pub fn front(&self) -> Option<(StoreAt, u32)>
         ensures { result ≡ next_store self.now.held.sa self.now.held.sd }
     {
@@ -159,6 +160,7 @@ impl StoreQueue {
     }
 
     /// Takes that store out and gives it with its datum, or None where an address or a datum is absent.
+    #[inline(always)]
     pub fn drain(&mut self) -> Option<(StoreAt, u32)>
         ensures store { result ≡ next_store self.old.held.sa self.old.held.sd }
         ensures stores { self.new

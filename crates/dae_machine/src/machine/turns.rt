@@ -62,6 +62,7 @@ impl Machine {
 
     /// The enabled fill that a choice selects. The first one is found without a count of all.
     #[tactic(auto, using(crate::proofs::Turns::chosen_first))]
+    #[inline(always)]
     fn pick_of_fills(&self, choice: u32) -> Option<Pick>
         ensures { result ≡ chosen choice (fills_of A self.now.state ++ fills_of E self.now.state) }
     {
@@ -73,6 +74,7 @@ impl Machine {
     }
 
     #[tactic(auto, using(crate::proofs::Turns::first_left, crate::proofs::Turns::first_right))]
+    #[inline(always)]
     fn first_fill(&self) -> Option<Pick>
         ensures { result ≡ slice_get (fills_of A self.now.state ++ fills_of E self.now.state) 0 }
     {
@@ -107,6 +109,7 @@ impl Machine {
     }
 
     /// The fill of a side at this place, counted from 0, of those that are enabled.
+    #[inline(always)]
     fn nth_fill(&self, side: Side, n: u16) -> Option<Pick>
         ensures { result ≡ slice_get (fills_of side self.now.state) n }
     {
@@ -236,8 +239,23 @@ impl Machine {
         Some((Pick::E, piece))
     }
 
-    #[inline(never)]
+    /// The step of the enabled fill that a choice selects. Where no load waits no fill is looked for.
+    #[inline(always)]
     fn try_fills(&mut self, choice: u32) -> Option<(Pick, Piece)>
+        requires few { self.old.state.steps < 1000000000000 }
+        ensures { Tried result
+            (chosen choice
+            (fills_of A self.old.state ++ fills_of E self.old.state)) self.old self.new }
+    {
+        if self.queues.has_waiting() {
+            self.try_enabled_fill(choice)
+        } else {
+            None
+        }
+    }
+
+    #[inline(never)]
+    fn try_enabled_fill(&mut self, choice: u32) -> Option<(Pick, Piece)>
         requires few { self.old.state.steps < 1000000000000 }
         ensures { Tried result
             (chosen choice
@@ -248,6 +266,7 @@ impl Machine {
         Some((pick, piece))
     }
 
+    #[inline(always)]
     fn enabled_fill(&self, choice: u32) -> Option<Pick>
         ensures pick { result
             ≡ chosen choice (fills_of A self.now.state ++ fills_of E self.now.state) }
