@@ -1,5 +1,5 @@
 -- The image of texts is small, and their program has one where memory isn't wanting.
-use Rattle.std.proofs.Common.{◌≡◌, ◌⊎◌, ℕ, zero, suc, ◌+◌, ◌-◌, ◌*◌, ◌^◌, ◌<◌, ◌≤◌, true, ◌&&◌, List, [], ◌∷◌, length, None, inl, inr, refl, ap, subst, arith}
+use Rattle.std.proofs.Common.{◌≡◌, ◌⊎◌, ℕ, zero, suc, ◌+◌, ◌-◌, ◌*◌, ◌^◌, ◌<◌, ◌≤◌, true, ◌&&◌, List, [], ◌∷◌, length, None, inl, inr, refl, ap, sym, subst, arith}
 use Rattle.std.proofs.lemmas.Bool.{false≢true, and_parts}
 use Rattle.std.specs.Prelude.{slice_get, IfOk, Result, Ok, Err}
 use Rattle.std.specs.List.{AllByRecursion, list_all}
@@ -16,16 +16,21 @@ use Rattle.dae_ir.specs.Sizes.{bit, form_size, item_weight}
 use Rattle.dae_ir.specs.declared.form.Function.{Function as FormFunction}
 use Rattle.dae_ir.specs.declared.form.Ir.{Ir}
 use Rattle.dae_ir.specs.declared.form.Item.{Item}
-use Rattle.dae_ir.specs.declared.form.Item.TheVariants.{Call}
+use Rattle.dae_ir.specs.declared.form.Item.TheVariants.{Call, Load}
 use Rattle.dae_select_walks.specs.Homes.{frame_words}
 use Rattle.dae_compile_generate.specs.Generated.{calls_of_form, is_call, words_of_form, words_of_functions, HasFramesWithin, HaveAtMost, IsShort, NeedsTooMuch}
 use Rattle.dae_lower_formed.specs.Formed.{AreFormsOf, IsFormOf, IsLowered}
 use Rattle.dae_ir_pair.specs.Sizes.{burden, item_burden}
-use Rattle.dae_sizes.specs.Promise.{burdens_of, DefinitionsAreShort, FormsAreWithin, FramesAreWithin, IsForm}
+use Rattle.dae_sizes.specs.Promise.{burdens_of, DefinitionsAreShort, FormsAreWithin, FramesAreWithin, HasFrameWithin, IsForm}
 use Rattle.dae_sizes.specs.Sources.{AreUpTo, bytes_in, tokens_in}
 use Rattle.dae_accept.specs.Origins.{IsOfFiles, ReadAreWithin}
-use Rattle.dae_compile.specs.Compiled.{IsCompiledFrom, HasTooMuchPrivate, HasTooMuchCode}
-use Rattle.dae_compile.specs.Sizes.{private_beside, words_beside, IsSmallBeside}
+use Rattle.dae_alias.specs.Forms.{AreReused, IsReusedFunction}
+use Rattle.dae_alias.specs.Laws.{ReuseStaysSmall}
+use Rattle.dae_alias.specs.Reuse.{loads_in as reuse_loads, reused}
+use Rattle.dae_alias.specs.Stretches.{nothing}
+use Rattle.dae_lower_formed.specs.Code.{loaded_burden, loads_in}
+use Rattle.dae_compile.specs.Compiled.{IsCompiledFrom, IsFinalForm, HasTooMuchPrivate, HasTooMuchCode}
+use Rattle.dae_compile.specs.Sizes.{private_beside, words_beside, AreSmallBy, IsSmallBy, IsSmallBeside}
 
 -- ---- words of code
 
@@ -39,14 +44,45 @@ weighs (Do mark x k) = let h = item_weighs x in let g = weighs k in omega (arith
 weighs (If mark test p q k) = let h = weighs p in let g = weighs q in let f = weighs k in omega (arith, h, g, f)
 weighs (Loop mark body step k) = let h = weighs body in let g = weighs step in let f = weighs k in omega (arith, h, g, f)
 
-words_weigh : (fs : List FormFunction) → words_of_functions fs ≤ 14 * burdens_of fs
-words_weigh [] = omega arith
-words_weigh (f ∷ fs) = let h = weighs (form_of f.body) in let g = words_weigh fs in omega (arith, h, g)
+-- the loads of code, counted in two ways
+same_loads : (code : Form) → reuse_loads code ≡ loads_in code
+same_loads Done = refl
+same_loads (Do mark (Load v kind x) k) = let h = same_loads k in omega (arith, h)
+same_loads (Do mark item k) = let h = same_loads k in omega (arith, h)
+same_loads (If mark test p q k) = let h = same_loads p in let g = same_loads q in let f = same_loads k in omega (arith, h, g, f)
+same_loads (Loop mark body step k) = let h = same_loads body in let g = same_loads step in let f = same_loads k in omega (arith, h, g, f)
 
-words_within : FormsAreWithin → (files : List Contents) (ir : Ir) → IsForm files ir → words_of_form ir ≤ words_beside files
-words_within within files ir is =
-    let h = words_weigh ir.functions in
-    let g = within files ir is in omega (arith, h, g)
+-- a function whose loads are reused has an item and a variable more for at most every second load
+reused_small : ReuseStaysSmall → (f g : FormFunction) → IsReusedFunction f g → IsSmallBy f g
+reused_small small f g is =
+    let s = small is.holders (form_of f.body) in
+    let size = s.size in
+    let half = s.half is.only in
+    let calls : calls_of_form (reused is.holders nothing [] 0 (form_of f.body)) ≡ calls_of_form (form_of f.body) = s.others (λ item. bit (is_call item)) (λ t. 0) (λ v kind x. refl) (λ v u. refl) in
+    let w = weighs (form_of f.body) in
+    let l = same_loads (form_of f.body) in
+    let more = is.variables in
+    record {
+      words = subst (λ (c : Form). 28 * form_size c + 42 * calls_of_form c ≤ 14 * loaded_burden (form_of f.body)) (sym is.body) (omega (arith, size, half, calls, w, l));
+      variables = omega (arith, half, l, more);
+    }
+
+pub functions_small : ReuseStaysSmall → (fs gs : List FormFunction) → AreReused fs gs → AreSmallBy fs gs
+functions_small small [] [] is = tt
+functions_small small [] (g ∷ gs) is = absurd is
+functions_small small (f ∷ fs) [] is = absurd is
+functions_small small (f ∷ fs) (g ∷ gs) is = (reused_small small f g is.0, functions_small small fs gs is.1)
+
+words_weigh : (fs gs : List FormFunction) → AreSmallBy fs gs → words_of_functions gs ≤ 14 * burdens_of fs
+words_weigh [] [] is = omega arith
+words_weigh [] (g ∷ gs) is = absurd is
+words_weigh (f ∷ fs) [] is = absurd is
+words_weigh (f ∷ fs) (g ∷ gs) is = let h = is.0 in let one = h.words in let k = words_weigh fs gs is.1 in omega (arith, one, k)
+
+words_within : FormsAreWithin → (files : List Contents) (first ir : Ir) → AreSmallBy first.functions ir.functions → IsForm files first → words_of_form ir ≤ words_beside files
+words_within within files first ir of is =
+    let h = words_weigh first.functions ir.functions of in
+    let g = within files first is in omega (arith, h, g)
 
 -- ---- frames
 
@@ -57,6 +93,15 @@ all_more P Q h (x ∷ xs) all = (h x all.0, all_more P Q h xs all.1)
 have_at_most : (n : ℕ) (ir : Ir) → AllByRecursion (λ (g : FormFunction). 19 + g.variables ≤ 8 * n) ir.functions → HaveAtMost (8 * n - 19) ir
 have_at_most n ir all =
     all_more (λ (g : FormFunction). 19 + g.variables ≤ 8 * n) (λ (g : FormFunction). g.variables ≤ 8 * n - 19) (λ g h. omega (arith, h)) ir.functions all
+
+later_frame : (n : ℕ) (f g : FormFunction) → IsSmallBy f g → HasFrameWithin n f → 19 + g.variables ≤ 8 * n
+later_frame n f g is frame = let more = is.variables in omega (arith, more, frame)
+
+later_frames : (n : ℕ) (fs gs : List FormFunction) → AreSmallBy fs gs → AllByRecursion (HasFrameWithin n) fs → AllByRecursion (λ (g : FormFunction). 19 + g.variables ≤ 8 * n) gs
+later_frames n [] [] is all = tt
+later_frames n [] (g ∷ gs) is all = absurd is
+later_frames n (f ∷ fs) [] is all = tt
+later_frames n (f ∷ fs) (g ∷ gs) is all = (later_frame n f g is.0 all.0, later_frames n fs gs is.1 all.1)
 
 -- a lawful program has a function, main
 has_function : (p : Program) → is_lawful p.memory p.frames p.content p.links p.functions p.main ≡ true → p.functions ≡ [] → ⊥
@@ -69,18 +114,21 @@ has_function p lawful none =
     false≢true (subst (λ o. is_main p.memory p.links p.functions o ≡ true) there main)
 
 -- so that a frame of 19 words is among those
-frame_within : (n k : ℕ) (p : Program) (fs : List Function) (gs : List FormFunction) → AreFormsOf p k fs gs → (fs ≡ [] → ⊥) → AllByRecursion (λ (g : FormFunction). 19 + g.variables ≤ 8 * n) gs → 19 ≤ 8 * n
-frame_within n k p [] gs a some all = absurd (some refl)
-frame_within n k p (f ∷ fs) [] a some all = absurd a
-frame_within n k p (f ∷ fs) (g ∷ gs) a some all = let h = all.0 in omega (arith, h)
+frame_within : (n k : ℕ) (p : Program) (fs : List Function) (gs hs : List FormFunction) → AreFormsOf p k fs gs → AreSmallBy gs hs → (fs ≡ [] → ⊥) → AllByRecursion (λ (g : FormFunction). 19 + g.variables ≤ 8 * n) hs → 19 ≤ 8 * n
+frame_within n k p [] gs hs a is some all = absurd (some refl)
+frame_within n k p (f ∷ fs) [] hs a is some all = absurd a
+frame_within n k p (f ∷ fs) (g ∷ gs) [] a is some all = absurd is
+frame_within n k p (f ∷ fs) (g ∷ gs) (h ∷ hs) a is some all = let l = all.0 in omega (arith, l)
 
-private_within : (n calls bytes : ℕ) (p : Program) (ir : Ir) → IsLowered p ir → ir.calls ≡ calls → AllByRecursion (λ (g : FormFunction). 19 + g.variables ≤ 8 * n) ir.functions
+private_within : (n calls bytes : ℕ) (p : Program) (ir : Ir) → IsFinalForm p calls ir → AllByRecursion (λ (g : FormFunction). 19 + g.variables ≤ 8 * n) ir.functions
     → ((m : ℕ) → HaveAtMost m ir → bytes ≤ 4 * (ir.calls * frame_words m)) → bytes ≤ private_beside calls n
-private_within n calls bytes p ir lowered depth all within =
+private_within n calls bytes p ir of all within =
+    let lowered = of.lowered in
     let form = lowered.form in
-    let least : 19 ≤ 8 * n = frame_within n 0 p p.functions ir.functions form.functions (has_function p lowered.lawful) all in
+    let first = of.first in
+    let least : 19 ≤ 8 * n = frame_within n 0 p p.functions first.functions ir.functions form.functions of.small (has_function p lowered.lawful) all in
     let words : frame_words (8 * n - 19) ≡ 8 * n = omega (arith, least) in
-    subst (λ c. bytes ≤ 4 * (c * (8 * n))) depth (subst (λ w. bytes ≤ 4 * (ir.calls * w)) words (within (8 * n - 19) (have_at_most n ir all)))
+    subst (λ c. bytes ≤ 4 * (c * (8 * n))) of.depth (subst (λ w. bytes ≤ 4 * (ir.calls * w)) words (within (8 * n - 19) (have_at_most n ir all)))
 
 -- ---- the image
 
@@ -90,9 +138,11 @@ form_in texts p ir o form = record { typed = o.typed; from = o.from; program = p
 pub small : FormsAreWithin → FramesAreWithin → (texts : List (List ℕ)) (p : Program) (calls cap : ℕ) (image : Image) → IsOfFiles texts p → IsCompiledFrom p calls cap image → IsSmallBeside texts calls image
 small forms frames texts p calls cap image o made =
     let ir = made.form in
-    let lowered = made.lowered in
-    let is : IsForm o.files ir = form_in texts p ir o lowered.form in
-    let words = words_within forms o.files ir is in
+    let of = made.final in
+    let first = of.first in
+    let lowered = of.lowered in
+    let is : IsForm o.files first = form_in texts p first o lowered.form in
+    let words = words_within forms o.files first ir of.small is in
     let short = made.short in
     let within = made.frames in
     let a = short.a in
@@ -102,16 +152,17 @@ small forms frames texts p calls cap image o made =
       read = o.read;
       code_a = omega (arith, a, words);
       code_e = omega (arith, e, words);
-      private_a = λ n up. private_within n calls image.private_a p ir lowered made.depth (frames o.files ir n is up) within.a;
-      private_e = λ n up. private_within n calls image.private_e p ir lowered made.depth (frames o.files ir n is up) within.e;
+      private_a = λ n up. private_within n calls image.private_a p ir of (later_frames n first.functions ir.functions of.small (frames o.files first n is up)) within.a;
+      private_e = λ n up. private_within n calls image.private_e p ir of (later_frames n first.functions ir.functions of.small (frames o.files first n is up)) within.e;
     }
 
 -- ---- what isn't too large
 
-pub never_long : ReadAreWithin → FormsAreWithin → (texts : List (List ℕ)) (p : Program) → IsOfFiles texts p → HasTooMuchCode p → ⊥
-never_long read forms texts p o h =
-    let lowered = h.lowered in
-    let words = words_within forms o.files h.form (form_in texts p h.form o lowered.form) in
+pub never_long : ReadAreWithin → FormsAreWithin → (texts : List (List ℕ)) (p : Program) (calls : ℕ) → IsOfFiles texts p → HasTooMuchCode p calls → ⊥
+never_long read forms texts p calls o h =
+    let of = h.final in
+    let lowered = of.lowered in
+    let words = words_within forms o.files of.first h.form of.small (form_in texts p of.first o lowered.form) in
     let few = read texts o.files o.read in
     let a : tokens_in o.files ≤ 65536 = few.0 in
     let b : bytes_in o.files ≤ 65536 = few.1 in
@@ -124,6 +175,8 @@ not_large calls few (inr e) = absurd (omega (arith, e, few))
 pub never_deep : DefinitionsAreShort → FramesAreWithin → (texts : List (List ℕ)) (p : Program) (calls : ℕ) → calls ≤ 4096 → IsOfFiles texts p → HasTooMuchPrivate p calls → ⊥
 never_deep short frames texts p calls few o h =
     let ir = h.form in
-    let lowered = h.lowered in
-    let all = frames o.files ir greatest_length (form_in texts p ir o lowered.form) (short o.files o.typed o.from) in
-    not_large calls few (subst (λ c. (2 ^ 26 ≤ 65536) ⊎ (2 ^ 28 < c * 65536)) h.depth (h.needs (8 * greatest_length - 19) (have_at_most greatest_length ir all)))
+    let of = h.final in
+    let first = of.first in
+    let lowered = of.lowered in
+    let all = later_frames greatest_length first.functions ir.functions of.small (frames o.files first greatest_length (form_in texts p first o lowered.form) (short o.files o.typed o.from)) in
+    not_large calls few (subst (λ c. (2 ^ 26 ≤ 65536) ⊎ (2 ^ 28 < c * 65536)) of.depth (h.needs (8 * greatest_length - 19) (have_at_most greatest_length ir all)))

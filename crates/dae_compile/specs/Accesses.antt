@@ -12,15 +12,15 @@ use Rattle.dae_program.specs.declared.program.Program.{Program}
 use Rattle.dae_program.specs.Programs.{meaning_of, program_of, start}
 use Rattle.dae_program.specs.Wanted.{Wants, AreKept, wanted_reads, open_tests}
 use Rattle.dae_lower_bounds.specs.Voids.{void_tests}
-use Rattle.dae_lower_formed.specs.Order.{DoesTheSame}
+use Rattle.dae_lower_formed.specs.Order.{DoesTheSame, IsKeptByFewer}
 
--- The form does what the program does: where that ends or traps, with as many loads as the program reads and as many stores as
+-- The form does what the program does: where that ends or traps, with no more loads than the program reads and as many stores as
 -- it writes. In each function, by the least classes of the form and any set of wanted variables that is kept, and so by the
 -- least, the access side loads at most as many variables for itself as wanted expressions designate a scalar in memory, and
 -- decides at most as many conditions as there are initialised aggregates and tests that are open to it, and tests of a call of
 -- exit or abort.
 pub record KeepsAccesses (p : Program) (calls : ℕ) (form : Ir) : Type 0 where
-  pub same : DoesTheSame (meaning_of p calls)
+  pub same : DoesTheSame IsKeptByFewer (meaning_of p calls)
       (λ n. outcome form n (let w = start p.memory p.frames p.content in w.memory))
   pub loads : (wants : Wants) → AreKept (program_of p calls) wants
       → (tables : List (List Class)) → AreClassesOf form tables

@@ -14,9 +14,9 @@ use Rattle.dae_cli_options.specs.declared.options.Options.{Options}
 
 -- The texts are accepted as a program, in a memory of the size of the options; the image is compiled from that
 -- program, with the limits of the options on calls and on groups; in every order of steps, and at all depths that
--- reach its budget, it does what the program means; its form reads and writes as the program does, and its access side loads
--- and decides no more than the program wants; no queue needs more than the options allow a group; the image is small beside
--- the texts; and it names the files.
+-- reach its budget, it does what the program means; its form loads no more than the program reads and stores as it writes, and
+-- its access side loads and decides no more than the program wants; no queue needs more than the options allow a group; the
+-- image is small beside the texts; and it names the files.
 pub record IsImageOf (texts names : List (List ℕ)) (options : Options) (image : Image) : Type 0 where
   pub program : Program
   pub accepted : IsAccepted texts options.memory program

@@ -12,9 +12,9 @@ use dae_accept::{CompileError, accept, read_are_within};
 use dae_base::{Items, Text};
 use dae_cli_options::Options;
 use dae_compile_generate::Compiled;
+use dae_compile_promise::later_forms_do_programs;
 use dae_link_sides::CodeError;
-use dae_lower_bounds::{conditions_bounded, loads_bounded};
-use dae_lower_formed::lowered_do_programs;
+use dae_lower_bounds::sets_bounded;
 use dae_sizes::{
     definitions_are_short, forms_are_within, frames_are_within, functions_initialise_constants,
 };
@@ -45,9 +45,8 @@ pub fn compile(
     forms_are_within();
     frames_are_within();
     functions_initialise_constants();
-    loads_bounded();
-    conditions_bounded();
-    lowered_do_programs();
+    sets_bounded();
+    later_forms_do_programs();
     let program = accept(alloc, texts, options.memory)?;
     match compile_program(alloc, program, options.calls, options.cap, names) {
         Ok(compiled) => Ok(compiled),

@@ -1,25 +1,45 @@
 // The image of a typed program, and its report.
 
 ghost use Rattle.std.specs.Prelude.{◌≡◌, ◌<◌, ◌≤◌, ◌%◌, length, IfErr, IfOk, IsTrue};
-ghost use Rattle.std.specs.List.{All, list_all};
+ghost use Rattle.std.specs.List.{All, AllByRecursion, list_all};
 ghost use Rattle.dae_image.specs.Contents.{is_name};
 ghost use Rattle.dae_ir_pair.specs.Budget.{IsWithinCap};
 ghost use Rattle.dae_compile_promise.specs.Promises.{KeepsMeaning};
 ghost use Rattle.dae_link_sides.specs.declared.error.CodeError.TheVariants as errors;
-ghost use Rattle.dae_compile.specs.Compiled.{AreCompiledFrom, HasTooMuchPrivate, HasTooMuchCode};
+ghost use Rattle.dae_ir.specs.Scope.{IsScoped};
+ghost use Rattle.dae_ir.specs.SetFirst.{IsFunctionSetFirst};
+ghost use Rattle.dae_lower_forms.specs.Lowered.{HasRoom};
+ghost use Rattle.dae_compile.specs.Compiled.{AreCompiledFrom, HasTooMuchPrivate, HasTooMuchCode, IsFinalForm};
 
+use dae_alias::{forms_are_reused, reuse, reuse_stays_small};
 use dae_base::{Items, Text};
 use dae_compile_generate::{Compiled, generate};
 use dae_compile_promise::image_keeps_meaning;
+use dae_ir::Ir;
 use dae_link_sides::CodeError;
 use dae_lower_forms::lower;
 use dae_program::Program;
-use std::alloc::Global;
+use std::alloc::{AllocError, Global};
 
 // A byte is below 256.
 fn see_bytes(bytes: &[u8])
     ensures { All (λ b. b < 256) bytes.now }
 {}
+
+/// A final form of a program, with at most so many calls inside one another: the lowered form with its loads reused. It is well
+/// made, sets each variable before it reads it, and has room in its memory. An error is want of memory.
+fn final_form(alloc: Global, program: &Program, calls: u16) -> Result<Ir, AllocError>
+    ensures made { IfOk result (IsFinalForm program.now calls) }
+    ensures scoped { IfOk result IsScoped }
+    ensures first { IfOk result (λ ir. AllByRecursion IsFunctionSetFirst ir.functions) }
+    ensures room { IfOk result (HasRoom program.now) }
+{
+    forms_are_reused();
+    reuse_stays_small();
+    let lowered = lower(alloc, program, calls)?;
+    let ir = reuse(alloc, lowered)?;
+    Ok(ir)
+}
 
 /// The image of a program and the report of its form, with at most so many calls inside one another, where a group holds at most `cap` loads
 /// for E and as many copies, from 1 to 64; the names are those of its files. In every order of steps it does what
@@ -48,11 +68,11 @@ pub fn compile_program(
     ensures compiled { IfOk result (AreCompiledFrom program calls cap) }
     ensures budget { IfOk result (λ c. IsWithinCap cap c.image.budget) }
     ensures names { IfOk result (λ c. c.image.names ≡ names) }
-    ensures long { IfErr result (λ e. e ≡ errors.Code → HasTooMuchCode program) }
+    ensures long { IfErr result (λ e. e ≡ errors.Code → HasTooMuchCode program calls) }
     ensures deep { IfErr result (λ e. e ≡ errors.Private → HasTooMuchPrivate program calls) }
 {
     image_keeps_meaning();
-    let ir = lower(alloc, &program, calls)?;
+    let ir = final_form(alloc, &program, calls)?;
     let Program { content, .. } = program;
     see_bytes(content.as_slice());
     generate(alloc, &ir, cap, content, names)

@@ -30,11 +30,11 @@ use Rattle.dae_program.specs.Programs.{program_of, variables_of, meaning_of, pro
 use Rattle.dae_program.specs.Promise.{NeverStrays}
 use Rattle.dae_program.specs.declared.program.Program.{Program}
 use Rattle.dae_lower.specs.Keeping.{IsOver}
-use Rattle.dae_lower_formed.specs.Formed.{IsLowered, FormsScoped}
-use Rattle.dae_lower_formed.specs.Order.{DoesTheSame, LoweredDoPrograms}
+use Rattle.dae_lower_formed.specs.Formed.{IsLowered}
+use Rattle.dae_lower_formed.specs.Order.{DoesTheSame, IsKeptByFewer}
 use Rattle.dae_machine_rounds.specs.Order.{InOrder}
 use Rattle.dae_machine_runs.specs.Promises.{DoesForm, Ends}
-use Rattle.dae_compile_promise.specs.Promises.{OnlyEnds, IsAtEnd, KeepsMeaning, ImageKeepsMeaning}
+use Rattle.dae_compile_promise.specs.Promises.{OnlyEnds, IsAtEnd, KeepsMeaning, IsLaterForm, ImageKeepsMeaning, LaterFormsDoPrograms}
 use Rattle.dae_compile_promise.proofs.Main.{IsOverResult, main_is_over}
 
 -- ---- fronts and prefixes, the same in two spellings
@@ -62,7 +62,7 @@ main_body functions (x ∷ xs) h (suc f) m = main_body functions xs h.1 f m
 abbrev OrdersRun : Type 0
 OrdersRun = (setup : Setup) (s t : State) (ps : List Pick) → InOrder setup s ps t → Runs setup s ps t
 
-module _ (p : Program) (depth : ℕ) (ir : Ir) (image : Image) (lowered : IsLowered p ir) (calls : ir.calls ≡ suc depth) (content : image.content ≡ p.content) (done : DoesForm ir image 14) (scoped : IsScoped ir) (same : LoweredDoPrograms) (fair : NeverStrays) (as_run : OrdersRun) where
+module _ (p : Program) (depth : ℕ) (old ir : Ir) (image : Image) (lowered : IsLowered p old) (later : IsLaterForm old ir) (calls : ir.calls ≡ suc depth) (content : image.content ≡ p.content) (done : DoesForm ir image 14) (scoped : IsScoped ir) (same : LaterFormsDoPrograms) (fair : NeverStrays) (as_run : OrdersRun) where
   abbrev program_meaning : ℕ → Outcome ℕ
   program_meaning n = meaning_of p (suc depth) n
 
@@ -74,11 +74,11 @@ module _ (p : Program) (depth : ℕ) (ir : Ir) (image : Image) (lowered : IsLowe
   opened_memory =
       let f = lowered.form in
       ap (λ (xs : List ℕ). replicate 16 0 ++ (xs ++ replicate (image.memory - (16 + length xs)) 0)) content
-      ∙ ap (λ (size : ℕ). replicate 16 0 ++ (p.content ++ replicate (size - (16 + length p.content)) 0)) (done.size ∙ f.memory)
+      ∙ ap (λ (size : ℕ). replicate 16 0 ++ (p.content ++ replicate (size - (16 + length p.content)) 0)) (done.size ∙ later.memory ∙ f.memory)
       ∙ sym (append_assoc (replicate 16 0) p.content (replicate (p.memory - (16 + length p.content)) 0))
 
-  alike : DoesTheSame program_meaning form_meaning
-  alike = subst (λ (m : List ℕ). DoesTheSame program_meaning (λ n. outcome ir n m)) (sym opened_memory) (same p ir lowered depth calls)
+  alike : DoesTheSame IsKeptByFewer program_meaning form_meaning
+  alike = subst (λ (m : List ℕ). DoesTheSame IsKeptByFewer program_meaning (λ n. outcome ir n m)) (sym opened_memory) (same p old ir lowered later depth calls)
 
   -- ---- main gives no result
 
@@ -92,8 +92,8 @@ module _ (p : Program) (depth : ℕ) (ir : Ir) (image : Image) (lowered : IsLowe
 
   -- ---- where the program is over
 
-  short : (steps items loads work : ℕ) → steps ≤ 14 * (8 * items + 14) → items + loads ≤ 9 * work → steps ≤ 4096 * (work / 4 + 1)
-  short steps items loads work h k = omega (arith, h, k)
+  short : (steps items work : ℕ) → steps ≤ 14 * (8 * items + 14) → items ≤ 9 * work → steps ≤ 4096 * (work / 4 + 1)
+  short steps items work h k = omega (arith, h, k)
 
   ends_at : (halt : Halt) (end : End) → ((m : ℕ) (w : World) → form_meaning m ≡ Over end w → Ends image 14 halt w) → IsOver end
       → (n : ℕ) → program_end (program_meaning n) ≡ end → OnlyEnds image halt (last_world (program_meaning n))
@@ -108,7 +108,7 @@ module _ (p : Program) (depth : ℕ) (ir : Ir) (image : Image) (lowered : IsLowe
       record {
         end = x.state;
         picks = x.picks;
-        short = short (length x.picks) _ _ _ x.short (subst (λ (w : World). w.items + w.loads ≤ 9 * (let v = last_world (program_meaning n) in v.items)) world k.items);
+        short = short (length x.picks) _ _ x.short (subst (λ (w : World). w.items ≤ 9 * (let v = last_world (program_meaning n) in v.items)) world k.items);
         halts = x.halt';
         memory = x.memory ∙ ap (λ (w : World). w.memory) (sym world) ∙ k.memory;
         printed = x.printed ∙ ap (λ (w : World). w.printed) (sym world) ∙ k.printed;
@@ -211,6 +211,6 @@ module _ (p : Program) (depth : ℕ) (ir : Ir) (image : Image) (lowered : IsLowe
   keeps_meaning : KeepsMeaning p (suc depth) image
   keeps_meaning = record { never_stuck = stuck_never; ends_only = ends_only_so; ends = ends_so; traps = traps_so; goes_on = goes_so }
 
-pub image_keeps_meaning : FormsScoped → LoweredDoPrograms → NeverStrays → OrdersRun → ImageKeepsMeaning
-image_keeps_meaning scoped same fair as_run p depth ir image lowered calls content done =
-    keeps_meaning p depth ir image lowered calls content done (scoped p ir lowered) same fair as_run
+pub image_keeps_meaning : LaterFormsDoPrograms → NeverStrays → OrdersRun → ImageKeepsMeaning
+image_keeps_meaning same fair as_run p depth old ir image lowered later calls content done =
+    keeps_meaning p depth old ir image lowered later calls content done (let k = later.keeps in k.scoped) same fair as_run

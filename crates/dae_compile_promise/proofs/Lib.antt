@@ -1,2 +1,3 @@
 mod Main
 mod Chain
+mod Later

@@ -12,11 +12,14 @@ use Rattle.dae_machine.specs.Opened.{setup_of, opened}
 use Rattle.dae_machine.specs.Ends.{CanOnlyEnd, GoesOn as RunsGoOn}
 use Rattle.dae_meaning.specs.Worlds.{World}
 use Rattle.dae_meaning.specs.Results.{End, Halted, Trapped, Going, Astray}
+use Rattle.dae_ir.specs.Programs.{outcome}
 use Rattle.dae_ir.specs.declared.form.Ir.{Ir}
 use Rattle.dae_program.specs.Outcomes.{Outcome, last_world}
-use Rattle.dae_program.specs.Programs.{meaning_of, program_end, GoesOn}
+use Rattle.dae_alias.specs.Forms.{KeepsForm}
+use Rattle.dae_program.specs.Programs.{meaning_of, program_end, start, GoesOn}
 use Rattle.dae_program.specs.declared.program.Program.{Program}
 use Rattle.dae_lower_formed.specs.Formed.{IsLowered}
+use Rattle.dae_lower_formed.specs.Order.{DoesTheSame, IsKeptByFewer}
 use Rattle.dae_machine_runs.specs.Promises.{DoesForm}
 
 -- ---- every run
@@ -65,8 +68,24 @@ pub record KeepsMeaning (p : Program) (limit : ℕ) (image : Image) : Type 0 whe
 
 -- ---- from a program to an image that does its form
 
--- an image that holds a program's data, and does the program's form with 14 instructions a move, keeps its meaning
+-- A form that passes from form to form may make of another one: it has that one's memory, frames and limit on calls; it ends as
+-- that one does under each bound, with no more loads, and is as well made; and its access side loads and decides no more.
+pub record IsLaterForm (ir later : Ir) : Type 0 where
+  pub memory : later.memory ≡ ir.memory
+  pub frames : later.frames ≡ ir.frames
+  pub calls : later.calls ≡ ir.calls
+  pub keeps : KeepsForm ir later
+
+-- a later form of a program does what the program does, with no more loads than the program reads
+abbrev pub LaterFormsDoPrograms : Type 0
+LaterFormsDoPrograms =
+    (p : Program) (ir later : Ir) → IsLowered p ir → IsLaterForm ir later → (depth : ℕ) → later.calls ≡ suc depth
+    → DoesTheSame IsKeptByFewer (meaning_of p (suc depth))
+    (λ n. outcome later n (let w = start p.memory p.frames p.content in w.memory))
+
+-- an image that holds a program's data, and does a later form of the program, with 14 instructions a move, keeps its meaning
 abbrev pub ImageKeepsMeaning : Type 0
 ImageKeepsMeaning =
-    (p : Program) (depth : ℕ) (ir : Ir) (image : Image) → IsLowered p ir → ir.calls ≡ suc depth
-    → image.content ≡ p.content → DoesForm ir image 14 → KeepsMeaning p (suc depth) image
+    (p : Program) (depth : ℕ) (ir later : Ir) (image : Image) → IsLowered p ir → IsLaterForm ir later
+    → later.calls ≡ suc depth → image.content ≡ p.content → DoesForm later image 14
+    → KeepsMeaning p (suc depth) image

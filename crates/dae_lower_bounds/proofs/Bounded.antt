@@ -26,48 +26,13 @@ use Rattle.dae_program.specs.Programs.{program_of}
 use Rattle.dae_program.specs.Resolved.{function_in, variables_in}
 use Rattle.dae_program.specs.Wanted.{Wants, KeepStatements, AreKept, wanted_in, wanted_reads, open_statements, open_tests}
 use Rattle.dae_lower.specs.Lowering.{◌⨾◌, ◌≫◌, one, checks, is_closed, closed, parameters_stored, statements, function_code}
-use Rattle.dae_lower_bounds.specs.Bounds.{LoadsBounded, ConditionsBounded}
+use Rattle.dae_lower_bounds.specs.Bounds.{HasBoundedSets, SetsBounded}
 use Rattle.dae_lower_bounds.specs.Constants.{InitialisesConstants}
 use Rattle.dae_lower_bounds.specs.Voids.{void_statements, void_tests}
 use Rattle.dae_lower_formed.specs.Formed.{plain, IsFunctionFormOf, IsLowered}
 use Rattle.dae_lower_formed.proofs.Laws.{bounds_of, form_there, function_there, lawful_at, counts}
 use Rattle.dae_lower_bounds.proofs.Marked.{AnyTest, loads_into, loads_then, tests_within, tests_then, bit_grows, each_then, joined, joined_first, joined_second, Any, Marked}
 use Rattle.dae_lower_bounds.proofs.MarkedStatements.{function_does}
-
--- ---- more loads into more variables, and more tests of them alone
-
-item_grows : (s t : VariableSet) → IsWithin s t → (item : Item) → bit (is_load_into s item) ≤ bit (is_load_into t item)
-item_grows s t w (Assign v x) = omega arith
-item_grows s t w (Load v kind x) = bit_grows (s v) (t v) (w v)
-item_grows s t w (Store width x y) = omega arith
-item_grows s t w (Print spelling x) = omega arith
-item_grows s t w (Expect check) = omega arith
-item_grows s t w Break = omega arith
-item_grows s t w Continue = omega arith
-item_grows s t w (Call v f xs) = omega arith
-item_grows s t w (Return x) = omega arith
-item_grows s t w (Halt x) = omega arith
-
-loads_grow : (s t : VariableSet) → IsWithin s t → (c : Form) → loads_into s c ≤ loads_into t c
-loads_grow s t w Done = omega arith
-loads_grow s t w (Do place item k) = let h = item_grows s t w item in let g = loads_grow s t w k in omega (arith, h, g)
-loads_grow s t w (If place x a b k) = let h = loads_grow s t w a in let g = loads_grow s t w b in let d = loads_grow s t w k in omega (arith, h, g, d)
-loads_grow s t w (Loop place a b k) = let h = loads_grow s t w a in let g = loads_grow s t w b in let d = loads_grow s t w k in omega (arith, h, g, d)
-
-has_grows : (s t : VariableSet) → IsWithin s t → (x : Operand) → has s x ≡ true → has t x ≡ true
-has_grows s t w (Variable v) h = w v h
-has_grows s t w (Number k) h = refl
-
-tests_grow : (s t : VariableSet) → IsWithin s t → (c : Form) → tests_within s c ≤ tests_within t c
-tests_grow s t w Done = omega arith
-tests_grow s t w (Do place item k) = let h = tests_grow s t w k in omega (arith, h)
-tests_grow s t w (If place x a b k) =
-    let one = bit_grows (is_by_a s x) (is_by_a t x) (λ i. and_from (has t x.left) (has t x.right) (has_grows s t w x.left (and_first (has s x.left) (has s x.right) i)) (has_grows s t w x.right (and_second (has s x.left) (has s x.right) i))) in
-    let h = tests_grow s t w a in
-    let g = tests_grow s t w b in
-    let d = tests_grow s t w k in
-    omega (arith, one, h, g, d)
-tests_grow s t w (Loop place a b k) = let h = tests_grow s t w a in let g = tests_grow s t w b in let d = tests_grow s t w k in omega (arith, h, g, d)
 
 -- ---- a function's code round its statements
 
@@ -219,29 +184,31 @@ module _ (p : Program) (ir : Ir) (low : IsLowered p ir) (constants : AllByRecurs
       subst (λ (y : Function). tests_within (set_of k (Some x) e) (form_of g.body) ≤ open_statements (wants k) (let h = plain p y in h.body) + void_statements (let h = plain p y in h.body)) (same_Some x f i)
       (subst (λ (c : Form). tests_within (set_of k (Some x) e) c ≤ open_statements (wants k) (let h = plain p x in h.body) + void_statements (let h = plain p x in h.body)) (sym is) (code_at k x e).2)
 
-  bounded : (tables : List (List Class)) → AreClassesOf ir tables → (k : ℕ) (f : Function) (g : FormFunction) → slice_get p.functions k ≡ Some f → slice_get ir.functions k ≡ Some g → own_loads (classes_of tables k) (form_of g.body) ≤ wanted_reads (program_of p limit) wants k
+  -- by those sets
+  few_loads : (k : ℕ) (f : Function) (g : FormFunction) → slice_get p.functions k ≡ Some f → slice_get ir.functions k ≡ Some g → loads_into (all_sets k) (form_of g.body) ≤ wanted_reads (program_of p limit) wants k
   unfolding all_sets
-  bounded tables least k f g e i =
-      let w = least.addresses all_sets closed_sets k in
-      let a = loads_grow (let c = classes_of tables k in c.s) (all_sets k) w (form_of g.body) in
+  few_loads k f g e i =
       let c = loads_at k (slice_get p.functions k) refl f e g i in
       let total : wanted_reads (program_of p limit) wants k ≡ wanted_in wants (let h = plain p f in h.callee) k (let h = plain p f in h.body) =
       ap (λ (o : Option Function). wanted_in wants (let h = function_in (length p.functions) p.links o in h.callee) k (let h = function_in (length p.functions) p.links o in h.body)) e in
-      omega (arith, a, c, total)
+      omega (arith, c, total)
 
-  tests_bounded : (tables : List (List Class)) → AreClassesOf ir tables → (k : ℕ) (f : Function) (g : FormFunction) → slice_get p.functions k ≡ Some f → slice_get ir.functions k ≡ Some g →
-      conditions_a (classes_of tables k) (form_of g.body) ≤ open_tests (program_of p limit) wants k + void_tests (program_of p limit) k
+  few_tests : (k : ℕ) (f : Function) (g : FormFunction) → slice_get p.functions k ≡ Some f → slice_get ir.functions k ≡ Some g →
+      tests_within (all_sets k) (form_of g.body) ≤ open_tests (program_of p limit) wants k + void_tests (program_of p limit) k
   unfolding all_sets
-  tests_bounded tables least k f g e i =
-      let w = least.addresses all_sets closed_sets k in
-      let a = tests_grow (let c = classes_of tables k in c.s) (all_sets k) w (form_of g.body) in
+  few_tests k f g e i =
       let c = tests_at k (slice_get p.functions k) refl f e g i in
       let total : open_tests (program_of p limit) wants k + void_tests (program_of p limit) k ≡ open_statements (wants k) (let h = plain p f in h.body) + void_statements (let h = plain p f in h.body) =
       ap (λ (o : Option Function). open_statements (wants k) (let h = function_in (length p.functions) p.links o in h.body) + void_statements (let h = function_in (length p.functions) p.links o in h.body)) e in
-      omega (arith, a, c, total)
+      omega (arith, c, total)
 
-pub loads_bounded : LoadsBounded
-loads_bounded p ir low constants limit wants kept tables least k f g e i = bounded p ir low constants limit wants kept tables least k f g e i
+  sets : HasBoundedSets p ir limit wants
+  sets = record {
+    of = λ k. record { s = all_sets k; needs = λ v. false };
+    closed = closed_sets;
+    loads = few_loads;
+    decides = few_tests;
+  }
 
-pub conditions_bounded : ConditionsBounded
-conditions_bounded p ir low constants limit wants kept tables least k f g e i = tests_bounded p ir low constants limit wants kept tables least k f g e i
+pub sets_bounded : SetsBounded
+sets_bounded p ir low constants limit wants kept = sets p ir low constants limit wants kept

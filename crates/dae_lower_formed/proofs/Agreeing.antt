@@ -22,7 +22,7 @@ use Rattle.dae_program.specs.declared.program.Function.{Function}
 use Rattle.dae_program.specs.declared.program.Program.{Program}
 use Rattle.dae_program.specs.Programs.{variables_of, meaning_of, start}
 use Rattle.dae_program.specs.Resolved.{function_in, variables_in}
-use Rattle.dae_lower.specs.Keeping.{form_run_of, place_in}
+use Rattle.dae_lower.specs.Keeping.{IsKept, form_run_of, place_in}
 use Rattle.dae_lower.specs.Lowering.{function_code}
 use Rattle.dae_lower_formed.specs.Formed.{IsFunctionFormOf, IsLowered, FormsScoped}
 use Rattle.dae_lower_formed.specs.Order.{DoesTheSame, FormsDoPrograms, LoweredDoPrograms}
@@ -174,4 +174,4 @@ module _ (p : Program) (ir : Ir) (low : IsLowered p ir) (scoped : IsScoped ir) w
 
 pub lowered_do_programs : FormsScoped → FormsDoPrograms → LoweredDoPrograms
 lowered_do_programs scoped done p ir low depth e =
-    subst (λ (r : ℕ → Result Env). DoesTheSame (meaning_of p (suc depth)) r) (λ i n. sym (same_outcome p ir low (scoped p ir low) (suc depth) e n) i) (done p depth low.lawful)
+    subst (λ (r : ℕ → Result Env). DoesTheSame IsKept (meaning_of p (suc depth)) r) (λ i n. sym (same_outcome p ir low (scoped p ir low) (suc depth) e n) i) (done p depth low.lawful)

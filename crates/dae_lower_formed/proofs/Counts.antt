@@ -1,7 +1,7 @@
 -- At most three variables are made for a node; and so the form of each function of a program is small.
 use Rattle.dae_base.specs.declared.Place.{Place}
 use Rattle.dae_lower.specs.Lowering.{function_code}
-use Rattle.std.proofs.Common.{ℕ, Bool, ◌+◌, ◌*◌, ◌≤◌, List, [], ◌∷◌, length, Option, Some, None, sym, ◌∙◌, subst, arith}
+use Rattle.std.proofs.Common.{ℕ, Bool, true, false, ◌+◌, ◌*◌, ◌≤◌, List, [], ◌∷◌, length, Option, Some, None, sym, ◌∙◌, subst, arith}
 use Rattle.std.specs.Prelude.{nat_eq}
 use Rattle.std.proofs.lemmas.Option.{same_Some}
 use Rattle.dae_ir.specs.Form.{Form}
@@ -20,8 +20,8 @@ use Rattle.dae_ir.specs.declared.form.Item.{Item}
 use Rattle.dae_ir.specs.declared.form.Item.TheVariants as item
 use Rattle.dae_ir.specs.Sizes.{item_weight}
 use Rattle.dae_ir_pair.specs.Sizes.{item_burden, burden}
-use Rattle.dae_lower_formed.specs.Code.{most_code, most_code_for, most_code_of_all, most_code_of_some, most_code_of_items, most_code_of_pieces, most_code_in, most_code_in_arms, most_code_of_slots, most_code_in_function}
-use Rattle.dae_lower_formed.proofs.SmallStatements.{function_small, code_within}
+use Rattle.dae_lower_formed.specs.Code.{loads_in, most_code, most_code_for, most_code_of_all, most_code_of_some, most_code_of_items, most_code_of_pieces, most_code_in, most_code_in_arms, most_code_of_slots, most_code_in_function}
+use Rattle.dae_lower_formed.proofs.SmallStatements.{function_loads, function_small, code_within}
 
 mutual
   at_most : (e : Expression) → most_made e ≤ 3 * nodes e
@@ -112,7 +112,8 @@ mutual
   code_most (tree.Address object offset) = omega arith
   code_most (tree.Frame p offset) = omega arith
   code_most (tree.Variable p v) = omega arith
-  code_most (tree.Read p kind checked a) = let h = code_most a in omega (arith, h)
+  code_most (tree.Read p kind true a) = let h = code_most a in omega (arith, h)
+  code_most (tree.Read p kind false a) = let h = code_most a in omega (arith, h)
   code_most (tree.Convert p kind a) = let h = code_most a in omega (arith, h)
   code_most (tree.Not p a) = let h = code_most a in omega (arith, h)
   code_most (tree.Binary p operator a b) = let h = code_most a in let g = code_most b in omega (arith, h, g)
@@ -180,7 +181,7 @@ code_most_in_function f = let h = code_most_of_slots f.parameters in let g = cod
 code_small : (p : Place) (is_main : Bool) (f : tree.Function) (n : ℕ) → form_size (function_code p is_main f n) ≤ 10 * nodes_of_function f
 code_small p is_main f n =
     let h = twice (function_code p is_main f n) in
-    let g = code_within p is_main f n in
+    let g : burden (function_code p is_main f n) + loads_in (function_code p is_main f n) ≤ most_code_in_function f = code_within p is_main f n in
     let c = code_most_in_function f in omega (arith, h, g, c)
 
 pub forms_small : FormsSmall
@@ -191,4 +192,5 @@ forms_small p ir form k f g e i =
       variables = let h = (function_small f.place (plain p f) f.variables).few in let v = is.variables in omega (arith, h, v);
       made = at_most_in_function (plain p f);
       code = subst (λ (c : Form). form_size c ≤ 10 * nodes_of_function (plain p f)) (sym is.body) (code_small f.place (nat_eq (0 + k) p.main) (plain p f) f.variables);
+      loads = subst (λ (c : Form). f.variables + loads_in c ≤ found.0.variables) (sym is.body) (let h = function_loads f.place (nat_eq (0 + k) p.main) (plain p f) f.variables in let v = is.variables in omega (arith, h, v));
     })

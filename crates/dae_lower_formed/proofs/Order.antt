@@ -70,7 +70,7 @@ module _ (program : ℕ → Outcome ℕ) (form : ℕ → Result Env) (kept : Mea
   went_on : ((m : ℕ) → end_of (form m) ≡ Going) → (n : ℕ) → program_end (program n) ≡ Going
   went_on h n = ended (program_end (program n)) (λ o. let k = kept.ends n o in not_over (end_of (form k.0)) (h k.0) (subst IsOver (sym (let e = k.1 in e.end)) o))
 
-  does_the_same : DoesTheSame program form
+  does_the_same : DoesTheSame IsKept program form
   does_the_same = record {
     ends = kept.ends;
     ends_only = ends_only;

@@ -24,19 +24,25 @@ use Rattle.dae_program.specs.Trees as tree
 use Rattle.dae_program.specs.Trees.{Expression, Target, Expressions}
 use Rattle.dae_lower.specs.Lowering.{Made, ◌⨾◌, ◌≫◌, nothing, only, emit, skip, one, set, or, assigned, assigned_all, assigned_target, variable, fetched, held, put_in, operated, narrowed, checks, may_be_zero, Spot, Local, Placed, Condition, test_of, related, isnt_zero, turn, branches, gives, Ways, by_value, chosen, advanced, stepped, Links, ways, spot, operands}
 use Rattle.dae_lower_formed.specs.Sizes.{most_made, most_made_for, most_made_of_all}
-use Rattle.dae_ir_pair.specs.Sizes.{burden}
-use Rattle.dae_lower_formed.specs.Code.{most_code, most_code_for, most_code_of_all}
+use Rattle.dae_lower_formed.specs.Code.{loaded_burden, loads_in, with_check, most_code, most_code_for, most_code_of_all}
 
-pub size_then : (a b : Form) → burden (a ⨾ b) ≡ burden a + burden b
+pub size_then : (a b : Form) → loaded_burden (a ⨾ b) ≡ loaded_burden a + loaded_burden b
 size_then Done b = omega arith
 size_then (Do place item k) b = let h = size_then k b in omega (arith, h)
 size_then (If place t p q k) b = let h = size_then k b in omega (arith, h)
 size_then (Loop place body step k) b = let h = size_then k b in omega (arith, h)
 
--- Code from variable n on makes at most w variables, and is at most c large.
+pub loads_then : (a b : Form) → loads_in (a ⨾ b) ≡ loads_in a + loads_in b
+loads_then Done b = omega arith
+loads_then (Do place item k) b = let h = loads_then k b in omega (arith, h)
+loads_then (If place t p q k) b = let h = loads_then k b in omega (arith, h)
+loads_then (Loop place body step k) b = let h = loads_then k b in omega (arith, h)
+
+-- Code from variable n on makes at most w variables, one for each load, and is at most c large.
 pub record Small {Y : Type 0} (Is : Y → Type 0) (n w c : ℕ) (made : Made Y) : Type 0 where
   pub few : made.next ≤ n + w
-  pub small : burden made.code ≤ c
+  pub own : n + loads_in made.code ≤ made.next
+  pub small : loaded_burden made.code ≤ c
   pub given : Is made.given
 
 abbrev pub Any : {Y : Type 0} → Y → Type 0
@@ -45,6 +51,7 @@ Any y = Unit {0}
 pub chain : {X Y : Type 0} {Is : X → Type 0} {Are : Y → Type 0} {a : Made X} {n w c v d : ℕ} (f : X → ℕ → Made Y) → Small Is n w c a → ((q : ℕ) (y : X) → Is y → Small Are q v d (f y q)) → Small Are n (w + v) (c + d) (a ≫ f)
 chain {X} {Y} {Is} {Are} {a} {n} {w} {c} {v} {d} f h next = record {
   few = omega (arith, h.few, second.few);
+  own = let s = loads_then a.code (f a.given a.next).code in omega (arith, s, h.own, second.own);
   small = let s = size_then a.code (f a.given a.next).code in omega (arith, s, h.small, second.small);
   given = second.given;
 } where
@@ -52,41 +59,46 @@ chain {X} {Y} {Is} {Are} {a} {n} {w} {c} {v} {d} f h next = record {
   second = next a.next a.given h.given
 
 pub weaker : {Y : Type 0} {Is : Y → Type 0} {n w c v d : ℕ} {made : Made Y} → w ≤ v → c ≤ d → Small Is n w c made → Small Is n v d made
-weaker {Y} {Is} {n} {w} {c} {v} {d} l g h = record { few = omega (arith, h.few, l); small = omega (arith, h.small, g); given = h.given }
+weaker {Y} {Is} {n} {w} {c} {v} {d} l g h = record { few = omega (arith, h.few, l); own = h.own; small = omega (arith, h.small, g); given = h.given }
 
 -- from an earlier variable on
 pub sooner : {Y : Type 0} {Is : Y → Type 0} {w c : ℕ} {made : Made Y} (n : ℕ) → Small Is (n + 1) w c made → Small Is n (1 + w) c made
-sooner n h = record { few = omega (arith, h.few); small = h.small; given = h.given }
+sooner n h = record { few = omega (arith, h.few); own = omega (arith, h.own); small = h.small; given = h.given }
 
 pub nothing_small : {Y : Type 0} {Is : Y → Type 0} {n : ℕ} (y : Y) → Is y → Small Is n 0 0 (nothing y n)
-nothing_small y h = record { few = omega arith; small = omega arith; given = h }
+nothing_small y h = record { few = omega arith; own = omega arith; small = omega arith; given = h }
 
 set_small : {n : ℕ} (p : Place) (x : Value) → Small Any n 1 2 (set p x n)
-set_small p x = record { few = omega arith; small = omega arith; given = tt }
+set_small p x = record { few = omega arith; own = omega arith; small = omega arith; given = tt }
 
 variable_small : {n : ℕ} (b : Bool) (p : Place) (v : ℕ) → Small Any n 1 2 (variable b p v n)
 variable_small true p v = set_small p (Same (Variable v))
 variable_small false p v = weaker (omega arith) (omega arith) (nothing_small (Variable v) tt)
 
-fetched_small : {n : ℕ} (p : Place) (kind : LoadKind) (checked : Bool) (x : Operand) → Small Any n 1 4 (fetched p kind checked x n)
-fetched_small p kind true x = record { few = omega arith; small = omega arith; given = tt }
-fetched_small p kind false x = record { few = omega arith; small = omega arith; given = tt }
+fetched_small : {n : ℕ} (p : Place) (kind : LoadKind) (checked : Bool) (x : Operand) → Small Any n 1 (3 + with_check checked) (fetched p kind checked x n)
+fetched_small p kind true x = record { few = omega arith; own = omega arith; small = omega arith; given = tt }
+fetched_small p kind false x = record { few = omega arith; own = omega arith; small = omega arith; given = tt }
 
-held_small : {n : ℕ} (p : Place) (kind : LoadKind) (copied : VariableSet) (o : Spot) → Small Any n 1 4 (held p kind copied o n)
+held_small : {n : ℕ} (p : Place) (kind : LoadKind) (copied : VariableSet) (o : Spot) → Small Any n 1 5 (held p kind copied o n)
 held_small p kind copied (Local v) = weaker (omega arith) (omega arith) (variable_small (copied v) p v)
-held_small p kind copied (Placed checked x) = fetched_small p kind checked x
+held_small p kind copied (Placed true x) = fetched_small p kind true x
+held_small p kind copied (Placed false x) = weaker (omega arith) (omega arith) (fetched_small p kind false x)
 
 put_small : {n : ℕ} (p : Place) (kind : LoadKind) (o : Spot) (y : Operand) → Small Any n 0 4 (put_in p kind o y n)
-put_small p kind (Local v) y = record { few = omega arith; small = omega arith; given = tt }
-put_small p kind (Placed true x) y = record { few = omega arith; small = omega arith; given = tt }
-put_small p kind (Placed false x) y = record { few = omega arith; small = omega arith; given = tt }
+put_small p kind (Local v) y = record { few = omega arith; own = omega arith; small = omega arith; given = tt }
+put_small p kind (Placed true x) y = record { few = omega arith; own = omega arith; small = omega arith; given = tt }
+put_small p kind (Placed false x) y = record { few = omega arith; own = omega arith; small = omega arith; given = tt }
 
-tested_small : (b : Bool) (p : Place) (n : ℕ) (v : Value) (y : Operand) → burden (checks b p (Expect (Zero y)) (one p (Assign n v))) ≤ 4
+tested_small : (b : Bool) (p : Place) (n : ℕ) (v : Value) (y : Operand) → loaded_burden (checks b p (Expect (Zero y)) (one p (Assign n v))) ≤ 4
 tested_small true p n v y = omega arith
 tested_small false p n v y = omega arith
 
+tested_loads : (b : Bool) (p : Place) (n : ℕ) (v : Value) (y : Operand) → n + loads_in (checks b p (Expect (Zero y)) (one p (Assign n v))) ≤ n + 1
+tested_loads true p n v y = omega arith
+tested_loads false p n v y = omega arith
+
 operated_small : {n : ℕ} (p : Place) (operator : Operator) (x y : Operand) → Small Any n 1 4 (operated p operator x y n)
-operated_small {n} p operator x y = record { few = omega arith; small = tested_small (divides operator && may_be_zero y) p n (Binary operator x y) y; given = tt }
+operated_small {n} p operator x y = record { few = omega arith; own = tested_loads (divides operator && may_be_zero y) p n (Binary operator x y) y; small = tested_small (divides operator && may_be_zero y) p n (Binary operator x y) y; given = tt }
 
 narrowed_small : {n : ℕ} (p : Place) (kind : LoadKind) (x : Operand) → Small Any n 1 2 (narrowed p kind x n)
 narrowed_small p I32 x = weaker (omega arith) (omega arith) (nothing_small x tt)
@@ -96,15 +108,21 @@ narrowed_small p I16 x = set_small p (Extended I16 x)
 narrowed_small p U16 x = set_small p (Extended U16 x)
 
 gives_small : {n : ℕ} (p : Place) (v : ℕ) (x : Operand) → Small Any n 0 2 (gives p v x n)
-gives_small p v x = record { few = omega arith; small = omega arith; given = tt }
+gives_small p v x = record { few = omega arith; own = omega arith; small = omega arith; given = tt }
 
-if_size : (turned : Bool) (p : Place) (t : Test) (a b : Form) → burden (if turned then If p t b a Done else If p t a b Done) ≡ 2 + (burden a + burden b)
+if_size : (turned : Bool) (p : Place) (t : Test) (a b : Form) → loaded_burden (if turned then If p t b a Done else If p t a b Done) ≡ 2 + (loaded_burden a + loaded_burden b)
 if_size true p t a b = omega arith
 if_size false p t a b = omega arith
+
+if_loads : (turned : Bool) (p : Place) (t : Test) (a b : Form) → loads_in (if turned then If p t b a Done else If p t a b Done) ≡ loads_in a + loads_in b
+if_loads true p t a b = omega arith
+if_loads false p t a b = omega arith
 
 pub branches_small : {made : Made Condition} {n w c v d u e : ℕ} (p : Place) (f g : ℕ → Made (Unit {0})) → Small Any n w c made → ((q : ℕ) → Small Any q v d (f q)) → ((q : ℕ) → Small Any q u e (g q)) → Small Any n (w + (v + u)) (c + (2 + (d + e))) (branches p made f g)
 branches_small {made} {n} {w} {c} {v} {d} {u} {e} p f g h hf hg = record {
   few = omega (arith, h.few, yes.few, no.few);
+  own = let s = loads_then made.code (if made.given.turned then If p made.given.test (g (f made.next).next).code (f made.next).code Done else If p made.given.test (f made.next).code (g (f made.next).next).code Done) in
+      let i = if_loads made.given.turned p made.given.test (f made.next).code (g (f made.next).next).code in omega (arith, s, i, h.own, yes.own, no.own);
   small = let s = size_then made.code (if made.given.turned then If p made.given.test (g (f made.next).next).code (f made.next).code Done else If p made.given.test (f made.next).code (g (f made.next).next).code Done) in
       let i = if_size made.given.turned p made.given.test (f made.next).code (g (f made.next).next).code in omega (arith, s, i, h.small, yes.small, no.small);
   given = tt;
@@ -139,7 +157,7 @@ advanced_small p kind change o x =
     weaker (omega arith) (omega arith) (chain (λ z n. narrowed p kind z n ≫ put_in p kind o) (set_small p (Binary Add x (Number change)))
     (λ q y t. chain (put_in p kind o) (narrowed_small p kind y) (λ q y t. put_small p kind o y)))
 
-stepped_small : {w c n : ℕ} (p : Place) (kind : LoadKind) (f : VariableSet → ℕ → Made Spot) (change : ℕ) (new : Bool) (copied later : VariableSet) → Small Any n w c (f later n) → Small Any n (3 + w) (12 + c) (stepped p kind f change new copied later n)
+stepped_small : {w c n : ℕ} (p : Place) (kind : LoadKind) (f : VariableSet → ℕ → Made Spot) (change : ℕ) (new : Bool) (copied later : VariableSet) → Small Any n w c (f later n) → Small Any n (3 + w) (13 + c) (stepped p kind f change new copied later n)
 stepped_small p kind f change new copied later h =
     weaker (omega arith) (omega arith) (chain (λ o n. held p kind copied o n ≫ λ x n. advanced p kind change o x n ≫ λ y. nothing (if new then y else x)) h
     (λ q o t. chain (λ x n. advanced p kind change o x n ≫ λ y. nothing (if new then y else x)) (held_small p kind copied o)
@@ -159,16 +177,16 @@ inner_and_count tree.no_expressions = refl
 inner_and_count (tree.expression_then a xs) = let h = inner_and_count xs in omega (arith, h)
 
 called : (n k : ℕ) (p : Place) (f : ℕ) (ys : List Operand) → length ys ≡ k → Small Any n 1 (7 + 2 * k) (only (Do p (Expect (Room f)) (one p (Call n f ys))) (Variable n) (n + 1))
-called n k p f ys h = record { few = omega arith; small = omega (arith, h); given = tt }
+called n k p f ys h = record { few = omega arith; own = omega arith; small = omega (arith, h); given = tt }
 
 printed : (n : ℕ) (p : Place) (y : Operand) → Small Any n 0 2 (only (one p (Print Byte y)) y n)
-printed n p y = record { few = omega arith; small = omega arith; given = tt }
+printed n p y = record { few = omega arith; own = omega arith; small = omega arith; given = tt }
 
 print_small : (n : ℕ) (p : Place) (y : Operand) → Small Any n 0 2 (emit (one p (Print Byte y)) n)
-print_small n p y = record { few = omega arith; small = omega arith; given = tt }
+print_small n p y = record { few = omega arith; own = omega arith; small = omega arith; given = tt }
 
 halt_small : (n : ℕ) (p : Place) (y : Operand) → Small Any n 0 2 (only (one p (Halt y)) (Number 0) n)
-halt_small n p y = record { few = omega arith; small = omega arith; given = tt }
+halt_small n p y = record { few = omega arith; own = omega arith; small = omega arith; given = tt }
 
 module _ (l : Links) where
   mutual
@@ -241,7 +259,7 @@ module _ (l : Links) where
         (λ q y u. chain (λ z n. narrowed p kind z n ≫ put_in p kind o) (operated_small p operator x y)
         (λ q z u. chain (put_in p kind o) (narrowed_small p kind z) (λ q y u. put_small p kind o y)))))))
     expression_small (tree.Step p kind t change new) =
-        let h : ValueSmall (3 + most_made_for t) (12 + most_code_for t) (λ later n. stepped p kind (spot l t) change new (if new then later else or later (assigned_target t)) later n) =
+        let h : ValueSmall (3 + most_made_for t) (13 + most_code_for t) (λ later n. stepped p kind (spot l t) change new (if new then later else or later (assigned_target t)) later n) =
         λ later n. weaker (omega arith) (omega arith) (stepped_small p kind (spot l t) change new (if new then later else or later (assigned_target t)) later (target_small t later n)) in
         record {
           value = h;
@@ -261,7 +279,7 @@ module _ (l : Links) where
         }
     expression_small (tree.Exit p a) =
         by_value_small (ways l (tree.Exit p a)).value (λ later n. weaker (omega arith) (omega arith) (chain (λ x. only (one p (Halt x)) (Number 0)) ((expression_small a).value later n) (λ q y t. halt_small q p y)))
-    expression_small (tree.Abort p) = by_value_small (λ later. only (one p (Expect Abort)) (Number 0)) (λ later n. record { few = omega arith; small = omega arith; given = tt })
+    expression_small (tree.Abort p) = by_value_small (λ later. only (one p (Expect Abort)) (Number 0)) (λ later n. record { few = omega arith; own = omega arith; small = omega arith; given = tt })
 
     target_small : (t : Target) (later : VariableSet) (n : ℕ) → Small Any n (most_made_for t) (most_code_for t) (spot l t later n)
     target_small (tree.InVariable v) later n = nothing_small (Local v) tt

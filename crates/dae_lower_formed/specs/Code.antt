@@ -1,6 +1,8 @@
--- How large the form of a function is, by its tree: what its code weighs at most.
-use Rattle.std.specs.Prelude.{ℕ, ◌+◌, ◌*◌, ◌≤◌, Bool, List, [], ◌∷◌, length, Option, Some, None}
+-- How large the form of a function is, by its tree: what its code weighs at most, with each load once more.
+use Rattle.std.specs.Prelude.{ℕ, ◌+◌, ◌*◌, ◌≤◌, Bool, true, false, List, [], ◌∷◌, length, Option, Some, None}
 use Rattle.dae_base.specs.declared.Place.{Place}
+use Rattle.dae_ir.specs.Form.{Form}
+use Rattle.dae_ir.specs.Sizes.{bit, is_load_into, tally}
 use Rattle.dae_ir_pair.specs.Sizes.{burden}
 use Rattle.dae_program.specs.declared.program.Slot.{Slot}
 use Rattle.dae_program.specs.declared.statements.Piece.{Piece}
@@ -9,7 +11,20 @@ use Rattle.dae_program.specs.Trees as tree
 use Rattle.dae_program.specs.Trees.{Expression, Target, Expressions, Setting, Statements, Arms, Number, Address, Frame, Variable, Read, Convert, Not, Binary, Compare, And, Or, Conditional, Comma, Assign, Update, Step, Call, Putchar, Exit, Abort, InVariable, AtAddress, no_expressions, expression_then, Done, Evaluate, Initialise, Print, If, Loop, Do, Switch, Break, Continue, Return, no_arms, arm_then}
 use Rattle.dae_lower.specs.Lowering.{function_code}
 
+-- ---- forms
+
+abbrev pub loads_in : Form → ℕ
+loads_in code = tally (λ item. bit (is_load_into (λ v. true) item)) (λ t. 0) code
+
+abbrev pub loaded_burden : Form → ℕ
+loaded_burden code = burden code + loads_in code
+
 -- ---- trees
+
+-- a check beside a load
+abbrev pub with_check : Bool → ℕ
+with_check true = 2
+with_check false = 0
 
 abbrev mutual
   pub most_code : Expression → ℕ
@@ -17,7 +32,7 @@ abbrev mutual
   most_code (Address object offset) = 0
   most_code (Frame p offset) = 2
   most_code (Variable p v) = 2
-  most_code (Read p kind checked a) = 4 + most_code a
+  most_code (Read p kind checked a) = 3 + (with_check checked + most_code a)
   most_code (Convert p kind a) = 2 + most_code a
   most_code (Not p a) = 2 + most_code a
   most_code (Binary p operator a b) = 4 + (most_code a + most_code b)
@@ -27,8 +42,8 @@ abbrev mutual
   most_code (Conditional p a b c) = 6 + (most_code a + (most_code b + most_code c))
   most_code (Comma a b) = most_code a + most_code b
   most_code (Assign p kind t a) = 4 + (most_code_for t + most_code a)
-  most_code (Update p kind t operator a) = 14 + (most_code_for t + most_code a)
-  most_code (Step p kind t change new) = 12 + most_code_for t
+  most_code (Update p kind t operator a) = 15 + (most_code_for t + most_code a)
+  most_code (Step p kind t change new) = 13 + most_code_for t
   most_code (Call p f xs) = 7 + most_code_of_all xs
   most_code (Putchar p a) = 4 + most_code a
   most_code (Exit p a) = 2 + most_code a
@@ -54,7 +69,7 @@ abbrev pub most_code_of_pieces : List Piece → ℕ
 most_code_of_pieces [] = 0
 most_code_of_pieces (piece.Byte b ∷ ps) = 2 + most_code_of_pieces ps
 most_code_of_pieces (piece.Word spelling k ∷ ps) = 2 + most_code_of_pieces ps
-most_code_of_pieces (piece.String k ∷ ps) = 16 + most_code_of_pieces ps
+most_code_of_pieces (piece.String k ∷ ps) = 17 + most_code_of_pieces ps
 
 abbrev mutual
   pub most_code_in : Statements → ℕ
@@ -88,4 +103,4 @@ most_code_in_function f = 4 + (most_code_of_slots f.parameters + most_code_in f.
 -- ---- the law
 
 abbrev pub CodeWithin : Type 0
-CodeWithin = (p : Place) (is_main : Bool) (f : tree.Function) (n : ℕ) → burden (function_code p is_main f n) ≤ most_code_in_function f
+CodeWithin = (p : Place) (is_main : Bool) (f : tree.Function) (n : ℕ) → loaded_burden (function_code p is_main f n) ≤ most_code_in_function f

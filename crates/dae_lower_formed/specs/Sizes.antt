@@ -12,6 +12,7 @@ use Rattle.dae_program.specs.declared.statements.Piece.{Piece}
 use Rattle.dae_program.specs.declared.statements.Piece.TheVariants as piece
 use Rattle.dae_program.specs.Trees as tree
 use Rattle.dae_program.specs.Trees.{Expression, Target, Expressions, Setting, Statements, Arms, Number, Address, Frame, Variable, Read, Convert, Not, Binary, Compare, And, Or, Conditional, Comma, Assign, Update, Step, Call, Putchar, Exit, Abort, InVariable, AtAddress, no_expressions, expression_then, Done, Evaluate, Initialise, Print, If, Loop, Do, Switch, Break, Continue, Return, no_arms, arm_then}
+use Rattle.dae_lower_formed.specs.Code.{loads_in}
 use Rattle.dae_lower_formed.specs.Formed.{plain, IsFormOf}
 
 -- ---- the nodes of a tree: each expression, argument, statement, item, piece, arm and label is one
@@ -157,11 +158,12 @@ most_made_in_function f = most_made_of_slots f.parameters + most_made_in f.body
 -- ---- the law
 
 -- the variables of a function are its own and those that are made; a node makes at most 3, and at most 10 items of code, where a
--- call weighs one more for each argument
+-- call weighs one more for each argument. Each load goes into a variable that is made
 pub record IsSmall (f : tree.Function) (own : ℕ) (g : FormFunction) : Type 0 where
   pub variables : g.variables ≤ own + most_made_in_function f
   pub made : most_made_in_function f ≤ 3 * nodes_of_function f
   pub code : form_size (form_of g.body) ≤ 10 * nodes_of_function f
+  pub loads : own + loads_in (form_of g.body) ≤ g.variables
 
 abbrev pub FormsSmall : Type 0
 FormsSmall =

@@ -14,7 +14,7 @@ use Rattle.dae_sizes.specs.Worth.{IsDefinition}
 use Rattle.dae_lower_formed.specs.Formed.{plain, IsFunctionFormOf, AreFormsOf, IsFormOf}
 use Rattle.dae_lower_formed.specs.Sizes.{IsSmall, FormsSmall}
 use Rattle.dae_ir_pair.specs.Sizes.{burden}
-use Rattle.dae_lower_formed.specs.Code.{most_code_in_function, CodeWithin}
+use Rattle.dae_lower_formed.specs.Code.{loaded_burden, loads_in, most_code_in_function, CodeWithin}
 use Rattle.dae_ir_pair.specs.Sizes.{words_in, WordsAreBounded}
 use Rattle.dae_sizes.specs.From.{AreFrom}
 use Rattle.dae_sizes.specs.Small.{tokens, text, HasFew, HasLittle}
@@ -50,13 +50,13 @@ forms_are_few small few cs ir is =
     let p = is.program in
     let R : Source → Function → Type 0 = λ x f. HasFew x.external f.variables f.parameters (view_statements f.body) in
     let T : Function → FormFunction → Type 0 = λ f g. IsSmall (plain p f) f.variables g in
-    let S : Source → FormFunction → Type 0 = λ x g. IsDefinition x.external × (7 + g.variables ≤ 4 * tokens x.external) in
+    let S : Source → FormFunction → Type 0 = λ x g. IsDefinition x.external × (7 + g.variables ≤ 4 * tokens x.external) × (loads_in (form_of g.body) ≤ g.variables) in
     let forms : IsFormOf p ir = is.form in
-    from_alike R T S (λ x f g r t. (r.0, let h = r.1 in omega (arith, h, t.variables))) (sources_in cs) p.functions ir.functions
+    from_alike R T S (λ x f g r t. (r.0, (let h = r.1 in omega (arith, h, t.variables)), omega (arith, t.loads))) (sources_in cs) p.functions ir.functions
     (subst (AreFrom R (sources_in cs)) (sym is.functions) (few cs is.typed is.from))
     (forms_alike p T 0 p.functions ir.functions forms.functions (λ j f g d e. small p ir forms j f g d e))
 
-code_alike : (within : CodeWithin) (p : Program) (k : ℕ) (fs : List Function) (gs : List FormFunction) → AreFormsOf p k fs gs → AreAlike (λ f (g : FormFunction). burden (form_of g.body) ≤ most_code_in_function (plain p f)) fs gs
+code_alike : (within : CodeWithin) (p : Program) (k : ℕ) (fs : List Function) (gs : List FormFunction) → AreFormsOf p k fs gs → AreAlike (λ f (g : FormFunction). loaded_burden (form_of g.body) ≤ most_code_in_function (plain p f)) fs gs
 code_alike within p k [] [] a = tt
 code_alike within p k [] (g ∷ gs) a = absurd a
 code_alike within p k (f ∷ fs) [] a = absurd a
@@ -68,8 +68,8 @@ pub forms_are_little : CodeWithin → FunctionsAreLittle → FormsAreLittle
 forms_are_little within little cs ir is =
     let p = is.program in
     let R : Source → Function → Type 0 = λ x f. HasLittle x.literals x.external f.parameters (view_statements f.body) in
-    let T : Function → FormFunction → Type 0 = λ f g. burden (form_of g.body) ≤ most_code_in_function (plain p f) in
-    let S : Source → FormFunction → Type 0 = λ x g. 28 + burden (form_of g.body) ≤ 16 * tokens x.external + 8 * text x.literals x.external in
+    let T : Function → FormFunction → Type 0 = λ f g. loaded_burden (form_of g.body) ≤ most_code_in_function (plain p f) in
+    let S : Source → FormFunction → Type 0 = λ x g. 28 + loaded_burden (form_of g.body) ≤ 16 * tokens x.external + 8 * text x.literals x.external in
     let forms : IsFormOf p ir = is.form in
     from_alike R T S (λ x f g r t. omega (arith, r, t)) (sources_in cs) p.functions ir.functions
     (subst (AreFrom R (sources_in cs)) (sym is.functions) (little cs is.typed is.from))
@@ -87,7 +87,7 @@ words_alike bounded by_a of cap k (f ∷ fs) (g ∷ gs) a =
 
 pub streams_are_little : WordsAreBounded → FormsAreLittle → StreamsAreLittle
 streams_are_little bounded little cs ir by_a of cap s is stream =
-    let R : Source → FormFunction → Type 0 = λ x g. 28 + burden (form_of g.body) ≤ 16 * tokens x.external + 8 * text x.literals x.external in
+    let R : Source → FormFunction → Type 0 = λ x g. 28 + loaded_burden (form_of g.body) ≤ 16 * tokens x.external + 8 * text x.literals x.external in
     let T : FormFunction → StreamFunction → Type 0 = λ f g. words_in (actions_of g.body) ≤ 14 * burden (form_of f.body) in
     let S : Source → StreamFunction → Type 0 = λ x g. words_in (actions_of g.body) + 25 ≤ 224 * tokens x.external + 112 * text x.literals x.external in
     from_alike R T S (λ x f g r t. omega (arith, r, t)) (sources_in cs) ir.functions s.functions (little cs ir is) (words_alike bounded by_a of cap 0 ir.functions s.functions stream.functions)

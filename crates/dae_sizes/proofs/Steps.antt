@@ -27,13 +27,13 @@ use Rattle.dae_types_kinds.specs.declared.tables.Tagged.{Tagged}
 use Rattle.dae_types_kinds.specs.declared.tables.Tagged.TheVariants as tagged
 use Rattle.dae_types_kinds.specs.Tables.{Tables, with_shape, with_name, found_name, own_tag}
 use Rattle.dae_types_kinds.specs.Types.{int_id, shape_of, pointee, layout}
-use Rattle.dae_types_kinds.specs.Values.{Typed, addressed, known_and, known_or, component_in, owner, library_of, joined, operator_of}
+use Rattle.dae_types_kinds.specs.Values.{Typed, addressed, assigned, called, comma, combined_as, complemented, converted, inverted, known_and, known_or, component_in, member_by, negated, owner, library_of, joined, operator_of, starred, subscripted, valued_by}
 use Rattle.dae_types_rules.specs.Sites.{Site}
 use Rattle.dae_types_rules.specs.Plan.{Plan, Mark, OfName, OfTag, OfMember, node, maps, pardons, settles, unless_spoiled}
 use Rattle.dae_types_plans.specs.Steps.{base_at, word_at, type_name_at, tag_in, tag_at, mentioned, new_structure, begins, begins_at, with_member, settles_member, member_at, number_of, completes, ends_at, structure_body, enumeration_tag, enumeration_at, enumerator_at, enumeration_body, constant_at, pointer, unsized, count_at, sized, function, with_named_local, with_parameter, adjusted, parameter_at, type_of, value_at, name_at, condition_at, marked_entity, marked_name, address_at, star_at, step_at, promoted_of, prefix_at, postfix_at, operands_at, combination_of, and_at, or_at, binary_at, index_at, member_of, access_at, sizeof_at, cast_at, assignment_at, conditional_at, comma_at, passed, parameter_type, argument_at, with_call, call_at, call_by, routine_in, call_of}
 use Rattle.dae_sizes.specs.Weights.{weight}
 use Rattle.dae_sizes.proofs.Within.{Grown, Got, Within, none, added, same, stays, grows, grown_more, fewer, measured, unmeasured, node_within, node_stays, maps_stays, node_reads, maps_reads, asks_within, both_within, chain_within, nothing_within, looks_within, settles_within}
-use Rattle.dae_sizes.proofs.Weighing.{cost, weight_of_list, weight-append, marked_grown, joined_grown, valued_weighs, converted_weighs, valued_got, named_got, combined_weighs, subscripted_weighs, starred_weighs, negated_weighs, complemented_weighs, inverted_weighs, member_weighs, assigned_weighs, updated_weighs, stepped_weighs, conditional_got, called_weighs}
+use Rattle.dae_sizes.proofs.Weighing.{behind_low, cost, weight_of_list, weight-append, marked_grown, joined_grown, valued_weighs, converted_weighs, valued_got, named_got, combined_weighs, subscripted_weighs, starred_weighs, negated_weighs, complemented_weighs, inverted_weighs, member_weighs, assigned_weighs, updated_weighs, stepped_weighs, conditional_got, called_weighs}
 
 -- ---- notes, which change nothing where no rule is broken
 
@@ -203,33 +203,33 @@ module _ (c : ℕ) (low : c ≤ 1) {ls : List (List ℕ)} where
   })
 
   star_within : {n w : ℕ} {m : Plan Typed} (p : Place) → Within ls (cost c 2) n w m → Within ls (cost c 3) n (4 + w) (star_at p m)
-  star_within p h = node_reads h (λ s x e l. let g = starred_weighs c low x (pointee (shape_of s x.type_id)) in omega (arith, l, g))
+  star_within p h = node_reads h (λ s x e l. let g = starred_weighs c low x (pointee (shape_of s x.type_id)) in let b = behind_low c (starred x (pointee (shape_of s x.type_id))).category in omega (arith, l, g, low, b))
 
   step_within : {n w : ℕ} {m : Plan Typed} (p : Place) (down new : Bool) → Within ls (cost c 3) n w m → Within ls (cost c 3) n (4 + w) (step_at p down new m)
-  step_within p down new h = node_reads (asks_within (asks_within h)) (λ s x e l. let g = stepped_weighs c low p s down new x in omega (arith, l, g))
+  step_within p down new h = node_reads (asks_within (asks_within h)) (λ s x e l. let g = stepped_weighs c low p s down new x in omega (arith, l, g, low))
 
   pub prefix_within : {n w : ℕ} {m : Plan Typed} (p q : Place) (o : PrefixOperator) (name : Option Name) → Within ls (cost c 3) n w m → Within ls (cost c 3) n (4 + w) (prefix_at p q o name m)
   prefix_within p q prefix.Increment name h = step_within p false true h
   prefix_within p q prefix.Decrement name h = step_within p true true h
   prefix_within p q prefix.Address name h = address_within p name h
   prefix_within p q prefix.Indirection name h = star_within p (value_within q h)
-  prefix_within p q prefix.Plus name h = maps_reads (asks_within (asks_within (value_within q h))) (λ s x e l. let g = valued_weighs c low x.tree (promoted_of s x) x.known in omega (arith, l, g))
-  prefix_within p q prefix.Minus name h = maps_reads (asks_within (asks_within (value_within q h))) (λ s x e l. let g = negated_weighs c low p x (promoted_of s x) in omega (arith, l, g))
-  prefix_within p q prefix.Complement name h = maps_reads (asks_within (asks_within (value_within q h))) (λ s x e l. let g = complemented_weighs c low p x (promoted_of s x) in omega (arith, l, g))
-  prefix_within p q prefix.Not name h = maps_reads (asks_within (value_within q h)) (λ s x e l. let g = inverted_weighs c low p x in omega (arith, l, g))
+  prefix_within p q prefix.Plus name h = maps_reads (asks_within (asks_within (value_within q h))) (λ s x e l. let g = valued_weighs c low x.tree (promoted_of s x) x.known in let b = behind_low c (valued_by x.tree (promoted_of s x) x.known).category in omega (arith, l, g, low, b))
+  prefix_within p q prefix.Minus name h = maps_reads (asks_within (asks_within (value_within q h))) (λ s x e l. let g = negated_weighs c low p x (promoted_of s x) in let b = behind_low c (negated p x (promoted_of s x)).category in omega (arith, l, g, low, b))
+  prefix_within p q prefix.Complement name h = maps_reads (asks_within (asks_within (value_within q h))) (λ s x e l. let g = complemented_weighs c low p x (promoted_of s x) in let b = behind_low c (complemented p x (promoted_of s x)).category in omega (arith, l, g, low, b))
+  prefix_within p q prefix.Not name h = maps_reads (asks_within (value_within q h)) (λ s x e l. let g = inverted_weighs c low p x in let b = behind_low c (inverted p x).category in omega (arith, l, g, low, b))
 
   pub postfix_within : {n w : ℕ} {m : Plan Typed} (p : Place) (o : PostfixOperator) → Within ls (cost c 3) n w m → Within ls (cost c 3) n (4 + w) (postfix_at p o m)
   postfix_within p postfix.Increment h = step_within p false false h
   postfix_within p postfix.Decrement h = step_within p true false h
 
   operands_within : {n w : ℕ} {m : Plan (Typed × Typed)} (p : Place) (o : BinaryOperator) → Within ls (added (cost c 2) (cost c 2)) n w m → Within ls (cost c 3) n (4 + w) (operands_at p o m)
-  operands_within p o h = node_reads (asks_within h) (λ s x e l. let g = combined_weighs c low p s o x.0 x.1 (combination_of s o x) in omega (arith, l, g))
+  operands_within p o h = node_reads (asks_within h) (λ s x e l. let g = combined_weighs c low p s o x.0 x.1 (combination_of s o x) in let b = behind_low c (combined_as p s o x.0 x.1 (combination_of s o x)).category in omega (arith, l, g, low, b))
 
   and_within : {n w : ℕ} {m : Plan (Typed × Typed)} (p q : Place) → Within ls (added (cost c 2) (cost c 2)) n w m → Within ls (cost c 3) n (4 + w) (and_at p q m)
-  and_within p q h = maps_reads (asks_within (asks_within h)) (λ s x e l. let g = valued_weighs c low (program.And p x.0.tree x.1.tree) int_id (known_and x.0.known x.1.known) in omega (arith, l, g))
+  and_within p q h = maps_reads (asks_within (asks_within h)) (λ s x e l. let g = valued_weighs c low (program.And p x.0.tree x.1.tree) int_id (known_and x.0.known x.1.known) in let b = behind_low c (valued_by (program.And p x.0.tree x.1.tree) int_id (known_and x.0.known x.1.known)).category in omega (arith, l, g, low, b))
 
   or_within : {n w : ℕ} {m : Plan (Typed × Typed)} (p q : Place) → Within ls (added (cost c 2) (cost c 2)) n w m → Within ls (cost c 3) n (4 + w) (or_at p q m)
-  or_within p q h = maps_reads (asks_within (asks_within h)) (λ s x e l. let g = valued_weighs c low (program.Or p x.0.tree x.1.tree) int_id (known_or x.0.known x.1.known) in omega (arith, l, g))
+  or_within p q h = maps_reads (asks_within (asks_within h)) (λ s x e l. let g = valued_weighs c low (program.Or p x.0.tree x.1.tree) int_id (known_or x.0.known x.1.known) in let b = behind_low c (valued_by (program.Or p x.0.tree x.1.tree) int_id (known_or x.0.known x.1.known)).category in omega (arith, l, g, low, b))
 
   pub binary_within : {n w : ℕ} {m : Plan (Typed × Typed)} (p q : Place) (o : BinaryOperator) → Within ls (added (cost c 2) (cost c 2)) n w m → Within ls (cost c 3) n (4 + w) (binary_at p q o m)
   binary_within p q binary.AndAnd h = and_within p q h
@@ -237,10 +237,10 @@ module _ (c : ℕ) (low : c ≤ 1) {ls : List (List ℕ)} where
   binary_within p q o h = operands_within p o h
 
   pub index_within : {n w : ℕ} {m : Plan (Typed × Typed)} (p q : Place) → Within ls (added (cost c 2) (cost c 2)) n w m → Within ls (cost c 3) n (8 + w) (index_at p q m)
-  index_within p q h = node_reads (asks_within (asks_within h)) (λ s x e l. let g = subscripted_weighs c low p s x.0 x.1 (combination_of s binary.Add x) in omega (arith, l, g))
+  index_within p q h = node_reads (asks_within (asks_within h)) (λ s x e l. let g = subscripted_weighs c low p s x.0 x.1 (combination_of s binary.Add x) in let b = behind_low c (subscripted p s x.0 x.1 (combination_of s binary.Add x)).category in omega (arith, l, g, low, b))
 
   member_within : {n w : ℕ} {m : Plan Typed} (p : Place) (o : MemberOperator) (name : Name) → Within ls (cost c 2) n w m → Within ls (cost c 3) n (8 + w) (member_of p o name m)
-  member_within p o name h = unless_within (OfMember name.number) (node_reads h (λ s x e l. let g = member_weighs c low p s o x (component_in s (owner o s x) name.number) in omega (arith, l, g)))
+  member_within p o name h = unless_within (OfMember name.number) (node_reads h (λ s x e l. let g = member_weighs c low p s o x (component_in s (owner o s x) name.number) in let b = behind_low c (member_by p s o x (component_in s (owner o s x) name.number)).category in omega (arith, l, g, low, b)))
 
   pub access_within : {n w : ℕ} {m : Plan Typed} (p : Place) (o : MemberOperator) (name : Name) → Within ls (cost c 3) n w m → Within ls (cost c 3) n (8 + w) (access_at p o name m)
   access_within p signs.Dot name h = member_within p signs.Dot name (cheaper h)
@@ -250,17 +250,17 @@ module _ (c : ℕ) (low : c ≤ 1) {ls : List (List ℕ)} where
   sizeof_within p h = node_reads h (λ s x e l. omega (arith, low))
 
   pub cast_within : {n w : ℕ} {m : Plan (ℕ × Typed)} (p : Place) → Within ls (added none (cost c 2)) n w m → Within ls (cost c 3) n (8 + w) (cast_at p m)
-  cast_within p h = node_reads h (λ s x e l. let g = converted_weighs c low p s x.1 x.0 in omega (arith, l, g))
+  cast_within p h = node_reads h (λ s x e l. let g = converted_weighs c low p s x.1 x.0 in let b = behind_low c (converted p s x.1 x.0).category in omega (arith, l, g, low, b))
 
   pub assignment_within : {n w : ℕ} {m : Plan (Typed × Typed)} (p : Place) (o : AssignmentOperator) → Within ls (added (cost c 3) (cost c 2)) n w m → Within ls (cost c 3) n (4 + w) (assignment_at p o m)
-  assignment_within p assignment.Assign h = node_reads (asks_within h) (λ s x e l. let g = assigned_weighs c low p s x.0 x.1 in omega (arith, l, g))
+  assignment_within p assignment.Assign h = node_reads (asks_within h) (λ s x e l. let g = assigned_weighs c low p s x.0 x.1 in let b = behind_low c (assigned p s x.0 x.1).category in omega (arith, l, g, low, b))
   assignment_within p o h = node_reads (asks_within (asks_within h)) (λ s x e l. let g = updated_weighs c low p s (operator_of o) x.0 x.1 in omega (arith, l, g))
 
   pub conditional_within : {n w : ℕ} {m : Plan (Typed × (Typed × Typed))} (p : Place) → Within ls (added (cost c 2) (added (cost c 2) (cost c 2))) n w m → Within ls (cost c 3) n (8 + w) (conditional_at p m)
   conditional_within p h = node_stays h (λ s x e l. costs c 3 (omega (arith, l)) (conditional_got c low p x.0 x.1.0 x.1.1 (joined s x.1.0 x.1.1) s (joined_grown s x.1.0 x.1.1)))
 
   pub comma_within : {n w : ℕ} {m : Plan (Typed × Typed)} → Within ls (added (cost c 2) (cost c 2)) n w m → Within ls (cost c 3) n (4 + w) (comma_at m)
-  comma_within h = maps_reads h (λ s x e l. omega (arith, l))
+  comma_within h = maps_reads h (λ s x e l. let b = behind_low c (comma x.0 x.1).category in omega (arith, l, low, b))
 
   -- ---- calls
 
@@ -274,7 +274,7 @@ module _ (c : ℕ) (low : c ≤ 1) {ls : List (List ℕ)} where
 
   call_by_within : {n k w v : ℕ} {m : Plan Typed} {args : Plan (List program.Expression)} (p q : Place) (name : Name) (given : ℕ) (f : Option ℕ) → Within ls (cost c 3) n w m → Within ls (weight_of_list c) k v args → Within ls (cost c 3) (n + k) (8 + (w + v)) (call_by p q name given f m args)
   call_by_within {n} p q name given (Some f) h g =
-      fewer (omega arith) (chain_within (call_at_within p name f given) (λ x l. maps_reads g (λ s es e l. let j = called_weighs c low p s f es in omega (arith, l, j))))
+      fewer (omega arith) (chain_within (call_at_within p name f given) (λ x l. maps_reads g (λ s es e l. let j = called_weighs c low p s f es in let b = behind_low c (called p s f es).category in omega (arith, l, j, low, b))))
   call_by_within p q name given None h g = node_reads (both_within (value_within q h) g) (λ s x e l. omega (arith, low, l))
 
   pub call_within : {n k w v : ℕ} {m : Plan Typed} {args : Option ℕ → Plan (List program.Expression)} (p q : Place) (name : Option Name) (given : ℕ) → Within ls (cost c 3) n w m → ((f : Option ℕ) → Within ls (weight_of_list c) k v (args f)) → Within ls (cost c 3) (n + k) (8 + (w + v)) (call_of p q name given m args)

@@ -17,12 +17,12 @@ use Rattle.dae_ir.specs.declared.form.Function.{Function as FormFunction}
 use Rattle.dae_ir.specs.declared.stream.StreamFunction.{StreamFunction}
 use Rattle.dae_sizes.specs.Worth.{priced, pay_of_all, IsDefinition, PartsPay, DefinitionsAreLong}
 use Rattle.dae_sizes.specs.Paid.{bytes_of_literal}
-use Rattle.dae_ir_pair.specs.Sizes.{burden}
+use Rattle.dae_lower_formed.specs.Code.{loaded_burden, loads_in}
 use Rattle.dae_ir_pair.specs.Sizes.{words_in}
 use Rattle.dae_sizes.specs.From.{AreFrom}
 use Rattle.dae_sizes.specs.Small.{tokens, text}
 use Rattle.dae_sizes.specs.Sources.{Source, sources_of, sources_in, IsTypedAs, AreTypedAs, IsUpTo, tokens_of, tokens_in, bytes_of, bytes_in}
-use Rattle.dae_sizes.specs.Promise.{DefinitionsAreShort, FormsAreFew, FormsAreLittle, FormsAreWithin, FramesAreSmall, FramesAreWithin, StreamsAreLittle, burdens_of, words_of, StreamsAreWithin}
+use Rattle.dae_sizes.specs.Promise.{DefinitionsAreShort, FormsAreFew, FormsAreLittle, FormsAreWithin, FramesAreSmall, FramesAreWithin, HasFrameWithin, StreamsAreLittle, burdens_of, words_of, StreamsAreWithin}
 
 -- ---- frames
 
@@ -50,9 +50,9 @@ sources_long long (c ∷ cs) (f ∷ fs) t =
 
 pub frames_are_small : DefinitionsAreLong → FormsAreFew → FramesAreSmall
 frames_are_small long few cs ir is =
-    let R : Source → FormFunction → Type 0 = λ x g. IsDefinition x.external × (7 + g.variables ≤ 4 * tokens x.external) in
-    let S : Source → FormFunction → Type 0 = λ x g. 19 + g.variables ≤ 8 * tokens x.external in
-    from_all IsLong R S (λ x g p r. let a = p r.0 in let b = r.1 in omega (arith, a, b)) (sources_in cs) ir.functions (sources_long long cs is.typed is.from) (few cs ir is)
+    let R : Source → FormFunction → Type 0 = λ x g. IsDefinition x.external × (7 + g.variables ≤ 4 * tokens x.external) × (loads_in (form_of g.body) ≤ g.variables) in
+    let S : Source → FormFunction → Type 0 = λ x g. HasFrameWithin (tokens x.external) g in
+    from_all IsLong R S (λ x g p r. let a = p r.0 in let b = r.1 in let d = r.2 in omega (arith, a, b, d)) (sources_in cs) ir.functions (sources_long long cs is.typed is.from) (few cs ir is)
 
 -- ---- frames where no definition has more than n tokens
 
@@ -70,9 +70,9 @@ each_from P R S h (x ∷ xs) (y ∷ ys) p (inr r) = each_from P R S h xs (y ∷ 
 pub frames_are_within : DefinitionsAreLong → FormsAreFew → FramesAreWithin
 frames_are_within long few cs ir n is up =
     let P : Source → Type 0 = λ x. IsLong x × IsUpTo n x in
-    let R : Source → FormFunction → Type 0 = λ x g. IsDefinition x.external × (7 + g.variables ≤ 4 * tokens x.external) in
-    let S : FormFunction → Type 0 = λ g. 19 + g.variables ≤ 8 * n in
-    each_from P R S (λ x g p r. let a = p.0 r.0 in let b = p.1 r.0 in let d = r.1 in omega (arith, a, b, d)) (sources_in cs) ir.functions
+    let R : Source → FormFunction → Type 0 = λ x g. IsDefinition x.external × (7 + g.variables ≤ 4 * tokens x.external) × (loads_in (form_of g.body) ≤ g.variables) in
+    let S : FormFunction → Type 0 = HasFrameWithin n in
+    each_from P R S (λ x g p r. let a = p.0 r.0 in let b = p.1 r.0 in let d = r.1 in let e = r.2 in omega (arith, a, b, d, e)) (sources_in cs) ir.functions
     (all_both IsLong (IsUpTo n) (sources_in cs) (sources_long long cs is.typed is.from) up) (few cs ir is)
 
 -- ---- definitions have at most 8,192 tokens
@@ -171,7 +171,7 @@ streams_are_within parts little cs ir by_a of cap s is stream =
 
 -- ---- forms
 
-forms_paid : (xs : List Source) (gs : List FormFunction) → AreFrom (λ x (g : FormFunction). 28 + burden (form_of g.body) ≤ 16 * tokens x.external + 8 * text x.literals x.external) xs gs → 14 * burdens_of gs ≤ pays xs
+forms_paid : (xs : List Source) (gs : List FormFunction) → AreFrom (λ x (g : FormFunction). 28 + loaded_burden (form_of g.body) ≤ 16 * tokens x.external + 8 * text x.literals x.external) xs gs → 14 * burdens_of gs ≤ pays xs
 forms_paid xs [] r = omega arith
 forms_paid [] (g ∷ gs) r = absurd r
 forms_paid (x ∷ xs) (g ∷ gs) (inl r) = let h = r.0 in let k = forms_paid xs gs r.1 in omega (arith, h, k)

@@ -1,5 +1,5 @@
 -- What lowering makes of a typed tree is no more than the tree weighs.
-use Rattle.std.proofs.Common.{◌*◌, ◌≤◌, List, [], ◌∷◌, length, Option, Some, None, arith}
+use Rattle.std.proofs.Common.{◌*◌, ◌≤◌, true, false, List, [], ◌∷◌, length, Option, Some, None, arith}
 use Rattle.dae_program.specs.Trees as tree
 use Rattle.dae_program.specs.Trees.{Expression, Target, Expressions, Setting, Statements, Arms}
 use Rattle.dae_program.specs.declared.statements.Piece.{Piece}
@@ -82,7 +82,8 @@ mutual
   code_weighs (tree.Address object offset) = omega arith
   code_weighs (tree.Frame p offset) = omega arith
   code_weighs (tree.Variable p v) = omega arith
-  code_weighs (tree.Read p kind checked a) = let h = code_weighs a in omega (arith, h)
+  code_weighs (tree.Read p kind true a) = let h = code_weighs a in omega (arith, h)
+  code_weighs (tree.Read p kind false a) = let h = code_weighs a in omega (arith, h)
   code_weighs (tree.Convert p kind a) = let h = code_weighs a in omega (arith, h)
   code_weighs (tree.Not p a) = let h = code_weighs a in omega (arith, h)
   code_weighs (tree.Binary p operator a b) = let h = code_weighs a in let g = code_weighs b in omega (arith, h, g)

@@ -18,7 +18,7 @@ use Rattle.dae_ir.specs.declared.stream.Stream.{Stream}
 use Rattle.dae_ir.specs.declared.stream.StreamFunction.{StreamFunction}
 use Rattle.dae_lower_formed.specs.Formed.{IsFormOf}
 use Rattle.dae_sizes.specs.Worth.{IsDefinition}
-use Rattle.dae_ir_pair.specs.Sizes.{burden}
+use Rattle.dae_lower_formed.specs.Code.{loaded_burden, loads_in}
 use Rattle.dae_ir_pair.specs.Sizes.{words_in}
 use Rattle.dae_sizes.specs.From.{AreFrom}
 use Rattle.dae_sizes.specs.Small.{tokens, text, HasFew, HasLittle}
@@ -45,38 +45,41 @@ pub record IsForm (files : List Contents) (ir : Ir) : Type 0 where
   pub functions : program.functions ≡ functions_from [] 0 typed
   pub form : IsFormOf program ir
 
--- a function has at most 4 variables for each token of its definition, and 7 fewer
+-- a function has at most 4 variables for each token of its definition, and 7 fewer, and no more loads than variables
 abbrev pub FormsAreFew : Type 0
 FormsAreFew =
     (files : List Contents) (ir : Ir) → IsForm files ir →
-    AreFrom (λ (x : Source) (g : FormFunction). IsDefinition x.external × (7 + g.variables ≤ 4 * tokens x.external)) (sources_in files) ir.functions
+    AreFrom (λ (x : Source) (g : FormFunction). IsDefinition x.external × (7 + g.variables ≤ 4 * tokens x.external) × (loads_in (form_of g.body) ≤ g.variables)) (sources_in files) ir.functions
 
--- a frame of 19 words and one for each variable has at most 8 words for each token
+-- twice a frame of 19 words, one for each variable and one for every second load has at most 16 words for each token
+abbrev pub HasFrameWithin : ℕ → FormFunction → Type 0
+HasFrameWithin n g = 38 + (2 * g.variables + loads_in (form_of g.body)) ≤ 16 * n + 1
+
 abbrev pub FramesAreSmall : Type 0
 FramesAreSmall =
     (files : List Contents) (ir : Ir) → IsForm files ir →
-    AreFrom (λ (x : Source) (g : FormFunction). 19 + g.variables ≤ 8 * tokens x.external) (sources_in files) ir.functions
+    AreFrom (λ (x : Source) (g : FormFunction). HasFrameWithin (tokens x.external) g) (sources_in files) ir.functions
 
--- and at most 8 items for each token and 4 for each byte of a literal, where a call counts one and a half more
+-- and at most 8 items for each token and 4 for each byte of a literal, where a call counts one and a half more, and a load a half
 abbrev pub FormsAreLittle : Type 0
 FormsAreLittle =
     (files : List Contents) (ir : Ir) → IsForm files ir →
-    AreFrom (λ (x : Source) (g : FormFunction). 28 + burden (form_of g.body) ≤ 16 * tokens x.external + 8 * text x.literals x.external) (sources_in files) ir.functions
+    AreFrom (λ (x : Source) (g : FormFunction). 28 + loaded_burden (form_of g.body) ≤ 16 * tokens x.external + 8 * text x.literals x.external) (sources_in files) ir.functions
 
 -- where no definition has more than n tokens, such a frame has at most 8 words for each of n
 abbrev pub FramesAreWithin : Type 0
 FramesAreWithin =
     (files : List Contents) (ir : Ir) (n : ℕ) → IsForm files ir → AreUpTo n files →
-    AllByRecursion (λ (g : FormFunction). 19 + g.variables ≤ 8 * n) ir.functions
+    AllByRecursion (HasFrameWithin n) ir.functions
 
 -- the definitions of files that are typed have at most 8,192 tokens
 abbrev pub DefinitionsAreShort : Type 0
 DefinitionsAreShort = (files : List Contents) (typed : List FileParts) → AreTypedAs files typed → AreUpTo greatest_length files
 
--- what the code of functions weighs, with 28 for each function
+-- what the code of functions weighs, with each load once more, and with 28 for each function
 abbrev pub burdens_of : List FormFunction → ℕ
 burdens_of [] = 0
-burdens_of (g ∷ gs) = 28 + burden (form_of g.body) + burdens_of gs
+burdens_of (g ∷ gs) = 28 + loaded_burden (form_of g.body) + burdens_of gs
 
 -- that is at most 16 for each token of the files and 8 for each byte of their literals
 abbrev pub FormsAreWithin : Type 0

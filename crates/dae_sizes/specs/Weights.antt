@@ -1,10 +1,15 @@
 -- What a typed tree weighs: at least the variables that lowering makes for it, and at least half as much as the items of its
--- code, where a call counts one and a half more. A number, an address and what comes from a byte of a literal counts as many as
--- is said: none, which is enough for variables, or one.
-use Rattle.std.specs.Prelude.{ℕ, ◌+◌, ◌*◌, List, [], ◌∷◌, length, Option, Some, None}
+-- code, where a call counts one and a half more and a load a half. A number, an address and what comes from a byte of a literal
+-- counts as many as is said, and so does the load behind a check: none, which is enough for variables, or one.
+use Rattle.std.specs.Prelude.{ℕ, ◌+◌, ◌*◌, Bool, true, false, List, [], ◌∷◌, length, Option, Some, None}
 use Rattle.dae_program.specs.declared.statements.Piece.{Piece}
 use Rattle.dae_program.specs.declared.statements.Piece.TheVariants as piece
 use Rattle.dae_program.specs.Trees.{Expression, Target, Expressions, Setting, Statements, Arms, Number, Address, Frame, Variable, Read, Convert, Not, Binary, Compare, And, Or, Conditional, Comma, Assign, Update, Step, Call, Putchar, Exit, Abort, InVariable, AtAddress, no_expressions, expression_then, Done, Evaluate, Initialise, Print, If, Loop, Do, Switch, Break, Continue, Return, no_arms, arm_then}
+
+-- what is read behind a check counts so many more
+abbrev pub if_checked : (constant : ℕ) → Bool → ℕ
+if_checked c true = c
+if_checked c false = 0
 
 abbrev mutual
   pub weight : (constant : ℕ) → Expression → ℕ
@@ -12,7 +17,7 @@ abbrev mutual
   weight c (Address object offset) = c
   weight c (Frame p offset) = 1
   weight c (Variable p v) = 1
-  weight c (Read p kind checked a) = 1 + weight c a
+  weight c (Read p kind checked a) = 1 + (if_checked c checked + weight c a)
   weight c (Convert p kind a) = 1 + weight c a
   weight c (Not p a) = 1 + weight c a
   weight c (Binary p operator a b) = 1 + (weight c a + weight c b)
@@ -23,7 +28,7 @@ abbrev mutual
   weight c (Comma a b) = 1 + (weight c a + weight c b)
   weight c (Assign p kind t a) = 1 + (weight_of_target c t + weight c a)
   weight c (Update p kind t operator a) = 4 + (weight_of_target c t + weight c a)
-  weight c (Step p kind t change new) = 3 + weight_of_target c t
+  weight c (Step p kind t change new) = 3 + (c + weight_of_target c t)
   weight c (Call p f xs) = 2 + weight_of_all c xs
   weight c (Putchar p a) = 1 + weight c a
   weight c (Exit p a) = 1 + weight c a
@@ -49,7 +54,7 @@ abbrev pub weight_of_pieces : (constant : ℕ) → List Piece → ℕ
 weight_of_pieces c [] = 0
 weight_of_pieces c (piece.Byte b ∷ ps) = c + weight_of_pieces c ps
 weight_of_pieces c (piece.Word spelling k ∷ ps) = 2 + weight_of_pieces c ps
-weight_of_pieces c (piece.String k ∷ ps) = 4 + weight_of_pieces c ps
+weight_of_pieces c (piece.String k ∷ ps) = 4 + (c + weight_of_pieces c ps)
 
 abbrev mutual
   pub weight_in : (constant : ℕ) → Statements → ℕ

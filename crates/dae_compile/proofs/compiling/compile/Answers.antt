@@ -16,7 +16,7 @@ returns-in-Ok-clause-compiled c =
         accepted = c.in_ok-program.ensures.accepted;
         compiled = image;
         keeps = c.in-Ok.ensures.keeps;
-        accesses = keeps_accesses c.loads_bounded.ensures c.conditions_bounded.ensures c.lowered_do_programs.ensures c.functions_initialise_constants.ensures
+        accesses = keeps_accesses c.sets_bounded.ensures c.later_forms_do_programs.ensures c.functions_initialise_constants.ensures
             (texts_in c.args.texts.now) c.in_ok-program.program c.args.options.calls c.args.options.cap result.image range.called c.in_ok-program.ensures.files image;
         budget = c.in-Ok.ensures.budget;
         small = small c.forms_are_within.ensures c.frames_are_within.ensures (texts_in c.args.texts.now) c.in_ok-program.program c.args.options.calls c.args.options.cap result.image
@@ -28,7 +28,7 @@ returns-in-Ok-clause-compiled c =
 
 pub unreachable-requires : goal.unreachable-requires
 unreachable-requires c =
-    never_long c.read_are_within.ensures c.forms_are_within.ensures (texts_in c.args.texts.now) c.in_ok-program.program c.in_ok-program.ensures.files (c.in-Err-Code.ensures.long c.in-Err-Code.field-0-is)
+    never_long c.read_are_within.ensures c.forms_are_within.ensures (texts_in c.args.texts.now) c.in_ok-program.program c.args.options.calls c.in_ok-program.ensures.files (c.in-Err-Code.ensures.long c.in-Err-Code.field-0-is)
 
 pub unreachable-requires-in-Err-Private : goal.unreachable-requires-in-Err-Private
 unreachable-requires-in-Err-Private c =
