@@ -77,7 +77,7 @@ declared_object_grown : (p : Place) (n : Option Name) (k : Option Keyword) (give
 declared_object_grown p n k given t (Some (entity.Object o)) s = replaced_grown p k given o t s (slice_get s.objects o)
 declared_object_grown p n k given t e s = same 0 s (new_object p n k given t s).0 refl refl refl
 
-object_type_grown : (o t : ℕ) (s : Tables) (r : Option Object) → Grown 0 s (with_object_type o t s r)
+pub object_type_grown : (o t : ℕ) (s : Tables) (r : Option Object) → Grown 0 s (with_object_type o t s r)
 object_type_grown o t s None = stays 0
 object_type_grown o t s (Some r) = same 0 s (with_object_type o t s (Some r)) refl refl refl
 
@@ -149,10 +149,10 @@ parameters_declare (tree.Function d p ps) =
     part_if (is_bare d) (Some (tree.Function d p ps)) (function_part d) (declares_in d + declares_in_parameters ps) (omega arith) (omega (arith, h))
 
 module _ (c : ℕ) (low : c ≤ 1) (ls : List (List ℕ)) where
-  function_at_within : (p : Place) (o given : Bool) (n : Option Name) (t : ℕ) → Within ls none 0 0 (function_at p o given n (pure t))
+  pub function_at_within : (p : Place) (o given : Bool) (n : Option Name) (t : ℕ) → Within ls none 0 0 (function_at p o given n (pure t))
   function_at_within p o given n t = settles_within n (node_keeps (pure_within t (omega arith)) (λ s x. declared_function_grown n o x (own_of s n) s))
 
-  object_at_within : (p : Place) (k : Option Keyword) (given : Bool) (n : Option Name) (t : ℕ) → Within ls none 0 0 (object_at p k given n (pure t))
+  pub object_at_within : (p : Place) (k : Option Keyword) (given : Bool) (n : Option Name) (t : ℕ) → Within ls none 0 0 (object_at p k given n (pure t))
   object_at_within p k given n t = settles_within n (node_keeps (pure_within t (omega arith)) (λ s x. declared_object_grown p n k given x (own_of s n) s))
 
   data_within : (p : Place) (x : Option (Place × Initialiser)) (o : Option ℕ) → Within ls bodies (declares_in_value x) 0 (plan_data p x o)
@@ -214,12 +214,12 @@ module _ (c : ℕ) (low : c ≤ 1) (ls : List (List ℕ)) where
   named_leads : (k : ℕ) (p : Place) (ps : Parameters) → Leads ls (Few k) (λ s x. Few k s × (count_parameters ps ≤ declares_in_parameters ps)) (named_at p ps)
   named_leads k p ps = record { leads = λ s e b. named_asked p ps s (Come ls (λ s x. Few k s × (count_parameters ps ≤ declares_in_parameters ps))) (λ h. record { literals = e; so = (b, h) }) }
 
-  first_within : {n w : ℕ} {μ : program.Statements → ℕ} {m : Plan program.Statements} (k : ℕ) → Within ls μ n w m → Within ls none n 0 (first_time k m)
+  pub first_within : {n w : ℕ} {μ : program.Statements → ℕ} {m : Plan program.Statements} (k : ℕ) → Within ls μ n w m → Within ls none n 0 (first_time k m)
   first_within k h =
       fewer (omega arith) (chain_within {μ = none} {w = 0} (maps_keeps nothing_within (λ s x. same 0 s (reopened s) refl refl refl))
       (λ outer l. maps_reads (ends_within (closed outer) (λ s. same 0 s (closed outer s) refl refl refl) h) (λ s x e l. omega arith)))
 
-  in_body_within : {n w : ℕ} {μ : program.Statements → ℕ} {m : Plan program.Statements} → Within ls μ n w m → Within ls μ n w (in_body m)
+  pub in_body_within : {n w : ℕ} {μ : program.Statements → ℕ} {m : Plan program.Statements} → Within ls μ n w m → Within ls μ n w (in_body m)
   in_body_within h =
       fewer (omega arith) (chain_within {μ = none} {w = 0} (maps_keeps nothing_within (λ s x. same 0 s (reopened s) refl refl refl))
       (λ outer l. ends_within (closed outer) (λ s. same 0 s (closed outer s) refl refl refl) h))
@@ -259,7 +259,7 @@ module _ (c : ℕ) (low : c ≤ 1) (ls : List (List ℕ)) where
       (λ u. leads_chain {Between = λ s u. Few k s × (count_parameters ps ≤ declares_in_parameters ps)} (leads_maps {Between = λ s u. Few k s × (count_parameters ps ≤ declares_in_parameters ps)} (leads_pure (tt {0}) (λ s h. h)) (λ s u e h. record { literals = e; so = h }))
       (λ round. twice_leads x is f (block_within c low ls round ds ss) (block_constant ls round ds ss) enough (count_parameters ps) k (declares_in_parameters ps) first again))
 
-  second_at_within : (p : Place) {m : Plan (Option ℕ)} → Within ls none 0 0 m → Within ls none 0 0 (second_at p m)
+  pub second_at_within : (p : Place) {m : Plan (Option ℕ)} → Within ls none 0 0 m → Within ls none 0 0 (second_at p m)
   second_at_within p h = node_keeps h (λ s f. define_grown f s)
 
   behind_declared : (x : External) (p : Place) (f : Option ℕ) (xs : List Product) → Part c ls x (bodies_in xs) → Part c ls x (bodies_in (declares_function p Definition f ++ xs))
@@ -276,7 +276,7 @@ module _ (c : ℕ) (low : c ≤ 1) (ls : List (List ℕ)) where
 
   -- ---- files
 
-  definition_at_within : {n w : ℕ} {μ : NamedType → ℕ} {m : Plan NamedType} (p : Place) (is_typedef direct : Bool) → Within ls μ n w m → Within ls none n 0 (some_of (definition_at p is_typedef direct m))
+  pub definition_at_within : {n w : ℕ} {μ : NamedType → ℕ} {m : Plan NamedType} (p : Place) (is_typedef direct : Bool) → Within ls μ n w m → Within ls none n 0 (some_of (definition_at p is_typedef direct m))
   definition_at_within p is_typedef direct h = maps_keeps (node_keeps (unmeasured h) (λ s x. stays 0)) (λ s x. stays 0)
 
   -- what stands behind what is done

@@ -21,3 +21,5 @@ mod Functions
 mod Forms
 mod Joined
 mod Totals
+mod StaticData
+mod TickStatements

@@ -22,7 +22,7 @@ module _ (ls : List (List ℕ)) where
   low = omega arith
 
   mutual
-    plan_few : (e : Expression) → Within ls place_ticks (declares e) (3 * nodes e) (plan e)
+    pub plan_few : (e : Expression) → Within ls place_ticks (declares e) (3 * nodes e) (plan e)
     plan_few (tree.Identifier n) = weaker (omega arith) (omega arith) (name_few n)
     plan_few (tree.Number p k) = pure_within _ (omega arith)
     plan_few (tree.Literal p n) = maps_stays nothing_within (λ s x e l. record { grown = same 0 s (literal n s).0 refl refl refl; small = omega arith })

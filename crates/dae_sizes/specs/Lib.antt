@@ -8,3 +8,5 @@ pub mod Sources
 pub mod Promise
 pub mod Constants
 pub mod Written
+pub mod Data
+pub mod WrittenStatements

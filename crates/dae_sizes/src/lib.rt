@@ -5,6 +5,7 @@
 
 ghost use Rattle.dae_sizes.specs.Bodies.{BodiesPaid};
 ghost use Rattle.dae_sizes.specs.Constants.{FunctionsInitialiseConstants};
+ghost use Rattle.dae_sizes.specs.Data.{DataAreConstant};
 ghost use Rattle.dae_sizes.specs.Paid.{ValuesPaid};
 ghost use Rattle.dae_sizes.specs.Promise.{DefinitionsAreShort, FormsAreFew, FormsAreLittle};
 ghost use Rattle.dae_sizes.specs.Promise.{FormsAreWithin, FramesAreSmall, FramesAreWithin};
@@ -13,6 +14,7 @@ ghost use Rattle.dae_sizes.specs.Promise.{StreamsAreLittle, StreamsAreWithin};
 ghost use Rattle.dae_sizes.specs.Small.{CodeIsLittle, VariablesAreFew};
 ghost use Rattle.dae_sizes.specs.Worth.{DefinitionsAreLong, PartsPay, TokensPay};
 ghost use Rattle.dae_sizes.specs.Written.{TypedAreFew};
+ghost use Rattle.dae_sizes.specs.WrittenStatements.{BlocksAreFew};
 
 /// The tokens and the literals of a definition pay for its tree.
 pub fn tokens_pay()
@@ -149,4 +151,17 @@ pub fn functions_initialise_constants()
 /// that is counted on typed trees is at most three times as much as on what is written, expression by expression.
 pub fn typed_are_few()
     ensures { TypedAreFew }
+{}
+
+/// The objects with static storage that a file initialises get constants alone: numbers, and addresses of such objects.
+pub fn data_are_constant()
+    ensures { DataAreConstant }
+{
+    dae_types_file_plans::files_are_checked();
+}
+
+/// The typed statements of a function's block have at most four units of work for each that is written, however often each of
+/// them is executed.
+pub fn blocks_are_few()
+    ensures { BlocksAreFew }
 {}
