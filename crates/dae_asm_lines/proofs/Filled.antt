@@ -429,3 +429,10 @@ one_filled like i os f e h =
 
 pub has_fields : (like i : Inst) (os : Operands ℤ) → fields_of os ≡ None → IsFilled like os i → ⊥
 has_fields like i os e h = let m = made i h.range in let a = m.found in let c : fields_of (operands_of i) ≡ fields_of os = ap fields_of h.same in cc
+
+-- at most one instruction of a name has these operands
+pub one_instruction : (like i j : Inst) (os : Operands ℤ) → IsFilled like os i → IsFilled like os j → i ≡ j
+one_instruction like i j os h k =
+    let m = made i h.range in
+    let found : fields_of os ≡ Some m.f = ap fields_of (sym h.same) ∙ m.found in
+    sym (one_filled like i os m.f found h) ∙ one_filled like j os m.f found k

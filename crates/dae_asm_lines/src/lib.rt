@@ -5,7 +5,7 @@
 
 pub use instructions::{instruction_of, like, name_of, operands_of};
 pub use items::line_of;
-pub use numbers::number;
+pub use tokens::{Scanned, next_token};
 
 mod instructions;
 mod items;

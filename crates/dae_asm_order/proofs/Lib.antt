@@ -2,3 +2,4 @@ mod Split
 mod Places
 mod Numbered
 mod Walked
+pub mod Laws

@@ -1,5 +1,6 @@
 -- A line that says a word of code has at least four bytes, so a text has few of them.
-use Rattle.std.proofs.Common.{◌≡◌, ℕ, suc, ◌+◌, ◌*◌, ◌≤◌, ℤ, Bool, true, false, ◌==◌, if◌then◌else◌, List, [], ◌∷◌, ◌++◌, length, codes, Option, Some, None, ap, arith, lit≤, length-append}
+use Rattle.std.proofs.Common.{◌≡◌, ℕ, suc, ◌+◌, ◌*◌, ◌≤◌, ℤ, Bool, true, false, ◌==◌, if◌then◌else◌, List, [], ◌∷◌, ◌++◌, map, length, codes, Option, Some, None, ap, arith, lit≤, length-append}
+use Rattle.std.proofs.lemmas.List.{length-map}
 use Rattle.dae_encode.specs.declared.Inst.{Inst}
 use Rattle.dae_encode.specs.declared.Inst.TheVariants.{Ecall}
 use Rattle.dae_asm_lines.specs.declared.Operands.{Operands}
@@ -160,3 +161,43 @@ words_are_few text s h =
     let a = words_join s.code_a (behind_a s) in
     let e = words_join s.code_e (behind_e s) in
     (omega (arith, a, all, fit), omega (arith, a, e, all, fit))
+
+-- ---- names
+
+count_then : (line : List ℕ) → length (line_then line []) ≤ length line
+count_then [] = omega arith
+count_then (b ∷ bs) = omega arith
+
+count_by_feed : (w : List ℕ) (b : ℕ) (bs : List ℕ) (t : Bool) → length (lines_behind [] bs) ≤ length {A = ℕ} [] + length bs → length (lines_behind (w ++ b ∷ []) bs) ≤ length (w ++ b ∷ []) + length bs
+    → length (if t then w ∷ lines_behind [] bs else lines_behind (w ++ b ∷ []) bs) ≤ length w + length (b ∷ bs)
+count_by_feed w b bs true h g = omega arith
+count_by_feed w b bs false h g = let f = length-append w (b ∷ []) in omega arith
+
+lines_are_few : (w bs : List ℕ) → length (lines_behind w bs) ≤ length w + length bs
+lines_are_few w [] = let f = count_then w in omega arith
+lines_are_few w (b ∷ bs) = count_by_feed w b bs (b == 10) (lines_are_few [] bs) (lines_are_few (w ++ b ∷ []) bs)
+
+rows_are_few : (n : ℕ) (text : List (List ℕ)) (rows : List Row) → AreItems n text rows → length rows ≤ length text
+rows_are_few n [] [] none = omega arith
+rows_are_few n [] (row ∷ rows) h = elim h [ ]
+rows_are_few n (line ∷ text) rows (skips l h) = let f = rows_are_few (suc n) text rows h in omega arith
+rows_are_few n (line ∷ text) ((m, item) ∷ rows) (says l h) = let f = rows_are_few (suc n) text rows h in omega arith
+
+text_lines : (text : List ℕ) → length (lines_of text) ≤ length text
+unfolding lines_of
+text_lines text = let f = lines_are_few [] text in omega arith
+
+-- a text has no more names than bytes
+pub names_are_few : (text : List ℕ) (s : Sheet) → IsSheet text s → length s.names ≤ length text
+names_are_few text s h =
+    let all = rows_are_few 1 (lines_of text) (rows_of s) h.items in
+    let fit = text_lines text in
+    let names : List Row = map (λ n. (n.0, items.Name n.1)) s.names in
+    let marks : List Row = map (λ m. (m.0, items.Mark m.1 m.2 m.3 m.4)) s.marks in
+    let bytes : List Row = map (λ b. (b.0, items.Bytes b.1)) s.bytes in
+    let a = length-append s.code_a (behind_a s) in
+    let e = length-append s.code_e (behind_e s) in
+    let b = length-append bytes (marks ++ names) in
+    let m = length-append marks names in
+    let n : length names ≡ length s.names = length-map s.names (λ (n : ℕ × List ℤ). (n.0, items.Name n.1)) in
+    omega (arith, a, e, b, m, n, all, fit)

@@ -1,0 +1,5 @@
+mod Coded
+mod Headed
+mod Parted
+mod Fitting
+mod Sheeted

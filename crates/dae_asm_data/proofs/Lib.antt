@@ -1,0 +1,5 @@
+mod Leading
+mod Bytes
+mod Marking
+mod Naming
+pub mod Laws

@@ -1,0 +1,4 @@
+pub mod Data
+pub mod Bounds
+pub mod Parts
+pub mod Walking

@@ -1,0 +1,6 @@
+mod Ordered
+mod Same
+mod Bytes
+mod Kept
+mod Outcomes
+pub mod Laws

@@ -1,0 +1,11 @@
+mod Digits
+mod Words
+mod Known
+mod Small
+mod Rows
+mod Lines
+mod Items
+mod Sheet
+mod Listed
+mod Lengths
+mod Short
