@@ -2,4 +2,4 @@ mod Runs
 mod TimedRuns
 mod OneFile
 mod OneDue
-mod NeverStuck
+mod RunsOfWords

@@ -11,12 +11,14 @@ use Rattle.dae_cli_drive.specs.Images.{DueOfImage}
 use Rattle.dae_cli_drive.specs.Puts.{Answer, told}
 use Rattle.dae_cli_drive.proofs.Laws.{one_of_image}
 use Rattle.dae_cli_files.specs.Shelves.{IsTold, ShelfSeen}
-use Rattle.dae_cli_report_job.specs.Reporting.{DueOfReporting, due_compiled, due_not_compiled}
+use Rattle.dae_big.specs.Texts.{big_name, big_text}
+use Rattle.dae_cli_source_jobs.specs.Reporting.{DueOfReporting, due_compiled, due_not_compiled}
 use Rattle.dae_cli_refusals.specs.Refusals.{refusal_line}
 use Rattle.dae_cli_source_jobs.specs.Fetching.{AreFetched, IsFirstNotFetched, IsNotFetched, not_got, too_long, most_source}
 use Rattle.dae_cli_source_jobs.specs.Kept.{DueOfKept}
 use Rattle.dae_cli_source_jobs.specs.Sources.{DueOfFiles, DueOfTexts, due_fetched, due_not_fetched, due_memory_to_fetch, due_of_image, due_refused, due_memory_to_compile}
 use Rattle.dae_cli_words.specs.Asked.{Asked, Run, Big, Compile, Report, Exec, Trace, Time, Check, Debug, Guard, Asm, Dis}
+use Rattle.dae_cli_asm_job.proofs.Laws.{single_assembly}
 use Rattle.dae_cli_time_job.proofs.Laws.{single_timing}
 use Rattle.dae_cli_listing_job.proofs.Laws.{single_listing}
 use Rattle.dae_cli_debug_job.proofs.Laws.{single_debugging}
@@ -24,7 +26,7 @@ use Rattle.dae_cli_trace_jobs.proofs.Laws.{single_checking, single_tracing}
 use Rattle.dae_cli_words.proofs.Laws.{one_job}
 use Rattle.dae_cli_command.specs.Answers.{DueOfJob, IsDue, due_job, due_words, due_memory_for_words}
 use Rattle.dae_cli_guard_job.proofs.Laws.{single_guarding}
-use Rattle.dae_cli_answers.proofs.OneFile.{one_of_both, one_of_bytes, one_of_image_file, one_of_text, same_text}
+use Rattle.dae_cli_answers.proofs.OneFile.{one_of_both, one_of_bytes, one_of_image_file, one_of_keeping, one_of_text, same_text}
 use Rattle.dae_cli_answers.specs.One.{AreOfFetched, AreOfSources, AreOfTexts, AreOne, IsForImage, IsForReport, IsSeenWhole, TellsRefusal}
 
 -- ---- source files
@@ -159,18 +161,22 @@ module _ (once : (d e : CompileError) → AreOneCause d e) (apart : (e : Compile
       one_fetched_due files c (λ texts. IsForReport files texts c) (λ texts. accepts_report files texts c) a b
       (one_of_fetched s whole files c (λ texts. IsForReport files texts c) a b (of_report s whole files c a d m) (of_report s whole files c b d' n))
 
+  one_text_due : (names texts : List (List ℕ)) (c : Options) (D : Image → Answer → Type 0) (a b : Answer) → DueOfTexts names texts c D a → DueOfTexts names texts c D b → a.status ≢ 7 → b.status ≢ 7
+      → (a ≡ b) ⊎ AreOfTexts names texts c (IsForImage names texts c D) a b
+  one_text_due names texts c D a b d d' m n = both_of_texts names texts c (IsForImage names texts c D) (accepts_image names texts c D) a b once apart (of_texts a d m) (of_texts b d' n)
+
   one_of_job : (job : Asked) → (a b : Answer) → DueOfJob job s status a → DueOfJob job s status b → a.status ≢ 7 → b.status ≢ 7 → (a ≡ b) ⊎ AreOfSources job s status a b
   one_of_job (Run c o files) a b d d' m n = one_image_due files c (λ image. DueOfImage image o) a b d d' m n
   one_of_job (Compile c to files) a b d d' m n = one_image_due files c (DueOfKept s status to) a b d d' m n
   one_of_job (Exec o name) a b d d' m n = inl (one_of_image_file whole (λ i x y. one_of_image x y) a b d d' m n)
-  one_of_job (Big c o functions) a b d d' m n = inl (d ∙ sym d')
+  one_of_job (Big c o functions) a b d d' m n = one_text_due (big_name ∷ []) (big_text functions ∷ []) c (λ image. DueOfImage image o) a b d d' m n
   one_of_job (Report c files) a b d d' m n = one_report_due files c a b d d' m n
   one_of_job (Trace o name) a b d d' m n = inl (one_of_image_file whole (λ i. single_tracing i o) a b d d' m n)
   one_of_job (Time o k ticks name) a b d d' m n = inl (one_of_image_file whole (λ i. single_timing i o k ticks) a b d d' m n)
   one_of_job (Check depths name trace) a b d d' m n = inl (one_of_both whole (λ i text. single_checking i depths text) a b d d' m n)
   one_of_job (Debug depths name script) a b d d' m n = inl (one_of_both whole (λ i text short. single_debugging i depths text) a b d d' m n)
   one_of_job (Guard depths name certificate) a b d d' m n = inl (one_of_both whole (λ i text short. single_guarding i depths text) a b d d' m n)
-  one_of_job (Asm to name) a b d d' m n = inl (d ∙ sym d')
+  one_of_job (Asm to name) a b d d' m n = inl (one_of_text whole (λ text short. single_assembly (λ image. one_of_keeping whole)) a b d d' m n)
   one_of_job (Dis name) a b d d' m n = inl (one_of_text whole (λ bytes short. one_of_bytes single_listing) a b d d' m n)
 
   pub one_of_words : (a b : Answer) → IsDue words s status a → IsDue words s status b → a.status ≢ 7 → b.status ≢ 7 → AreOne words s status a b

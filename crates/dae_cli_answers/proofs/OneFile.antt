@@ -8,8 +8,9 @@ use Rattle.dae_image.specs.Contents.{Contents, Fits}
 use Rattle.dae_image.specs.Images.{contents}
 use Rattle.dae_cli_drive.specs.Images.{IsSingle}
 use Rattle.dae_cli_drive.specs.Notes.{image_line}
-use Rattle.dae_cli_drive.specs.Puts.{Answer, told}
+use Rattle.dae_cli_drive.specs.Puts.{Answer, Put, told}
 use Rattle.dae_cli_files.specs.ImageFiles.{DueOfBytes, due_image, due_no_image, due_memory_to_decode, DueOfImageFile, due_bytes, due_no_bytes, due_memory_for_bytes}
+use Rattle.dae_cli_files.specs.Keeping.{DueOfKeeping, due_kept, due_not_kept, due_memory_to_keep}
 use Rattle.dae_cli_files.specs.Shelves.{IsTold, ShelfSeen}
 use Rattle.dae_cli_files.specs.TextFiles.{DueOfImageAndText, due_no_bytes_first, due_both, due_memory_for_bytes_first, DueOfTextFile, due_text, due_not_got, due_long, due_memory_for_text}
 use Rattle.dae_cli_answers.specs.One.{IsSeenWhole}
@@ -76,3 +77,13 @@ one_of_both whole single a b (due_both t h d) (due_no_bytes_first f) m n = absur
 one_of_both whole single a b (due_both t h d) due_memory_for_bytes_first m n = absurd (n refl)
 one_of_both whole single a b (due_no_bytes_first f) d m n = absurd (whole.calm f.0)
 one_of_both whole single a b due_memory_for_bytes_first d m n = absurd (m refl)
+
+-- ---- an image that is kept
+
+-- a shelf without a fault keeps it, so that one answer is due
+pub one_of_keeping : {lines : List Put} {s : ShelfSeen} {status : ℕ} {to : List ℕ} {image : Image} → IsSeenWhole s → IsSingle (DueOfKeeping lines s status to image)
+one_of_keeping whole a b (due_kept h) (due_kept k) m n = refl
+one_of_keeping whole a b (due_kept h) (due_not_kept k) m n = absurd (whole.calm k.rose)
+one_of_keeping whole a b (due_kept h) due_memory_to_keep m n = absurd (n refl)
+one_of_keeping whole a b (due_not_kept h) d m n = absurd (whole.calm h.rose)
+one_of_keeping whole a b due_memory_to_keep d m n = absurd (m refl)

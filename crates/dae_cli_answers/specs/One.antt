@@ -1,8 +1,9 @@
 -- When two answers count as one.
-use Rattle.std.specs.Prelude.{◌≡◌, ◌≢◌, ◌⊎◌, ℕ, List, Some}
+use Rattle.std.specs.Prelude.{◌≡◌, ◌≢◌, ◌⊎◌, ℕ, List, [], ◌∷◌, Some}
 use Rattle.dae_accept.specs.Accepted.{HaveTrees, IsRefusedFor}
 use Rattle.dae_accept.specs.declared.error.CompileError.{CompileError}
 use Rattle.dae_accept.specs.declared.error.CompileError.TheVariants.{Memory}
+use Rattle.dae_big.specs.Texts.{big_name, big_text}
 use Rattle.dae_compile.specs.Images.{IsCompilationOf, IsImageOf}
 use Rattle.dae_compile_generate.specs.declared.generating.Compiled.{Compiled}
 use Rattle.dae_cli_options.specs.declared.options.Options.{Options}
@@ -12,10 +13,10 @@ use Rattle.dae_cli_drive.specs.Images.{DueOfImage}
 use Rattle.dae_cli_drive.specs.Puts.{Answer, told}
 use Rattle.dae_cli_files.specs.Shelves.{ShelfSeen}
 use Rattle.dae_cli_refusals.specs.Refusals.{refusal_line}
-use Rattle.dae_cli_report_job.specs.Reporting.{DueOfCompiled}
+use Rattle.dae_cli_source_jobs.specs.Reporting.{DueOfCompiled}
 use Rattle.dae_cli_source_jobs.specs.Fetching.{AreFetched, most_source}
 use Rattle.dae_cli_source_jobs.specs.Kept.{DueOfKept}
-use Rattle.dae_cli_words.specs.Asked.{Asked, Run, Compile, Report}
+use Rattle.dae_cli_words.specs.Asked.{Asked, Run, Big, Compile, Report}
 use Rattle.dae_cli_words.specs.Words.{SpellsJob}
 
 -- a shelf tells the texts of all names, and no fault of it was counted
@@ -58,10 +59,13 @@ pub record AreOfFetched (files : List (List ℕ)) (s : ShelfSeen) (c : Options)
   pub fetched : AreFetched s.told most_source files texts
   pub both : AreOfTexts files texts c (For texts) a b
 
--- the same of the source files of a job
+-- the same of the source files of a job, and of a text that a number makes
 abbrev pub AreOfSources : Asked → ShelfSeen → (status : ℕ) → (a b : Answer) → Type 0
 AreOfSources (Run c o files) s status a b =
     AreOfFetched files s c (λ texts. IsForImage files texts c (λ image. DueOfImage image o)) a b
+AreOfSources (Big c o functions) s status a b =
+    AreOfTexts (big_name ∷ []) (big_text functions ∷ []) c
+    (IsForImage (big_name ∷ []) (big_text functions ∷ []) c (λ image. DueOfImage image o)) a b
 AreOfSources (Compile c to files) s status a b =
     AreOfFetched files s c (λ texts. IsForImage files texts c (DueOfKept s status to)) a b
 AreOfSources (Report c files) s status a b =

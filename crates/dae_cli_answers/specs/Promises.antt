@@ -1,7 +1,9 @@
--- What an answer for an image says of the program that the image is compiled from.
-use Rattle.std.specs.Prelude.{◌≡◌, ◌≢◌, ◌⊎◌, ℕ, ◌+◌, ◌*◌, ◌/◌, ◌≤◌, List, ◌∷◌, ◌++◌, map}
+-- What an answer for an image, and for words that ask to compile texts and run them, says of the program that they are.
+use Rattle.std.specs.Prelude.{◌≡◌, ◌≢◌, ◌⊎◌, ℕ, ◌+◌, ◌*◌, ◌/◌, ◌≤◌, List, [], ◌∷◌, ◌++◌, map}
 use Rattle.std.specs.List.{concat}
 use Rattle.dae_base.specs.Budgets.{Reaches}
+use Rattle.dae_big.specs.Texts.{big_name, big_text}
+use Rattle.dae_compile.specs.Images.{IsImageOf}
 use Rattle.dae_image.specs.declared.Image.{Image}
 use Rattle.dae_machine.specs.Ends.{IsPrefixOf}
 use Rattle.dae_meaning.specs.Worlds.{World}
@@ -10,10 +12,16 @@ use Rattle.dae_program.specs.Outcomes.{last_world}
 use Rattle.dae_program.specs.Programs.{GoesOn, meaning_of, program_end}
 use Rattle.dae_program.specs.declared.program.Program.{Program}
 use Rattle.dae_compile_promise.specs.Promises.{IsAtEnd, KeepsMeaning}
+use Rattle.dae_cli_options.specs.declared.options.Options.{Options}
 use Rattle.dae_cli_options.specs.declared.options.RunOptions.{RunOptions}
+use Rattle.dae_cli_command.specs.Answers.{IsDue}
 use Rattle.dae_cli_drive.specs.Images.{DueOfImage}
 use Rattle.dae_cli_drive.specs.Notes.{budget_line, ended_line, running_line, show_puts, steps_line, trapped_line}
 use Rattle.dae_cli_drive.specs.Puts.{Answer, Out, Note}
+use Rattle.dae_cli_files.specs.Shelves.{ShelfSeen}
+use Rattle.dae_cli_source_jobs.specs.Fetching.{AreFetched, most_source}
+use Rattle.dae_cli_words.specs.Asked.{Run, Big}
+use Rattle.dae_cli_words.specs.Words.{SpellsJob}
 
 -- the budget is told; what is put out is the output of the world in which the program ends; the line tells how it ends; some
 -- number of steps is told; and the bytes that are to be shown are those of that world's memory
@@ -66,3 +74,38 @@ abbrev pub RunsKeepMeaning : Type 0
 RunsKeepMeaning =
     (p : Program) (limit : ℕ) (image : Image) (o : RunOptions) (a : Answer)
     → KeepsMeaning p limit image → DueOfImage image o a → IsRunOf p limit image o a
+
+-- the texts have an image with these options, the answer is due for it, and it is that of a run of the program that the texts are
+-- accepted as
+pub record IsRunOfTexts (names texts : List (List ℕ)) (c : Options) (o : RunOptions) (a : Answer)
+    : Type 0 where
+  pub image : Image
+  pub made : IsImageOf texts names c image
+  pub due : DueOfImage image o a
+  pub run : IsRunOf made.program c.calls image o a
+
+-- what is due for words that ask to run source files, is the answer of a run of the program of their texts; but for a file that
+-- isn't got, for texts that are too long or refused, and for want of memory
+abbrev pub RunsOfFilesKeepMeaning : Type 0
+RunsOfFilesKeepMeaning =
+    (words : List (List ℕ)) (s : ShelfSeen) (status : ℕ) (c : Options) (o : RunOptions)
+    (files : List (List ℕ)) (a : Answer) → SpellsJob words (Run c o files) → IsDue words s status a
+    → a.status ≢ 2 → a.status ≢ 5 → a.status ≢ 7
+    → (texts : List (List ℕ)) × AreFetched s.told most_source files texts
+    × IsRunOfTexts files texts c o a
+
+-- the same of words that ask to run the source of a number, for which nothing is fetched
+abbrev pub RunsOfNumbersKeepMeaning : Type 0
+RunsOfNumbersKeepMeaning =
+    (words : List (List ℕ)) (s : ShelfSeen) (status : ℕ) (c : Options) (o : RunOptions)
+    (number : ℕ) (a : Answer) → SpellsJob words (Big c o number) → IsDue words s status a
+    → a.status ≢ 2 → a.status ≢ 7
+    → IsRunOfTexts (big_name ∷ []) (big_text number ∷ []) c o a
+
+-- for words that ask to run source files, or the source of a number, it is never due that the machine is stuck
+abbrev pub IsNeverStuck : Type 0
+IsNeverStuck =
+    (words : List (List ℕ)) (s : ShelfSeen) (status : ℕ) (c : Options) (o : RunOptions) (a : Answer)
+    → ((files : List (List ℕ)) × SpellsJob words (Run c o files))
+    ⊎ ((number : ℕ) × SpellsJob words (Big c o number))
+    → IsDue words s status a → a.status ≢ 9

@@ -1,14 +1,10 @@
 // Laws of what is due for words.
 ghost use Rattle.std.specs.Prelude.{◌≢◌, ℕ, List};
-ghost use Rattle.dae_cli_options.specs.declared.options.Options.{Options};
-ghost use Rattle.dae_cli_options.specs.declared.options.RunOptions.{RunOptions};
 ghost use Rattle.dae_cli_drive.specs.Puts.{Answer};
 ghost use Rattle.dae_cli_command.specs.Answers.{IsDue};
 ghost use Rattle.dae_cli_files.specs.Shelves.{ShelfSeen};
-ghost use Rattle.dae_cli_words.specs.Asked.{Run};
-ghost use Rattle.dae_cli_words.specs.Words.{SpellsJob};
 ghost use Rattle.dae_cli_answers.specs.One.{AreOne, IsSeenWhole};
-ghost use Rattle.dae_cli_answers.specs.Promises.{RunsKeepMeaning};
+ghost use Rattle.dae_cli_answers.specs.Promises.{IsNeverStuck, RunsKeepMeaning, RunsOfFilesKeepMeaning, RunsOfNumbersKeepMeaning};
 ghost use Rattle.dae_cli_answers.specs.TimedPromises.{TimedRunsKeepMeaning};
 
 use dae_accept::{accepted_have_no_fault, one_cause_is_told};
@@ -20,6 +16,14 @@ use dae_accept::{accepted_have_no_fault, one_cause_is_told};
 /// ends. A run that stops before an end has put out some first bytes of the program's output.
 pub fn runs_keep_meaning()
     ensures { RunsKeepMeaning }
+{}
+
+/// What is due for words that ask to run source files, or the source of a number, is the answer of a run of the program that
+/// the texts are accepted as, with an image of theirs; but for files that aren't got, texts that are refused, and want of
+/// memory.
+pub fn words_keep_meaning()
+    ensures files { RunsOfFilesKeepMeaning }
+    ensures numbers { RunsOfNumbersKeepMeaning }
 {}
 
 /// What is due for a timed run of an image that keeps the meaning of a program is the answer of a timed run of that program.
@@ -42,9 +46,7 @@ pub fn one_answer_for_words()
     one_cause_is_told();
 }
 
-/// For words that ask to run source files it is never due that the machine is stuck.
+/// For words that ask to run source files, or the source of a number, it is never due that the machine is stuck.
 pub fn never_stuck()
-    ensures { (words : List (List ℕ)) (s : ShelfSeen) (status : ℕ) (c : Options) (o : RunOptions)
-        (files : List (List ℕ)) (a : Answer) → SpellsJob words (Run c o files)
-        → IsDue words s status a → a.status ≢ 9 }
+    ensures { IsNeverStuck }
 {}

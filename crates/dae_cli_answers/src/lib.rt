@@ -2,6 +2,9 @@
 // of their program. They are functions without parameters, whose contracts are the laws. The program doesn't stand on them.
 #![tactic(auto)]
 
-pub use laws::{never_stuck, one_answer_for_words, runs_keep_meaning, timed_runs_keep_meaning};
+pub use laws::{
+    never_stuck, one_answer_for_words, runs_keep_meaning, timed_runs_keep_meaning,
+    words_keep_meaning,
+};
 
 mod laws;

@@ -2,15 +2,17 @@
 use Rattle.std.specs.Prelude.{◌≡◌, ◌⊎◌, ℕ, List, Option, None, Some}
 use Rattle.dae_io.specs.Sinks.{SinkState}
 use Rattle.dae_io.specs.Told.{TellsSame}
+use Rattle.dae_cli_asm_job.specs.Assembling.{KeepsAssembledOnce}
 use Rattle.dae_cli_files.specs.Keeping.{TellsBut}
 use Rattle.dae_cli_files.specs.Shelves.{KeepsNothing, ShelfSeen}
 use Rattle.dae_cli_source_jobs.specs.Kept.{KeepsFilesOnce}
-use Rattle.dae_cli_words.specs.Asked.{Asked, Compile}
+use Rattle.dae_cli_words.specs.Asked.{Asked, Compile, Asm}
 use Rattle.dae_cli_words.specs.Words.{SpellsJob}
 
 -- the name under which a job keeps an image
 abbrev pub kept_by : Asked → Option (List ℕ)
 kept_by (Compile c to files) = Some to
+kept_by (Asm to name) = Some to
 kept_by _ = None
 
 -- all names tell what they told, but for the name under which the words ask to keep an image
@@ -25,6 +27,8 @@ Leaves words before after =
 abbrev pub KeepsOfJob : Asked → ShelfSeen → (status : ℕ) → (note note_now : SinkState) → Type 0
 KeepsOfJob (Compile c to files) s status note note_now =
     KeepsFilesOnce files s c to status note note_now
+KeepsOfJob (Asm to name) s status note note_now =
+    KeepsAssembledOnce name s to status note note_now
 KeepsOfJob _ s status note note_now = KeepsNothing s
 
 -- nothing is kept, or what the job keeps that the words spell

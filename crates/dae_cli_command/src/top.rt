@@ -6,13 +6,13 @@ ghost use Rattle.dae_cli_files.specs.Shelves.{calm_told, shelf_seen};
 ghost use Rattle.dae_cli_command.specs.Answers.{IsDue};
 ghost use Rattle.dae_cli_command.specs.Leaving.{KeepsAsAsked, Leaves};
 
+use dae_cli_asm_job::asm;
 use dae_cli_debug_job::{DebugFiles, debug};
 use dae_cli_drive::{Stop, noted};
 use dae_cli_guard_job::guard;
 use dae_cli_image_jobs::exec;
 use dae_cli_listing_job::dis;
-use dae_cli_report_job::report;
-use dae_cli_source_jobs::{compile_files, run};
+use dae_cli_source_jobs::{big, compile_files, report, run};
 use dae_cli_time_job::{TimeOptions, time};
 use dae_cli_trace_jobs::{check, trace};
 use dae_cli_words::{Job, spelled_job};
@@ -22,8 +22,8 @@ use std::alloc::Global;
 /// Does the job that the words after the program's name spell, and answers with the program's status. Texts come from
 /// the shelf, output goes to `out` and notes go to `note`. An answer is due by the words, by what the shelf tells and
 /// by its faults; its puts are made in their order, or up to the first that fails. What the shelf holds stays, but for
-/// the name under which the words ask to keep an image. The image is kept once at most, behind the line with its budget,
-/// and with every answer but 0 and 6 all names tell what they told.
+/// the name under which the words ask to keep an image. The image is kept once at most, one that was compiled behind the
+/// line with its budget, and with every answer but 0 and 6 all names tell what they told.
 pub fn dae_main<F: Shelf, O: Sink, N: Sink>(
     alloc: Global,
     words: &[String],
@@ -52,6 +52,9 @@ pub fn dae_main<F: Shelf, O: Sink, N: Sink>(
         Job::Run(compiled, options, files) => {
             run(alloc, files, compiled, &options, shelf, out, note)
         }
+        Job::Big(compiled, options, functions) => {
+            big(alloc, functions, compiled, &options, out, note)
+        }
         Job::Exec(options, name) => exec(alloc, name, &options, shelf, out, note),
         Job::Compile(options, to, files) => compile_files(alloc, files, options, to, shelf, note),
         Job::Report(options, files) => report(alloc, files, options, shelf, out, note),
@@ -66,12 +69,8 @@ pub fn dae_main<F: Shelf, O: Sink, N: Sink>(
             debug(alloc, files, &depths, shelf, out, note)
         }
         Job::Guard(depths, name, text) => guard(alloc, name, text, &depths, shelf, note),
+        Job::Asm(to, name) => asm(alloc, to, name, shelf, note),
         Job::Dis(name) => dis(alloc, name, shelf, out, note),
-        // The program has no part for the others.
-        other => {
-            drop(other);
-            noted(note, b"words\n", 64)
-        }
     }
 }
 

@@ -1,3 +1,4 @@
+mod OfNumber
 mod OnWay
 mod Stopped
 pub mod Laws

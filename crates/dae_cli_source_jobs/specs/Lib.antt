@@ -1,3 +1,5 @@
 pub mod Fetching
 pub mod Sources
 pub mod Kept
+pub mod Reporting
+pub mod Numbers

@@ -1,12 +1,16 @@
-// The jobs of source files: they are fetched and compiled, and their image is run or kept. Each job takes the names of the files,
-// and answers with the status.
+// The jobs of source files, which are compiled: `compile` keeps their image, `run` runs it, `report` puts the report of their form on
+// out, and `big` runs the image of a source that a number makes. Each answers with the status; none stands on another, but each on
+// `sources`.
 #![tactic(auto)]
 
 pub use compile::compile_files;
+pub use numbered::big;
+pub use reporting::report;
 pub use running::run;
-pub use sources::{compilation_of_files, compilation_of_texts};
 
 mod compile;
 mod fetching;
+mod numbered;
+mod reporting;
 mod running;
 mod sources;

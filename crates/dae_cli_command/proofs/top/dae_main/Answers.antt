@@ -1,8 +1,7 @@
 use Rattle.std.proofs.Common.{inl, inr, refl}
-use Rattle.dae_cli_words.specs.Asked.{asked}
 use Rattle.dae_cli_command.specs.Answers.{due_job, due_words, due_memory_for_words}
 use Rattle.dae_cli_command.proofs.Calm.{leaves}
-use Rattle.dae_cli_command.proofs.Found.{due_elsewhere, none_spelled, ranges_by, spelled_as, spelled_by}
+use Rattle.dae_cli_command.proofs.Found.{none_spelled, ranges_by, spelled_as}
 use Rattle.dae_cli_command.proofs.top.dae_main.Goals as goal
 
 -- ---- run
@@ -155,6 +154,25 @@ returns-in-Guard-clause-kept g c = inl c.guard.ensures.kept
 pub returns-in-Guard-clause-unkept : goal.returns-in-Guard-clause-unkept
 returns-in-Guard-clause-unkept g c = λ zero six. c.guard.ensures.kept.told
 
+-- ---- big
+
+pub big-requires : goal.big-requires
+big-requires g c = let r = ranges_by _ _ _ c.in-Some.is c.in-Big.is c.in-Ok.ensures.ranges in r.most_is
+
+pub returns-in-Big-clause-gives : goal.returns-in-Big-clause-gives
+returns-in-Big-clause-gives g c =
+    let r = c.big.ensures.gives in
+    (r.0, due_job _ (spelled_as _ _ _ _ c.in-Some.is c.in-Big.is c.in-Ok.ensures.job) r.1, r.2)
+
+pub returns-in-Big-clause-held : goal.returns-in-Big-clause-held
+returns-in-Big-clause-held g c = inl (λ name. refl)
+
+pub returns-in-Big-clause-kept : goal.returns-in-Big-clause-kept
+returns-in-Big-clause-kept g c = inl (record { given = refl; told = λ name. refl })
+
+pub returns-in-Big-clause-unkept : goal.returns-in-Big-clause-unkept
+returns-in-Big-clause-unkept g c = λ zero six name. refl
+
 -- ---- compile
 
 pub compile_files-requires : goal.compile_files-requires
@@ -172,19 +190,24 @@ returns-in-Compile-clause-held g c =
 pub returns-in-Compile-clause-kept : goal.returns-in-Compile-clause-kept
 returns-in-Compile-clause-kept g c = inr (_, spelled_as _ _ _ _ c.in-Some.is c.in-Compile.is c.in-Ok.ensures.job, c.compile_files.ensures.kept)
 
--- ---- no job, a job that the program has no part for, and no memory to read the words
+-- ---- asm
+
+pub returns-in-Asm-clause-gives : goal.returns-in-Asm-clause-gives
+returns-in-Asm-clause-gives g c =
+    let r = c.asm.ensures.gives (g.O.Sink.seen c.args.out.now) in
+    (r.0, due_job _ (spelled_as _ _ _ _ c.in-Some.is c.in-Asm.is c.in-Ok.ensures.job) r.1, r.2)
+
+pub returns-in-Asm-clause-held : goal.returns-in-Asm-clause-held
+returns-in-Asm-clause-held g c =
+    leaves _ _ _ _ _ (spelled_as _ _ _ _ c.in-Some.is c.in-Asm.is c.in-Ok.ensures.job) refl c.asm.ensures.held
+
+pub returns-in-Asm-clause-kept : goal.returns-in-Asm-clause-kept
+returns-in-Asm-clause-kept g c = inr (_, spelled_as _ _ _ _ c.in-Some.is c.in-Asm.is c.in-Ok.ensures.job, c.asm.ensures.kept)
+
+-- ---- no job, and no memory to read the words
 
 pub returns-in_default-clause-gives : goal.returns-in_default-clause-gives
 returns-in_default-clause-gives g c = (_, due_memory_for_words, c.tell.ensures (g.O.Sink.seen c.args.out.now))
 
 pub returns-in_default-found-clause-gives : goal.returns-in_default-found-clause-gives
 returns-in_default-found-clause-gives g c = (_, due_words (none_spelled _ _ c.in_default-found.not-Some c.in-Ok.ensures.job), c.noted.ensures (g.O.Sink.seen c.args.out.now))
-
-pub returns-in_default-job : goal.returns-in_default-job
-returns-in_default-job g c = record {
-  gives = (_, due_job (asked c.in-Some.job) (spelled_by _ _ _ c.in-Some.is c.in-Ok.ensures.job) (due_elsewhere c.in-Some.job _ _ c.in_default-job.not-Run c.in_default-job.not-Exec c.in_default-job.not-Compile c.in_default-job.not-Trace c.in_default-job.not-Check c.in_default-job.not-Time c.in_default-job.not-Dis c.in_default-job.not-Debug c.in_default-job.not-Report c.in_default-job.not-Guard), c.noted-in_default-job.ensures (g.O.Sink.seen c.args.out.now));
-  held = inl (λ name. refl);
-  kept = inl (record { given = refl; told = λ name. refl });
-  unkept = λ zero six name. refl;
-  unopened = λ e. refl;
-}
