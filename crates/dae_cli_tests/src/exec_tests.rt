@@ -11,7 +11,7 @@ const HALTS: &[u8] =
     b"DAE1\x01\0\0\0\0\0\0\0\0\0\0\0\0\0\0\0\0\0\0\0\0\0\0\0\0\0\0\0@\0\0\0\x01\0\0\0\0\0\0\0\0\0\0\0\0\0\0\0\0\0\0\0\x01\0\0\0\x01\0\0\0\0\0\0\0\0\0\0\0\0\0\0\0s\0\0\0\x93\x02\x0f\0";
 
 /// A store to address 16, whose datum is one more than the word at address 20, which is loaded behind it.
-pub const STORES_BESIDE: &[u8] =
+const STORES_BESIDE: &[u8] =
     b"DAE1\x01\0\0\0\x01\0\0\0\0\0\0\0\x01\0\0\0\x01\0\0\0\0\0\0\0\0\0\0\0@\0\0\0\x01\0\0\0\0\0\0\0\0\0\0\0\0\0\0\0\0\0\0\0\x03\0\0\0\x03\0\0\0\x08\0\0\0\0\0\0\0\0\0\0\0#(\xe0\x01\x03/@\x01s\0\0\0\x13\x05\x0f\0\x13\x0f\x15\0s\0\0\0\0\0\0\0\x07\0\0\0";
 
 /// The same, but the load is of the bytes that the store is to write.
@@ -21,10 +21,6 @@ const STORES_THERE: &[u8] =
 /// A copy of 9 from the access processor is the status.
 const COPIES: &[u8] =
     b"DAE1\x02\0\0\0\0\0\0\0\0\0\0\0\0\0\0\0\0\0\0\0\0\0\0\0\0\0\0\0\x01\0\0\0@\0\0\0\x01\0\0\0\0\0\0\0\0\0\0\0\0\0\0\0\0\0\0\0\x02\0\0\0\x02\0\0\0\0\0\0\0\0\0\0\0\0\0\0\0\x13\x0e\x90\0s\0\0\0\x13\x05\x0e\0s\0\0\0";
-
-/// The execute processor prints 12, 34 and a byte, and ends.
-pub const PRINTS_THRICE: &[u8] =
-    b"DAE1\x01\0\0\0\0\0\0\0\0\0\0\0\0\0\0\0\0\0\0\0\0\0\0\0\0\0\0\0@\0\0\0\x01\0\0\0\0\0\0\0\0\0\0\0\0\0\0\0\0\0\0\0\x01\0\0\0\x09\0\0\0\0\0\0\0\0\0\0\0\0\0\0\0s\0\0\0\x13\x05\xc0\0\x93\x08\x20\0s\0\0\0\x13\x05\x20\x02s\0\0\0\x93\x08\x10\0s\0\0\0\x93\x08\0\0s\0\0\0";
 
 const NO_BUDGET: &str = "budget ld 0 al 0 sa 0 sd 0 ab 0 eb 0 cq 0\n";
 

@@ -5,8 +5,6 @@
 #[cfg(test)]
 mod calls;
 #[cfg(test)]
-mod cut_tests;
-#[cfg(test)]
 mod exec_tests;
 #[cfg(test)]
 mod files;

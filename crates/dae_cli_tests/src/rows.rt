@@ -10,7 +10,7 @@ pub struct Row {
     pub lines: &'static str,
 }
 
-pub const ROWS: [Row; 58] = [
+pub const ROWS: [Row; 59] = [
     Row {
         words: "run a.c",
         files: &[("a.c", b"int main(void){return 0;}")],
@@ -46,6 +46,16 @@ pub const ROWS: [Row; 58] = [
         )],
         status: 0,
         out: b"11\n22\n33\n44\n",
+        lines: "ended 0\n",
+    },
+    Row {
+        words: "run --ld=1 a.c",
+        files: &[(
+            "a.c",
+            b"#include <stdio.h>\nint g;int h;int main(void){g=3;h=g*g;printf(\"%d\\n\",h);return 0;}",
+        )],
+        status: 0,
+        out: b"9\n",
         lines: "ended 0\n",
     },
     Row {
