@@ -18,6 +18,10 @@ PICTURES = (
     ("gather_lines", "gather", ("lines", "--load=64")),
     ("histogram_queues", "histogram", ("queues", "--load=8", "--from=3000", "--to=3300")),
 )
+# Those of pairs: the name, the pair, the words.
+OF_PAIRS = (
+    ("gather16_pipeline", "gather16", ("pipeline", "--load=64", "--al=16", "--ld=64", "--from=600", "--to=750")),
+)
 CURVES = ("dot", "greatest", "matrix", "chain", "divide", "gather", "list", "greatest_waits", "search")
 
 
@@ -40,6 +44,11 @@ def main(words):
         for name, program, kind in PICTURES:
             image, source = f"{folder}/{program}.img", f"examples/course/{program}.c"
             call([*shlex.split(command), "compile", f"--to={image}", source])
+            keep(name, call([sys.executable, "tools/see/see.py", *kind, image]))
+        for name, pair, kind in OF_PAIRS:
+            image = f"{folder}/{pair}.img"
+            with open(image, "wb") as file:
+                file.write(call([sys.executable, "tools/listing/assemble.py", f"examples/pairs/{pair}.s"]))
             keep(name, call([sys.executable, "tools/see/see.py", *kind, image]))
     sources = [f"examples/course/{it}.c" for it in CURVES]
     keep("curves", call([sys.executable, "tools/see/curves.py", f"--command={command}", *sources]))

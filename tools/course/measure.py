@@ -1,19 +1,20 @@
 #!/usr/bin/env python3
 """measure.py [--write] [--command=WORDS]
 
-Measures each table of docs/COURSE.md and docs/SMITH.md again, and says of each whether it still holds; with --write it puts what
-it measured into the pages. A table stands between a line that asks for it and the line `<!-- end -->`:
+Measures each table of docs/COURSE.md, docs/SMITH.md and docs/GUIDE.md again, and says of each whether it still holds; with --write
+it puts what it measured into the pages. A table stands between a line that asks for it and the line `<!-- end -->`:
 
     <!-- latency PROGRAM LOADS DEPTHS -->       a row for each latency: one processor alone, and each depth of all queues
     <!-- programs LOADS PROGRAMS -->            a row for each program: for each latency its ticks, and those of one processor alone
     <!-- waits LOAD PROGRAMS -->                a row for each program: ticks, for which queues A waits, one processor alone
     <!-- depths PROGRAM LOAD DEPTHS .. -->      a row for each choice of depths (`ld=64,ab=64`, or `-` for 8 each): ticks, A's waits
-    <!-- said WORDS .. -->                      what `./dae WORDS ..` prints and notes
+    <!-- pairs LOADS PAIR[:DEPTHS] .. -->       a row for each pair of examples/pairs: its ticks for each latency; PROGRAM.c is a program
+    <!-- said WORDS .. -->                      what `./dae WORDS ..` prints and notes; NAME.img is the image of a pair or a program
 
 Lists have commas. The programs are those of examples/course; counted are the ticks of what stands behind their line `measured from
-here`, which is a program less the same program without that part. Depths are 8 where nothing else is said, a product takes 3 ticks
-and a quotient 20. `Alone` is gcc's code at -O1 on one processor that waits for each load of an object with static storage.
-COMMAND compiles (./dae); runs are counted by tools/record.
+here`, which is a program less the same program without that part. A pair is counted whole. Depths are 8 where nothing else is said,
+a product takes 3 ticks and a quotient 20. `Alone` is gcc's code at -O1 on one processor that waits for each load of an object with
+static storage. COMMAND compiles (./dae); pairs are assembled by tools/listing, runs are counted by tools/record.
 """
 
 import os
@@ -30,8 +31,8 @@ sys.path[:0] = [f"{TOP}/tools/record", f"{TOP}/tools/measure"]
 import alone                                                                    # noqa: E402
 import record                                                                   # noqa: E402
 
-PAGES = (f"{TOP}/docs/COURSE.md", f"{TOP}/docs/SMITH.md")
-TABLE = re.compile(r"<!-- (latency|programs|waits|depths|said) ([^>]*) -->\n(.*?)<!-- end -->", re.S)
+PAGES = (f"{TOP}/docs/COURSE.md", f"{TOP}/docs/SMITH.md", f"{TOP}/docs/GUIDE.md")
+TABLE = re.compile(r"<!-- (latency|programs|waits|depths|pairs|said) ([^>]*) -->\n(.*?)<!-- end -->", re.S)
 PRODUCT, QUOTIENT = 3, 20
 
 
@@ -68,15 +69,22 @@ class Lab:
         return names
 
     @cache
+    def pair(self, name):
+        """The image of a pair that is kept as text."""
+        image = f"{self.folder}/{name}-pair.img"
+        words = [sys.executable, f"{TOP}/tools/listing/assemble.py", f"{TOP}/examples/pairs/{name}.s"]
+        with open(image, "wb") as file:
+            subprocess.run(words, stdout=file, check=True)
+        return image
+
+    def image(self, name):
+        """The image of a pair or of a whole program of that name."""
+        return self.pair(name) if os.path.exists(f"{TOP}/examples/pairs/{name}.s") else self.images(name)[0]
+
+    @cache
     def timed(self, program, load, depths):
         """The ticks of what is measured, and A's waits in it, with these depths (pairs of a queue and a depth; 8 else)."""
-        numbers = {**record.NUMBERS, **dict(depths), "load": load, "mul": PRODUCT, "div": QUOTIENT}
-        machines = []
-        for image in self.images(program):
-            machines.append(record.opened(image, numbers))
-            for _ in record.ticks(machines[-1]):
-                pass
-        whole, without = machines
+        whole, without = (run_of(image, load, depths) for image in self.images(program))
         waits = {queue: count - without.waits["A"][queue] for queue, count in whole.waits["A"].items()}
         return whole.ticks - without.ticks, waits
 
@@ -85,6 +93,23 @@ class Lab:
         """The ticks of what is measured on one processor."""
         whole, without = (alone.count([source], "-O1", self.folder).ticks(load, PRODUCT, QUOTIENT) for source in self.sources(program))
         return whole - without
+
+
+def run_of(image, load, depths):
+    """The machine behind a whole run of an image."""
+    machine = record.opened(image, {**record.NUMBERS, **dict(depths), "load": load, "mul": PRODUCT, "div": QUOTIENT})
+    for _ in record.ticks(machine):
+        pass
+    return machine
+
+
+def depths_of(text):
+    """The pairs of a queue and a depth that a text says, as `ld=64,ab=64`."""
+    return tuple((it.split("=")[0], int(it.split("=")[1])) for it in text.split(",") if it)
+
+
+def shown(pairs):
+    return ", ".join(f"`{queue}` {depth}" for queue, depth in pairs) or "all 8"
 
 
 def row(cells):
@@ -131,20 +156,32 @@ def waits(lab, load, names):
 def depths(lab, program, load, *choices):
     rows = []
     for choice in choices:
-        pairs = () if choice == "-" else tuple((it.split("=")[0], int(it.split("=")[1])) for it in choice.split(","))
-        ticks, by_queue = lab.timed(program, int(load), pairs)
-        rows.append([", ".join(f"`{queue}` {depth}" for queue, depth in pairs) or "all 8", f"{ticks:,}", told(by_queue)])
+        chosen = depths_of(choice.strip("-"))
+        ticks, by_queue = lab.timed(program, int(load), chosen)
+        rows.append([shown(chosen), f"{ticks:,}", told(by_queue)])
     return table(["depths", "ticks", "A waits"], rows)
 
 
+def pairs(lab, loads, *choices):
+    rows = []
+    for choice in choices:
+        name, _, text = choice.partition(":")
+        chosen, program = depths_of(text), name.removesuffix(".c")
+        ticks = [lab.timed(program, load, chosen)[0] if name != program else run_of(lab.pair(name), load, chosen).ticks
+                 for load in map(int, loads.split(","))]
+        rows.append([name if name != program else f"{name}.s", shown(chosen), *(f"{it:,}" for it in ticks)])
+    return table(["", "depths", *(f"load {it}" for it in loads.split(","))], rows)
+
+
 def said(lab, *words):
+    words = [lab.image(it.removesuffix(".img")) if it.endswith(".img") and "/" not in it else it for it in words]
     done = subprocess.run([*lab.command, *words], cwd=TOP, capture_output=True, text=True, check=False)
     notes = [line for line in done.stderr.splitlines() if not line.startswith("dae:")]
     lines = [*done.stdout.splitlines(), *notes]
     return "\n" + "".join(f"    {line}\n" for line in lines) + "\n"
 
 
-KINDS = {"latency": latency, "programs": programs, "waits": waits, "depths": depths, "said": said}
+KINDS = {"latency": latency, "programs": programs, "waits": waits, "depths": depths, "pairs": pairs, "said": said}
 
 
 def again(name, lab, held, is_written):

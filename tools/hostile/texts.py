@@ -22,7 +22,7 @@ NESTS = [
     ("int main(void){", "{", ";", "}", "return 0;}"),
     ("int main(void){", "if(1)", ";", "", "return 0;}"),
     ("int main(void){int x=0;x=", "x=", "1", "", ";return 0;}"),
-    ("int main(void){return ", "-", "1", "", ";}"),
+    ("int main(void){return ", "- ", "1", "", ";}"),
     ("int main(void){return ", "1+(", "1", ")", ";}"),
     ("int ", "*", "x", "", ";int main(void){return 0;}"),
     ("int x", "[1]", "", "", ";int main(void){return 0;}"),

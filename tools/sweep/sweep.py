@@ -13,10 +13,17 @@ a sweep that was broken off goes on where it was.
     --command=WORDS     the program that compiles and runs (./dae)
     --by=time|record    who counts: the program's job `time`, or tools/record, which takes longer (time)
     --jobs=N            cells at once (as many as there are processors)
-    --list              makes no cell, but prints the command of each that is missing, one a line: for `parallel`, also with its
-                        --sshlogin over a shared folder, or for an array of Slurm; call again without it for the table
+    --list              makes no cell, but prints the command of each that is missing, one a line; called again without it,
+                        this makes the table of them
 
 A cell whose depth is below the image's budget has no ticks, and says `depth`. A program that doesn't end in time says `running`.
+A folder is for one choice of ticks, command and who counts: another one is refused.
+
+Where one machine isn't enough, the lines of --list are what GNU parallel and Slurm take, over a folder that all machines see:
+
+    tools/sweep/sweep.py --list OPTION.. SOURCE.. > cells
+    parallel --bar --workdir . --sshlogin HOST,HOST < cells
+    sbatch --array=1-$(wc -l < cells) --wrap='sed -n "${SLURM_ARRAY_TASK_ID}p" cells | sh'
 """
 
 import csv
@@ -25,6 +32,7 @@ import json
 import math
 import os
 import shlex
+import signal
 import subprocess
 import sys
 from concurrent.futures import ThreadPoolExecutor, as_completed
@@ -59,9 +67,15 @@ def numbers(text):
     return [int(it) for it in text.split(",")]
 
 
-def image_of(told, source, cap):
+def names_of(sources):
+    """The name of each program: its file without `.c`, and without the folder that all have in common."""
+    folder = os.path.commonpath([os.path.dirname(os.path.abspath(it)) for it in sources])
+    return {it: os.path.relpath(os.path.abspath(it), folder).removesuffix(".c") for it in sources}
+
+
+def image_of(told, source, file, cap):
     """The kept image of a program under a cap, which is compiled where it isn't there or older than its source."""
-    name = f"{told['out']}/images/{os.path.basename(source).removesuffix('.c')}-{cap}.img"
+    name = f"{told['out']}/images/{file}-{cap}.img"
     if not os.path.exists(name) or os.path.getmtime(name) < os.path.getmtime(source):
         words = [*shlex.split(told["command"]), "compile", f"--cap={cap}", f"--to={name}", source]
         done = subprocess.run(words, capture_output=True, text=True, check=False)
@@ -72,12 +86,12 @@ def image_of(told, source, cap):
 
 def cells(told, sources):
     """Each cell: its row so far, its image, and the file in which it is kept."""
-    for source, cap in itertools.product(sources, numbers(told["caps"])):
-        image = image_of(told, source, cap)
-        program = os.path.basename(source).removesuffix(".c")
+    for (source, program), cap in itertools.product(names_of(sources).items(), numbers(told["caps"])):
+        file = program.replace("/", "-")
+        image = image_of(told, source, file, cap)
         for depth, load in itertools.product(numbers(told["depths"]), numbers(told["loads"])):
             row = {"program": program, "cap": cap, "depth": depth, "load": load}
-            yield row, image, f"{told['out']}/cells/{program}-{cap}-{depth}-{load}.json"
+            yield row, image, f"{told['out']}/cells/{file}-{cap}-{depth}-{load}.json"
 
 
 def words_of(told, row, image, kept):
@@ -92,17 +106,37 @@ def is_kept(kept, image):
 
 
 def make(told, missing):
-    """Makes the cells, several at once, with a bar of progress."""
-    done = 0
-    with ThreadPoolExecutor(int(told["jobs"])) as pool:
+    """Makes the cells, several at once, with a bar of progress. What is broken off begins no further cell."""
+    done, pool = 0, ThreadPoolExecutor(int(told["jobs"]))
+    try:
         running = [pool.submit(subprocess.run, words_of(told, *it), shell=True, check=True) for it in missing]
         for it in as_completed(running):
             it.result()
             done += 1
             bar = "#" * (40 * done // len(missing))
             print(f"\r[{bar:<40}] {done} of {len(missing)} cells", end="", file=sys.stderr)
+    except subprocess.CalledProcessError as error:
+        sys.exit(f"sweep.py: a cell isn't made: {error.cmd}")
+    except KeyboardInterrupt:
+        sys.exit(f"\nsweep.py: broken off behind {done} of {len(missing)} cells; the same command goes on")
+    finally:
+        pool.shutdown(cancel_futures=True)
     if missing:
         print(file=sys.stderr)
+
+
+def hold(told):
+    """Notes in a new folder what its cells are made by, and refuses a folder of others."""
+    name, ours = f"{told['out']}/made-by.json", {it: told[it] for it in ("ticks", "command", "by")}
+    try:
+        with open(name, encoding="ascii") as file:
+            theirs = json.load(file)
+    except FileNotFoundError:
+        theirs = ours
+        with open(name, "w", encoding="ascii") as file:
+            json.dump(ours, file)
+    if theirs != ours:
+        sys.exit(f"sweep.py: {told['out']} has cells of {theirs}, so another --out is wanted")
 
 
 def rows_of(made):
@@ -144,8 +178,11 @@ def draw(rows):
 
 def main(words):
     told, sources = options(words)
+    # (a batch system ends a job so)
+    signal.signal(signal.SIGTERM, signal.default_int_handler)
     for part in ("images", "cells"):
         os.makedirs(f"{told['out']}/{part}", exist_ok=True)
+    hold(told)
     made = list(cells(told, sources))
     missing = [it for it in made if not is_kept(it[2], it[1])]
     if told["list"] is not None:

@@ -1,0 +1,149 @@
+#!/usr/bin/env python3
+"""numbers.py PROGRAM [KIND..]
+
+Says of the numbers in README.md and the pages of docs/ whether they still hold; PROGRAM is the built program. The kinds, each with
+what it holds (without any all are tried, the quick ones first):
+
+    prose       what pages say of numbers that stand elsewhere: in tables, in `./dae help`, in tools/
+    index       ARCHITECTURE.md's index by topic, and the contracts of docs/PROVED.md (tools/proved)
+    course      each table and each output in docs/COURSE.md, docs/SMITH.md and docs/GUIDE.md (tools/course/measure.py): a minute
+    jobs        docs/MEASURES.md, what the jobs take (tools/speed/jobs.py): half a minute
+    code        docs/MEASURES.md, the tables of tools/measure: some minutes
+    machine     docs/MEASURES.md, steps a second beside C's simulator (tools/speed/compare.py), up to a factor of two: some minutes
+    shapes      docs/MEASURES.md, no source takes longer to compile than by `gcc -O0` (tools/speed/shapes.py): some minutes
+
+What pages call measured once, in a run of hours or beside an implementation that isn't here, has its command in the page; `measured`
+prints these with their pages. The last line is 'N passed, N failed'.
+"""
+
+import os
+import re
+import subprocess
+import sys
+
+TOP = os.path.dirname(os.path.dirname(os.path.dirname(os.path.realpath(__file__))))
+ROW = re.compile(r"^\| (.+) \|$", re.M)
+# What is measured once: the page, and the command, with what it takes besides.
+MEASURED = (
+    ("README.md, docs/GATE.md", "the comparisons under tools/ (meaning, forms, split, trees, whole, calls) beside another implementation"),
+    ("README.md, docs/GATE.md", "rt ci, with tools/gate: minutes and the table a crate"),
+    ("docs/MEASURES.md", "tools/hostile/stress.py --stack=1024 PROGRAM 100000"),
+    ("docs/MEASURES.md", "valgrind --tool=callgrind PROGRAM exec ..: instructions a step"),
+    ("docs/GUIDE.md", "tools/launcher/rows.py --real: what the first call takes, and the second"),
+)
+
+
+def page(name):
+    with open(f"{TOP}/{name}", encoding="utf-8") as file:
+        return file.read()
+
+
+def run(*words):
+    return subprocess.run(words, cwd=TOP, capture_output=True, text=True, check=False)
+
+
+def tables(text):
+    """The rows of each section's first table, by the section's title."""
+    found = {}
+    for section in re.split(r"^## ", text, flags=re.M)[1:]:
+        rows = [it.split(" | ") for it in ROW.findall(section)]
+        found[section.split("\n")[0]] = [[cell.strip() for cell in it] for it in rows]
+    return found
+
+
+# ---- what pages say of numbers that stand elsewhere
+
+def means(measures, title, *columns):
+    """The last numbers of the row of means of a table for the examples and of the one for the kernels."""
+    return [measures[f"{title}, {of}"][-1][column] for column in columns for of in ("examples", "kernels")]
+
+
+def beyond(measures, is_beyond):
+    """The programs whose instructions are so many times those of -O0."""
+    return [row[0] for of in ("examples", "kernels") for row in measures[f"Executed instructions, {of}"][1:-1] if is_beyond(float(row[-3]))]
+
+
+def claims(program):
+    """Each: the page, a text in which groups are numbers or names, and what these are."""
+    measures = tables(page("docs/MEASURES.md"))
+    sweep = next(it for it in re.findall(r"^    (tools/sweep/sweep.py .*)$", page("docs/GUIDE.md"), re.M) if "--list" not in it)
+    helped = run("./dae", "help").stdout
+    yield "MEASURES", r"execute ([\d.]+) times what `gcc -O0` does on the examples, ([\d.]+) times", means(measures, "Executed instructions", -3)
+    yield "MEASURES", r"on the kernels, and ([\d.]+) and ([\d.]+) times what `-O1` does", means(measures, "Executed instructions", -2)
+    yield "MEASURES", r"A alone ([\d.]+) and ([\d.]+) times", means(measures, "Executed instructions", -1)
+    yield "MEASURES", r"Below `-O0` are (.+?);", [" and ".join(beyond(measures, lambda it: it < 1))]
+    yield "MEASURES", r"above 1.5 of it are (.+?)\. ", [", ".join(beyond(measures, lambda it: it > 1.5))]
+    yield "MEASURES", r"words of code are ([\d.]+) and ([\d.]+) times those of `-O0`", means(measures, "Words of code", -2)
+    yield "MEASURES", r"takes 64, the two are ([\d.]+) and ([\d.]+) times as fast", means(measures, "Ticks", -2)
+    yield "GUIDE", r"makes a table of (\d+) cells", [str(run("bash", "-c", f"{sweep} --out=/tmp/dae-numbers-$$ --list").stdout.count("\n"))]
+    rate = next(row[3] for row in measures["The speed of the jobs"] if row[0] == "`exec`")
+    yield "GUIDE", r"makes more than (20) million steps a second", ["20" if float(rate) > 20 else rate]
+    yield "GUIDE", r"The (seven) lessons", ["seven" if page("docs/COURSE.md").count("\n## ") == 7 else "other"]
+    yield "README", r"options and statuses in (forty) lines", ["forty" if helped.count("\n") <= 40 else str(helped.count("\n"))]
+    yield "README", r"(\d+) worked and", [re.search(r"(\d+)", run(sys.executable, "tools/whole/rows.py", program).stdout.split("\n")[-2])[1]]
+
+
+def prose(program):
+    for name, text, wanted in claims(program):
+        said = re.search(text, re.sub(r"\s+", " ", page("README.md" if name == "README" else f"docs/{name}.md")))
+        is_good = said is not None and list(said.groups()) == wanted
+        yield is_good, f"{name}: {said[0] if said else text}" + ("" if is_good else f"; and it is {wanted}")
+
+
+# ---- what other scripts hold
+
+def held_by(*words):
+    def tried(program):
+        done = run(sys.executable, *(it.replace("PROGRAM", program) for it in words))
+        yield done.returncode == 0, f"{words[0]}: {(done.stdout + done.stderr).strip().split(chr(10))[-1]}"
+    return tried
+
+
+def code(program):
+    """Each table of tools/measure, as the page has it."""
+    done = run(sys.executable, "tools/measure/measure.py", program)
+    made, kept = tables(done.stdout), tables(page("docs/MEASURES.md"))
+    if not made:
+        yield False, f"tools/measure/measure.py: {done.stderr.strip()}"
+    for title, rows in made.items():
+        yield kept.get(title) == rows, f"MEASURES: {title}"
+
+
+def machine(program):
+    """The table of the built program beside C's simulator: our millions of steps a second and C's, up to a factor of two."""
+    made = ROW.findall(run(sys.executable, "tools/speed/compare.py", program).stdout)
+    kept = ROW.findall(page("docs/MEASURES.md").split("`exec` of the built program")[1])[:len(made)]
+    for one, other in zip(made[1:], kept[1:]):
+        pairs = zip(re.findall(r"[\d.]+ of", one), re.findall(r"[\d.]+ of", other))
+        is_good = all(0.5 <= float(x[:-3]) / float(y[:-3]) <= 2 for x, y in pairs)
+        yield is_good, f"MEASURES: depth {one.split(' ')[0]}" + ("" if is_good else f": {one}, and the page has {other}")
+
+
+KINDS = {
+    "prose": prose,
+    "index": lambda program: [*held_by("tools/proved/index.py")(program), *held_by("tools/proved/contracts.py", "--check")(program)],
+    "course": held_by("tools/course/measure.py", "--command=PROGRAM"),
+    "jobs": held_by("tools/speed/jobs.py", "PROGRAM"),
+    "code": code,
+    "machine": machine,
+    "shapes": held_by("tools/speed/shapes.py", "PROGRAM"),
+}
+
+
+def main(words):
+    if not words or not set(words[1:]) <= {*KINDS, "measured"}:
+        sys.exit(__doc__)
+    if words[1:] == ["measured"]:
+        print(*(f"{pages}: {by}" for pages, by in MEASURED), sep="\n")
+        return 0
+    program, passed, failed = os.path.abspath(words[0]), 0, 0
+    for kind in words[1:] or KINDS:
+        for is_good, says in KINDS[kind](program):
+            passed, failed = passed + is_good, failed + (not is_good)
+            print(f"{'holds' if is_good else 'DIFFERS'}: {says}", flush=True)
+    print(f"{passed} passed, {failed} failed")
+    return 1 if failed else 0
+
+
+if __name__ == "__main__":
+    sys.exit(main(sys.argv[1:]))
