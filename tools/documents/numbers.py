@@ -75,7 +75,7 @@ def claims(program):
     yield "MEASURES", r"above 1.5 of it are (.+?)\. ", [", ".join(beyond(measures, lambda it: it > 1.5))]
     yield "MEASURES", r"words of code are ([\d.]+) and ([\d.]+) times those of `-O0`", means(measures, "Words of code", -2)
     yield "MEASURES", r"takes 64, the two are ([\d.]+) and ([\d.]+) times as fast", means(measures, "Ticks", -2)
-    yield "GUIDE", r"makes a table of (\d+) cells", [str(run("bash", "-c", f"{sweep} --out=/tmp/dae-numbers-$$ --list").stdout.count("\n"))]
+    yield "GUIDE", r"makes a table of (\d+) cells", [str(run("bash", "-c", f"{sweep} --out=$(mktemp -d) --list").stdout.count("\n"))]
     rate = next(row[3] for row in measures["The speed of the jobs"] if row[0] == "`exec`")
     yield "GUIDE", r"makes more than (20) million steps a second", ["20" if float(rate) > 20 else rate]
     yield "GUIDE", r"The (seven) lessons", ["seven" if page("docs/COURSE.md").count("\n## ") == 7 else "other"]
