@@ -111,6 +111,7 @@ pub fn return_nothing(
 }
 
 /// `break`, which ends a loop or a switch.
+#[inline(never)]
 #[tactic(auto, unfolding(dae_types_rules::specs::Plan::ask_all))]
 pub fn break_out(
     alloc: Global,
@@ -127,6 +128,7 @@ pub fn break_out(
 }
 
 /// `continue`, which ends a turn of a loop.
+#[inline(never)]
 #[tactic(auto, unfolding(dae_types_rules::specs::Plan::ask_all))]
 pub fn go_on(
     alloc: Global,

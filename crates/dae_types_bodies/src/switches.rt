@@ -124,6 +124,7 @@ fn label(alloc: Global, arming: Arming, label: Option<u32>) -> Result<Arming, Ch
 }
 
 /// `case` and its value.
+#[inline(never)]
 #[tactic(auto, unfolding(dae_types_rules::specs::Plan::ask_all))]
 pub fn add_case(
     alloc: Global,
@@ -142,6 +143,7 @@ pub fn add_case(
 }
 
 /// `default`
+#[inline(never)]
 #[tactic(auto, unfolding(dae_types_rules::specs::Plan::ask_all))]
 pub fn add_default(
     alloc: Global,

@@ -1,3 +1,4 @@
+mod Descending
 mod Settings
 mod Shapes
 mod Stacks

@@ -1,10 +1,11 @@
 // What of an aggregate is still to be filled, as a stack, and the object that is next (C90 6.5.7).
 
-ghost use Rattle.std.specs.Prelude.{◌≡◌, ◌*◌, List, ◌∷◌, Option, Ok, slice_get};
-ghost use Rattle.dae_types_file_plans.specs.Initialisers.{Rest as PlainRest, Slot as PlainSlot, behind_bytes, components_of, descend, element_slot, is_before, is_text_array, member_slot, next_slot, parts_of};
+ghost use Rattle.std.specs.Prelude.{◌≡◌, ◌*◌, ◌&&◌, ◌||◌, List, ◌∷◌, Option, Ok, slice_get};
+ghost use Rattle.dae_types_kinds.specs.Types.{is_scalar, is_structure};
+ghost use Rattle.dae_types_file_plans.specs.Initialisers.{Rest as PlainRest, Slot as PlainSlot, behind_bytes, components_of, descend, element_slot, is_before, is_text_array, member_slot, next_slot, or_slot, parts_of, slot};
 ghost use Rattle.dae_types_rules.specs.Plan.{Gives};
 ghost use Rattle.dae_types_tables.specs.Seen.{tables};
-ghost use Rattle.dae_types_fills.specs.Slots.{slot_or, view_rest, view_slot, view_stack};
+ghost use Rattle.dae_types_fills.specs.Slots.{left_behind, slot_or, view_rest, view_slot, view_stack};
 ghost use Rattle.dae_types_fills.specs.Filled.{seen};
 
 use dae_types_kinds::{CheckError, Component, Shape};
@@ -42,22 +43,29 @@ pub fn next_slot(checker: &Checker, mut rest: Vec<Rest>) -> Result<Option<Slot>,
     ensures { Gives (seen view_slot) result
         (Ok (next_slot (tables checker.now) (view_stack rest.items))) }
 {
-    let Some(part) = rest.pop() else {
-        return Ok(None);
-    };
-    let Some(start) = start_of(checker, part)? else {
-        return next_slot(checker, rest);
-    };
+    while let Some(part) = rest.pop() {
+        if let Some(start) = start_of(checker, part)? {
+            let slot = before_rest(start, rest)?;
+            return Ok(Some(slot));
+        }
+    }
+    Ok(None)
+}
+
+/// The first object of a part, with what is left of that part on top of the rest.
+#[tactic(auto, using(crate::proofs::Stacks::stack_push))]
+fn before_rest(start: Start, mut rest: Vec<Rest>) -> Result<Slot, CheckError>
+    ensures { Gives view_slot result
+        (Ok (slot start.offset start.type_id (left_behind start.left (view_stack rest.items)))) }
+{
     if let Some(left) = start.left {
         rest.push(left)?;
     }
-    let offset = start.offset;
-    let type_id = start.type_id;
-    Ok(Some(Slot {
-        offset,
-        type_id,
+    Ok(Slot {
+        offset: start.offset,
+        type_id: start.type_id,
         rest,
-    }))
+    })
 }
 
 /// The first object of a part, unless nothing of it is left.
@@ -197,6 +205,18 @@ pub fn is_text_array(checker: &Checker, shape: Shape) -> bool
     }
 }
 
+/// Whether an item is for an object of this shape and no part of it: for a scalar, for an array of characters if it is a literal,
+/// for a structure if it is one.
+fn is_for(checker: &Checker, literal: bool, structure: bool, shape: Shape) -> bool
+    ensures { result
+        ≡ (is_scalar shape
+        || ((literal && is_text_array (tables checker.now) shape)
+        || (structure && is_structure shape))) }
+{
+    let text = literal && is_text_array(checker, shape);
+    is_scalar(shape) || (text || (structure && is_structure(shape)))
+}
+
 /// Down to the object that an item is for: a scalar, an array of characters for a literal, or a structure for a structure.
 pub fn descend(
     alloc: Global,
@@ -204,49 +224,52 @@ pub fn descend(
     literal: bool,
     structure: bool,
     depth: usize,
-    slot: Slot,
+    mut slot: Slot,
 ) -> Result<Slot, CheckError>
     ensures { Gives view_slot result
         (Ok (descend depth (tables checker.now) literal structure (view_slot slot))) }
 {
-    if depth == 0 {
-        return Ok(slot);
+    let mut left = depth;
+    while left > 0 {
+        let shape = checker.shape_of(slot.type_id);
+        if is_for(checker, literal, structure, shape) {
+            return Ok(slot);
+        }
+        slot = first_part(alloc, checker, slot, shape)?;
+        left -= 1;
     }
-    let shape = checker.shape_of(slot.type_id);
-    let text = literal && is_text_array(checker, shape);
-    if is_scalar(shape) || (text || (structure && is_structure(shape))) {
-        return Ok(slot);
-    }
-    match first_part(alloc, checker, &slot, shape)? {
-        Some(inner) => descend(alloc, checker, literal, structure, depth - 1, inner),
-        None => descend(alloc, checker, literal, structure, depth - 1, slot),
-    }
+    Ok(slot)
 }
 
-/// The first object of an aggregate of this shape, or what is next behind it.
+/// The first object of an aggregate of this shape, or what is next behind it, or itself where nothing is.
 fn first_part(
     alloc: Global,
     checker: &Checker,
-    slot: &Slot,
+    slot: Slot,
     shape: Shape,
-) -> Result<Option<Slot>, CheckError>
-    ensures { Gives (seen view_slot) result
-        (Ok (next_slot (tables checker.now)
-        (parts_of slot.now.offset slot.now.type_id shape ∷ view_stack slot.now.rest.items))) }
+) -> Result<Slot, CheckError>
+    ensures { Gives view_slot result
+        (Ok (or_slot (view_slot slot) (next_slot (tables checker.now)
+        (parts_of slot.offset slot.type_id shape ∷ view_stack slot.rest.items)))) }
 {
     let part = parts_of(slot.offset, slot.type_id, shape);
-    let rest = with_part(alloc, &slot.rest, part)?;
-    next_slot(checker, rest)
+    match start_of(checker, part)? {
+        Some(start) => before_rest(start, slot.rest),
+        None => behind(alloc, checker, slot),
+    }
 }
 
-/// A copy of a stack with a part on top.
-#[tactic(auto, using(crate::proofs::Stacks::stack_push))]
-fn with_part(alloc: Global, rest: &[Rest], part: Rest) -> Result<Vec<Rest>, CheckError>
-    ensures { Gives (λ v. view_stack v.items) result (Ok (view_rest part ∷ view_stack rest.now)) }
+/// What is next behind an object of which nothing is to be filled, or that object where nothing is.
+fn behind(alloc: Global, checker: &Checker, slot: Slot) -> Result<Slot, CheckError>
+    ensures { Gives view_slot result
+        (Ok (or_slot (view_slot slot)
+        (next_slot (tables checker.now) (view_stack slot.rest.items)))) }
 {
-    let mut stack = copy_stack(alloc, rest)?;
-    stack.push(part)?;
-    Ok(stack)
+    let rest = copy_stack(alloc, &slot.rest)?;
+    match next_slot(checker, rest)? {
+        Some(next) => Ok(next),
+        None => Ok(slot),
+    }
 }
 
 /// A copy of a stack.

@@ -161,6 +161,7 @@ fn plain(alloc: Global, checker: &mut Checker, e: &Tree) -> Result<Vec<Statement
 }
 
 /// An expression as a statement: a call of `printf`, or another one.
+#[inline(never)]
 pub fn evaluate(
     alloc: Global,
     checker: &mut Checker,

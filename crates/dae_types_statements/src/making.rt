@@ -25,6 +25,7 @@ pub struct Written {
 }
 
 /// `if` and `else`.
+#[inline(never)]
 pub fn choose(
     alloc: Global,
     place: Place,
@@ -39,6 +40,7 @@ pub fn choose(
 }
 
 /// `while` and `for`, where nothing is done at the start.
+#[inline(never)]
 pub fn repeat(
     alloc: Global,
     place: Place,
@@ -53,6 +55,7 @@ pub fn repeat(
 }
 
 /// `for`; the first place is that of the expression at its start, if there is one.
+#[inline(never)]
 pub fn repeat_from(
     alloc: Global,
     at_start: Place,
@@ -74,6 +77,7 @@ pub fn repeat_from(
 }
 
 /// `do`.
+#[inline(never)]
 pub fn repeat_before(
     alloc: Global,
     place: Place,
@@ -86,6 +90,7 @@ pub fn repeat_before(
 }
 
 /// `switch`.
+#[inline(never)]
 pub fn branch(
     alloc: Global,
     place: Place,

@@ -147,6 +147,7 @@ fn statement(
 
 /// A block, in a scope of its own.
 #[cycle(statement)]
+#[inline(never)]
 fn scope(
     alloc: Global,
     checker: &mut Checker,
@@ -170,6 +171,7 @@ fn scope(
 
 /// Statements behind those that are done.
 #[cycle(statement)]
+#[inline(never)]
 fn sequence(
     alloc: Global,
     checker: &mut Checker,
@@ -191,6 +193,7 @@ fn sequence(
 
 /// `if` behind its condition.
 #[cycle(statement)]
+#[inline(never)]
 fn if_true(
     alloc: Global,
     checker: &mut Checker,
@@ -208,6 +211,7 @@ fn if_true(
 
 /// `if` with `else`, behind its condition and the statement before `else`.
 #[cycle(statement)]
+#[inline(never)]
 fn if_false(
     alloc: Global,
     checker: &mut Checker,
@@ -227,6 +231,7 @@ fn if_false(
 
 /// `while` behind its condition.
 #[cycle(statement)]
+#[inline(never)]
 fn while_true(
     alloc: Global,
     checker: &mut Checker,
@@ -243,6 +248,7 @@ fn while_true(
 }
 
 /// `do` behind its body.
+#[inline(never)]
 fn until_false(
     alloc: Global,
     checker: &mut Checker,
@@ -259,6 +265,7 @@ fn until_false(
 
 /// `for` behind its expressions. The first place is that of the one at its start, if there is one.
 #[cycle(statement)]
+#[inline(never)]
 fn for_each(
     alloc: Global,
     checker: &mut Checker,
@@ -280,6 +287,7 @@ fn for_each(
 
 /// `switch` behind its value.
 #[cycle(statement)]
+#[inline(never)]
 fn switch(
     alloc: Global,
     checker: &mut Checker,
@@ -367,6 +375,7 @@ fn arms(
 
 /// The labels before a statement of a switch, and the statement.
 #[cycle(statement)]
+#[inline(never)]
 fn labelled(
     alloc: Global,
     checker: &mut Checker,
@@ -393,6 +402,7 @@ fn labelled(
 
 /// A statement of a switch behind its labels.
 #[cycle(statement)]
+#[inline(never)]
 fn unlabelled(
     alloc: Global,
     checker: &mut Checker,

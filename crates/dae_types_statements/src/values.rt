@@ -22,6 +22,7 @@ use dae_types_walk::{constant_value, expression, operand};
 use std::alloc::Global;
 
 /// A condition, which must be a scalar.
+#[inline(never)]
 pub fn condition(alloc: Global, checker: &mut Checker, e: &Tree) -> Result<Expression, CheckError>
     ensures { FollowsBy view checker.new result (plan_condition (view_tree e.now)) checker.old }
 {
@@ -30,6 +31,7 @@ pub fn condition(alloc: Global, checker: &mut Checker, e: &Tree) -> Result<Expre
 }
 
 /// The condition of a `for`, if it has one.
+#[inline(never)]
 pub fn optional_condition(
     alloc: Global,
     checker: &mut Checker,
@@ -44,6 +46,7 @@ pub fn optional_condition(
 }
 
 /// An expression of a `for`, if it has one.
+#[inline(never)]
 pub fn optional_value(
     alloc: Global,
     checker: &mut Checker,
@@ -69,6 +72,7 @@ pub fn starting_place(place: Place, start: &Option<Tree>) -> Place
 }
 
 /// The value that a `switch` selects by, an integer.
+#[inline(never)]
 pub fn selector(alloc: Global, checker: &mut Checker, e: &Tree) -> Result<Value, CheckError>
     ensures { GivesValue checker.new result (plan_selected (view_tree e.now)) checker.old }
 {
@@ -77,6 +81,7 @@ pub fn selector(alloc: Global, checker: &mut Checker, e: &Tree) -> Result<Value,
 }
 
 /// The word of a label of a `switch`, a constant.
+#[inline(never)]
 pub fn label(alloc: Global, checker: &mut Checker, e: &Tree) -> Result<u32, CheckError>
     ensures { Follows checker.new result (label_at (view_tree e.now)) checker.old }
 {
@@ -85,6 +90,7 @@ pub fn label(alloc: Global, checker: &mut Checker, e: &Tree) -> Result<u32, Chec
 }
 
 /// `return` with a value or without.
+#[inline(never)]
 pub fn give_back(
     alloc: Global,
     checker: &mut Checker,

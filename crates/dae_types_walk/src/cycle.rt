@@ -95,6 +95,7 @@ pub fn expression(alloc: Global, checker: &mut Checker, e: &Expression) -> Resul
 
 /// The value of an expression.
 #[cycle(tree)]
+#[inline(never)]
 pub fn operand(alloc: Global, checker: &mut Checker, e: &Expression) -> Result<Value, CheckError>
     ensures { GivesValue checker.new result (plan_value (view e.now)) checker.old }
 {
@@ -104,6 +105,7 @@ pub fn operand(alloc: Global, checker: &mut Checker, e: &Expression) -> Result<V
 
 /// A value, and the value of an expression behind it.
 #[cycle(tree)]
+#[inline(never)]
 fn pair(
     alloc: Global,
     checker: &mut Checker,
@@ -118,6 +120,7 @@ fn pair(
 
 /// An operator before an expression.
 #[cycle(tree)]
+#[inline(never)]
 #[tactic(auto, using(crate::proofs::Steps::prefix_given, crate::proofs::Steps::prefix_failed))]
 fn prefix(
     alloc: Global,
@@ -135,6 +138,7 @@ fn prefix(
 
 /// `sizeof` before an expression, which isn't used.
 #[cycle(tree)]
+#[inline(never)]
 fn sizeof(
     alloc: Global,
     checker: &mut Checker,
@@ -152,6 +156,7 @@ fn sizeof(
 
 /// A cast to a type.
 #[cycle(tree)]
+#[inline(never)]
 fn cast(
     alloc: Global,
     checker: &mut Checker,
@@ -167,6 +172,7 @@ fn cast(
 
 /// An operator between a value, from this place, and an expression.
 #[cycle(tree)]
+#[inline(never)]
 #[tactic(auto, using(crate::proofs::Steps::binary_given, crate::proofs::Steps::binary_failed))]
 fn binary(
     alloc: Global,
@@ -184,6 +190,7 @@ fn binary(
 
 /// `?:` between a condition, from this place, a value and an expression.
 #[cycle(tree)]
+#[inline(never)]
 fn conditional(
     alloc: Global,
     checker: &mut Checker,
@@ -200,6 +207,7 @@ fn conditional(
 
 /// An assignment of an expression to an object, from this place.
 #[cycle(tree)]
+#[inline(never)]
 #[tactic(auto, using(crate::proofs::Steps::assignment_given, crate::proofs::Steps::assignment_failed))]
 fn assignment(
     alloc: Global,
@@ -217,6 +225,7 @@ fn assignment(
 
 /// A call of a function by its name.
 #[cycle(tree)]
+#[inline(never)]
 fn call(
     alloc: Global,
     checker: &mut Checker,
@@ -234,6 +243,7 @@ fn call(
 
 /// A call of a value, which is no function.
 #[cycle(tree)]
+#[inline(never)]
 #[tactic(auto, unfolding(dae_types_rules::specs::Plan::ask_all))]
 fn no_call(
     alloc: Global,
@@ -250,6 +260,7 @@ fn no_call(
 
 /// The arguments of a function, or of what is none.
 #[cycle(tree)]
+#[inline(never)]
 fn arguments(
     alloc: Global,
     checker: &mut Checker,
@@ -279,6 +290,7 @@ fn arguments(
 
 /// The type of a type name, before a token at this place.
 #[cycle(tree)]
+#[inline(never)]
 pub fn type_name(
     alloc: Global,
     checker: &mut Checker,
@@ -295,6 +307,7 @@ pub fn type_name(
 
 /// The type that specifiers name.
 #[cycle(tree)]
+#[inline(never)]
 pub fn base(
     alloc: Global,
     checker: &mut Checker,
@@ -309,6 +322,7 @@ pub fn base(
 
 /// The type that stands alone among specifiers, if there is one. The flag says that they declare nothing else.
 #[cycle(tree)]
+#[inline(never)]
 pub fn specifiers(
     alloc: Global,
     checker: &mut Checker,
@@ -327,6 +341,7 @@ pub fn specifiers(
 
 /// The type that stands alone among the specifiers so far and one more.
 #[cycle(tree)]
+#[inline(never)]
 fn specifier(
     alloc: Global,
     checker: &mut Checker,
@@ -354,6 +369,7 @@ fn specifier(
 
 /// A structure with its members.
 #[cycle(tree)]
+#[inline(never)]
 fn structure(
     alloc: Global,
     checker: &mut Checker,
@@ -370,6 +386,7 @@ fn structure(
 
 /// An enumeration with its enumerators.
 #[cycle(tree)]
+#[inline(never)]
 fn enumeration(
     alloc: Global,
     checker: &mut Checker,
@@ -385,6 +402,7 @@ fn enumeration(
 
 /// The members of a structure, and its layout so far.
 #[cycle(tree)]
+#[inline(never)]
 pub fn members(
     alloc: Global,
     checker: &mut Checker,
@@ -412,6 +430,7 @@ pub fn members(
 
 /// The members of one declaration, behind members of this layout.
 #[cycle(tree)]
+#[inline(never)]
 pub fn components(
     alloc: Global,
     checker: &mut Checker,
@@ -434,6 +453,7 @@ pub fn components(
 
 /// Enumerators, and the value of a next one.
 #[cycle(tree)]
+#[inline(never)]
 pub fn enumerators(
     alloc: Global,
     checker: &mut Checker,
@@ -515,6 +535,7 @@ pub fn declarator(
 
 /// A function of parameters, which have a scope of their own.
 #[cycle(tree)]
+#[inline(never)]
 fn function(
     alloc: Global,
     checker: &mut Checker,
@@ -533,6 +554,7 @@ fn function(
 
 /// The types of parameters.
 #[cycle(tree)]
+#[inline(never)]
 pub fn parameters(
     alloc: Global,
     checker: &mut Checker,
