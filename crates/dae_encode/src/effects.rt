@@ -79,6 +79,7 @@ fn mulhsu(x: u32, y: u32) -> u32
 
 /// The word that an instruction computes for its target, from its own address and the values of its sources. It is 0
 /// where the instruction has no target, and where it loads.
+#[inline(always)]
 #[tactic(auto, unfolding(crate::specs::Instructions::value))]
 pub fn value(inst: &Inst, counter: u32, first: u32, second: u32) -> u32
     ensures { result ≡ value inst.now counter first second }
@@ -174,6 +175,7 @@ fn branched(counter: u32, taken: bool, imm: i32) -> u32
 }
 
 /// The counter after an instruction, from its own address and the values of its sources.
+#[inline(always)]
 #[tactic(auto, unfolding(crate::specs::Instructions::next))]
 pub fn next(inst: &Inst, counter: u32, first: u32, second: u32) -> u32
     ensures { result ≡ next inst.now counter first second }
