@@ -5,7 +5,7 @@ use std::alloc::{AllocError, Global};
 use std::test::Fail;
 
 /// The lines of a pair that adds 1 to a word.
-const PAIR: [&[u8]; 18] = [
+pub const PAIR: [&[u8]; 18] = [
     b".budget 1 0 1 1 0 0 0",
     b".memory 64",
     b".calls 1",
