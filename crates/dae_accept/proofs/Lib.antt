@@ -3,6 +3,5 @@ mod Faults
 mod Files
 mod Joined
 mod Origins
-mod Stages
 mod Starts
 mod Within

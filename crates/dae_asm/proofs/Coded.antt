@@ -1,5 +1,5 @@
 -- The words of a code as bounds that are kept.
-use Rattle.std.proofs.Common.{◌≡◌, ℕ, suc, ◌+◌, ◌<◌, ◌≤◌, ◌^◌, List, [], ◌∷◌, map, length, All, inl, inr, refl, ap, ◌∙◌, subst, arith}
+use Rattle.std.proofs.Common.{◌≡◌, ℕ, suc, ◌+◌, ◌<◌, ◌≤◌, ◌^◌, List, ◌∷◌, map, length, All, inl, inr, ap, ◌∙◌, subst, arith, []}
 use Rattle.std.proofs.lemmas.List.Elements.{All-nil, All-cons}
 use Rattle.dae_asm_lines.specs.Items as items
 use Rattle.dae_asm_order.specs.Sheets.{Row}
@@ -43,9 +43,6 @@ code_made line labels rows ws some met small =
       some = omega arith;
       small = small;
     }
-
-pub no_code : (line : ℕ) (labels : Look) (rows : List Row) → words rows ≡ 0 → IsFirstBroken (code_bounds line labels rows) line
-no_code line labels rows none = inl (refl, λ some. absurd (omega arith))
 
 pub code_broken : (line : ℕ) (labels : Look) (rows : List Row) (e : CodeFault) (n : ℕ) → e ≡ faults.Unmet n → 1 ≤ words rows → IsCodeFault labels rows e → IsFirstBroken (code_bounds line labels rows) n
 code_broken line labels rows e n same some h =

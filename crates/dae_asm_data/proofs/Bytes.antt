@@ -1,8 +1,8 @@
 -- NumberRow as bytes, one by one.
-use Rattle.std.proofs.Common.{◌≡◌, ℕ, ◌+◌, ◌-◌, ◌<◌, ◌≤◌, ℤ, pos, List, [], ◌∷◌, ◌++◌, map, length, drop, get_or, Bool, true, false, Some, None, All, refl, sym, ap, ◌∙◌, subst, append_assoc, arith, length-append, leb}
+use Rattle.std.proofs.Common.{◌≡◌, ℕ, ◌+◌, ◌-◌, ◌<◌, ◌≤◌, ℤ, pos, List, ◌∷◌, ◌++◌, map, length, drop, get_or, Bool, true, false, Some, All, refl, sym, ap, ◌∙◌, subst, append_assoc, arith, length-append, leb, []}
 use Rattle.std.proofs.lemmas.Bool.{leb-true, leb-false}
 use Rattle.std.proofs.lemmas.List.{append-nil, length-map, map-append, drop_all}
-use Rattle.std.proofs.lemmas.List.Elements.{All-nil, All-head, All-tail, All-push, All-append}
+use Rattle.std.proofs.lemmas.List.Elements.{All-nil, All-head, All-tail, All-append}
 use Rattle.dae_asm_lines.specs.Tokens.{Token}
 use Rattle.dae_asm_lines.specs.Scanning.{first_token}
 use Rattle.dae_asm_lines.specs.Lines.{numbers_in}
@@ -39,10 +39,6 @@ numbers_from ts us t e = ap numbers_in (first_is ts us t e)
 pub fewer : (ts us : List Token) (t : Token) → first_token ts ≡ Some (t, us) → length us < length ts
 fewer ts us t e = let f = ap length (first_is ts us t e) in omega arith
 
-pub none_first : (ts : List Token) → first_token ts ≡ None → ts ≡ []
-none_first [] e = refl
-none_first (x ∷ xs) e = absurd cc
-
 -- ---- bytes behind others
 
 pub record Putting (old now : List ℕ) (all rest : List ℤ) : Type 0 where
@@ -50,27 +46,6 @@ pub record Putting (old now : List ℕ) (all rest : List ℤ) : Type 0 where
   pub are_small : All small done
   pub said : all ≡ as_numbers done ++ rest
   pub behind : now ≡ old ++ done
-
-pub begun : (old : List ℕ) (all : List ℤ) → Putting old old all all
-begun old all = record { done = []; are_small = All-nil small; said = refl; behind = sym (append-nil old) }
-
-pub another : (old now : List ℕ) (all rest : List ℤ) (z : ℤ) (b : ℕ) → Putting old now all (z ∷ rest) → z ≡ pos b → b < 256 → Putting old (now ++ b ∷ []) all rest
-another old now all rest z b p e few = record {
-  done = p.done ++ b ∷ [];
-  are_small = All-push small p.done b p.are_small few;
-  said =
-      let first : as_numbers (p.done ++ b ∷ []) ≡ as_numbers p.done ++ (pos b ∷ []) = map-append (λ b. pos b) p.done (b ∷ []) in
-      let join : (as_numbers p.done ++ (pos b ∷ [])) ++ rest ≡ as_numbers p.done ++ (pos b ∷ rest) = append_assoc (as_numbers p.done) (pos b ∷ []) rest in
-      p.said ∙ ap (λ (x : ℤ). as_numbers p.done ++ (x ∷ rest)) e ∙ sym join ∙ ap (λ (xs : List ℤ). xs ++ rest) (sym first);
-  behind = ap (λ (xs : List ℕ). xs ++ b ∷ []) p.behind ∙ append_assoc old p.done (b ∷ []);
-}
-
-pub finished : (old now : List ℕ) (all : List ℤ) → Putting old now all [] → Put old now all
-finished old now all p = record {
-  bytes = p.done;
-  are = record { said = p.said ∙ append-nil (as_numbers p.done); small = p.are_small };
-  behind = p.behind;
-}
 
 record IsByte (z : ℤ) : Type 0 where
   byte : ℕ
@@ -144,10 +119,6 @@ broken_at memory old row its is line none rows =
     let there : IsFirstBroken all row.0 = subst (λ (n : ℕ). IsFirstBroken all n) line here in
     subst (λ (bs : List NumberRow). IsFirstBroken (data_bounds (pos memory) (length old) bs) row.0) (sym (is rows)) there
 
-pub no_bytes : (memory : ℕ) (old : List ℕ) (row : Row) (its : NumberRow) → ((rows : List Row) → bytes_in (row ∷ rows) ≡ its ∷ bytes_in rows) → its.0 ≡ row.0 → ((bs : List ℕ) → AreBytes its.1 bs → ⊥)
-    → (rows : List Row) → IsFirstBroken (data_bounds (pos memory) (length old) (bytes_in (row ∷ rows))) row.0
-no_bytes memory old row its is line none = broken_at memory old row its is line (λ bs d. none bs d.bytes)
-
 past_end : (memory : ℕ) (old new : List ℕ) (zs : List ℤ) → Put old new zs → memory < 16 + length new → (bs : List ℕ) → IsData (pos memory) (length old) zs bs → ⊥
 past_end memory old new zs p many bs d =
     let same : length zs ≡ length p.bytes = length_of zs p.bytes p.are.said in
@@ -184,14 +155,6 @@ pub record Filling (memory : ℕ) (all rest : List Row) (content : List ℕ) : T
   pub inside : 16 + length content ≤ memory
   pub leads : Leads (data_bounds (pos memory) 0 (bytes_in all)) (data_bounds (pos memory) (length content) (bytes_in rest))
 
-pub empty : (memory : ℕ) (all : List Row) → 16 ≤ memory → Filling memory all all []
-empty memory all few = record {
-  are_small = All-nil small;
-  said = refl;
-  inside = omega arith;
-  leads = starts (data_bounds (pos memory) 0 (bytes_in all));
-}
-
 pub filled_row : (memory : ℕ) (all : List Row) (row : Row) (rest : List Row) (old new : List ℕ) → Filling memory all (row ∷ rest) old → PutRow memory old new row → Filling memory all rest new
 filled_row memory all row rest old new f p = record {
   are_small = subst (λ (bs : List ℕ). All small bs) (sym p.behind) (All-append small old p.bytes f.are_small p.small);
@@ -217,21 +180,11 @@ is_put : (memory : ℕ) (old new : List ℕ) (row : Row) (b : Bool) → IsRowPut
 is_put memory old new row true h e = h
 is_put memory old new row false h e = absurd cc
 
-is_not_put : (memory : ℕ) (old new : List ℕ) (row : Row) (b : Bool) → IsRowPut memory old new row b → b ≡ false → (rows : List Row) → IsFirstBroken (data_bounds (pos memory) (length old) (bytes_in (row ∷ rows))) row.0
-is_not_put memory old new row true h e = absurd cc
-is_not_put memory old new row false h e = h
-
 pub go_on : (memory : ℕ) (rows : List code.Row) (i : ℕ) (d : code.Row) (old new : List ℕ) (b : Bool) → i < length rows → Filling memory (rows_seen rows) (rows_seen (drop i rows)) old → IsRowPut memory old new (row_seen (get_or rows i d)) b → b ≡ true
     → Filling memory (rows_seen rows) (rows_seen (drop (i + 1) rows)) new
 go_on memory rows i d old new b lt w put e =
     let here = subst (λ (rest : List Row). Filling memory (rows_seen rows) rest old) (rows_from rows i d lt) w in
     filled_row memory (rows_seen rows) (row_seen (get_or rows i d)) (rows_seen (drop (i + 1) rows)) old new here (is_put memory old new (row_seen (get_or rows i d)) b put e)
-
-pub stops : (memory : ℕ) (rows : List code.Row) (i : ℕ) (d : code.Row) (old new : List ℕ) (b : Bool) → i < length rows → Filling memory (rows_seen rows) (rows_seen (drop i rows)) old → IsRowPut memory old new (row_seen (get_or rows i d)) b → b ≡ false
-    → IsFirstBroken (data_bounds (pos memory) 0 (bytes_in (rows_seen rows))) (get_or rows i d).line
-stops memory rows i d old new b lt w put e =
-    let here = subst (λ (rest : List Row). Filling memory (rows_seen rows) rest old) (rows_from rows i d lt) w in
-    here.leads.broken (get_or rows i d).line (is_not_put memory old new (row_seen (get_or rows i d)) b put e (rows_seen (drop (i + 1) rows)))
 
 pub over : (memory : ℕ) (rows : List code.Row) (i : ℕ) (content : List ℕ) → length rows ≤ i → Filling memory (rows_seen rows) (rows_seen (drop i rows)) content → IsContent memory (bytes_in (rows_seen rows)) content
 over memory rows i content past w =

@@ -1,7 +1,7 @@
 -- Marks of lines, one by one.
-use Rattle.std.proofs.Common.{◌≡◌, ℕ, suc, ◌+◌, ◌<◌, ◌≤◌, ◌^◌, ℤ, pos, true, false, ◌&&◌, nat_lt, List, [], ◌∷◌, ◌++◌, length, drop, get_or, Option, Some, None, All, refl, sym, ap, ◌∙◌, subst, append_assoc, arith, length-append}
+use Rattle.std.proofs.Common.{◌≡◌, ℕ, suc, ◌+◌, ◌<◌, ◌≤◌, ◌^◌, ℤ, pos, true, false, ◌&&◌, nat_lt, List, ◌∷◌, ◌++◌, length, drop, get_or, Option, Some, None, All, refl, sym, ap, ◌∙◌, subst, append_assoc, arith, length-append, []}
 use Rattle.std.proofs.lemmas.List.{append-nil, map-append, drop_all}
-use Rattle.std.proofs.lemmas.List.Elements.{All-nil, All-push}
+use Rattle.std.proofs.lemmas.List.Elements.{All-push}
 use Rattle.std.proofs.lemmas.Bool.{and_parts, and_from, ltb-true, lt-ltb}
 use Rattle.dae_base.specs.declared.Side.{Side}
 use Rattle.dae_base.specs.declared.Side.TheVariants.{A, E}
@@ -14,10 +14,10 @@ use Rattle.dae_asm_sheet.specs.Rows.{row_seen, rows_seen, marks_in}
 use Rattle.dae_asm_data.specs.declared.faults.Found.TheVariants as founds
 use Rattle.dae_asm_data.specs.declared.marks.Counts.{Counts}
 use Rattle.dae_asm_data.specs.Data.{MarkRow, SaysMark, IsBehind, words_on, IsMark}
-use Rattle.dae_asm_data.specs.Bounds.{Mark, IsFirstBroken, mark_bounds}
+use Rattle.dae_asm_data.specs.Bounds.{Mark, mark_bounds}
 use Rattle.dae_asm_data.specs.Parts.{places, spelled, HasCounts, AreMarks}
 use Rattle.dae_asm_data.specs.Walking.{Leads, IsSpelled, may_stand, IsLast, OneMark, IsMarkFound}
-use Rattle.dae_asm_data.proofs.Leading.{rows_from, starts, passes, breaks, ends}
+use Rattle.dae_asm_data.proofs.Leading.{rows_from, passes, ends}
 
 -- ---- one mark of a line
 
@@ -107,17 +107,6 @@ pub record Marking (counts : Counts) (all rest : List Row) (last : Option LineMa
   pub numbers : All (λ (m : LineMark). m.line < 2 ^ 32) ms
   pub lines : (h : Header) → HasCounts h counts → (more : List LineMark) → are_lines h last more ≡ true → are_lines h None (ms ++ more) ≡ true
 
-pub unmarked : (counts : Counts) (all : List Row) → Marking counts all all None []
-unmarked counts all = record {
-  row_before = None;
-  is_last = tt;
-  leads = starts (mark_bounds counts 0 None (marks_in all));
-  said = refl;
-  few = omega arith;
-  numbers = All-nil (λ (m : LineMark). m.line < 2 ^ 32);
-  lines = λ h has more e. e;
-}
-
 pub no_mark : (counts : Counts) (all : List Row) (row : Row) (rest : List Row) (last : Option LineMark) (ms : List LineMark) → Marking counts all (row ∷ rest) last ms → ((rows : List Row) → marks_in (row ∷ rows) ≡ marks_in rows)
     → Marking counts all rest last ms
 no_mark counts all row rest last ms w none = record {
@@ -183,19 +172,6 @@ marked counts all row rest last ms m w found =
           subst (λ (xs : List LineMark). are_lines h None xs ≡ true) (sym (append_assoc ms (m ∷ []) more)) (w.lines h has (m ∷ more) both);
     }
 
-pub broken_mark : (counts : Counts) (all : List Row) (row : Row) (rest : List Row) (last : Option LineMark) (ms : List LineMark) → Marking counts all (row ∷ rest) last ms
-    → ((row_before : Option MarkRow) → IsLast row_before last → IsMarkFound counts (length ms) row_before row founds.Broken) → IsFirstBroken (mark_bounds counts 0 None (marks_in all)) row.0
-broken_mark counts all row rest last ms w found =
-    let its : MarkRow = (found w.row_before w.is_last).0 in
-    let one : OneMark row its = (found w.row_before w.is_last).1.0 in
-    let none : (m : LineMark) → IsMark counts (length ms) w.row_before its m → ⊥ = (found w.row_before w.is_last).1.1 in
-    let bounds = mark_bounds counts 0 None (marks_in all) in
-    let here : Leads bounds (mark_bounds counts (length ms) w.row_before (its ∷ marks_in rest)) =
-    subst (λ (rows : List MarkRow). Leads bounds (mark_bounds counts (length ms) w.row_before rows)) (one.is rest) w.leads in
-    let there : IsFirstBroken bounds its.0 =
-    breaks bounds (mark_bounds counts (suc (length ms)) (Some its) (marks_in rest)) its.0 (Mark counts (length ms) w.row_before its) here (λ k. none k.0 k.1) in
-    subst (λ (n : ℕ). IsFirstBroken bounds n) one.line there
-
 pub all_marked : (counts : Counts) (all : List Row) (last : Option LineMark) (ms : List LineMark) → Marking counts all [] last ms → AreMarks counts (marks_in all) ms
 all_marked counts all last ms w = record {
   said = w.said ∙ append-nil (spelled ms);
@@ -222,13 +198,6 @@ go_on counts rows i d last ms before m within same w found =
     let here = subst (λ (rest : List Row). Marking counts (rows_seen rows) rest last ms) (rows_from rows i d within) w in
     let its = subst (λ (n : ℕ). (row_before : Option MarkRow) → IsLast row_before last → IsMarkFound counts n row_before (row_seen (get_or rows i d)) (founds.Value m)) same found in
     marked counts (rows_seen rows) (row_seen (get_or rows i d)) (rows_seen (drop (i + 1) rows)) last ms m here its
-
-pub stops : (counts : Counts) (rows : List code.Row) (i : ℕ) (d : code.Row) (last : Option LineMark) (ms : List LineMark) (before : ℕ) → i < length rows → before ≡ length ms → Marking counts (rows_seen rows) (rows_seen (drop i rows)) last ms
-    → ((row_before : Option MarkRow) → IsLast row_before last → IsMarkFound counts before row_before (row_seen (get_or rows i d)) founds.Broken) → IsFirstBroken (mark_bounds counts 0 None (marks_in (rows_seen rows))) (get_or rows i d).line
-stops counts rows i d last ms before within same w found =
-    let here = subst (λ (rest : List Row). Marking counts (rows_seen rows) rest last ms) (rows_from rows i d within) w in
-    let its = subst (λ (n : ℕ). (row_before : Option MarkRow) → IsLast row_before last → IsMarkFound counts n row_before (row_seen (get_or rows i d)) founds.Broken) same found in
-    broken_mark counts (rows_seen rows) (row_seen (get_or rows i d)) (rows_seen (drop (i + 1) rows)) last ms here its
 
 pub over : (counts : Counts) (rows : List code.Row) (i : ℕ) (last : Option LineMark) (ms : List LineMark) → length rows ≤ i → Marking counts (rows_seen rows) (rows_seen (drop i rows)) last ms → AreMarks counts (marks_in (rows_seen rows)) ms
 over counts rows i last ms past w =

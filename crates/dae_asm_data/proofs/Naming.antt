@@ -1,5 +1,5 @@
 -- Names of lines, one by one.
-use Rattle.std.proofs.Common.{◌≡◌, ℕ, suc, ◌+◌, ◌<◌, ◌≤◌, ℤ, pos, Bool, true, false, ◌&&◌, nat_le, nat_eq, ◌%◌, List, [], ◌∷◌, ◌++◌, map, length, drop, get_or, Option, Some, None, refl, sym, ap, ◌∙◌, subst, append_assoc, arith, length-append}
+use Rattle.std.proofs.Common.{◌≡◌, ℕ, suc, ◌+◌, ◌<◌, ◌≤◌, ℤ, pos, Bool, true, false, ◌&&◌, nat_le, nat_eq, ◌%◌, List, ◌∷◌, ◌++◌, map, length, drop, get_or, Option, Some, None, refl, sym, ap, ◌∙◌, subst, append_assoc, arith, length-append, []}
 use Rattle.std.specs.List.{list_all}
 use Rattle.std.proofs.lemmas.List.{append-nil, map-append, drop_all}
 use Rattle.std.proofs.lemmas.List.Folds.{list_all-append}
@@ -13,11 +13,11 @@ use Rattle.dae_asm_sheet.specs.Rows.{row_seen, rows_seen, names_in}
 use Rattle.dae_asm_data.specs.declared.faults.Found.{Found}
 use Rattle.dae_asm_data.specs.declared.faults.Found.TheVariants as founds
 use Rattle.dae_asm_data.specs.Data.{NumberRow, AreBytes, SaysName, IsName}
-use Rattle.dae_asm_data.specs.Bounds.{Name, IsFirstBroken, name_bounds}
+use Rattle.dae_asm_data.specs.Bounds.{Name, name_bounds}
 use Rattle.dae_asm_data.specs.Parts.{AreNames}
 use Rattle.dae_asm_data.specs.Walking.{Leads, IsPut, IsNameFound, OneName, IsNameAt}
 use Rattle.dae_asm_data.proofs.Bytes.{as_numbers, was_put}
-use Rattle.dae_asm_data.proofs.Leading.{rows_from, starts, passes, breaks, ends}
+use Rattle.dae_asm_data.proofs.Leading.{rows_from, passes, ends}
 
 -- ---- one name
 
@@ -83,9 +83,6 @@ pub record Naming (all rest : List Row) (names : List (List ℕ)) : Type 0 where
   pub few : length names ≤ 1024
   pub good : list_all is_name names ≡ true
 
-pub unnamed : (all : List Row) → Naming all all []
-unnamed all = record { leads = starts (name_bounds 0 (names_in all)); said = refl; few = omega arith; good = refl }
-
 pub not_named : (all : List Row) (row : Row) (rest : List Row) (names : List (List ℕ)) → Naming all (row ∷ rest) names → ((rows : List Row) → names_in (row ∷ rows) ≡ names_in rows) → Naming all rest names
 not_named all row rest names w none = record {
   leads = subst (λ (rows : List NumberRow). Leads (name_bounds 0 (names_in all)) (name_bounds (length names) rows)) (none rest) w.leads;
@@ -120,18 +117,6 @@ named all row rest names name w found =
           list_all-append is_name names (name ∷ []) ∙ and_from (list_all is_name names) (list_all is_name (name ∷ [])) w.good both;
     }
 
-pub broken_name : (all : List Row) (row : Row) (rest : List Row) (names : List (List ℕ)) → Naming all (row ∷ rest) names → IsNameAt (length names) row founds.Broken → IsFirstBroken (name_bounds 0 (names_in all)) row.0
-broken_name all row rest names w found =
-    let its : NumberRow = found.0 in
-    let one : OneName row its = found.1.0 in
-    let none : (name : List ℕ) → IsName (length names) its.1 name → ⊥ = found.1.1 in
-    let bounds = name_bounds 0 (names_in all) in
-    let here : Leads bounds (name_bounds (length names) (its ∷ names_in rest)) =
-    subst (λ (rows : List NumberRow). Leads bounds (name_bounds (length names) rows)) (one.is rest) w.leads in
-    let there : IsFirstBroken bounds its.0 =
-    breaks bounds (name_bounds (suc (length names)) (names_in rest)) its.0 (Name (length names) its.1) here (λ k. none k.0 k.1) in
-    subst (λ (n : ℕ). IsFirstBroken bounds n) one.line there
-
 pub all_named : (all : List Row) (names : List (List ℕ)) → Naming all [] names → AreNames (names_in all) names
 all_named all names w = record {
   said = w.said ∙ append-nil (all_spelled names);
@@ -159,14 +144,6 @@ go_on rows i d names before name within same w o put e =
     let here = subst (λ (rest : List Row). Naming (rows_seen rows) rest names) (rows_from rows i d within) w in
     let its = subst (λ (n : ℕ). IsNameAt n (row_seen (get_or rows i d)) (founds.Value name)) same found in
     named (rows_seen rows) (row_seen (get_or rows i d)) (rows_seen (drop (i + 1) rows)) names name here its
-
-pub stops : (rows : List code.Row) (i : ℕ) (d : code.Row) (names : List (List ℕ)) (before : ℕ) → i < length rows → before ≡ length names → Naming (rows_seen rows) (rows_seen (drop i rows)) names
-    → (found : Found (List ℕ)) → IsNameAt before (row_seen (get_or rows i d)) found → found ≡ founds.Broken → IsFirstBroken (name_bounds 0 (names_in (rows_seen rows))) (get_or rows i d).line
-stops rows i d names before within same w o put e =
-    let found = subst (λ (f : Found (List ℕ)). IsNameAt before (row_seen (get_or rows i d)) f) e put in
-    let here = subst (λ (rest : List Row). Naming (rows_seen rows) rest names) (rows_from rows i d within) w in
-    let its = subst (λ (n : ℕ). IsNameAt n (row_seen (get_or rows i d)) founds.Broken) same found in
-    broken_name (rows_seen rows) (row_seen (get_or rows i d)) (rows_seen (drop (i + 1) rows)) names here its
 
 pub over : (rows : List code.Row) (i : ℕ) (names : List (List ℕ)) → length rows ≤ i → Naming (rows_seen rows) (rows_seen (drop i rows)) names → AreNames (names_in (rows_seen rows)) names
 over rows i names past w =

@@ -1,18 +1,11 @@
 -- A table of labels, filled row by row.
-use Rattle.std.proofs.Common.{◌≡◌, ℕ, suc, ◌+◌, ◌<◌, Bool, true, false, cond, if◌then◌else◌, List, [], ◌∷◌, length, map, drop, get_or, Option, Some, None, refl, sym, ap, ◌∙◌, subst, drop-cons, add-one, arith}
+use Rattle.std.proofs.Common.{◌≡◌, ℕ, ◌+◌, ◌<◌, Bool, true, false, cond, if◌then◌else◌, List, ◌∷◌, Option, Some, None, refl, sym, ap, ◌∙◌}
 use Rattle.std.specs.Option.{is_some}
 use Rattle.std.specs.Str.{bytes_eq}
 use Rattle.std.proofs.lemmas.Slice.Eq.{bytes_eq-Decides}
 use Rattle.dae_asm_lines.specs.Items as items
-use Rattle.dae_asm_lines.specs.Lines.{seen}
-use Rattle.dae_asm_order.specs.Sheets.{Row}
 use Rattle.dae_asm_sheet.specs.declared.rows.Row as code
-use Rattle.dae_asm_sheet.specs.Rows.{row_seen, rows_seen}
 use Rattle.dae_asm_labels.specs.Tables.{or_else}
-
--- the rows from one on
-pub rows_from : (rows : List code.Row) (i : ℕ) (d : code.Row) → i < length rows → rows_seen (drop i rows) ≡ row_seen (get_or rows i d) ∷ rows_seen (drop (i + 1) rows)
-rows_from rows i d within = let here : drop i rows ≡ get_or rows i d ∷ drop (i + 1) rows = rw (add-one, drop-cons rows i d) in ap rows_seen here
 
 same_bytes : (a b : List ℕ) → bytes_eq a b ≡ true → a ≡ b
 same_bytes a b e = (bytes_eq-Decides a b).0 e

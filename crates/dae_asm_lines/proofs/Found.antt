@@ -1,5 +1,5 @@
 -- What reading finds is what the tokens say.
-use Rattle.std.proofs.Common.{◌≡◌, ℕ, ◌≤◌, nat_le, ℤ, Bool, true, false, ◌&&◌, if◌then◌else◌, List, [], ◌∷◌, map, length, codes, Option, Some, None, refl, sym, ap, ◌∙◌, subst, arith}
+use Rattle.std.proofs.Common.{◌≡◌, ℕ, ◌≤◌, nat_le, ℤ, Bool, true, false, ◌&&◌, if◌then◌else◌, List, ◌∷◌, map, length, codes, Option, Some, None, refl, sym, ap, ◌∙◌, subst, arith, []}
 use Rattle.std.specs.Str.{bytes_eq}
 use Rattle.std.proofs.lemmas.Slice.Eq.{bytes_eq-Decides}
 use Rattle.dae_base.specs.declared.Side.{Side}
@@ -397,9 +397,6 @@ data_found ts i e =
     let same : items.Data ≡ i = cc in
     let P : items.Item → Type 0 = λ j. Behind (codes ".data") ts j in
     subst P same (let w : ts ≡ [] = cc in ap (λ (r : List Token). Word (codes ".data") ∷ r) w)
-
-abbrev byte_test : List ℕ → List ℕ → Bool
-byte_test x y = bytes_eq x y
 
 test_says : (x y : List ℕ) → bytes_eq x y ≡ true → x ≡ y
 test_says x y e = (bytes_eq-Decides x y).0 e

@@ -1,5 +1,5 @@
 -- A text as its items in their order.
-use Rattle.std.specs.Prelude.{ℕ, suc, ℤ, ◌==◌, if◌then◌else◌, Bool, true, false, IsTrue, List, [], ◌∷◌, ◌++◌, map, Some, None}
+use Rattle.std.specs.Prelude.{ℕ, suc, ℤ, ◌==◌, if◌then◌else◌, Bool, true, false, IsTrue, List, ◌∷◌, ◌++◌, map, Some, None, []}
 use Rattle.std.specs.List.{list_all}
 use Rattle.dae_base.specs.declared.Side.{Side}
 use Rattle.dae_base.specs.declared.Side.TheVariants.{A, E}
@@ -61,10 +61,6 @@ pub record Sheet : Type 0 where
   pub bytes : List (ℕ × List ℤ)
   pub marks : List (ℕ × Side × ℤ × ℤ × ℤ)
   pub names : List (ℕ × List ℤ)
-
-abbrev pub begin : Sheet → Side → ℕ
-begin s A = s.begin_a
-begin s E = s.begin_e
 
 abbrev pub code : Sheet → Side → List Row
 code s A = s.code_a

@@ -1,4 +1,3 @@
-mod Seven
 mod Resolved
 mod Walked
 mod Sayings

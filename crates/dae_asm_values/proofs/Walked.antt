@@ -1,5 +1,5 @@
 -- The words of a code, row by row.
-use Rattle.std.proofs.Common.{◌≡◌, ℕ, suc, ◌+◌, ◌*◌, ◌<◌, List, [], ◌∷◌, ◌++◌, length, drop, get_or, Option, Some, None, inl, inr, refl, sym, ap, ◌∙◌, subst, append_assoc, drop-cons, add-one, arith}
+use Rattle.std.proofs.Common.{◌≡◌, ℕ, suc, ◌+◌, ◌*◌, ◌<◌, List, ◌∷◌, ◌++◌, length, drop, get_or, Option, Some, None, inr, refl, sym, ap, ◌∙◌, subst, append_assoc, drop-cons, add-one, arith, []}
 use Rattle.std.proofs.lemmas.List.{append-nil}
 use Rattle.dae_asm_lines.specs.Items as items
 use Rattle.dae_asm_order.specs.Sheets.{Row}
@@ -7,15 +7,11 @@ use Rattle.dae_asm_sheet.specs.declared.rows.Row as code
 use Rattle.dae_asm_sheet.specs.Rows.{row_seen, rows_seen}
 use Rattle.dae_asm_labels.specs.Labels.{Look, words}
 use Rattle.dae_asm_values.specs.Values.{AreFormed}
-use Rattle.dae_asm_values.specs.Claims.{Claim, Meets, claim_at, claims_then, code_claims, AreMet, IsFirstUnmet, SaysNothing, SaysWord, SaysUnmet}
+use Rattle.dae_asm_values.specs.Claims.{Claim, claim_at, claims_then, code_claims, AreMet, IsFirstUnmet, SaysNothing, SaysWord}
 
 -- the rows from one on
 pub rows_from : (rows : List code.Row) (i : ℕ) (d : code.Row) → i < length rows → rows_seen (drop i rows) ≡ row_seen (get_or rows i d) ∷ rows_seen (drop (i + 1) rows)
 rows_from rows i d within = let here : drop i rows ≡ get_or rows i d ∷ drop (i + 1) rows = rw (add-one, drop-cons rows i d) in ap rows_seen here
-
-pub formed_first : (row : Row) (rows : List Row) → AreFormed (row ∷ rows) → AreFormed (row ∷ [])
-formed_first (n, items.Instruction i o) rows h = (h.0, tt)
-formed_first row rows h = tt
 
 formed_rest : (row : Row) (rows : List Row) → AreFormed (row ∷ rows) → AreFormed rows
 formed_rest (n, items.Instruction i o) rows h = h.1
@@ -27,9 +23,6 @@ pub record Walk (labels : Look) (all rest : List Row) (here : ℕ) (code : List 
   pub unmet : (n : ℕ) → IsFirstUnmet (code_claims labels here rest) n → IsFirstUnmet (code_claims labels 0 all) n
   pub many : here + 4 * words rest ≡ 4 * words all
   pub formed : AreFormed rest
-
-pub begun : (labels : Look) (rows : List Row) → AreFormed rows → Walk labels rows rows 0 []
-begun labels rows formed = record { met = λ ws h. h; unmet = λ n h. h; many = omega arith; formed = formed }
 
 claims_are : (labels : Look) (here : ℕ) (row : Row) (rows : List Row) (o : Option Claim) → claim_at labels here row ≡ o → code_claims labels here (row ∷ rows) ≡ claims_then row.0 o (code_claims labels here rows) (code_claims labels (here + 4) rows)
 claims_are labels here row rows o e = ap (λ (c : Option Claim). claims_then row.0 c (code_claims labels here rows) (code_claims labels (here + 4) rows)) e
@@ -59,11 +52,6 @@ stepped labels all row rows here code word w s =
       many = four_more here (words (row ∷ rows)) (words rows) (words all) w.many (s.one rows);
       formed = formed_rest row rows w.formed;
     }
-
-pub stopped : (labels : Look) (all : List Row) (row : Row) (rows : List Row) (here : ℕ) (code : List ℕ) → Walk labels all (row ∷ rows) here code → SaysUnmet labels here row → IsFirstUnmet (code_claims labels 0 all) row.0
-stopped labels all row rows here code w s =
-    let e = claims_are labels here row rows (Some s.its) s.claim in
-    w.unmet row.0 (subst (λ (cs : List (ℕ × Claim)). IsFirstUnmet cs row.0) (sym e) (inl (refl, s.unmet)))
 
 pub whole : (labels : Look) (all : List Row) (here : ℕ) (code : List ℕ) → Walk labels all [] here code → AreMet (code_claims labels 0 all) code
 whole labels all here code w = subst (λ (vs : List ℕ). AreMet (code_claims labels 0 all) vs) (append-nil code) (w.met [] refl)

@@ -1,5 +1,5 @@
 -- The walk of clap over settings and files.
-use Rattle.std.proofs.Common.{◌≡◌, ◌≤◌, Bool, true, false, not, ◌&&◌, ◌||◌, cond, List, [], ◌∷◌, ◌++◌, length, map, refl, sym, ap, ◌∙◌, subst, arith, append-nil, append_assoc, le-leb, true≢false}
+use Rattle.std.proofs.Common.{◌≡◌, ◌≤◌, Bool, true, false, not, ◌&&◌, ◌||◌, cond, List, ◌∷◌, ◌++◌, length, map, refl, sym, ap, ◌∙◌, subst, arith, append-nil, append_assoc, le-leb, [], true≢false}
 use Rattle.std.specs.Prelude.{Option, Some, None, is_some, find, fold, option_and_then, option_map, slice_get}
 use Rattle.std.specs.List.{list_all}
 use Rattle.std.specs.Str.{bytes_eq}
@@ -279,9 +279,6 @@ files_else name (x ∷ xs) r h = by_first (bytes_eq x.id name) h (files_else nam
       → option_map (λ (y : Row). y.values) (cond b (Some x) (find (λ y. bytes_eq y.id name) (xs ++ r ∷ []))) ≡ all_of name (r ∷ [])
   by_first true e more = absurd (cc)
   by_first false e more = more e
-
-pub files_in : (names : List Text) (ss : List Setting) (files : List Text) → list_all is_name names ≡ true → AreSettings names ss → all_of files_id (map row_for ss ++ row_with files_id files ∷ []) ≡ Some files
-files_in names ss files ok h = files_else files_id (map row_for ss) (row_with files_id files) (no_files_row ss names ok h)
 
 -- no setting has the name of the files
 pub none_given : (names : List Text) (ss : List Setting) → list_all is_name names ≡ true → AreSettings names ss → given ss files_id ≡ None

@@ -1,5 +1,5 @@
 -- Words that spell a job, by their parts; and those that spell none.
-use Rattle.std.proofs.Common.{◌≡◌, ◌≢◌, ℕ, Bool, true, false, not, nat_eq, if◌then◌else◌, List, [], ◌∷◌, ◌++◌, map, refl, sym, ap, ◌∙◌, subst, arith}
+use Rattle.std.proofs.Common.{◌≡◌, ◌≢◌, ℕ, Bool, true, false, not, nat_eq, if◌then◌else◌, List, ◌∷◌, ◌++◌, map, refl, sym, ap, ◌∙◌, subst, arith, []}
 use Rattle.std.specs.Prelude.{Option, None, Some, MatchOption, is_some}
 use Rattle.std.specs.List.{list_all}
 use Rattle.std.proofs.lemmas.Bool.{and_from, and_parts}
@@ -9,25 +9,16 @@ use Rattle.dae_cli_words.specs.declared.command.Command.{Command}
 use Rattle.dae_cli_words.specs.declared.values.Chosen.{Chosen}
 use Rattle.dae_cli_words.specs.Asked.{Asked}
 use Rattle.dae_cli_words.specs.Parts.{AreDashed, IsPlain}
-use Rattle.dae_cli_words.specs.Values.{AreChosen, IsTheOne}
+use Rattle.dae_cli_words.specs.Values.{AreChosen}
 use Rattle.dae_cli_words.specs.Words.{AskFor, AsksFor, SpellsJob, names_of, word_of}
 use Rattle.dae_cli_words.proofs.Commands.{same_command, settings_dashed}
 use Rattle.dae_cli_words.proofs.Fronts.{files_plain, same_middle, truth}
-
-pub not_one : {X : Type 0} (Has : X → Type 0) → IsTheOne Has None → (x : X) → ¬ (Has x)
-not_one Has none x h = let e = none.only x h in absurd (cc)
 
 pub ask : (command d : Command) (found : List ℕ → Option (List ℕ)) (files : List (List ℕ)) (job : Asked) (chosen : Chosen) → command ≡ d → AreChosen found chosen → AsksFor d found chosen files job → AskFor command found files job
 ask command d found files job chosen is are asks = record { chosen = chosen; are_chosen = are; asks = subst (λ (x : Command). AsksFor x found chosen files job) (sym is) asks }
 
 pub with_names : (ns ms rest : List (List ℕ)) (ss : List Setting) (fs : List (List ℕ)) → ns ≡ ms → AreParts ns rest ss fs → AreParts ms rest ss fs
 with_names ns ms rest ss fs e h = subst (λ (names : List (List ℕ)). AreParts names rest ss fs) e h
-
-pub no_words : (words : List (List ℕ)) → words ≡ [] → (job : Asked) → ¬ (SpellsJob words job)
-no_words words none job h = let e = sym none ∙ h.words_are in absurd (cc)
-
-pub no_command : (words : List (List ℕ)) (word : List ℕ) (rest : List (List ℕ)) → words ≡ word ∷ rest → ((c : Command) → word ≢ word_of c) → (job : Asked) → ¬ (SpellsJob words job)
-no_command words word rest is none job h = let e = sym is ∙ h.words_are in none h.command (cc)
 
 -- words of a command, with words in the middle that begin with dashes, and words behind them
 module _ (words : List (List ℕ)) (word : List ℕ) (rest middle files : List (List ℕ)) (c : Command) (is : words ≡ word ∷ rest) (whole : rest ≡ middle ++ files) (named : word ≡ word_of c) (dashed : AreDashed middle) (plain : IsPlain files) where

@@ -1,4 +1,3 @@
-mod Fitting
 mod Names
 mod Own
 mod Private

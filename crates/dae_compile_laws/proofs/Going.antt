@@ -1,8 +1,6 @@
 -- From what a program's form does in so many turns to a run of an image that does the form.
-use Rattle.std.proofs.Common.{◌≡◌, ℕ, zero, suc, ◌+◌, ◌*◌, ◌^◌, ◌%◌, ◌≤◌, true, ◌&&◌, List, [], ◌++◌, length, refl, sym, ap, ◌∙◌, subst, arith, append_assoc}
-use Rattle.std.specs.Prelude.{replicate, ◌-◌, ◌/◌, nat_eq, nat_le, slice_get}
-use Rattle.std.specs.List.{list_all}
-use Rattle.std.proofs.lemmas.Bool.{and_parts, leb-true}
+use Rattle.std.proofs.Common.{◌≡◌, ℕ, zero, suc, ◌+◌, ◌*◌, ◌^◌, ◌%◌, ◌≤◌, ◌&&◌, List, ◌++◌, length, refl, sym, ap, ◌∙◌, subst, arith, append_assoc, []}
+use Rattle.std.specs.Prelude.{replicate, ◌-◌, ◌/◌, slice_get}
 use Rattle.dae_alias.specs.Laws.{Cheaper, Costs, SameResult, counted}
 use Rattle.dae_base.specs.declared.Depths.{Depths}
 use Rattle.dae_base.specs.Budgets.{Reaches}
@@ -20,7 +18,6 @@ use Rattle.dae_meaning.specs.Results.{Result, Over, Going, Halted, Astray, world
 use Rattle.dae_meaning.specs.Alike.{Alike, BothAt, BothOver, FirstStrays, IsFront}
 use Rattle.dae_meaning.specs.Variables.{Env}
 use Rattle.dae_meaning.proofs.Laws.{front_same}
-use Rattle.dae_program.specs.Lawful.{is_lawful, is_lawful_in, is_lawful_memory, is_main, is_ready, is_well_placed, spares}
 use Rattle.dae_program.specs.Outcomes.{Outcome, last_world}
 use Rattle.dae_program.specs.Printing.{most_bytes}
 use Rattle.dae_program.specs.Programs as program
@@ -32,7 +29,7 @@ use Rattle.dae_lower.specs.Keeping.{IsKept, FormKeeps, place_in}
 use Rattle.dae_lower_formed.specs.Formed.{IsLowered, FormsScoped}
 use Rattle.dae_compile_promise.specs.Promises.{IsLaterForm}
 use Rattle.dae_compile_laws.specs.Going.{turns_of, PrintsInTime, GoesOnInTime, FormsGoOnInTime, ImagesGoOnInTime}
-use Rattle.dae_compile_laws.proofs.Agreeing.{same_outcome}
+use Rattle.dae_lower_formed.proofs.Laws.{memory_most, same_outcome}
 
 -- ---- bounds on turns, in order
 
@@ -59,17 +56,6 @@ goes_later : (r q : Result Env) → Alike SameResult Cheaper r q → end_of r �
 goes_later r q (BothAt way e f w u is c) h = absurd (let g : Halted (e 0) ≡ Going = h in cc)
 goes_later r q (BothOver end w u (Costs x i l j k most fewer items)) h = record { is = ap (λ e. Over e (counted j k x)) h; printed = refl; items = items }
 goes_later r q (FirstStrays w s) h = absurd (let g : Astray ≡ Going = h in cc)
-
--- ---- a program's memory has at most 2^26 bytes
-
-memory_most : (p : Program) → is_lawful p.memory p.frames p.content p.links p.functions p.main ≡ true → p.memory ≤ 2 ^ 26
-memory_most p lawful =
-    let placed = (and_parts (is_well_placed p.memory p.frames p.content p.links p.functions p.main) (list_all (is_ready p.links p.functions) p.functions) lawful).0 in
-    let first = (and_parts (is_lawful_memory p.memory p.frames (length p.content) && is_main p.memory p.links p.functions (slice_get p.functions p.main))
-    (list_all (spares p.main) p.links && list_all (is_lawful_in p.memory p.links p.functions true) p.functions) placed).0 in
-    let size = (and_parts (is_lawful_memory p.memory p.frames (length p.content)) (is_main p.memory p.links p.functions (slice_get p.functions p.main)) first).0 in
-    let behind = (and_parts (nat_eq (p.frames % 4) 0 && nat_le (16 + length p.content) p.frames) (nat_le p.frames p.memory && nat_le p.memory (2 ^ 26)) size).1 in
-    leb-true p.memory (2 ^ 26) (and_parts (nat_le p.frames p.memory) (nat_le p.memory (2 ^ 26)) behind).1
 
 module _ (p : Program) (depth : ℕ) (ir later : Ir) (image : Image) (lowered : IsLowered p ir) (made : IsLaterForm ir later) (calls : later.calls ≡ suc depth) (content : image.content ≡ p.content) (done : DoesForm later image 14) (scoped : IsScoped ir) (rules : LawfulKeepRules) (keeps : FormKeeps) (order : TurnsInOrder) (as_run : OrdersRun) where
   -- the image begins with the program's memory

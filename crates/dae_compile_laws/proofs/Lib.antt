@@ -1,2 +1,1 @@
-mod Agreeing
 mod Going

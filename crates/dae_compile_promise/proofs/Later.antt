@@ -1,20 +1,15 @@
 -- A later form of a program does what the program does.
-use Rattle.std.proofs.Common.{◌≡◌, ◌≢◌, ℕ, suc, ◌+◌, ◌*◌, ◌^◌, ◌%◌, ◌≤◌, true, ◌&&◌, List, length, refl, sym, ap, ◌∙◌, subst, arith}
-use Rattle.std.specs.Prelude.{nat_eq, nat_le, slice_get}
-use Rattle.std.specs.List.{list_all}
-use Rattle.std.proofs.lemmas.Bool.{and_parts, leb-true}
+use Rattle.std.proofs.Common.{◌≡◌, ◌≢◌, ℕ, suc, ◌+◌, ◌*◌, ◌^◌, ◌%◌, ◌≤◌, ◌&&◌, List, length, refl, sym, ap, ◌∙◌, subst, arith}
 use Rattle.dae_meaning.specs.Alike.{Alike, BothAt, BothOver, FirstStrays, IsFront}
-use Rattle.dae_meaning.specs.Results.{Result, End, Halted, Going, Astray, world_of}
+use Rattle.dae_meaning.specs.Results.{Result, Halted, Astray, world_of}
 use Rattle.dae_meaning.specs.Variables.{Env}
 use Rattle.dae_ir.specs.Programs.{outcome, end_of}
-use Rattle.dae_ir.specs.declared.form.Ir.{Ir}
-use Rattle.dae_program.specs.Lawful.{is_lawful, is_lawful_in, is_lawful_memory, is_main, is_ready, is_well_placed, spares}
 use Rattle.dae_program.specs.Outcomes.{Outcome, last_world}
 use Rattle.dae_program.specs.Programs.{meaning_of, start}
 use Rattle.dae_program.specs.Promise.{LawfulKeepRules}
-use Rattle.dae_program.specs.declared.program.Program.{Program}
 use Rattle.dae_lower.specs.Keeping.{IsKept, IsOver}
 use Rattle.dae_lower_formed.specs.Order.{DoesTheSame, IsKeptByFewer, LoweredDoPrograms}
+use Rattle.dae_lower_formed.proofs.Laws.{memory_most}
 use Rattle.dae_alias.specs.Laws.{Cheaper, Costs, SameResult}
 use Rattle.dae_compile_promise.specs.Promises.{LaterFormsDoPrograms}
 
@@ -73,17 +68,6 @@ module _ (program : ℕ → Outcome ℕ) (old new : ℕ → Result Env) (same : 
     prints_only = λ m. (let k = same.prints_only m in (k.0, subst (λ (xs : List ℕ). IsFront xs (last_world (program k.0)).printed) (sym (prints m)) k.1));
     stays = λ m e. same.stays m (sym (ends m) ∙ e);
   }
-
--- ---- a program's memory has at most 2^26 bytes
-
-memory_most : (p : Program) → is_lawful p.memory p.frames p.content p.links p.functions p.main ≡ true → p.memory ≤ 2 ^ 26
-memory_most p lawful =
-    let placed = (and_parts (is_well_placed p.memory p.frames p.content p.links p.functions p.main) (list_all (is_ready p.links p.functions) p.functions) lawful).0 in
-    let first = (and_parts (is_lawful_memory p.memory p.frames (length p.content) && is_main p.memory p.links p.functions (slice_get p.functions p.main))
-    (list_all (spares p.main) p.links && list_all (is_lawful_in p.memory p.links p.functions true) p.functions) placed).0 in
-    let size = (and_parts (is_lawful_memory p.memory p.frames (length p.content)) (is_main p.memory p.links p.functions (slice_get p.functions p.main)) first).0 in
-    let behind = (and_parts (nat_eq (p.frames % 4) 0 && nat_le (16 + length p.content) p.frames) (nat_le p.frames p.memory && nat_le p.memory (2 ^ 26)) size).1 in
-    leb-true p.memory (2 ^ 26) (and_parts (nat_le p.frames p.memory) (nat_le p.memory (2 ^ 26)) behind).1
 
 pub later_forms_do_programs : LawfulKeepRules → LoweredDoPrograms → LaterFormsDoPrograms
 later_forms_do_programs rules same p old new lowered later depth calls =

@@ -1,11 +1,10 @@
 -- Flags of words, and the marks that set them.
-use Rattle.std.proofs.Common.{◌≡◌, ◌≢◌, ℕ, zero, suc, ◌+◌, ◌<◌, Bool, true, false, ◌&&◌, ◌||◌, nat_eq, nat_lt, List, [], ◌∷◌, length, take, get_or, set, refl, ap, sym, ◌∙◌, subst, arith}
-use Rattle.std.specs.Prelude.{Option, Some, None, replicate, IsTrue}
+use Rattle.std.proofs.Common.{◌≡◌, ◌≢◌, ℕ, zero, suc, ◌+◌, ◌<◌, Bool, true, false, ◌&&◌, ◌||◌, nat_eq, nat_lt, List, ◌∷◌, length, get_or, set, refl, sym, ◌∙◌, subst, arith, []}
+use Rattle.std.specs.Prelude.{Option, Some, None, replicate}
 use Rattle.std.specs.List.{All, list_any}
 use Rattle.std.proofs.lemmas.Bool.{and_parts}
 use Rattle.std.proofs.lemmas.Bool.Decides.{nat_tests}
-use Rattle.std.proofs.lemmas.List.{get_or-set_same, get_or-set_other, length-replicate, take_all}
-use Rattle.std.proofs.lemmas.List.Folds.{list_any_more}
+use Rattle.std.proofs.lemmas.List.{length-replicate}
 use Rattle.dae_base.specs.declared.Side.{Side}
 use Rattle.dae_base.specs.declared.Side.TheVariants.{A, E}
 use Rattle.dae_image.specs.declared.Image.{Image}
@@ -15,55 +14,6 @@ use Rattle.dae_image.specs.Contents.{are_lines, code_length, follows, header, is
 use Rattle.dae_image.specs.Images.{contents}
 use Rattle.dae_debug_commands.specs.declared.Breakpoint.{Breakpoint}
 use Rattle.dae_debug.specs.Breaks.{AddsBreak, AreInside, HeldBreaks, has_break, is_mark_at, is_mark_of, is_side, no_breaks, other, seen, words_of}
-
-or_true : (x y : Bool) → true ≡ (x || (y || true))
-or_true true y = refl
-or_true false true = refl
-or_true false false = refl
-
-or_false : (x y : Bool) → (x || (y || false)) ≡ (x || y)
-or_false true y = refl
-or_false false true = refl
-or_false false false = refl
-
-equal_is : (m n : ℕ) → nat_eq m n ≡ true → m ≡ n
-equal_is m n e = grind (arith, nat_tests)
-
-equal_not : (m n : ℕ) → nat_eq m n ≡ false → n ≢ m
-equal_not m n e f = grind (arith, nat_tests)
-
-module _ (place : Breakpoint) (marks : List LineMark) (i : ℕ) (m d : LineMark) (lt : i < length marks) (is : get_or marks i d ≡ m) where
-  -- one mark more
-  any_more : (word : ℕ) → list_any (is_mark_at place word) (take (i + 1) marks) ≡ (list_any (is_mark_at place word) (take i marks) || (is_mark_of place m && nat_eq m.word word))
-  any_more word = list_any_more (is_mark_at place word) marks i d lt ∙ ap (λ (n : LineMark). list_any (is_mark_at place word) (take i marks) || is_mark_at place word n) is
-
-  module _ (old words : List Bool) (so_far : (word : ℕ) → get_or words word false ≡ (get_or old word false || list_any (is_mark_at place word) (take i marks))) where
-    pub flag_set : is_mark_of place m ≡ true → m.word < length words → (word : ℕ)
-        → get_or (set words m.word true) word false ≡ (get_or old word false || list_any (is_mark_at place word) (take (i + 1) marks))
-    flag_set one inside word = by_word (nat_eq m.word word) refl where
-      here : (b : Bool) → nat_eq m.word word ≡ b → list_any (is_mark_at place word) (take (i + 1) marks) ≡ (list_any (is_mark_at place word) (take i marks) || b)
-      here b e = any_more word ∙ ap (λ (c : Bool). list_any (is_mark_at place word) (take i marks) || (c && nat_eq m.word word)) one ∙ ap (λ (c : Bool). list_any (is_mark_at place word) (take i marks) || c) e
-
-      by_word : (b : Bool) → nat_eq m.word word ≡ b → get_or (set words m.word true) word false ≡ (get_or old word false || list_any (is_mark_at place word) (take (i + 1) marks))
-      by_word true e =
-          ap (λ (w : ℕ). get_or (set words m.word true) w false) (sym (equal_is m.word word e)) ∙ get_or-set_same words m.word true false inside
-          ∙ or_true (get_or old word false) (list_any (is_mark_at place word) (take i marks)) ∙ ap (λ (b : Bool). get_or old word false || b) (sym (here true e))
-      by_word false e =
-          get_or-set_other words m.word word true false (equal_not m.word word e) ∙ so_far word
-          ∙ sym (or_false (get_or old word false) (list_any (is_mark_at place word) (take i marks))) ∙ ap (λ (b : Bool). get_or old word false || b) (sym (here false e))
-
-    pub flag_kept : is_mark_of place m ≡ false → (word : ℕ) → get_or words word false ≡ (get_or old word false || list_any (is_mark_at place word) (take (i + 1) marks))
-    flag_kept none word =
-        so_far word ∙ sym (or_false (get_or old word false) (list_any (is_mark_at place word) (take i marks)))
-        ∙ ap (λ (b : Bool). get_or old word false || b)
-        (sym (any_more word ∙ ap (λ (c : Bool). list_any (is_mark_at place word) (take i marks) || (c && nat_eq m.word word)) none))
-
--- all marks
-pub flags_whole : (place : Breakpoint) (marks : List LineMark) (old words : List Bool)
-    → ((word : ℕ) → get_or words word false ≡ (get_or old word false || list_any (is_mark_at place word) (take (length marks) marks)))
-    → (word : ℕ) → get_or words word false ≡ (get_or old word false || list_any (is_mark_at place word) marks)
-flags_whole place marks old words all word =
-    all word ∙ ap (λ (l : List LineMark). get_or old word false || list_any (is_mark_at place word) l) (take_all (length marks) marks (omega arith))
 
 -- ---- marks are inside the code of their side
 

@@ -1,19 +1,11 @@
 -- Lines one behind the other.
-use Rattle.std.proofs.Common.{◌≡◌, ℕ, zero, suc, ◌+◌, ◌<◌, List, [], ◌∷◌, ◌++◌, map, length, drop, ap, sym, ◌∙◌, append_assoc, arith}
+use Rattle.std.proofs.Common.{◌≡◌, ℕ, zero, suc, ◌+◌, ◌<◌, List, ◌∷◌, ◌++◌, map, length, drop, ap, sym, ◌∙◌, append_assoc, arith, []}
 use Rattle.std.specs.Prelude.{Some, None, slice_get}
 use Rattle.std.specs.List.{flat_map}
 use Rattle.dae_queues.specs.declared.StoreAt.{StoreAt}
-use Rattle.dae_encode.specs.Processor.{Processor, held}
 use Rattle.dae_machine.specs.declared.Entry.{Entry}
 use Rattle.dae_machine.specs.Entries.{store_entry}
-use Rattle.dae_debug.specs.Texts.{register_line, registers_to, store_line}
-
-pub register_more : (p : Processor) (before number : ℕ) (text next : List ℕ) → text ≡ registers_to p before → number ≡ before + 1
-    → next ≡ text ++ register_line number (held p number) → next ≡ registers_to p (before + 1)
-register_more p before number text next e n is =
-    let one : before + 1 ≡ suc before = omega arith in
-    is ∙ ap (λ (t : List ℕ). t ++ register_line number (held p number)) e
-    ∙ ap (λ (k : ℕ). registers_to p before ++ register_line k (held p k)) (n ∙ one) ∙ ap (registers_to p) (sym one)
+use Rattle.dae_debug.specs.Texts.{store_line}
 
 abbrev pub line_of : StoreAt → List ℕ
 line_of at = store_line at.addr at.width

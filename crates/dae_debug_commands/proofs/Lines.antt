@@ -1,9 +1,8 @@
 -- The first line of a script, and the commands so far.
-use Rattle.std.proofs.Common.{◌≡◌, ◌≢◌, ℕ, zero, suc, ◌+◌, ◌<◌, Bool, true, false, nat_eq, List, [], ◌∷◌, ◌++◌, length, take, drop, get_or, refl, ap, sym, ◌∙◌, subst, append_assoc, append-nil, arith}
+use Rattle.std.proofs.Common.{◌≡◌, ◌≢◌, ℕ, zero, suc, ◌+◌, ◌<◌, Bool, true, false, nat_eq, List, ◌∷◌, ◌++◌, length, take, drop, get_or, refl, ap, ◌∙◌, subst, append-nil, arith, []}
 use Rattle.std.specs.Prelude.{if◌then◌else◌, Option}
 use Rattle.std.proofs.lemmas.Bool.Decides.{nat_tests}
 use Rattle.dae_debug_commands.specs.declared.Command.{Command}
-use Rattle.dae_debug_commands.specs.Commands.{IsTheOne, SpellsCommand}
 use Rattle.dae_debug_commands.specs.Scripts.{AreRead, in_front, lines_of}
 
 no_feed : (byte : ℕ) → byte ≢ 10 → nat_eq byte 10 ≡ false
@@ -36,13 +35,6 @@ line_whole (byte ∷ (next ∷ bytes)) some none =
 abbrev pub ReadSoFar : (script rest : List ℕ) → List (Option Command) → Type 0
 ReadSoFar script rest done =
     (more : List (Option Command)) → AreRead (lines_of rest) more → AreRead (lines_of script) (done ++ more)
-
-pub read_more : (script rest line behind : List ℕ) (done next : List (Option Command)) (found : Option Command) → ReadSoFar script rest done
-    → lines_of rest ≡ line ∷ lines_of behind → IsTheOne (SpellsCommand line) found → next ≡ done ++ found ∷ [] → ReadSoFar script behind next
-read_more script rest line behind done next found way e one is more h =
-    let all : AreRead (lines_of rest) (found ∷ more) = rw e (one, h) in
-    subst (λ (l : List (Option Command)). AreRead (lines_of script) l)
-    (sym (ap (λ (l : List (Option Command)). l ++ more) is ∙ append_assoc done (found ∷ []) more)) (way (found ∷ more) all)
 
 pub read_all : (script rest : List ℕ) (done : List (Option Command)) → ReadSoFar script rest done → rest ≡ [] → AreRead (lines_of script) done
 read_all script rest done way none =

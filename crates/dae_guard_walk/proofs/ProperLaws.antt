@@ -1,13 +1,12 @@
 -- Ranges that stay proper: words, which step up.
-use Rattle.std.proofs.Common.{◌≡◌, ℕ, zero, suc, ◌+◌, ◌-◌, ◌*◌, ◌/◌, ◌%◌, ◌^◌, ◌<◌, ◌≤◌, Bool, true, false, refl, ap, sym, ◌∙◌, subst, arith}
-use Rattle.std.specs.Prelude.{Option, Some, None, IfSome, nat_lt, nat_le, min, unwrap_or, replicate, if◌then◌else◌}
+use Rattle.std.proofs.Common.{◌≡◌, ℕ, ◌+◌, ◌-◌, ◌*◌, ◌/◌, ◌%◌, ◌^◌, ◌<◌, ◌≤◌, Bool, true, false, refl, sym, ◌∙◌, subst, arith}
+use Rattle.std.specs.Prelude.{Option, Some, None, IfSome, nat_lt, nat_le, unwrap_or, replicate, if◌then◌else◌}
 use Rattle.std.proofs.lemmas.Bool.Decides.{nat_tests}
 use Rattle.std.proofs.lemmas.Nat.{mul-le}
 use Rattle.dae_base.specs.declared.LoadKind.{LoadKind}
 use Rattle.dae_base.specs.declared.LoadKind.TheVariants.{I8, U8, I16, U16, I32}
 use Rattle.dae_ranges.specs.declared.Range.{Range}
-use Rattle.dae_ranges.specs.Ranges.{single, any_word, highest, raised, lowered, shifted, scaled, below, from, skipped, loaded_range}
-use Rattle.dae_ranges.proofs.Laws.{few_skipped}
+use Rattle.dae_ranges.specs.Ranges.{single, any_word, highest, raised, lowered, shifted, scaled, loaded_range}
 use Rattle.dae_guard_walk.specs.Spots.{AreProper, IsProper}
 use Rattle.std.proofs.lemmas.List.{get_or-replicate, length-replicate}
 
@@ -22,13 +21,6 @@ proper_zero = proper_single 0 (omega arith)
 
 pub proper_replicate : (n : ℕ) (r : Range) → IsProper r → AreProper (replicate n r)
 proper_replicate n r h k d l = subst IsProper (sym (get_or-replicate n k r d (omega (arith, length-replicate n r)))) h
-
-pub proper_loaded : (k : LoadKind) → IsProper (loaded_range k)
-proper_loaded U8 = record { steps = omega arith; words = omega arith }
-proper_loaded U16 = record { steps = omega arith; words = omega arith }
-proper_loaded I8 = proper_any
-proper_loaded I16 = proper_any
-proper_loaded I32 = proper_any
 
 pub proper_raised : (n : ℕ) (r : Range) → IsProper r → IfSome (raised n r) IsProper
 proper_raised n r h = by (nat_lt (highest r + n) (2 ^ 32)) refl
@@ -66,20 +58,3 @@ proper_scaled n r p h = by (nat_lt (highest r * n) (2 ^ 32)) refl
 pub or_any : (o : Option Range) → IfSome o IsProper → IsProper (unwrap_or o any_word)
 or_any None h = proper_any
 or_any (Some r) h = h
-
-pub proper_below : (n : ℕ) (r : Range) → IsProper r → IsProper (below n r)
-proper_below n r h =
-    let few : min r.count ((n - 1 - r.lo) / r.step) ≤ r.count = omega arith in
-    let less : min r.count ((n - 1 - r.lo) / r.step) * r.step ≤ r.count * r.step = mul-le (min r.count ((n - 1 - r.lo) / r.step)) r.step r.count r.step few (omega arith) in
-    let w = h.words in
-    record { steps = h.steps; words = omega arith }
-
-pub proper_from : (n : ℕ) (r : Range) → n ≤ highest r → IsProper r → IsProper (from n r)
-proper_from n r l h =
-    let few = few_skipped r n h.steps l in
-    let w = h.words in
-    let same : (r.lo + skipped n r * r.step) + (r.count - skipped n r) * r.step ≡ highest r = parts (skipped n r) r.count r.step r.lo few in
-    record { steps = h.steps; words = omega arith }
-  where
-    parts : (s c t lo : ℕ) → s ≤ c → (lo + s * t) + (c - s) * t ≡ lo + c * t
-    parts s c t lo h = let e : c ≡ s + (c - s) = omega arith in let m : c * t ≡ s * t + (c - s) * t = (ap (λ z. z * t) e ∙ grind arith) in omega arith

@@ -1,39 +1,25 @@
 -- What holds of the queues of a node, through accesses, fills and drains.
-use Rattle.std.proofs.Common.{◌≡◌, ℕ, zero, suc, ◌+◌, ◌-◌, ◌<◌, ◌≤◌, ◌^◌, Bool, true, false, not, ◌&&◌, ◌||◌, List, [], ◌∷◌, ◌++◌, length, map, take, drop, get_or, refl, ap, sym, ◌∙◌, subst, arith}
-use Rattle.std.specs.Prelude.{Option, Some, None, IfSome, option_map, option_and_then, nat_eq, nat_lt, is_none, is_some, if◌then◌else◌}
+use Rattle.std.proofs.Common.{◌≡◌, zero, suc, ◌+◌, ◌-◌, ◌<◌, ◌≤◌, ◌^◌, Bool, true, false, not, ◌&&◌, ◌||◌, List, ◌∷◌, ◌++◌, length, map, get_or, refl, ap, ◌∙◌, subst, arith, []}
+use Rattle.std.specs.Prelude.{Option, Some, None, option_and_then, is_some, if◌then◌else◌}
 use Rattle.std.specs.List.{All, list_any}
-use Rattle.std.proofs.lemmas.List.{map-append, length-append, length-map}
-use Rattle.std.proofs.lemmas.List.Elements.{All-push, All-tail, All-nil}
-use Rattle.dae_base.specs.declared.LoadKind.{LoadKind}
-use Rattle.dae_base.specs.declared.Depths.{Depths}
+use Rattle.std.proofs.lemmas.List.Elements.{All-tail}
 use Rattle.dae_ranges.specs.declared.Range.{Range}
-use Rattle.dae_ranges.specs.Ranges.{loaded_range}
 use Rattle.dae_queues.specs.Lists.{first, rest}
-use Rattle.dae_guard.specs.Sets.{Cell, Waiting}
+use Rattle.dae_guard.specs.Sets.{Waiting}
 use Rattle.dae_guard.specs.declared.StoreCell.{StoreCell}
-use Rattle.dae_guard.specs.Waiting.{touches, younger, delays, drain_next, next_store, without_store, new_cell, front_cell, fill_first, fill_ld, fill_al}
+use Rattle.dae_guard.specs.Waiting.{younger, delays, drain_next, next_store, without_store}
 use Rattle.dae_guard.specs.Moves.{or_else}
-use Rattle.dae_guard.specs.Nodes.{is_nil, all_filled, nothing_waits}
 use Rattle.dae_guard_walk.specs.declared.slots.Slot.{Slot}
 use Rattle.dae_guard_walk.specs.declared.queues.Queues.{Queues}
-use Rattle.dae_guard_walk.specs.Spots.{AreKept, AreProper, IsKept, IsMade, IsProper, QueuesHold, aged, cell_of, cells_of, waiting_of}
+use Rattle.dae_guard_walk.specs.Spots.{AreKept, IsMade, aged, cell_of, cells_of, waiting_of}
 use Rattle.dae_guard_walk.specs.Drains.{is_free, may_drain}
-use Rattle.dae_guard_walk.proofs.SlotLaws.{any_cells, kept_aged, kept_more, length_rest}
-use Rattle.dae_guard_walk.proofs.ProperLaws.{proper_loaded}
+use Rattle.dae_guard_walk.proofs.SlotLaws.{any_cells, kept_aged, length_rest}
 
 -- ---- lists
 
 pub all_rest : {X : Type 0} (P : X → Type 0) (xs : List X) → All P xs → All P (rest xs)
 all_rest P [] h = h
 all_rest P (x ∷ xs) h = All-tail P x xs h
-
-pub map_rest : {X Y : Type 0} (f : X → Y) (xs : List X) → map f (rest xs) ≡ rest (map f xs)
-map_rest f [] = refl
-map_rest f (x ∷ xs) = refl
-
-pub first_holds : (rs : List Range) → AreProper rs → IfSome (first rs) IsProper
-first_holds [] h = tt
-first_holds (r ∷ rs) h = h 0 r (omega arith)
 
 -- ---- cells
 
@@ -46,14 +32,6 @@ pub all_aged : (sa : List StoreCell) (ss : List Slot) → AreKept sa ss → AreK
 all_aged sa [] h k e l = absurd (omega arith)
 all_aged sa (s ∷ ss) h zero e l = kept_aged sa s (h 0 s (omega arith))
 all_aged sa (s ∷ ss) h (suc k) e l = all_aged sa ss (λ j f m. h (suc j) f (omega arith)) k e (omega arith)
-
--- one more store
-pub all_more : (d : StoreCell) (sa : List StoreCell) (ss : List Slot) → AreKept sa ss → AreKept (sa ++ d ∷ []) ss
-all_more d sa ss h k e l = kept_more d sa (get_or ss k e) (h k e l)
-
--- a new slot
-pub kept_new : (sa : List StoreCell) (addr : Range) (kind : LoadKind) → IsKept sa (record { addr = addr; kind = kind; filled = false; older = length sa; clear = 0 })
-kept_new sa addr kind = record { older = omega arith; clear = omega arith; none = refl }
 
 -- ---- a drain
 

@@ -1,34 +1,24 @@
 -- What an instruction that computes leaves.
-use Rattle.std.proofs.Common.{◌≡◌, ℕ, zero, suc, ◌+◌, ◌-◌, ◌*◌, ◌/◌, ◌%◌, ◌^◌, ◌<◌, ◌≤◌, ℤ, Bool, true, false, not, ◌&&◌, List, [], ◌∷◌, length, map, get_or, ◌≢◌, refl, ap, sym, ◌∙◌, subst, arith}
-use Rattle.std.specs.Prelude.{Option, Some, None, IfSome, option_map, nat_eq, nat_lt, if◌then◌else◌, slice_set}
-use Rattle.std.proofs.lemmas.Bool.{false≢true}
+use Rattle.std.proofs.Common.{◌≡◌, ℕ, ◌+◌, ◌-◌, ◌*◌, ◌/◌, ◌%◌, ◌^◌, ◌<◌, ◌≤◌, Bool, true, false, not, ◌&&◌, List, ◌∷◌, map, ◌≢◌, refl, ap, sym, ◌∙◌, subst, arith, []}
+use Rattle.std.specs.Prelude.{Option, Some, None, option_map, nat_eq, if◌then◌else◌}
 use Rattle.std.proofs.lemmas.Bool.Decides.{nat_tests}
-use Rattle.std.proofs.lemmas.List.Elements.{All-set}
 use Rattle.std.proofs.lemmas.Nat.{mul-le}
 use Rattle.dae_base.specs.Words.{word, plus}
 use Rattle.dae_encode.specs.declared.Inst.{Inst}
 use Rattle.dae_encode.specs.declared.Inst.TheVariants.{Jalr}
 use Rattle.dae_encode.specs.Instructions.{next}
 use Rattle.dae_ranges.specs.declared.Range.{Range}
-use Rattle.dae_ranges.specs.Ranges.{Has, single, is_single, highest, all_from, each, decided}
+use Rattle.dae_ranges.specs.Ranges.{Has, single, is_single, all_from, each, decided}
 use Rattle.dae_ranges.proofs.Laws.{each_has, same_each}
-use Rattle.dae_guard.specs.Nodes.{with_range, is_plain}
 use Rattle.dae_guard.specs.Moves as moves
-use Rattle.dae_guard.specs.Moves.{shape, test, order, against, goes_to, tells, narrowed, told, either, outcomes_by, on, result}
+use Rattle.dae_guard.specs.Moves.{shape, test, order, against, narrowed, told, either, outcomes_by}
 use Rattle.dae_guard_walk.specs.declared.kinds.Comparison.{Comparison}
 use Rattle.dae_guard_walk.specs.declared.sides.Fields.{Fields}
-use Rattle.dae_guard_walk.specs.Kinds.{IsComparison, compares, order_of, second_of, goes_by, told_by}
-use Rattle.dae_guard_walk.specs.Spots.{AreProper, IsProper}
+use Rattle.dae_guard_walk.specs.Kinds.{IsComparison, compares, second_of}
+use Rattle.dae_guard_walk.specs.Spots.{IsProper}
 use Rattle.dae_guard_walk.specs.Steps.{Left, told_of, told_by_test, either_told, tested_by}
 
 -- ---- ranges of registers
-
-pub proper_with : (r : ℕ) (v : Range) (rs : List Range) → AreProper rs → IsProper v → AreProper (with_range r v rs)
-proper_with r v rs h k = by (is_plain r)
-  where
-    by : (b : Bool) → AreProper (if b then slice_set rs r v else rs)
-    by true = All-set IsProper rs r v k h
-    by false = h
 
 -- ---- single words
 
@@ -74,22 +64,6 @@ tests_are i k c f rs x y h =
     rw h.tests (ap Some (one ∙ rw (same, h.by_second y) refl))
 
 -- ---- jumps and others
-
-pub jumps_are : (i : Inst) (c : ℕ) (f : Fields) (rs : List Range) (x y : Range) → shape i ≡ moves.Jumps
-    → each (λ v. nat_eq (next i c v 0) (next i c x.lo 0)) x ≡ true
-    → option_map (map (told_of f.target)) (outcomes_by (shape i) i c f.first f.second x y rs)
-    ≡ Some ((on (next i c x.lo 0) (with_range f.target (result i c x y) rs), result i c x y) ∷ [])
-jumps_are i c f rs x y h e = rw (h, e) refl
-
-pub no_jump : (i : Inst) (c : ℕ) (f : Fields) (rs : List Range) (x y : Range) → shape i ≡ moves.Jumps
-    → each (λ v. nat_eq (next i c v 0) (next i c x.lo 0)) x ≡ false
-    → option_map (map (told_of f.target)) (outcomes_by (shape i) i c f.first f.second x y rs) ≡ None
-no_jump i c f rs x y h e = rw (h, e) refl
-
-pub others_are : (i : Inst) (c : ℕ) (f : Fields) (rs : List Range) (x y : Range) → shape i ≡ moves.Plain
-    → option_map (map (told_of f.target)) (outcomes_by (shape i) i c f.first f.second x y rs)
-    ≡ Some ((on (next i c 0 0) (with_range f.target (result i c x y) rs), result i c x y) ∷ [])
-others_are i c f rs x y h = rw h refl
 
 -- ---- targets
 

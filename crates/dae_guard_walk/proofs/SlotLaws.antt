@@ -1,6 +1,6 @@
 -- Slots, the search for a store that they meet, and fills.
-use Rattle.std.proofs.Common.{◌≡◌, ℕ, zero, suc, ◌+◌, ◌-◌, ◌<◌, ◌≤◌, Bool, true, false, not, ◌&&◌, ◌||◌, List, [], ◌∷◌, ◌++◌, length, map, take, drop, set, get_or, refl, ap, sym, ◌∙◌, subst, arith}
-use Rattle.std.specs.Prelude.{Option, Some, None, option_map, nat_eq, is_none, if◌then◌else◌}
+use Rattle.std.proofs.Common.{◌≡◌, ℕ, zero, suc, ◌+◌, ◌-◌, ◌<◌, ◌≤◌, Bool, true, false, not, ◌&&◌, ◌||◌, List, ◌∷◌, ◌++◌, length, map, take, drop, set, get_or, refl, ap, sym, ◌∙◌, subst, arith, []}
+use Rattle.std.specs.Prelude.{Some, None, nat_eq, is_none, if◌then◌else◌}
 use Rattle.std.specs.List.{All, AllWithin, HoldsAt, list_any, list_all}
 use Rattle.std.proofs.lemmas.Bool.Decides.{nat_tests}
 use Rattle.std.proofs.lemmas.List.{get_or_default, get_or-take, length-append, length-take, take-append-le, take_all, at_drop_all, append-nil}
@@ -10,10 +10,10 @@ use Rattle.dae_queues.specs.Lists.{rest}
 use Rattle.dae_ranges.specs.Ranges.{loaded_range}
 use Rattle.dae_guard.specs.Sets.{Cell}
 use Rattle.dae_guard.specs.declared.StoreCell.{StoreCell}
-use Rattle.dae_guard.specs.Waiting.{touches, is_fillable, filled_cell, fill_first, delays}
+use Rattle.dae_guard.specs.Waiting.{touches, is_fillable, fill_first}
 use Rattle.dae_guard.specs.Nodes.{all_filled}
 use Rattle.dae_guard_walk.specs.declared.slots.Slot.{Slot}
-use Rattle.dae_guard_walk.specs.Spots.{cell_of, cells_of, IsKept, AreKept, IsTold, is_open, aged}
+use Rattle.dae_guard_walk.specs.Spots.{cell_of, cells_of, IsKept, IsTold, is_open, aged}
 
 -- ---- the search
 
@@ -36,12 +36,6 @@ told_meets sa s n d l m h =
     let other : nat_eq n s.older ≡ false = grind (arith, nat_tests) in
     let here : n < length sa = omega arith in
     rw (any_at (touches (cell_of s)) sa s.older n (get_or sa n d) l m (get_or_default sa n d (get_or sa n d) here) h, other) refl
-
-pub told_none : (sa : List StoreCell) (s : Slot) → list_any (touches (cell_of s)) (take s.older sa) ≡ false
-    → not (list_any (touches (cell_of s)) (take s.older sa)) ≡ nat_eq s.older s.older
-told_none sa s h =
-    let same : nat_eq s.older s.older ≡ true = grind (arith, nat_tests) in
-    rw (h, same) refl
 
 -- ---- all slots
 
@@ -141,11 +135,6 @@ pub kept_aged : (sa : List StoreCell) (s : Slot) → IsKept sa s → IsKept (res
 kept_aged sa s h =
     let a = h.older in let b = h.clear in let r = length_rest sa in
     record { older = omega arith; clear = omega arith; none = any_rest (touches (cell_of s)) sa s.clear h.none }
-
-pub kept_more : (d : StoreCell) (sa : List StoreCell) (s : Slot) → IsKept sa s → IsKept (sa ++ d ∷ []) s
-kept_more d sa s h =
-    let a = h.older in let b = h.clear in
-    record { older = omega (arith, length-append sa (d ∷ [])); clear = b; none = rw (take-append-le s.clear sa (d ∷ []) (omega arith)) h.none }
 
 -- ---- what is seen of all slots
 

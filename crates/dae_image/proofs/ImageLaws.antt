@@ -1,5 +1,5 @@
 -- The two laws: what is read is spelled so, and what is spelled so is read.
-use Rattle.std.proofs.Common.{◌≡◌, ℕ, suc, ◌-◌, ◌^◌, ◌<◌, true, eqb, List, [], ◌∷◌, ◌++◌, length, None, Ok, refl, sym, ap, subst, ◌∙◌, append_assoc, arith, inl, inr, lit≤}
+use Rattle.std.proofs.Common.{◌≡◌, ℕ, suc, ◌-◌, ◌^◌, ◌<◌, true, eqb, List, ◌∷◌, ◌++◌, length, None, Ok, refl, sym, ap, subst, ◌∙◌, append_assoc, arith, inl, inr, [], lit≤}
 use Rattle.std.specs.List.{flat_map, AllByRecursion}
 use Rattle.std.proofs.lemmas.Bool.{eqb-true, cases_eq, cases_order}
 use Rattle.std.proofs.lemmas.List.{append-nil, nil_from_length}
@@ -9,7 +9,7 @@ use Rattle.dae_image.specs.declared.header.Header.{Header}
 use Rattle.dae_image.specs.declared.fault.ImageError.TheVariants as errors
 use Rattle.dae_image.specs.Ranges.{IsIn, version_range}
 use Rattle.dae_image.specs.Contents.{Contents, header, HeaderFits, Fits, are_lines}
-use Rattle.dae_image.specs.Spelling.{numbers, line, name, body, spelling_1, spelling_2, Spells}
+use Rattle.dae_image.specs.Spelling.{numbers, line, name, body, Spells}
 use Rattle.dae_image.specs.Reading.{bytes_at, words_at, lines_at, names_at, header_at, body_at, image_at}
 use Rattle.dae_image.proofs.FieldLaws.{IsBytes, step, holds_ok, ok_is, Takes, Takes-then}
 use Rattle.dae_image.proofs.HeaderLaws.{bind_again, head, header_takes, header_again}
@@ -88,12 +88,6 @@ body_again whole c rest fits =
 -- the spelling in a version
 abbrev pub spelling : ℕ → Contents → List ℕ
 spelling v c = numbers (head v (header c)) ++ body c
-
-spells_1 : (c : Contents) → spelling_1 c ≡ spelling 1 c
-spells_1 c = refl
-
-spells_2 : (c : Contents) → spelling_2 c ≡ spelling 2 c
-spells_2 c = refl
 
 two : (v : ℕ) → IsIn version_range v → (v ≡ 1 → ⊥) → v ≡ 2
 two v is_version other = elim (cases_order v 2) [

@@ -1,5 +1,5 @@
 -- The code of a stream is a side of an image.
-use Rattle.std.proofs.Common.{◌≡◌, ℕ, ◌+◌, ◌-◌, ◌≤◌, ◌<◌, ◌^◌, Bool, true, false, List, [], ◌∷◌, ◌++◌, length, map, refl, ap, sym, ◌∙◌, subst, arith, append_assoc, length-append}
+use Rattle.std.proofs.Common.{◌≡◌, ℕ, ◌+◌, ◌-◌, ◌≤◌, ◌<◌, ◌^◌, List, ◌∷◌, ◌++◌, length, map, refl, ap, sym, ◌∙◌, subst, arith, append_assoc, length-append, []}
 use Rattle.std.proofs.lemmas.List.{length-map, map-append}
 use Rattle.std.specs.Prelude.{Some, slice_get, if◌then◌else◌, pos}
 use Rattle.std.specs.List.{AllByRecursion}
@@ -29,7 +29,7 @@ use Rattle.dae_select_blocks.specs.Sizes.{is_short}
 use Rattle.dae_select_blocks.specs.Fits.{Fits}
 use Rattle.dae_select_blocks.specs.Wanted.{IsPlanOf, IsLinked}
 use Rattle.dae_select_blocks.specs.Laws.{opened_with}
-use Rattle.dae_select_blocks.proofs.LawsOfBlocks.{words_are_code, fit_append, function_fits, start_fits, finish_fits, code_take, code_drop, opening_short, finish_some}
+use Rattle.dae_select_blocks.proofs.LawsOfBlocks.{words_are_code, fit_append, function_fits, start_fits, finish_fits, code_take, code_drop, opening_short}
 use Rattle.dae_select.specs.Tables.{IsNear}
 use Rattle.dae_select.specs.Layouts.{is_a, homes_at, variables_at, entry_at, start_at, frame_at, plan_of, variables_of, AreSmall}
 use Rattle.dae_select.specs.declared.layouts.FunctionLayout.{FunctionLayout}
@@ -165,12 +165,6 @@ module _ (stream : Stream) (old : Layouts) (unplaced : AreUnplaced stream old) w
 
   pub code_long : length (code_at stream old) ≡ end_of stream old
   code_long = ap length code_is ∙ whole_long
-
-  pub code_some : 1 ≤ length (code_at stream old)
-  code_some =
-      let l = length-append (start_code P stream.main stream.frames) (finish_code P.by_a) in
-      let f = finish_some P.by_a in
-      let c = code_long in omega arith
 
   pub code_short : end_of stream old ≤ most_words stream
   code_short = let f = first_low in let c = functions_length P variables fs 0 in omega arith

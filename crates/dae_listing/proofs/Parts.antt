@@ -1,5 +1,5 @@
 -- The parts of a listing.
-use Rattle.std.proofs.Common.{◌≡◌, ◌==◌, false, ℕ, ◌≤◌, ◌<◌, List, [], ◌∷◌, ◌++◌, map, take, drop, length, codes, refl, sym, ap, ◌∙◌, append_assoc, arith}
+use Rattle.std.proofs.Common.{◌≡◌, ◌==◌, false, ℕ, ◌≤◌, ◌<◌, List, ◌∷◌, ◌++◌, map, take, drop, length, codes, refl, sym, ap, ◌∙◌, append_assoc, arith, []}
 use Rattle.std.specs.List.{flat_map}
 use Rattle.std.proofs.lemmas.List.{append-nil}
 use Rattle.std.proofs.lemmas.List.Concat.{flat_map-append}
@@ -128,7 +128,3 @@ last_behind old new bytes some few e =
 pub some_left : (bytes : List ℕ) → false ≡ (length bytes == 0) → 0 < length bytes
 some_left [] e = absurd cc
 some_left (b ∷ bytes) e = omega arith
-
-pub none_behind : (old bytes : List ℕ) → length bytes ≡ 0 → old ≡ old ++ flat_map ended (content_rows bytes)
-none_behind old [] none = sym (append-nil old)
-none_behind old (b ∷ bytes) none = absurd (omega arith)

@@ -1,5 +1,5 @@
 -- The sheet that a listing is, and that it says the image.
-use Rattle.std.proofs.Common.{◌≡◌, ℕ, suc, ◌+◌, ◌<◌, ◌≤◌, ◌^◌, ℤ, pos, Bool, true, ◌&&◌, List, [], ◌∷◌, ◌++◌, map, length, codes, refl, sym, ap, ◌∙◌, arith}
+use Rattle.std.proofs.Common.{◌≡◌, ℕ, suc, ◌+◌, ◌<◌, ◌≤◌, ◌^◌, ℤ, pos, Bool, true, ◌&&◌, List, ◌∷◌, ◌++◌, map, length, codes, refl, sym, ap, ◌∙◌, arith, []}
 use Rattle.std.specs.Prelude.{Option, Some, None, nat_lt}
 use Rattle.std.specs.List.{list_all, AllByRecursion}
 use Rattle.std.proofs.lemmas.Bool.{and_parts}
@@ -113,9 +113,6 @@ all_pass labels n (w ∷ ws) rest h = one_passes labels n w (decode w) (number_f
 few_bytes : (bs : List ℕ) → AllByRecursion (λ b. b < 256) bs → AreFew bs
 few_bytes [] h = tt
 few_bytes (b ∷ bs) h = (omega (arith, h.0), few_bytes bs h.1)
-
-abbrev bytes_row : NumberRow → Row
-bytes_row b = (b.0, items.Bytes b.1)
 
 -- lines of data
 pub record Chunks (n : ℕ) (bs : List ℕ) (text : List (List ℕ)) : Type 0 where

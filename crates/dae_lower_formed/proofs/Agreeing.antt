@@ -164,7 +164,7 @@ module _ (p : Program) (ir : Ir) (low : IsLowered p ir) (scoped : IsScoped ir) w
   abbrev world_at : ℕ → World
   world_at frames = record { memory = memory_of; printed = []; frame = frames; top = frames; depth = 0; items = 0; loads = 0; stores = 0 }
 
-  same_outcome : (limit : ℕ) → ir.calls ≡ limit → (n : ℕ) → outcome ir n memory_of ≡ form_run_of p limit n
+  pub same_outcome : (limit : ℕ) → ir.calls ≡ limit → (n : ℕ) → outcome ir n memory_of ≡ form_run_of p limit n
   same_outcome limit e n =
       same_calls ir.functions (λ f. body_in (slice_get ir.functions f)) definition_body form_frame ir.calls all_loads names bodies n ir.calls ir.main main_there [] (world_at ir.frames)
       ∙ ap (λ (frame : ℕ → ℕ). calls_of (record { body = definition_body; frame = frame; limit = ir.calls }) all_loads n ir.calls ir.main [] (world_at ir.frames)) (λ i k. frames k i)

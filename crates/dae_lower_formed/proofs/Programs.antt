@@ -1,9 +1,9 @@
 -- The form of a program is well made.
-use Rattle.std.proofs.Common.{◌≡◌, ℕ, zero, suc, ◌+◌, ◌<◌, Bool, true, false, not, ◌&&◌, nat_eq, List, [], ◌∷◌, length, Option, Some, None, refl, sym, ◌∙◌, subst, arith}
-use Rattle.std.specs.Prelude.{slice_get, IsTrue}
+use Rattle.std.proofs.Common.{◌≡◌, ℕ, zero, suc, ◌+◌, ◌^◌, ◌%◌, ◌<◌, ◌≤◌, Bool, true, false, not, ◌&&◌, List, ◌∷◌, length, Option, Some, None, refl, sym, ◌∙◌, subst, arith, []}
+use Rattle.std.specs.Prelude.{nat_eq, nat_le, slice_get, IsTrue}
 use Rattle.std.specs.List.{list_all}
 use Rattle.std.proofs.lemmas.Option.{same_Some}
-use Rattle.std.proofs.lemmas.Bool.{eqb-true}
+use Rattle.std.proofs.lemmas.Bool.{and_parts, eqb-true, leb-true}
 use Rattle.dae_base.proofs.Laws.{passes_at, all_by_place, same_number, and_first, and_second}
 use Rattle.dae_ir.specs.Code.{Each}
 use Rattle.dae_ir.specs.Form.{Form, form_of}
@@ -15,7 +15,7 @@ use Rattle.dae_ir.specs.declared.form.Function.{Function as FormFunction}
 use Rattle.dae_ir.specs.declared.form.Ir.{Ir}
 use Rattle.dae_program.specs.declared.program.Function.{Function}
 use Rattle.dae_program.specs.declared.program.Program.{Program}
-use Rattle.dae_program.specs.Lawful.{is_well_placed, is_ready, prints_bytes, is_lawful_memory, is_lawful_body, is_lawful_in, is_main, parameter_count, spares, takes}
+use Rattle.dae_program.specs.Lawful.{is_lawful, is_well_placed, is_ready, prints_bytes, is_lawful_memory, is_lawful_body, is_lawful_in, is_main, parameter_count, spares, takes}
 use Rattle.dae_lower.specs.Lowering.{function_code}
 use Rattle.dae_lower.specs.Keeping.{FormsClose}
 use Rattle.dae_lower_formed.specs.Bytes.{PrintBytes}
@@ -26,7 +26,16 @@ use Rattle.dae_lower_formed.proofs.Good.{IsGood, good_names, good_first, good_st
 use Rattle.dae_lower_formed.proofs.Expressions.{FindsFunctions}
 use Rattle.dae_lower_formed.proofs.Functions.{HoldsParameters, bounds_of, few_parameters, function_good, no_fewer, holds_below, reads_below, holds_parameters}
 
--- ---- lists
+-- ---- a program's memory has at most 2^26 bytes
+
+pub memory_most : (p : Program) → is_lawful p.memory p.frames p.content p.links p.functions p.main ≡ true → p.memory ≤ 2 ^ 26
+memory_most p lawful =
+    let placed = (and_parts (is_well_placed p.memory p.frames p.content p.links p.functions p.main) (list_all (is_ready p.links p.functions) p.functions) lawful).0 in
+    let first = (and_parts (is_lawful_memory p.memory p.frames (length p.content) && is_main p.memory p.links p.functions (slice_get p.functions p.main))
+    (list_all (spares p.main) p.links && list_all (is_lawful_in p.memory p.links p.functions true) p.functions) placed).0 in
+    let size = (and_parts (is_lawful_memory p.memory p.frames (length p.content)) (is_main p.memory p.links p.functions (slice_get p.functions p.main)) first).0 in
+    let behind = (and_parts (nat_eq (p.frames % 4) 0 && nat_le (16 + length p.content) p.frames) (nat_le p.frames p.memory && nat_le p.memory (2 ^ 26)) size).1 in
+    leb-true p.memory (2 ^ 26) (and_parts (nat_le p.frames p.memory) (nat_le p.memory (2 ^ 26)) behind).1
 
 -- ---- functions and their forms
 

@@ -1,5 +1,5 @@
 -- The first part of a list, and the rest.
-use Rattle.std.proofs.Common.{◌≡◌, ℕ, ◌+◌, ◌<◌, ◌≤◌, List, [], ◌∷◌, length, drop, get_or, Option, Some, None, refl, ap, ◌∙◌}
+use Rattle.std.proofs.Common.{◌≡◌, ℕ, ◌+◌, ◌<◌, ◌≤◌, List, ◌∷◌, length, drop, get_or, Some, None, ap, ◌∙◌, []}
 use Rattle.std.proofs.lemmas.List.{drop_all}
 use Rattle.dae_base.proofs.Laws.{drop_at}
 use Rattle.dae_base.specs.declared.Place.{Place}
@@ -8,11 +8,10 @@ use Rattle.dae_ir.specs.declared.form.Item.TheVariants.{Assign, Break, Continue,
 use Rattle.dae_ir.specs.declared.form.Operand.{Operand}
 use Rattle.dae_ir.specs.declared.form.Operand.TheVariants.{Variable, Number}
 use Rattle.dae_ir.specs.declared.form.Value.TheVariants.{FrameAddress}
-use Rattle.dae_lower.specs.Lowering.{Links, effect_of_some, emit, leave_unless, leave_unless_some, loop, one, parameters_stored, prints, settings, skip, statements, text_loop, ways, nowhere, zeros, ◌≫◌}
+use Rattle.dae_lower.specs.Lowering.{Links, effect_of_some, emit, leave_unless, leave_unless_some, loop, one, prints, settings, skip, statements, text_loop, ways, nowhere, zeros, ◌≫◌}
 use Rattle.dae_lower_programs.proofs.Rows.{seam_one, seam_two}
 use Rattle.dae_program.proofs.LawsOfTrees.{statements_at, statements_end}
 use Rattle.dae_meaning.specs.declared.Spelling.TheVariants.{Byte}
-use Rattle.dae_program.specs.declared.program.Slot.{Slot}
 use Rattle.dae_program.specs.declared.statements.Piece.{Piece}
 use Rattle.dae_program.specs.declared.statements.Piece.TheVariants as piece
 use Rattle.dae_program.specs.declared.statements.Setting.{Setting}
@@ -60,7 +59,3 @@ made_at l xs i x lt is n = ap (λ ss. statements l ss n) (statements_at xs i x l
 
 pub made_end : (l : Links) (xs : List Statement) (i : ℕ) → length xs ≤ i → statements l (view_statements (drop i xs)) ≡ skip
 made_end l xs i le = ap (statements l) (statements_end xs i le)
-
-parameters_first : (p : Place) (x : Option Slot) (xs : List (Option Slot)) (k n : ℕ) → parameters_stored p (x ∷ xs) k n ≡ (parameters_stored p (x ∷ []) k n ≫ λ u. parameters_stored p xs (k + 1))
-parameters_first p None xs k n = refl
-parameters_first p (Some slot) xs k n = seam_one (emit (Do p (Assign n (FrameAddress slot.offset)) (one p (Store slot.width (Variable n) (Variable k)))) (n + 1)) (parameters_stored p xs (k + 1))

@@ -1,5 +1,5 @@
 -- E's part of a group, on the queues: it takes just the loads and the copies that A sent.
-use Rattle.std.proofs.Common.{◌≡◌, ℕ, ◌+◌, ◌*◌, ◌<◌, ◌≤◌, ◌^◌, Bool, true, false, not, ◌&&◌, List, [], ◌∷◌, length, if◌then◌else◌, refl, ap, arith}
+use Rattle.std.proofs.Common.{◌≡◌, ℕ, ◌+◌, ◌*◌, ◌<◌, ◌≤◌, ◌^◌, Bool, true, false, not, ◌&&◌, List, ◌∷◌, length, if◌then◌else◌, refl, ap, arith, []}
 use Rattle.dae_base.specs.declared.LoadKind.{LoadKind}
 use Rattle.dae_queues.specs.declared.StoreAt.{StoreAt}
 use Rattle.dae_base.specs.Words.{loaded}
@@ -45,9 +45,6 @@ module _ (setup : Setup) (p : Program) (body : ℕ → Actions) (k : Actions) (b
     pub least : ℕ
     pub does : Does setup p false body m moves fills least s (receiving x ls cq) [] (Arrives (spot (point k b) env u calls)) (receiving (taken (x.ld_taken + length ls) x) [] [])
     pub few : moves + fills ≤ n
-
-  at_code : Actions → Env → World → Spot
-  at_code code env u = spot (point code b) env u calls
 
   set_does : (at : Mark) (v : ℕ) (x : Value) (next : Actions) (env : Env) (u : World) (q : Queues) → length u.memory ≡ setup.memory
       → Does setup p false body m 1 0 0 (spot (point (Do at (Set v x) next) b) env u calls) q [] (Arrives (spot (point next b) (put true v (computed x u.frame env) env) u calls)) q

@@ -1,5 +1,5 @@
 -- E's run of a region of its own.
-use Rattle.std.proofs.Common.{◌≡◌, ℕ, ◌+◌, ◌*◌, Bool, true, false, not, ◌&&◌, List, [], ◌∷◌, ◌++◌, length, if◌then◌else◌, refl, ap, sym, ◌∙◌, subst, append-nil, add-zero, arith}
+use Rattle.std.proofs.Common.{◌≡◌, ℕ, ◌+◌, ◌*◌, Bool, true, false, not, ◌&&◌, List, ◌∷◌, ◌++◌, length, if◌then◌else◌, refl, ap, sym, ◌∙◌, subst, append-nil, add-zero, arith, []}
 use Rattle.dae_base.specs.declared.Place.{Place}
 use Rattle.dae_base.proofs.Laws.{and_false}
 use Rattle.dae_machine.specs.Machine.{Setup}
@@ -26,7 +26,7 @@ use Rattle.dae_ir_pair.specs.Budget.{is_test, any_part}
 use Rattle.dae_machine_rounds.specs.Spots.{Arrives, Behind, After, Body, Turn, Point, point, left, skipped, Waiting, Spot, spot, breaks, continues}
 use Rattle.dae_machine_rounds.proofs.Laws.{LoadsWords, does_to, Does, here, resting, with_al, parts_taken, IsMessage, silent, message_is, emit_does}
 use Rattle.dae_machine_runs.proofs.Turned.{inside_turn}
-use Rattle.dae_machine_runs.proofs.Sided.{exit, Still, still_itself, still_ticked, still_on, Reached, Does_as, List_does, Spare_does, spare_less, IsBlock, then_does, moved, branch_does, loop_does}
+use Rattle.dae_machine_runs.proofs.Sided.{exit, Still, still_itself, still_ticked, still_on, Reached, Does_as, List_does, spare_less, then_does, moved, branch_does, loop_does}
 use Rattle.dae_machine_runs.proofs.RegionsA.{item_of, run_parts, parts_then}
 
 module _ (setup : Setup) (p : Program) (body : ℕ → Actions) (m : List ℕ) (calls : List Waiting) (of : ℕ → Classes) (c : Classes) (cap n : ℕ) (size : length m ≡ setup.memory) (words : LoadsWords m) where
@@ -196,17 +196,3 @@ module _ (setup : Setup) (p : Program) (body : ℕ → Actions) (m : List ℕ) (
       let ys = inside_of false of c 0 (rounds c cap false z []) Done in
       spare_less setup p false body m calls n _ k b (exec region_e n (Loop place y z rest))
       (loop_does setup p false body m calls n xs ys k' b (exec region_e n y) (exec region_e n z) (inside_turn of c false 0 (rounds c cap false y [])) (region_e_does y fits.0 [] tt 0 Done (Body xs ys k' b)) (region_e_does z fits.1 [] tt 0 Done (Turn xs ys k' b)) (mark place ng) k (exec region_e n rest) (region_e_does rest fits.2 [] tt ng k b))))
-
-  -- a whole region, with two units to spare
-  pub whole_region_e : (code : Form) → IsBlock code → Each IsItem (λ (t : Test). Unit {0}) code → (ng : ℕ) (k : Actions) (b : Behind) → Spare_does setup p false body m calls n (inside_of false of c ng (rounds c cap false code []) k) k b (exec region_e n code)
-  whole_region_e Done is fits ng k b = absurd is
-  whole_region_e (Do place item rest) is fits ng k b = absurd is
-  whole_region_e (If place t y z rest) is fits ng k b =
-      let k' = inside_of false of c ng (rounds c cap false rest []) k in
-      branch_does setup p false body m calls n (mark place ng) t (inside_of false of c 0 (rounds c cap false y []) Done) (inside_of false of c 0 (rounds c cap false z []) Done) k' k b (exec region_e n y) (exec region_e n z) (exec region_e n rest)
-      (region_e_does y fits.1 [] tt 0 Done (After k' b)) (region_e_does z fits.2 [] tt 0 Done (After k' b)) (region_e_does rest fits.3 [] tt ng k b)
-  whole_region_e (Loop place y z rest) is fits ng k b =
-      let k' = inside_of false of c ng (rounds c cap false rest []) k in
-      let xs = inside_of false of c 0 (rounds c cap false y []) Done in
-      let ys = inside_of false of c 0 (rounds c cap false z []) Done in
-      loop_does setup p false body m calls n xs ys k' b (exec region_e n y) (exec region_e n z) (inside_turn of c false 0 (rounds c cap false y [])) (region_e_does y fits.0 [] tt 0 Done (Body xs ys k' b)) (region_e_does z fits.1 [] tt 0 Done (Turn xs ys k' b)) (mark place ng) k (exec region_e n rest) (region_e_does rest fits.2 [] tt ng k b)

@@ -1,5 +1,5 @@
 -- Code in rounds lands on the machine as it does in canonical order.
-use Rattle.std.proofs.Common.{length, ◌≡◌, ℕ, zero, suc, ◌+◌, ◌-◌, ◌*◌, ◌≤◌, inl, Bool, true, false, List, [], ◌∷◌, Option, Some, None, if◌then◌else◌, refl, ap, subst, arith}
+use Rattle.std.proofs.Common.{length, ◌≡◌, ℕ, zero, suc, ◌+◌, ◌-◌, ◌*◌, ◌≤◌, inl, Bool, true, false, List, ◌∷◌, Option, Some, None, if◌then◌else◌, refl, ap, subst, arith, []}
 use Rattle.dae_base.specs.declared.Place.{Place}
 use Rattle.dae_encode.specs.Processor.{Processor}
 use Rattle.dae_machine.specs.Machine.{Setup, State}
@@ -301,9 +301,6 @@ module _ (setup : Setup) (p : Program) (body_a body_e : ℕ → Actions) (most :
   -- ---- what stands between groups
 
   module _ (calls : PairCalls) (calls_land : CallsLand calls) (c : Classes) where
-    spot_is : (at : Point) (env env' : Env) (w : World) (calls : List Waiting) → env ≡ env' → spot at env w calls ≡ spot at env' w calls
-    spot_is at env env' w calls e = ap (λ (z : Env). spot at z w calls) e
-
     -- behind a call
     comes_back : (mark : Mark) (v : ℕ) (ka : Actions) (ba : Behind) (ke : Actions) (be : Behind) (ca ce : List Waiting) (b r : Sides) (w w' : World) (s : State) (base : ℕ)
         → Stands' (point Done Ends, point Done Ends) (waits (kept (c.s v) v) (point ka ba) b.a w ∷ ca) (waits (kept (c.needs v) v) (point ke be) b.e w ∷ ce) r w' s → IsSound setup w' → 6 + base ≤ 8 * w'.items

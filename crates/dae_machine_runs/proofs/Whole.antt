@@ -1,5 +1,5 @@
 -- A pair's outcome tells every run of an image that does the pair.
-use Rattle.std.proofs.Common.{if◌then◌else◌, ◌≡◌, ℕ, ◌+◌, ◌*◌, ◌≤◌, inl, inr, Bool, true, false, List, [], ◌∷◌, ◌++◌, length, refl, ap, sym, ◌∙◌, subst, append-nil, length-append, arith}
+use Rattle.std.proofs.Common.{if◌then◌else◌, ◌≡◌, ℕ, ◌+◌, ◌*◌, ◌≤◌, inl, inr, Bool, true, false, List, ◌∷◌, ◌++◌, length, refl, ap, sym, ◌∙◌, subst, append-nil, length-append, arith, []}
 use Rattle.std.proofs.Math.Nat.{mul-add, mul-le-mul_left}
 use Rattle.dae_base.specs.declared.Side.TheVariants.{A, E}
 use Rattle.dae_encode.specs.declared.Halt.{Halt}
@@ -7,12 +7,12 @@ use Rattle.dae_encode.specs.declared.Halt.TheVariants.{Status, Trap}
 use Rattle.dae_encode.specs.Processor.{Processor}
 use Rattle.dae_machine.specs.declared.Pick.{Pick}
 use Rattle.dae_machine.specs.Runs.{often}
-use Rattle.dae_machine.specs.Ends.{is_a, is_e, IsPrefixOf, HasRuns, GoesOn as GoesOnFor}
+use Rattle.dae_machine.specs.Ends.{is_a, is_e, IsPrefixOf, HasRuns}
 use Rattle.dae_machine.specs.Machine.{Setup, State, step, Runs, IsCounted}
 use Rattle.dae_machine.proofs.LawsOfRuns.{run-on}
-use Rattle.dae_machine.proofs.LawsOfRuns.{can_only_end, goes_on, prefix_refl}
+use Rattle.dae_machine.proofs.LawsOfRuns.{can_only_end, prefix_refl}
 use Rattle.dae_meaning.specs.Worlds.{World}
-use Rattle.dae_meaning.specs.Results.{Result, Over, Way, End, Halted as HaltedWith, Trapped, Going, Astray, world_of}
+use Rattle.dae_meaning.specs.Results.{Result, Over, Way, End, Halted as HaltedWith, Trapped, Going, Astray}
 use Rattle.dae_ir.specs.Code.{Done}
 use Rattle.dae_ir.specs.Form.{Program, deeper}
 use Rattle.dae_ir.specs.Classes.{Classes}
@@ -153,6 +153,3 @@ module _ (setup : Setup) (p : Program) (of : ℕ → Classes) (cap : ℕ) (most 
           bound = n;
           no_more = subst (λ (zs : List ℕ). IsPrefixOf y.state.printed zs) (y.printed ∙ same) (prefix_refl y.state.printed);
         }
-
-    pub goes_on_for_ever : (limit : ℕ) → ((n : ℕ) → (u : World) × (outcome n limit ≡ Over Going u)) → GoesOnFor setup start (λ n. (world_of (outcome n limit)).printed)
-    goes_on_for_ever limit going = goes_on setup start counted (λ n. (world_of (outcome n limit)).printed) (λ n. (let h = going n in has_run (λ n. (world_of (outcome n limit)).printed) n limit h.0 (ap (λ (r : Result Sides). (world_of r).printed) (sym h.1)) h.1))

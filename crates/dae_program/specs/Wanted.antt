@@ -1,6 +1,6 @@
 -- What of a program the access side may load and decide by itself: what is wanted for addresses, and which tests are open to
 -- it. Both speak of the program alone, and bound what a compiler may give the access side to do.
-use Rattle.std.specs.Prelude.{◌≡◌, ℕ, suc, ◌+◌, Bool, true, false, ◌&&◌, ◌||◌, nat_eq, if◌then◌else◌, List, [], ◌∷◌, Option, Some, None}
+use Rattle.std.specs.Prelude.{◌≡◌, ℕ, suc, ◌+◌, Bool, true, false, ◌&&◌, ◌||◌, nat_eq, if◌then◌else◌, List, ◌∷◌, Option, Some, None, []}
 use Rattle.dae_program.specs.declared.statements.Piece.{Piece}
 use Rattle.dae_program.specs.declared.statements.Piece.TheVariants as piece
 use Rattle.dae_program.specs.Expressions.{bit}
@@ -92,11 +92,6 @@ module _ (wants : Wants) (callee : ℕ → ℕ) (f : ℕ) where
 
 abbrev pub AreKept : Program → Wants → Type 0
 AreKept p wants = (f : ℕ) → (let g = p.function f in KeepStatements wants g.callee f g.body)
-
--- the wanted variables of a program: these are kept, and no fewer are
-pub record AreWanted (p : Program) (wants : Wants) : Type 0 where
-  pub kept : AreKept p wants
-  pub least : (others : Wants) → AreKept p others → (f v : ℕ) → wants f v ≡ true → others f v ≡ true
 
 -- ---- how many objects are read where they are wanted
 

@@ -1,6 +1,6 @@
 -- What becomes of spans where a variable is seen.
-use Rattle.std.proofs.Common.{◌≡◌, ℕ, zero, suc, ◌+◌, ◌<◌, ◌≤◌, ◌⊎◌, inl, inr, Bool, true, false, ◌||◌, List, [], ◌∷◌, ◌++◌, length, take, get_or, Option, Some, None, refl, ap, sym, ◌∙◌, subst, arith}
-use Rattle.std.specs.Prelude.{nat_eq, nat_lt, slice_get, slice_set, if◌then◌else◌}
+use Rattle.std.proofs.Common.{◌≡◌, ℕ, zero, suc, ◌+◌, ◌<◌, ◌≤◌, ◌⊎◌, inl, inr, Bool, true, false, ◌||◌, List, ◌∷◌, ◌++◌, length, take, get_or, Option, Some, None, refl, ap, sym, ◌∙◌, subst, arith, []}
+use Rattle.std.specs.Prelude.{nat_eq, slice_get, slice_set, if◌then◌else◌}
 use Rattle.std.specs.List.{AllByRecursion}
 use Rattle.std.proofs.lemmas.Bool.Decides.{nat_tests}
 use Rattle.std.proofs.lemmas.Option.{same_Some, slice_get_within}
@@ -260,9 +260,6 @@ further_then P Q R a b c f g either one other = record {
         | inr h ↦ inr (h.0 ∙ f.places, other v h.1)
       ];
 }
-
-pub further_same : (P R : ℕ → Type 0) (a b : Spans) → IsFurther P a b → ((v : ℕ) → R v → P v) → ((v : ℕ) → P v → R v) → IsFurther R a b
-further_same P R a b f all back = record { places = f.places; few = λ n le below. f.few n le (λ v h. below v (back v h)); numbered = f.numbered; kept = f.kept; held = λ nd v h. f.held nd v (all v h); ends = λ nd place v end. elim (f.ends nd place v end) [ inl old ↦ inl old | inr h ↦ inr (h.0, back v h.1) ] }
 
 -- ---- a whole place
 

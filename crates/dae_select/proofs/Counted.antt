@@ -1,9 +1,8 @@
 -- Words of lists of steps, as far as they are counted, and lists with none.
-use Rattle.std.proofs.Common.{◌≡◌, ℕ, ◌+◌, ◌-◌, ◌*◌, ◌^◌, ◌<◌, ◌≤◌, Bool, true, false, List, [], ◌∷◌, length, drop, get_or, refl, ap, sym, ◌∙◌, arith}
+use Rattle.std.proofs.Common.{◌≡◌, ℕ, ◌+◌, ◌-◌, ◌*◌, ◌^◌, ◌<◌, ◌≤◌, Bool, true, false, List, ◌∷◌, length, drop, get_or, refl, ap, sym, ◌∙◌, arith, []}
 use Rattle.std.specs.Prelude.{Option, Some, None, Vec, nat_eq, nat_lt, if◌then◌else◌, ◌&&◌}
 use Rattle.std.specs.declared.alloc.Global.{Global}
 use Rattle.std.proofs.lemmas.Bool.Decides.{nat_tests}
-use Rattle.std.proofs.lemmas.List.{drop_all}
 use Rattle.dae_ir.specs.Code.{Done, If, Loop}
 use Rattle.dae_ir.specs.Streams.{Actions, actions_of, step_onto}
 use Rattle.dae_ir.specs.declared.stream.Mark.{Mark}
@@ -34,14 +33,6 @@ capped_sum k m n = by (nat_lt m (2 ^ 17)) (nat_lt n (2 ^ 17)) refl refl
 no_more : (m n : ℕ) → 0 + m + n ≡ m + n
 no_more m n = omega arith
 
--- a call with so many arguments
-pub capped_call : (n : ℕ) → capped (56 + 14 * capped n) ≡ capped (14 * (1 + n) + 42 * 1)
-capped_call n = by (nat_lt n (2 ^ 17)) refl
-  where
-    by : (a : Bool) → nat_lt n (2 ^ 17) ≡ a → capped (56 + 14 * (if a then n else 2 ^ 17)) ≡ capped (14 * (1 + n) + 42 * 1)
-    by true e = (let same : 56 + 14 * n ≡ 14 * (1 + n) + 42 * 1 = omega arith in ap capped same)
-    by false e = (let far : nat_lt (14 * (1 + n) + 42 * 1) (2 ^ 17) ≡ false = grind (arith, nat_tests) in rw far refl)
-
 -- a step in front of others
 pub onto_words : (s : Step) (k : Actions) → most_words_in (step_onto s k) ≡ most_words_in (step_onto s Done) + most_words_in k
 onto_words (Act m x) k = omega arith
@@ -68,9 +59,6 @@ loop_words s m p q first second result is e h all =
 abbrev pub CountFrom : List Step → ℕ → ℕ → Type 0
 CountFrom steps j n = n ≡ capped (most_words_in (actions_of (drop j steps)))
 
-pub none_counted : (steps : List Step) → CountFrom steps (length steps) 0
-none_counted steps = ap (λ (l : List Step). capped (most_words_in (actions_of l))) (sym (drop_all (length steps) steps (omega arith)))
-
 pub one_counted : (steps : List Step) (j : ℕ) (s : Step) (one sum all : ℕ) → 0 < j → j ≤ length steps → s ≡ get_or steps (j - 1) s → CountFrom steps j sum → one ≡ capped (most_words_in (step_onto s Done)) → all ≡ capped (one + sum) → CountFrom steps (j - 1) all
 one_counted steps j s one sum all some le is so_far e h =
     let rest = most_words_in (actions_of (drop j steps)) in let here = most_words_in (step_onto s Done) in
@@ -89,18 +77,6 @@ empty_does_nothing [] = refl
 empty_does_nothing (Act m x ∷ steps) = some_step (Act m x) steps
 empty_does_nothing (If' m b s p t q ∷ steps) = some_step (If' m b s p t q) steps
 empty_does_nothing (Loop' m s p t q ∷ steps) = some_step (Loop' m s p t q) steps
-
--- a sum that is below the bound is below any that isn't
-pub capped_near : (m n : ℕ) → nat_lt (capped m + capped n) 900 ≡ nat_lt (m + n) 900
-capped_near m n = by (nat_lt m (2 ^ 17)) (nat_lt n (2 ^ 17)) refl refl
-  where
-    far : (v w : ℕ) → 900 ≤ v → 900 ≤ w → nat_lt v 900 ≡ nat_lt w 900
-    far v w h g = (let a : nat_lt v 900 ≡ false = grind (arith, nat_tests) in let b : nat_lt w 900 ≡ false = grind (arith, nat_tests) in rw (a, b) refl)
-
-    by : (a b : Bool) → nat_lt m (2 ^ 17) ≡ a → nat_lt n (2 ^ 17) ≡ b → nat_lt ((if a then m else 2 ^ 17) + (if b then n else 2 ^ 17)) 900 ≡ nat_lt (m + n) 900
-    by true true e h = refl
-    by true false e h = (let le : (2 ^ 17 ≤ n) = grind (arith, nat_tests) in far (m + 2 ^ 17) (m + n) (omega arith) (omega arith))
-    by false b e h = (let le : (2 ^ 17 ≤ m) = grind (arith, nat_tests) in far (2 ^ 17 + (if b then n else 2 ^ 17)) (m + n) (omega arith) (omega arith))
 
 and_no : (b : Bool) → (b && false) ≡ false
 and_no true = refl

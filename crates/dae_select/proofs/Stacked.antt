@@ -1,5 +1,5 @@
 -- The code of steps before other code.
-use Rattle.std.proofs.Common.{◌≡◌, ℕ, zero, suc, Option, Some, None, ◌+◌, ◌-◌, ◌<◌, ◌≤◌, Bool, true, false, ◌&&◌, ◌||◌, List, [], ◌∷◌, length, drop, get_or, refl, ap, sym, subst, ◌∙◌, ◌++◌, arith, length-append, append_assoc}
+use Rattle.std.proofs.Common.{◌≡◌, ℕ, zero, suc, Option, Some, None, ◌+◌, ◌-◌, ◌<◌, ◌≤◌, Bool, true, false, ◌&&◌, ◌||◌, List, ◌∷◌, length, drop, get_or, refl, ap, sym, subst, ◌∙◌, ◌++◌, arith, length-append, append_assoc, []}
 use Rattle.std.specs.Prelude.{Vec, slice_get, is_some, if◌then◌else◌}
 use Rattle.std.proofs.lemmas.List.{drop_all}
 use Rattle.std.specs.declared.alloc.Global.{Global}
@@ -8,20 +8,19 @@ use Rattle.dae_ir.specs.Classes.{VariableSet}
 use Rattle.dae_ir.specs.Streams.{Actions, actions_of, step_onto}
 use Rattle.dae_ir.specs.declared.stream.Mark.{Mark}
 use Rattle.dae_ir.specs.declared.stream.Action.{Action}
-use Rattle.dae_ir.specs.declared.form.Value.{Value}
 use Rattle.dae_ir.specs.declared.stream.Branch.{Branch}
 use Rattle.dae_ir.specs.declared.stream.Step.{Step, Act, If', Loop'}
 use Rattle.dae_ir.specs.declared.stream.Step.TheVariants as step
 use Rattle.dae_select_walks.specs.Multiples.{unknown, multiples_behind, is_placed}
 use Rattle.dae_select_walks.specs.Agrees.{Plan}
 use Rattle.dae_select_walks.specs.declared.Standing.{Standing}
-use Rattle.dae_select_walks.specs.declared.Standing.TheVariants.{Settled, Early, Late}
+use Rattle.dae_select_walks.specs.declared.Standing.TheVariants.{Settled}
 use Rattle.dae_select_walks.specs.Live.{Ways, ways, live, before, decided, with_all, turn, body_ways, step_ways, none, nowhere}
 use Rattle.dae_select_live.specs.Members.{member}
 use Rattle.dae_select_live.proofs.Laws.{onto_if, onto_loop, drop_at}
 use Rattle.dae_select_blocks.proofs.LawsOfBlocks.{by_pairs}
 use Rattle.dae_select_blocks.specs.Blocks.{jump_over, jump_back}
-use Rattle.dae_select_blocks.specs.Code.{reads_once, standing_behind, if_settled, pair_standing, block_code, branch_code, back_branch, leaves_first, is_near, has_bottom, does_nothing, past_code}
+use Rattle.dae_select_blocks.specs.Code.{standing_behind, if_settled, pair_standing, block_code, branch_code, back_branch, leaves_first, is_near, has_bottom, does_nothing, past_code}
 use Rattle.dae_select.specs.Grown.{Grown, no_code, glue, acting, in_front}
 use Rattle.dae_select.specs.Placed.{multiples_after, is_placed_step, placed_flags, multiples_at}
 use Rattle.dae_select.specs.declared.making.PlacedBranch.{PlacedBranch}
@@ -67,9 +66,6 @@ module _ (short : Bool) (plan : Plan) (variables : ℕ → ℕ) (f : ℕ) where
   five t a j b r base =
       sym (front_assoc t _ base ∙ ap (λ (g : Grown). in_front t g) (front_assoc a _ base ∙ ap (λ (g : Grown). in_front a g) (front_assoc j _ base
       ∙ ap (λ (g : Grown). in_front j g) (front_assoc b r base))))
-
-  added : (c d : Grown) → length (in_front c d).code - length d.code ≡ length c.code
-  added c d = (let e = length-append c.code d.code in omega arith)
 
   -- how far a branch leads
   led : (none : Bool) (all first past second old over : ℕ) → over ≡ second + old → all ≡ first + (past + over) → (none ≡ true → first + past ≡ 0) → all - (if none then old else over) ≡ (if none then second else first + past)

@@ -1,5 +1,5 @@
 -- Checks, messages that may halt, prints and halts.
-use Rattle.std.proofs.Common.{◌≡◌, ◌≢◌, ℕ, ◌+◌, ◌-◌, ◌*◌, ◌%◌, ◌^◌, ◌<◌, ◌≤◌, Bool, true, false, not, ◌||◌, List, [], ◌∷◌, ◌++◌, Option, Some, None, length, refl, sym, ap, ◌∙◌, arith, append-nil, append_assoc}
+use Rattle.std.proofs.Common.{◌≡◌, ◌≢◌, ℕ, ◌+◌, ◌-◌, ◌*◌, ◌%◌, ◌^◌, ◌<◌, ◌≤◌, Bool, true, false, not, ◌||◌, List, ◌∷◌, ◌++◌, Option, Some, None, length, refl, sym, ap, ◌∙◌, arith, append-nil, append_assoc, []}
 use Rattle.std.specs.Prelude.{nat_lt, nat_eq, if◌then◌else◌, pos, negsuc, bit_and}
 use Rattle.std.proofs.Common.{◌⊎◌, inl, inr}
 use Rattle.std.proofs.lemmas.Bool.Decides.{nat_tests}
@@ -298,9 +298,6 @@ module _ (s : Setting) (plan : Plan) (variables : ℕ → ℕ) (fine : Fits s pl
         Does' s plan variables fine live live' m (check_code plan m.function (Room g)) c (probed true (passed (nat_lt plan.limit (depth_of m + 1) || nat_lt plan.memory (top_of plan m + plan.frame g))) m.env)
     check_room_done {c} g h stays = by (nat_lt plan.memory (plan.frame m.function + plan.frame g)) refl
       where
-        beyond : Bool
-        beyond = nat_lt plan.limit (depth_of m + 1) || nat_lt plan.memory (top_of plan m + plan.frame g)
-
         left : ℕ
         left = plan.memory - (plan.frame m.function + plan.frame g)
 

@@ -1,5 +1,5 @@
 -- Jumps and branches: the processor goes on elsewhere, and agrees with the same moment.
-use Rattle.std.proofs.Common.{◌≡◌, ℕ, ◌+◌, ◌-◌, ◌*◌, ◌/◌, ◌%◌, ◌^◌, ◌<◌, ◌≤◌, Bool, true, false, not, List, [], ◌∷◌, ◌++◌, length, refl, sym, ap, ◌∙◌, subst, arith, append-nil, append_assoc, length-append}
+use Rattle.std.proofs.Common.{◌≡◌, ℕ, ◌+◌, ◌-◌, ◌*◌, ◌/◌, ◌%◌, ◌^◌, ◌<◌, ◌≤◌, Bool, true, false, not, List, ◌∷◌, ◌++◌, length, refl, sym, ap, ◌∙◌, subst, arith, append-nil, append_assoc, length-append, []}
 use Rattle.std.specs.Prelude.{zero, suc, nat_eq, nat_lt, int_lt, if◌then◌else◌, slice_get, Option, Some, None, ℤ, pos}
 use Rattle.std.proofs.lemmas.Bool.Decides.{nat_tests}
 use Rattle.dae_base.specs.Words.{plus, word, signed}
@@ -121,14 +121,6 @@ module _ (s : Setting) (plan : Plan) (variables : ℕ → ℕ) (fine : Fits s pl
       let to : plus u (word (lower bytes)) / 2 * 2 ≡ 4 * k' = rw target (omega arith) in
       let second = step s plan.private (Jalr 0 5 (lower bytes)) 0 5 0 0 k' at.3.0 (λ pc x y. plus pc 4) (λ pc x y. plus x (word (lower bytes)) / 2 * 2) Nothing first.holds at.3.1 at.3.2 refl (plain_computes s.copies s.side 0 5 0 (omega arith) (omega arith) (omega arith)) (plus_small (4 * (k + 1)) 4) to in
       (_, record { next = first.next; goes = first.goes; holds = comes_more s second.goes (comes_here s {n = 0} (u, plus_small (4 * k) (word (upper bytes)), rw (put_nowhere 0 (plus (4 * (k + 1)) 4) (put 5 u c) refl) at second.holds)) })
-
-  pub jumps : {c : Contents} {k : ℕ} {p : Processor} (bytes k' : ℕ) → bytes < 2 ^ 32 → k < 2 ^ 29 → k' < 2 ^ 29 → plus (4 * k) bytes ≡ 4 * k' → CodeAt s.code k (jump_by bytes) → Shows plan.private c k p → Comes s 2 p (λ q. (u : ℕ) × (u < 2 ^ 32) × Shows plan.private (put 5 u c) k' q)
-  jumps bytes k' fits small small' lands at h = let a = jumps_turn bytes k' fits small small' lands at h in comes_more s a.1.goes a.1.holds
-
-  leads : {live : VariableSet} {m : Moment} {k : ℕ} {p : Processor} (bytes k' : ℕ) → bytes < 2 ^ 32 → k < 2 ^ 29 → k' < 2 ^ 29 → plus (4 * k) bytes ≡ 4 * k' → CodeAt s.code k (jump_by bytes) → Stands plan live m k p → Comes s 2 p (Stands plan live m k')
-  leads bytes k' fits small small' lands at h =
-      comes_map s 2 (omega arith) (λ q g. record { contents = put 5 g.0 h.contents; shows = g.2; agrees = (ready_like s plan variables fine 5 (is_scratch plan 5 (omega arith) (omega arith)) (like_put 5 g.0 h.contents g.1 h.shows.fits) (ready h)).agrees })
-      (jumps bytes k' fits small small' lands at h.shows)
 
   turns_by : {live : VariableSet} {m : Moment} {k : ℕ} {p : Processor} (bytes k' : ℕ) → bytes < 2 ^ 32 → k < 2 ^ 29 → k' < 2 ^ 29 → plus (4 * k) bytes ≡ 4 * k' → CodeAt s.code k (jump_by bytes) → Stands plan live m k p → (v : ℕ) × Acts s p (event Nothing v 0 []) (λ r. Comes s 1 r (Stands plan live m k'))
   turns_by bytes k' fits small small' lands at h =

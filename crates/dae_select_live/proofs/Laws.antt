@@ -1,8 +1,7 @@
 -- What is live before a step, from what is live before the lists in it.
-use Rattle.std.proofs.Common.{◌≡◌, ℕ, zero, ◌+◌, ◌-◌, ◌<◌, ◌≤◌, Bool, true, false, ◌||◌, List, [], ◌∷◌, length, take, drop, get_or, drop-cons, add-one, suc, refl, ap, sym, ◌∙◌, arith}
+use Rattle.std.proofs.Common.{◌≡◌, ℕ, zero, ◌+◌, ◌-◌, ◌<◌, ◌≤◌, Bool, true, false, ◌||◌, List, ◌∷◌, length, take, drop, get_or, drop-cons, add-one, suc, refl, ap, sym, ◌∙◌, arith, []}
 use Rattle.std.specs.Prelude.{Vec, nat_eq}
 use Rattle.std.specs.declared.alloc.Global.{Global}
-use Rattle.std.proofs.lemmas.List.{drop_all}
 use Rattle.dae_ir.specs.Code.{Done, If, Loop}
 use Rattle.dae_ir.specs.Classes.{VariableSet}
 use Rattle.dae_ir.specs.Streams.{Actions, actions_of, step_onto, steps_row}
@@ -73,9 +72,6 @@ drop_at {X} list i x lt is = rw add-one (rw (drop-cons list i x) (ap (λ (y : X)
 -- so much is live before the steps from the j-th on
 abbrev pub LiveFrom : List Step → ℕ → Ways → VariableSet → Type 0
 LiveFrom steps j x set = live (actions_of (drop j steps)) x ≡ set
-
-pub live_at_end : (steps : List Step) (x : Ways) → LiveFrom steps (length steps) x x.next
-live_at_end steps x = ap (λ (l : List Step). live (actions_of l) x) (drop_all (length steps) steps (omega arith))
 
 pub live_one_more : (steps : List Step) (j : ℕ) (s : Step) (x : Ways) (set new : VariableSet) → 0 < j → j ≤ length steps → s ≡ get_or steps (j - 1) s → LiveFrom steps j x set
     → ((k : Actions) → live k x ≡ set → new ≡ live (step_onto s k) x) → LiveFrom steps (j - 1) x new

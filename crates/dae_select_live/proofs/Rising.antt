@@ -1,5 +1,5 @@
 -- What a search finds in a rising list of variables, and what edits at that place do to its variables.
-use Rattle.std.proofs.Common.{◌≡◌, ℕ, zero, suc, ◌+◌, ◌-◌, ◌<◌, ◌≤◌, Bool, true, false, not, ◌&&◌, ◌||◌, List, [], ◌∷◌, ◌++◌, length, take, drop, get_or, Result, Ok, Err, IfOk, IfErr, add-one, refl, ap, sym, subst, ◌∙◌, arith}
+use Rattle.std.proofs.Common.{◌≡◌, ℕ, zero, suc, ◌+◌, ◌-◌, ◌<◌, ◌≤◌, Bool, true, false, not, ◌&&◌, ◌||◌, List, ◌∷◌, ◌++◌, length, get_or, Result, Ok, Err, IfOk, IfErr, refl, ap, sym, subst, ◌∙◌, arith, []}
 use Rattle.std.proofs.Math.Path.{fun_ext}
 use Rattle.std.specs.Prelude.{nat_eq}
 use Rattle.std.specs.List.{insert, remove}
@@ -140,10 +140,6 @@ pub without_none : (set : VariableSet) → set ≡ (λ u. set u && not false)
 without_none set = fun_ext (λ u. and_true (set u))
 
 -- ---- the variables of another set
-
--- with what is left of the other set, this one is what it will be
-abbrev pub IsGoingOn : List ℕ → List ℕ → List ℕ → Type 0
-IsGoingOn all now rest = with_all (member now) (member rest) ≡ member all
 
 or_first : (a b c : Bool) → (a || b) || c ≡ b || (a || c)
 or_first true true c = refl

@@ -50,9 +50,6 @@ live_grows (Loop m body step k) u x y w h =
 pub turn_again : (body step : Actions) (k : VariableSet) → live body (body_ways body step k) ≡ turn body step k
 turn_again body step k = fun_ext (λ u. same_tests (live body (body_ways body step k) u) (turn body step k u) (found u (turn body step k u) refl) (more u))
   where
-    first : Ways
-    first = ways (live step (ways none k none)) k (live step (ways none k none))
-
     lose : (u : ℕ) → turn body step k u ≡ false → live step (step_ways body step k) u ≡ true → live step (ways none k none) u ≡ true
     lose u e = live_grows step u (step_ways body step k) (ways none k none) (record { next = (λ h. absurd cc); leaves = (λ h. h); skips = (λ h. absurd cc) })
 

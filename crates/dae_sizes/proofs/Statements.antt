@@ -1,11 +1,11 @@
 -- What statements, blocks and local declarations come to weighs less than their tokens and literals pay, and they declare few
 -- locals: by induction over their plans.
-use Rattle.std.proofs.Common.{◌≡◌, ℕ, ◌+◌, ◌≤◌, Bool, true, false, List, [], ◌∷◌, ◌++◌, Option, Some, None, if◌then◌else◌, refl, arith, length-append}
+use Rattle.std.proofs.Common.{◌≡◌, ℕ, ◌+◌, ◌≤◌, Bool, true, false, List, ◌∷◌, ◌++◌, Option, Some, None, if◌then◌else◌, refl, arith, length-append, []}
 use Rattle.std.specs.Prelude.{slice_get, is_some}
 use Rattle.dae_base.specs.declared.Place.{Place}
 use Rattle.dae_tree.specs.declared.expressions.Name.{Name}
 use Rattle.dae_tree.specs.Trees as tree
-use Rattle.dae_tree.specs.Trees.{Expression, Expressions, Initialiser, Item, Declaration, Statement, Statements}
+use Rattle.dae_tree.specs.Trees.{Expression, Initialiser, Item, Declaration, Statement, Statements}
 use Rattle.dae_tree.specs.Depth.{place_of, place_of_specifiers}
 use Rattle.dae_tree.specs.Names.{declared_name, has_typedef}
 use Rattle.dae_program.specs.Trees as program
@@ -262,9 +262,6 @@ module _ (c : ℕ) (low : c ≤ 1) (ls : List (List ℕ)) where
     labelled_at k a (tree.Case p e t) m h = chain_within (case_within p a e) (λ b l. lighter (omega (arith, l)) (labelled_at k b t (plan_statement k t) (statement_at k t (Unit {0}))))
     labelled_at k a (tree.Default p t) m h = fewer (omega arith) (chain_within (default_within p a) (λ b l. lighter (omega (arith, l)) (labelled_at k b t (plan_statement k t) (statement_at k t (Unit {0})))))
     labelled_at k a t m h = maps_reads h (λ s x q l. let g = statement_weighs c x a.arms in omega (arith, l, g))
-
-  pub statement_within : (k : Surrounding) (t : Statement) → Within ls (statement_cost c) (declares_in_statement t) (worth_of_statement (price c ls) t) (plan_statement k t)
-  statement_within k t = statement_at k t (Unit {0})
 
   -- the body of a function
   pub block_within : (k : Surrounding) (ds : List Declaration) (ss : Statements) → Within ls (weight_in c) (declares_in_declarations ds + declares_in_statements ss) (worth_of_declarations (price c ls) ds + worth_of_statements (price c ls) ss) (plan_block k ds ss)

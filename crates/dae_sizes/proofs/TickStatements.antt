@@ -1,5 +1,5 @@
 -- A typed statement has at most four units of work for each that is written: by induction over the plans of statements.
-use Rattle.std.proofs.Common.{◌≡◌, ℕ, zero, suc, ◌+◌, ◌*◌, ◌≤◌, Bool, true, false, List, [], ◌∷◌, ◌++◌, length, Option, Some, None, Ok, Err, if◌then◌else◌, refl, arith, length-append}
+use Rattle.std.proofs.Common.{◌≡◌, ℕ, zero, suc, ◌+◌, ◌*◌, ◌≤◌, Bool, true, false, List, ◌∷◌, ◌++◌, length, Option, Some, None, Ok, Err, if◌then◌else◌, refl, arith, length-append, []}
 use Rattle.std.proofs.lemmas.Bool.Decides.{nat_tests}
 use Rattle.std.proofs.lemmas.Result.{IfOk-at_ok}
 use Rattle.std.specs.Prelude.{IfOk, slice_get, is_some, nat_eq, not}
@@ -159,10 +159,6 @@ module _ (o : Often) (n : ℕ) where
   all_counted : (arms : List Armed) → count_labels (arms_of arms) ≤ counted arms
   all_counted [] = omega arith
   all_counted (a ∷ rest) = omega arith
-
-  armed_if : (b : Bool) (m : ℕ) (x y : List Armed) → armed x ≤ m → armed y ≤ m → armed (if b then x else y) ≤ m
-  armed_if true m x y h k = h
-  armed_if false m x y h k = k
 
   -- a label counts for itself and its arm
   abbrev labels_of_last : Option ℕ → List Armed → ℕ

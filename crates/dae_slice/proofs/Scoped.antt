@@ -1,5 +1,5 @@
 -- The variables that are there are a family that each form keeps whose variables are all there.
-use Rattle.std.proofs.Common.{◌≡◌, ℕ, zero, suc, ◌+◌, ◌<◌, ◌≤◌, true, nat_lt, List, [], ◌∷◌, length, refl, subst, arith}
+use Rattle.std.proofs.Common.{◌≡◌, ℕ, zero, suc, ◌+◌, ◌<◌, ◌≤◌, true, nat_lt, List, ◌∷◌, length, refl, subst, arith, []}
 use Rattle.std.specs.Prelude.{slice_get, Option, Some, None}
 use Rattle.std.specs.List.{AllByRecursion}
 use Rattle.std.proofs.lemmas.Bool.{lt-ltb, and_from}
@@ -126,10 +126,6 @@ module _ (functions : List Function) (scoped : AllByRecursion (FunctionIn functi
     test_kept : (sought : Sought) (t : Test) → TestIn n t → ConditionKept sought (in_range functions) f t
     test_kept Addresses t h = tt
     test_kept (Needs a) t h = λ e. test_in (in_range functions f) n all t h
-
-  -- what holds of each function's code holds of all code
-  abbrev OfBody : (Form → Type 0) → Option Function → Type 0
-  OfBody P o = P (body_in o)
 
   all_in : (f : ℕ) (function : Function) → slice_get functions f ≡ Some function → (v : ℕ) → v < function.variables → in_range functions f v ≡ true
   all_in f function e v lt = rw e (lt-ltb v function.variables lt)

@@ -1,5 +1,5 @@
 -- What is read of a line: words, numbers, widths, and the parts that they make up.
-use Rattle.std.proofs.Common.{◌≡◌, ◌≢◌, ℕ, ◌+◌, ◌-◌, ◌<◌, ◌^◌, Bool, true, false, List, [], ◌∷◌, ◌++◌, length, take, drop, get_or, refl, ap, sym, ◌∙◌, subst, append_assoc, length-append, arith}
+use Rattle.std.proofs.Common.{◌≡◌, ◌≢◌, ℕ, ◌+◌, ◌-◌, ◌<◌, ◌^◌, Bool, true, false, List, ◌∷◌, ◌++◌, length, take, drop, get_or, refl, ap, sym, ◌∙◌, subst, append_assoc, length-append, arith, []}
 use Rattle.std.specs.Prelude.{nat_eq, codes, decimal, Result, Ok, Err, Option, Some, None, MatchOption, MatchBool}
 use Rattle.std.specs.Cmp.Lexicographic.{pointwise}
 use Rattle.std.specs.List.{AllByRecursion}
@@ -56,10 +56,6 @@ other_word bytes word is none w e = none w (front_is word (word_text w) (sym is 
       let total = ap length e in
       let same : length ys ≡ length xs = omega arith in
       sym (take_at xs (codes "\n") (length xs) refl) ∙ ap (take (length xs)) e ∙ take_at ys (codes "\n") (length xs) same
-
-pub other_behind_blank : (bytes rest : List ℕ) → bytes ≡ codes " " ++ rest → ((w : ℕ) → rest ≢ word_text w ++ codes "\n")
-    → (w : ℕ) → bytes ≢ codes " " ++ (word_text w ++ codes "\n")
-other_behind_blank bytes rest is none w e = none w (ap (drop 1) (sym is ∙ e))
 
 pub word_line_read : (bytes word : List ℕ) (b : Bool) → bytes ≡ word ++ codes "\n" → MatchBool b ((w : ℕ) × (word ≡ word_text w)) ((w : ℕ) → word ≢ word_text w)
     → MatchBool b ((w : ℕ) × (bytes ≡ word_text w ++ codes "\n")) ((w : ℕ) → bytes ≢ word_text w ++ codes "\n")
