@@ -159,6 +159,8 @@ def answer(command, path, chosen, schedule):
 
 
 def main():
+    if len(sys.argv) < 3 or sys.argv[1].startswith("-"):
+        sys.exit(__doc__)
     count, command = int(sys.argv[1]), sys.argv[2:]
     rng = random.Random(19820426)
     with tempfile.TemporaryDirectory() as folder, ThreadPoolExecutor() as pool:

@@ -43,10 +43,11 @@ int posix_memalign(void **out, size_t align, size_t size) {
 
 __attribute__((destructor)) static void tell(void) {
     const char *name = getenv("COUNTED");
+    unsigned long counted = count;
     if (name) {
         FILE *file = fopen(name, "w");
         if (file) {
-            fprintf(file, "%lu\n", count);
+            fprintf(file, "%lu\n", counted);
             fclose(file);
         }
     }

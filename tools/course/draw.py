@@ -1,7 +1,7 @@
 #!/usr/bin/env python3
 """draw.py [--command=WORDS]
 
-Draws the pictures of docs/COURSE.md again, into docs/pictures. COMMAND compiles (./dae).
+Draws the pictures of docs/COURSE.md again, into docs/pictures. COMMAND compiles the programs and assembles the pairs (./dae).
 """
 
 import os
@@ -38,6 +38,8 @@ def keep(name, svg):
 
 
 def main(words):
+    if any(not it.startswith("--command=") for it in words):
+        sys.exit(__doc__)
     command = next((it.partition("=")[2] for it in words if it.startswith("--command=")), "./dae")
     os.makedirs(f"{TOP}/docs/pictures", exist_ok=True)
     with tempfile.TemporaryDirectory() as folder:
@@ -47,8 +49,7 @@ def main(words):
             keep(name, call([sys.executable, "tools/see/see.py", *kind, image]))
         for name, pair, kind in OF_PAIRS:
             image = f"{folder}/{pair}.img"
-            with open(image, "wb") as file:
-                file.write(call([sys.executable, "tools/listing/assemble.py", f"examples/pairs/{pair}.s"]))
+            call([*shlex.split(command), "asm", f"--to={image}", f"examples/pairs/{pair}.s"])
             keep(name, call([sys.executable, "tools/see/see.py", *kind, image]))
     sources = [f"examples/course/{it}.c" for it in CURVES]
     keep("curves", call([sys.executable, "tools/see/curves.py", f"--command={command}", *sources]))

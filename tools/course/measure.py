@@ -14,7 +14,7 @@ it puts what it measured into the pages. A table stands between a line that asks
 Lists have commas. The programs are those of examples/course; counted are the ticks of what stands behind their line `measured from
 here`, which is a program less the same program without that part. A pair is counted whole. Depths are 8 where nothing else is said,
 a product takes 3 ticks and a quotient 20. `Alone` is gcc's code at -O1 on one processor that waits for each load of an object with
-static storage. COMMAND compiles (./dae); pairs are assembled by tools/listing, runs are counted by tools/record.
+static storage. COMMAND compiles the programs and assembles the pairs (./dae); runs are counted by tools/record.
 """
 
 import os
@@ -42,6 +42,12 @@ class Lab:
     def __init__(self, command, folder):
         self.command, self.folder = command, folder
 
+    def call(self, *words):
+        """Calls the program, which keeps an image."""
+        done = subprocess.run([*self.command, *words], cwd=TOP, capture_output=True, text=True, check=False)
+        if done.returncode:
+            sys.exit(f"measure.py: {shlex.join([*self.command, *words])}: {done.stderr}")
+
     @cache
     def sources(self, program):
         """The files of a program and of the same program without what is measured."""
@@ -62,19 +68,14 @@ class Lab:
         names = []
         for source in self.sources(program):
             names.append(source.removesuffix(".c") + ".img")
-            words = [*self.command, "compile", f"--to={names[-1]}", source]
-            done = subprocess.run(words, capture_output=True, text=True, check=False)
-            if done.returncode:
-                sys.exit(f"measure.py: {shlex.join(words)}: {done.stderr}")
+            self.call("compile", f"--to={names[-1]}", source)
         return names
 
     @cache
     def pair(self, name):
         """The image of a pair that is kept as text."""
         image = f"{self.folder}/{name}-pair.img"
-        words = [sys.executable, f"{TOP}/tools/listing/assemble.py", f"{TOP}/examples/pairs/{name}.s"]
-        with open(image, "wb") as file:
-            subprocess.run(words, stdout=file, check=True)
+        self.call("asm", f"--to={image}", f"{TOP}/examples/pairs/{name}.s")
         return image
 
     def image(self, name):
@@ -178,7 +179,7 @@ def said(lab, *words):
     done = subprocess.run([*lab.command, *words], cwd=TOP, capture_output=True, text=True, check=False)
     notes = [line for line in done.stderr.splitlines() if not line.startswith("dae:")]
     lines = [*done.stdout.splitlines(), *notes]
-    return "\n" + "".join(f"    {line}\n" for line in lines) + "\n"
+    return "\n" + "".join(f"    {line.rstrip()}\n" for line in lines) + "\n"
 
 
 KINDS = {"latency": latency, "programs": programs, "waits": waits, "depths": depths, "pairs": pairs, "said": said}

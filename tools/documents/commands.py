@@ -72,6 +72,8 @@ def is_good(done, wanted):
 
 
 def main(words):
+    if any(it.startswith("-") and not it.startswith("--program=") for it in words):
+        sys.exit(__doc__)
     sys.dont_write_bytecode = True
     program = next((os.path.abspath(it.partition("=")[2]) for it in words if it.startswith("--program=")), None)
     passed = failed = left = 0

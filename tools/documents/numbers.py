@@ -5,11 +5,15 @@ Says of the numbers in README.md and the pages of docs/ whether they still hold;
 what it holds (without any all are tried, the quick ones first):
 
     prose       what pages say of numbers that stand elsewhere: in tables, in `./dae help`, in tools/
+    lines       no line of a page has more than 110 columns, but for rows of tables, commands and links
+    tools       docs/TOOLS.md names each tool
     index       ARCHITECTURE.md's index by topic, and the contracts of docs/PROVED.md (tools/proved)
     course      each table and each output in docs/COURSE.md, docs/SMITH.md and docs/GUIDE.md (tools/course/measure.py): a minute
     jobs        docs/MEASURES.md, what the jobs take (tools/speed/jobs.py): half a minute
     code        docs/MEASURES.md, the tables of tools/measure: some minutes
-    machine     docs/MEASURES.md, steps a second beside C's simulator (tools/speed/compare.py), up to a factor of two: some minutes
+    listings    docs/MEASURES.md, the images whose listings come back (tools/listing/back.py): half a minute
+    machine     docs/MEASURES.md, steps a second beside C's simulator (tools/speed/compare.py), up to a factor of two, and the
+                processor's instructions a step (tools/speed/instructions.py): some minutes
     shapes      docs/MEASURES.md, no source takes longer to compile than by `gcc -O0` (tools/speed/shapes.py): some minutes
 
 What pages call measured once, in a run of hours or beside an implementation that isn't here, has its command in the page; `measured`
@@ -23,12 +27,12 @@ import sys
 
 TOP = os.path.dirname(os.path.dirname(os.path.dirname(os.path.realpath(__file__))))
 ROW = re.compile(r"^\| (.+) \|$", re.M)
+COLUMNS = 110
 # What is measured once: the page, and the command, with what it takes besides.
 MEASURED = (
     ("README.md, docs/GATE.md", "the comparisons under tools/ (meaning, forms, split, trees, whole, calls) beside another implementation"),
     ("README.md, docs/GATE.md", "rt ci, with tools/gate: minutes and the table a crate"),
     ("docs/MEASURES.md", "tools/hostile/stress.py --stack=1024 PROGRAM 100000"),
-    ("docs/MEASURES.md", "valgrind --tool=callgrind PROGRAM exec ..: instructions a step"),
     ("docs/GUIDE.md", "tools/launcher/rows.py --real: what the first call takes, and the second"),
 )
 
@@ -75,6 +79,7 @@ def claims(program):
     yield "MEASURES", r"above 1.5 of it are (.+?)\. ", [", ".join(beyond(measures, lambda it: it > 1.5))]
     yield "MEASURES", r"words of code are ([\d.]+) and ([\d.]+) times those of `-O0`", means(measures, "Words of code", -2)
     yield "MEASURES", r"takes 64, the two are ([\d.]+) and ([\d.]+) times as fast", means(measures, "Ticks", -2)
+    yield "MEASURES", r"a source of each of (\d+) shapes", [str(len(re.findall(r"^    \"[^\"]+\":", page("tools/speed/shapes.py"), re.M)))]
     yield "GUIDE", r"makes a table of (\d+) cells", [str(run("bash", "-c", f"{sweep} --out=$(mktemp -d) --list").stdout.count("\n"))]
     rate = next(row[3] for row in measures["The speed of the jobs"] if row[0] == "`exec`")
     yield "GUIDE", r"makes more than (20) million steps a second", ["20" if float(rate) > 20 else rate]
@@ -109,6 +114,31 @@ def code(program):
         yield kept.get(title) == rows, f"MEASURES: {title}"
 
 
+def lines(_):
+    """Each page's lines that are too long; what can't be broken may be: a row of a table, a command, a link."""
+    for name in ("README.md", "ARCHITECTURE.md", *(f"docs/{it}" for it in sorted(os.listdir(f"{TOP}/docs")) if it.endswith(".md"))):
+        long = [str(number) for number, line in enumerate(page(name).split("\n"), 1)
+                if len(line) > COLUMNS and not line.startswith(("|", "    ", "<!--", "!["))]
+        yield not long, f"{name}: no line has more than {COLUMNS} columns" + ("" if not long else f"; and of its lines these do: {', '.join(long)}")
+
+
+def tools(_):
+    """The tools, by the first lines of the repository's list, that the page doesn't name: by folder and file, or by file alone."""
+    listed = [it for it in run("git", "ls-files", "-co", "--exclude-standard", "tools").stdout.split() if it.count("/") < 3]
+    named = set(re.findall(r"[a-z0-9_]+(?:\.py)?", page("docs/TOOLS.md")))
+    for it in listed:
+        if it.endswith(".py") or "." not in os.path.basename(it):
+            yield os.path.basename(it) in named, f"TOOLS: {it}"
+
+
+def listings(program):
+    """How many images come back of how many, as the page says."""
+    words, said = re.search(r"(tools/listing/back\.py .*)\n\n.*, (\d+) of them", page("docs/MEASURES.md")).groups()
+    done = run("bash", "-c", f"{sys.executable} {words.replace('PROGRAM', program)}")
+    last = done.stdout.strip().split("\n")[-1]
+    yield last == f"{said} came back, 0 did not", f"MEASURES: tools/listing/back.py: {last}"
+
+
 def machine(program):
     """The table of the built program beside C's simulator: our millions of steps a second and C's, up to a factor of two."""
     made = ROW.findall(run(sys.executable, "tools/speed/compare.py", program).stdout)
@@ -121,17 +151,20 @@ def machine(program):
 
 KINDS = {
     "prose": prose,
+    "lines": lines,
+    "tools": tools,
     "index": lambda program: [*held_by("tools/proved/index.py")(program), *held_by("tools/proved/contracts.py", "--check")(program)],
     "course": held_by("tools/course/measure.py", "--command=PROGRAM"),
     "jobs": held_by("tools/speed/jobs.py", "PROGRAM"),
     "code": code,
-    "machine": machine,
+    "listings": listings,
+    "machine": lambda program: [*machine(program), *held_by("tools/speed/instructions.py", "PROGRAM")(program)],
     "shapes": held_by("tools/speed/shapes.py", "PROGRAM"),
 }
 
 
 def main(words):
-    if not words or not set(words[1:]) <= {*KINDS, "measured"}:
+    if not words or words[0].startswith("-") or not set(words[1:]) <= {*KINDS, "measured"}:
         sys.exit(__doc__)
     if words[1:] == ["measured"]:
         print(*(f"{pages}: {by}" for pages, by in MEASURED), sep="\n")

@@ -109,6 +109,8 @@ def equal():
 
 
 def main():
+    if len(sys.argv) < 2 or sys.argv[1].startswith("-"):
+        sys.exit(__doc__)
     folder = sys.argv[1]
     os.makedirs(folder, exist_ok=True)
     for make in (slots, rescans, pending, unfilled, covered, equal):

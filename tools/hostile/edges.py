@@ -3,13 +3,15 @@
 
 Calls PROGRAM at the edges, where stress.py goes by chance; with --every only at each N-th of them. The kinds (all without a word):
 
-    nests       200 kinds of nesting and more, each as deep as it is accepted, and once deeper: that is refused `too-deep`
-    limits      a text, a job or a word at each limit, which isn't refused for it, and one beyond, which is, by its name
+    nests       some 330 kinds of nesting, each as deep as it is accepted, and once deeper: that is refused `too-deep`
+    types       three kinds of types that are made of one another by tags and names, as deep as the tokens of a job let them be
+    limits      a text, a file, a job or a word at each limit, with the note that is due, and one beyond, which is refused by its name
     images      each prefix of three images, and each with one byte changed in three ways, by exec and dis: a prefix is no image
     traces      each prefix of three traces, and each with one byte changed in three ways, by check
 
-A call fails as in stress.py: by a signal, by more than ten seconds or a gigabyte, by a status or note that its job doesn't have. At
-the end stands a line for each kind and status, and the number of calls that failed. The status is 1 where one did.
+A call fails as in stress.py: by a signal, by more than ten seconds of a processor or a gigabyte, by a status or note that its job
+doesn't have. At the end stand a line for each kind and status, how many kinds of nesting and limits there were, and the number of
+calls that failed. The status is 1 where one did.
 """
 
 import collections
@@ -26,13 +28,15 @@ import stress                                                                   
 TOP = os.path.dirname(os.path.dirname(os.path.dirname(os.path.realpath(__file__))))
 HEAD = "int x;int *p;int a[9];int f(int i){return i;}struct s{int m;}s;"
 # What stands round an expression, and what round a statement.
-ROUND = (("(", ")"), ("- ", ""), ("~", ""), ("!", ""), ("+ ", ""), ("1+(", ")"), ("x=", ""), ("1?1:", ""), ("x?", ":1"), ("(int)", ""),
-         ("sizeof(", ")"), ("a[", "]"), ("f(", ")"), ("1,", ""), ("1&&", ""), ("1<<", ""))
+ROUND = (("(", ")"), ("- ", ""), ("~", ""), ("!", ""), ("+ ", ""), ("1+(", ")"), ("(x=", ")"), ("1?1:", ""), ("x?", ":1"), ("(int)", ""),
+         ("sizeof(", ")"), ("a[", "]"), ("f(", ")"), ("(1,", ")"), ("1&&", ""), ("1<<", ""))
 STATEMENTS = (("{", "}"), ("if(1)", ""), ("if(1);else ", ""), ("while(0)", ""), ("for(;0;)", ""), ("do ", "while(0);"), ("switch(1){case 1:", "}"))
-OTHERS = (("int ", "*", "y", "", ";"), ("int y", "[1]", "", "", ";"), ("int ", "(", "y", ")", ";"), ("int y[1]=", "{", "0", "}", ";"),
-          ("struct t{", "struct{", "int x;", "}y;", "};"), ("int y=sizeof(int(*", "(*", "", ")(int)", ")(int));"))
+# What stands round the name that is declared.
+DECLARATORS = (("*", ""), ("(", ")"), ("(*", ")"), ("", "[1]"))
+OTHERS = (("int y[1]=", "{", "0", "}", ";"), ("struct t{", "struct{", "int x;", "}y;", "};"), ("int y=sizeof(int", "(*", "", ")", ");"))
 DEEP, MAIN = 260, "int main(void){return 0;}"
 LONG = 4096
+KINDS = ("nests", "types", "limits", "images", "traces")
 
 
 def nests():
@@ -46,8 +50,22 @@ def nests():
         yield of("int main(void){return ", one, "1", end, ";}")
     for (one, end), (other, behind) in itertools.product(STATEMENTS, STATEMENTS):
         yield of("int main(void){", one + other, ";", behind + end, "return 0;}")
+    for (one, end), (other, behind) in itertools.product(DECLARATORS, DECLARATORS):
+        yield lambda count, it=of("int ", one + other, "y", behind + end, ";"): it(count) + MAIN
     for it in OTHERS:
         yield lambda count, it=it: of(*it)(count) + MAIN
+
+
+def types():
+    """Each kind of types that are made of one another, as deep as 65,536 tokens let them be: its name, and its text."""
+    chain = lambda one, other, count: one + "".join(other(it) for it in range(1, count))
+    texts = {
+        "structures": chain("struct s0{int x;};", lambda it: f"struct s{it}{{struct s{it - 1} x;}};", 7_279) + "struct s7278 v={1};",
+        "arrays": chain("typedef int a0[1];", lambda it: f"typedef a{it - 1} a{it}[1];", 9_359) + "a9358 v={1};",
+        "pointers": "".join(chain(f"typedef int *{name}0;", lambda it, name=name: f"typedef {name}{it - 1} *{name}{it};", 6_550) for name in "ab")
+                    + "extern a6549 x;extern b6549 x;",
+    }
+    return [(name, text + MAIN) for name, text in texts.items()]
 
 
 def texts_at(count):
@@ -59,27 +77,61 @@ def texts_at(count):
         "too-many-replacements": "#define A\n" + "A " * (65_536 + count) + MAIN,
         "literals-too-long": "char *p=" + f'"{"s" * 1000}"' * (literals // 1000) + f'"{"s" * (literals % 1000)}";' + MAIN,
         "function-too-long": "int main(void){" + ";" * (8_182 + count) + "return 0;}",
+        "number-too-large": f"unsigned x={4_294_967_295 + count}u;{MAIN}",
+        "object-too-large": f"struct s{{char a[{67_108_864 + count}];}};{MAIN}",
+        # (the first 16 bytes of the common memory hold no object)
+        "data-too-large": f"char a[{1_048_560 + count}];{MAIN}",
     }
 
 
-def limits(file):
-    """The words of a call at each limit and of one beyond, and what its notes have to begin with, or None where it isn't refused."""
+# Files of zeros, as long as they can be and one byte longer.
+LENGTHS = (
+    # words before the file, its most bytes, what is due for so many zero bytes, and for one more
+    (["exec"], 536_870_912, "image field magic 0", "image field magic 0"),
+    (["dis"], 16_777_216, "image field magic 0", "refused image-too-long"),
+    (["asm", "--to=kept"], 134_217_728, "refused asm-line 1", "refused text-too-long"),
+    (["check", "passes.img"], 268_435_456, "not-a-run 1", "refused trace-too-long"),
+    (["debug", "passes.img"], 1_048_576, "running", "refused script-too-long"),
+    (["guard", "passes.img"], 1_048_576, "refused guard-line 1", "refused certificate-too-long"),
+)
+# the words of an option with a number, its least and its most, what lies between two, what stands behind it, and what is due
+OPTIONS = (
+    *((["run", f"--{it}="], 1, 4096, 1, "", ["one.c"], "ended 0") for it in ("ld", "al", "sa", "sd", "ab", "eb", "cq", "calls")),
+    (["run", "--cap="], 1, 64, 1, "", ["one.c"], "ended 0"),
+    (["run", "--memory="], 64, 67_108_864, 16, "", ["one.c"], "ended 0"),
+    (["run", "--steps="], 1, 10 ** 12, 1, "", ["one.c"], ("running", "ended 0")),
+    (["run", "--show="], 0, 4_294_967_295, 1, ",64", ["one.c"], "memory "),
+    (["run", "--show=16,"], 1, 64, 1, "", ["one.c"], "memory "),
+    (["run", "--schedule=seed:"], 0, 4_294_967_295, 1, "", ["one.c"], "ended 0"),
+    *((["time", f"--{it}="], 1, 1000, 1, "", ["passes.img"], "ended 7") for it in ("load", "mul", "div")),
+    (["time", "--ticks="], 1, 10 ** 11, 1, "", ["passes.img"], ("running", "ended 7")),
+    (["big", ""], 1, 900, 1, "", [], "ended 0"),
+)
+
+
+def limits(file, hole):
+    """The words of a call at each limit and of one beyond, and what one of its notes has to begin with."""
     for beyond in (0, 1):
         for name, text in texts_at(beyond).items():
-            yield ["compile", "--to=kept", file(f"{name}{beyond}", text.encode())], f"refused {name}" if beyond else None
+            yield ["compile", "--to=kept", file(f"{name}{beyond}", text.encode())], f"refused {name}" if beyond else "kept"
     one = file("one.c", MAIN.encode())
+    with open(f"{TOP}/examples/passes.img", "rb") as image:
+        file("passes.img", image.read())
     files = [one, *(file(f"n{it}.c", f"int n{it};".encode()) for it in range(1024))]
-    yield ["compile", "--to=kept", *files[:1024]], None
+    yield ["compile", "--to=kept", *files[:1024]], "kept"
     yield ["compile", "--to=kept", *files], "words"
     yield ["run", "x" * LONG], "read"
     yield ["run", "x" * (LONG + 1)], "words"
+    # (no file of a real folder has a name so long, so the keep fails)
+    yield ["compile", "--to=" + "x" * LONG, one], "budget"
     yield ["compile", "--to=" + "x" * (LONG + 1), one], "words"
-    for option, least, most, step in (("ld", 1, 4096, 1), ("cq", 1, 4096, 1), ("cap", 1, 64, 1), ("calls", 1, 4096, 1),
-                                      ("memory", 64, 67_108_864, 16), ("steps", 1, 10 ** 12, 1)):
-        for number in (least, most):
-            yield ["run", f"--{option}={number}", one], None
-        for number in (least - step, most + step):
-            yield ["run", f"--{option}={number}", one], "words"
+    for words, most, at, beyond in LENGTHS:
+        yield [*words, hole("zeros", most)], at
+        yield [*words, hole("zeros", most + 1)], beyond
+    for (*words, option), least, most, step, behind, files, due in OPTIONS:
+        at_least, at_most = due if isinstance(due, tuple) else (due, due)
+        for number, wanted in ((least, at_least), (most, at_most), (least - step, "words"), (most + step, "words")):
+            yield [*words, f"{option}{number}{behind}", *files], wanted
 
 
 # ---- calls
@@ -88,11 +140,18 @@ class Edges:
     """Calls the program in a folder of its own, and counts."""
 
     def __init__(self, program, room, every):
-        self.program, self.room, self.every, self.table, self.failed = program, room, every, collections.Counter(), []
+        self.program, self.room, self.every, self.failed = program, room, every, []
+        self.table, self.kinds = collections.Counter(), collections.Counter()
 
     def file(self, name, text):
         with open(f"{self.room}/{name}", "wb") as to:
             to.write(text)
+        return name
+
+    def hole(self, name, length):
+        """A file of so many zero bytes."""
+        self.file(name, b"")
+        os.truncate(f"{self.room}/{name}", length)
         return name
 
     def call(self, kind, words, says):
@@ -114,6 +173,7 @@ class Edges:
     def nests(self):
         for text in itertools.islice(nests(), 0, None, self.every):
             says = text(2).removeprefix(HEAD)
+            self.kinds["kinds of nesting"] += 1
             depth = lambda count, text=text, says=says: self.call("nests", ["compile", "--to=kept", self.file("x.c", text(count).encode())], says)
             low, high = 1, DEEP
             while high - low > 1:
@@ -123,11 +183,17 @@ class Edges:
             if depth(low)[0] != 0 or not any(it.startswith("refused too-deep ") for it in depth(high)[1]):
                 self.fail("nests", says, f"{high} times isn't refused too-deep, and {low} accepted: {depth(high)[1][-1]}")
 
+    def types(self):
+        for name, text in types():
+            status, notes = self.call("types", ["compile", "--to=kept", self.file("x.c", text.encode())], name)
+            if status not in (0, 2):
+                self.fail("types", name, f"status {status}, {notes[-1][:80]}")
+
     def limits(self):
-        for words, wanted in limits(self.file):
+        for words, wanted in limits(self.file, self.hole):
             status, notes = self.call("limits", words, " ".join(words)[:60])
-            is_refused = status in (2, 5, 64)
-            if is_refused != (wanted is not None) or wanted and not any(it.startswith(wanted) for it in notes):
+            self.kinds["limits, each with one beyond"] += 0.5
+            if not any(it.startswith(wanted) for it in notes):
                 self.fail("limits", " ".join(words)[:60], f"status {status}, {notes[-1][:80]}, and not {wanted}")
 
     def images(self):
@@ -169,8 +235,8 @@ class Edges:
 def main(words):
     every = next((int(it[8:]) for it in words if it.startswith("--every=")), 1)
     words = [it for it in words if not it.startswith("--every=")]
-    kinds = words[1:] or ["nests", "limits", "images", "traces"]
-    if not words or not set(kinds) <= {"nests", "limits", "images", "traces"}:
+    kinds = words[1:] or list(KINDS)
+    if not words or not set(kinds) <= set(KINDS):
         sys.exit(__doc__)
     with tempfile.TemporaryDirectory() as room:
         edges = Edges(os.path.abspath(words[0]), room, every)
@@ -178,6 +244,7 @@ def main(words):
             getattr(edges, kind)()
     for (kind, status), count in sorted(edges.table.items()):
         print(f"{kind:8} {status:>4} {count:8}")
+    print(*(f"{count:.0f} {kind}" for kind, count in edges.kinds.items()), sep="\n")
     print(*edges.failed[:200], f"{sum(edges.table.values())} calls, {len(edges.failed)} failed", sep="\n")
     return 1 if edges.failed else 0
 

@@ -5,14 +5,16 @@ Calls PROGRAM so many times with hostile words, files and sinks: random bytes an
 beyond, and damaged, cut and spliced texts, images, traces, scripts, certificates and assembly, by texts.py. JOBs are run,
 compile, exec, trace, check, time, dis, asm, debug, guard, report, big and words; without any each has its share.
 
-A call fails that is ended by a signal, goes on for more than ten seconds, takes more than a gigabyte beside the private memories
-that its image asks for (which may be a gigabyte each), answers a status that its job doesn't have, or puts a note that isn't one of its status. --keep keeps the files and words of each call that fails. --stack runs the
-program with a stack of that size. At the end stands a line for each job and status, how often it came, and the longest and the
-largest call. The status is 1 where a call failed, 70 where the program knows none of the jobs.
+A call fails that is ended by a signal, takes more than ten seconds of a processor or two minutes by the clock, takes more than a
+gigabyte beside the private memories that its image asks for (which may be a gigabyte each), answers a status that its job doesn't
+have, or puts a note that isn't one of its status. --keep keeps the files and words of each call that fails. --stack runs the program
+with a stack of that size. At the end stands a line for each job and status, how often it came, and the longest and the largest call.
+The status is 1 where a call failed, 70 where the program knows none of the jobs.
 """
 
 import argparse
 import collections
+import contextlib
 import multiprocessing
 import os
 import random
@@ -24,11 +26,10 @@ import struct
 import subprocess
 import sys
 import tempfile
-import time
 
 import texts
 
-SECONDS, KILOBYTES = 10, 1 << 20
+SECONDS, PATIENCE, KILOBYTES = 10, 120, 1 << 20
 
 QUEUES = ["ld", "al", "sa", "sd", "ab", "eb", "cq"]
 
@@ -61,7 +62,7 @@ STATUSES = {
     "debug": {0, 1, 2, 3, 4, 5, 6, 7, 8, 9, 64},
     "guard": {0, 2, 4, 5, 6, 7, 8, 64},
     "report": {0, 2, 5, 6, 7, 64},
-    "big": {0, 1, 3, 4, 6, 7, 64},
+    "big": {0, 1, 2, 3, 4, 6, 7, 64},
     "words": {5, 6, 8, 64},
 }
 
@@ -145,7 +146,7 @@ class Call:
         return ["guard", *self.depths(), self.file(stock.image(self.r)), self.file(stock.certificate(self.r))]
 
     def big(self, _):
-        return ["big", self.r.choice(["0", "1", "3", "900", "901", "1000", "65535", "4294967296", "-1", "x"])]
+        return ["big", *self.steps(), *self.sizes(), self.r.choice(["0", "1", "3", "900", "901", "1000", "65535", "4294967296", "-1", "x"])]
 
     def words(self, stock):
         r = self.r
@@ -163,14 +164,14 @@ def limit(stack):
         if stack:
             resource.setrlimit(resource.RLIMIT_STACK, (stack * 1024, stack * 1024))
         resource.setrlimit(resource.RLIMIT_CORE, (0, 0))
+        resource.setrlimit(resource.RLIMIT_CPU, (SECONDS, SECONDS + 1))
         signal.signal(signal.SIGPIPE, signal.SIG_DFL)
     return limited
 
 
 def ended(program, call, sink, stack):
-    """Makes a call: its status (below 0 for a signal, None where it goes on), seconds, kilobytes, and the end of its notes."""
+    """Makes a call: its status (below 0 for a signal, None where it goes on), seconds of a processor, kilobytes, the end of its notes."""
     note = f"{call.folder}/note"
-    begun = time.time()
     pid = os.fork()
     if pid == 0:
         try:
@@ -181,25 +182,25 @@ def ended(program, call, sink, stack):
             os.execv(program, [program, *call.words])
         finally:
             os._exit(99)
-    is_late = []
 
     def late(*_):
-        is_late.append(True)
-        os.kill(pid, signal.SIGKILL)
+        with contextlib.suppress(ProcessLookupError):
+            os.kill(pid, signal.SIGKILL)
     signal.signal(signal.SIGALRM, late)
-    signal.alarm(SECONDS)
+    signal.alarm(PATIENCE)
     _, status, used = os.wait4(pid, 0)
     signal.alarm(0)
+    status, seconds = os.waitstatus_to_exitcode(status), used.ru_utime + used.ru_stime
     with open(note, "rb") as file:
         file.seek(max(0, os.path.getsize(note) - 5000))
         notes = file.read().decode("utf-8", "replace").rstrip("\n").split("\n")
-    return (None if is_late else os.waitstatus_to_exitcode(status)), time.time() - begun, used.ru_maxrss, notes
+    return (None if status in (-signal.SIGXCPU, -signal.SIGKILL) else status), seconds, used.ru_maxrss, notes
 
 
 def fault(call, status, kilobytes, notes):
     """Why a call failed, or nothing."""
     if status is None:
-        return f"goes on after {SECONDS} seconds"
+        return f"goes on after {SECONDS} seconds of a processor"
     if status < 0:
         return f"ended by signal {-status}"
     if kilobytes > KILOBYTES + call.asked // 1024:

@@ -149,6 +149,43 @@ def certificate(r):
     return "\n".join(lines).encode() + r.choice([b"\n", b"\n", b"", b"\n\n"])
 
 
+def assembly(r):
+    """Lines of assembly in their order, with marks and labels, all of them good or some of them not."""
+    badly = r.choice([0, 0, 0.001, 0.02])
+    pick = lambda good, bad: r.choice(bad if r.random() < badly else good)
+    number = lambda *good: pick(good, [-1, 0, 1, 3, 31, 2048, 4096, 1 << 20, 1 << 32])
+    register = lambda: "x" + pick(["0", "5", "10", "17", "29", "30", "31"], ["28", "32", "05"])
+    marks = [0, 0]
+
+    def target(side):
+        """A label of this side, or a place in it."""
+        return pick([f"l{side}{r.randrange(marks[side])}"] if marks[side] else ["4", "-4"], ["l7", "8", "-4096", "1"])
+
+    def label(side):
+        marks[side] += 1
+        return f"l{side}{pick([marks[side] - 1], [0])}:"
+    code = [
+        lambda _: f"addi {register()},{register()},{number(1, -1, 2047)}",
+        lambda _: f"{r.choice(['lw', 'sw', 'lbu', 'sh'])} {register()},{number(16, 20)}({register()})",
+        lambda side: f"beq {register()},{register()},{target(side)}",
+        lambda side: f"jal x0,{target(side)}",
+        lambda _: f"lui {register()},{number(1, 1048575)}",
+        label,
+        lambda _: pick(["ecall", ".word 115", "; a comment", "", "mul x5,x6,x7"], ["ebreak", ".word", "mul x5,x6", "l0"]),
+    ]
+    lines = [f".budget {' '.join(str(number(1, 8)) for _ in range(7))}", f".memory {number(64, 1024)}", f".calls {number(1, 9)}",
+             f".private {number(16)} {number(16)}", f".entry {number(0)} {number(0, 4)}"]
+    for side, word in enumerate((".a", ".e")):
+        lines += [word, "ecall", *(r.choice(code)(side) for _ in range(r.choice([1, 5, 50, 500]))), "ecall"]
+    count = r.choice([0, 1, 16, 17])
+    lines += [".data", *(".byte " + " ".join(str(number(0, 255)) for _ in range(it)) for it in ([16] * (count // 16) + [count % 16]) if it)]
+    names = r.choice([0, 0, 1, 2])
+    lines += [f".line a {it} {number(0)} {number(1, 7)}" for it in range(2 * names)] + [f".name {number(97)}" for _ in range(names)]
+    for _ in range(r.choice([0, 0, 1, 2]) if badly else 0):
+        lines.insert(r.randrange(len(lines) + 1), lines.pop(r.randrange(len(lines))))
+    return "\n".join(lines).encode() + (b"\n" if r.random() < 0.9 else b"")
+
+
 class Stock:
     """What damage begins with."""
 
@@ -186,7 +223,7 @@ class Stock:
         return self.changed(r, self.traces)
 
     def listing(self, r):
-        return self.changed(r, self.listings)
+        return self.changed(r, self.listings, [assembly, assembly, assembly])
 
     def certificate(self, r):
         return self.changed(r, self.certificates, [certificate, certificate])

@@ -1,6 +1,7 @@
 #!/usr/bin/env python3
 """assemble.py TEXT > IMAGE
 
+Another assembler than `./dae asm`, by which that is held (back.py beside this, tools/hostile/edges.py); nothing is proved of it.
 Writes the image that an assembly text says (docs/MACHINE.md, "Assembly text"), in the spelling of version 2. A text that says none
 is refused by its first fault: `refused asm-line N`, where line N has no such form or stands out of its order, or an item is missing
 behind the last line; `refused asm-label N`, where line N defines a label a second time or uses one that its side does not define;

@@ -1,9 +1,10 @@
 #!/usr/bin/env python3
-"""back.py [--command=WORDS] IMAGE|SOURCE.c ..
+"""back.py [--command=WORDS] IMAGE|SOURCE.c|PAIR.s ..
 
-Sends the listing of each image through tools/listing/assemble.py, and says whether the bytes are those of the image; a C program is
-compiled first. An image of version 1 has another spelling: there the listing of what came back is held against the first. COMMAND
-compiles and lists (./dae). The last line is 'N came back, N did not'.
+Sends the listing of each image through two assemblers, tools/listing/assemble.py and the job `asm`, and says whether the bytes are
+those of the image; a C program is compiled first, and a pair's text assembled. An image of version 1 has another spelling: there the
+listing of what came back is held against the first. COMMAND compiles, lists and assembles (./dae). The last line is 'N came back,
+N did not'.
 """
 
 import os
@@ -25,26 +26,32 @@ def output(words):
     return done.stdout
 
 
+def keep(name, content):
+    with open(name, "wb") as file:
+        file.write(content)
+
+
+def read(name):
+    with open(name, "rb") as file:
+        return file.read()
+
+
 def comes_back(name, command, folder):
     """Whether the listing of an image is read back as the image."""
     image, text, again = name, f"{folder}/text", f"{folder}/again"
-    if name.endswith(".c"):
+    if name.endswith((".c", ".s")):
         image = f"{folder}/image"
-        if output([*command, "compile", f"--to={image}", name]) is None:
+        if output([*command, "asm" if name.endswith(".s") else "compile", f"--to={image}", name]) is None:
             return False
     listing = output([*command, "dis", image])
     if listing is None:
         return False
-    with open(text, "wb") as file:
-        file.write(listing)
+    keep(text, listing)
     made = output([f"{HERE}/assemble.py", text])
-    with open(image, "rb") as file:
-        held = file.read()
-    if made is None or made == held:
-        return made is not None
-    with open(again, "wb") as file:
-        file.write(made)
-    return held[4] == 1 and output([*command, "dis", again]) == listing
+    if made is None or output([*command, "asm", f"--to={again}", text]) is None or made != read(again):
+        return False
+    held = read(image)
+    return made == held or held[4] == 1 and output([*command, "dis", again]) == listing
 
 
 def main(words):

@@ -9,6 +9,8 @@ import re
 import subprocess
 import sys
 
+if len(sys.argv) < 2 or sys.argv[1].startswith("-"):
+    sys.exit(__doc__)
 COPY = sys.argv[1]
 EXPRESSIONS, STATEMENTS, SWITCHES, CALLS, PRINTING, INITIALISING, OUTCOMES = [
     "dae_program/specs/%s.antt" % name

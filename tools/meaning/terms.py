@@ -11,6 +11,8 @@ import sys
 import textwrap
 
 HERE = os.path.dirname(os.path.realpath(__file__))
+if len(sys.argv) < 3 or sys.argv[1].startswith("-"):
+    sys.exit(__doc__)
 sys.path.insert(0, sys.argv[1])
 
 from dae import deep, lower, meaning, middle                     # noqa: E402

@@ -6,6 +6,7 @@ these tables of each set:
 
     executed    the instructions that A executes, E, and both; fills and drains; beside what gcc's code for one RV32IM
                 processor executes at -O0 and at -O1, and how many times as many ours are, and A's alone of -O1's
+    loads       the loads that stand in the code, for E and for A by `PROGRAM report`, and how many are executed
     code        words of code of A, of E and of both, beside gcc's
     ahead       how far A is ahead of E under the schedules `a` and `round`: the greatest and the mean number of loads
                 that E hasn't taken and of store addresses whose datum E hasn't sent
@@ -14,10 +15,12 @@ these tables of each set:
 
 with geometric means below. Our figures come from a counting machine of this folder (decoupled.py), whose number of steps,
 output and end must be those that PROGRAM tells, under both schedules; a difference ends the run with status 1. So does an
-output that gcc's code prints otherwise, or that isn't what NAME.txt beside NAME.c says, where there is one. Where gcc isn't installed, its columns are left out, and a line says so.
+output that gcc's code prints otherwise, or that isn't what NAME.txt beside NAME.c says, where there is one. Where gcc isn't
+installed, its columns are left out, and a line says so.
 """
 
 import glob
+import json
 import math
 import os
 import re
@@ -40,6 +43,7 @@ SETS = {"examples": (), "kernels": ("kernels",)}
 class Measured(NamedTuple):
     """What was measured of one program. `by_gcc` has a count for each level, or none; `ticks` the ticks for each latency."""
     name: str
+    loads: list
     words: dict
     counts: dict
     by_gcc: dict
@@ -87,6 +91,8 @@ def timed(program, source, image_file, load):
 
 def measured(program, source, folder):
     """Everything of one program."""
+    functions = json.loads(call([program, "report", source])[0])["functions"]
+    loads = [sum(it[who] for it in functions) for who in ("loads_e", "loads_a")]
     image_file = os.path.join(folder, "image")
     image = compiled(program, source, image_file)
     counts = {schedule: counted(program, source, image_file, image, schedule) for schedule in SCHEDULES}
@@ -101,7 +107,7 @@ def measured(program, source, folder):
             sys.exit(f"{source}: gcc {level} prints another output")
     words = {side: len(image.code[side]) for side in "AE"}
     ticks = {load: timed(program, source, image_file, load) for load in LOADS}
-    return Measured(os.path.basename(source).removesuffix(".c"), words, counts, by_gcc, ticks)
+    return Measured(os.path.basename(source).removesuffix(".c"), loads, words, counts, by_gcc, ticks)
 
 
 def geometric_mean(numbers):
@@ -152,6 +158,10 @@ def print_executed(all_measured, of_set):
     table(f"Executed instructions{of_set}", ["program", "A", "E", "both", "fills", "drains", "pieces", *head], rows)
 
 
+def print_loads(all_measured, of_set):
+    table(f"Loads{of_set}", ["program", "for E", "for A", "executed"], [[m.name, *m.loads, m.counts["a"].fills] for m in all_measured])
+
+
 def print_code(all_measured, of_set):
     rows, pairs = [], []
     for m in all_measured:
@@ -185,7 +195,7 @@ def print_ticks(all_measured, of_set):
 
 
 def main():
-    if len(sys.argv) < 2:
+    if len(sys.argv) < 2 or sys.argv[1].startswith("-"):
         sys.exit(__doc__)
     program = os.path.abspath(sys.argv[1])
     examples = os.path.join(os.path.dirname(os.path.abspath(__file__)), "..", "..", "examples")
@@ -196,6 +206,7 @@ def main():
         with tempfile.TemporaryDirectory() as folder:
             all_measured = [measured(program, source, folder) for source in sources]
         print_executed(all_measured, of_set)
+        print_loads(all_measured, of_set)
         print_code(all_measured, of_set)
         print_ahead(all_measured, of_set)
         print_ticks(all_measured, of_set)

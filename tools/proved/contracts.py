@@ -143,6 +143,8 @@ def document():
 
 
 def main():
+    if sys.argv[1:] not in ([], ["--check"]):
+        sys.exit(__doc__)
     before = open(DOCUMENT, encoding="utf-8").read()
     head = before[: before.index(MARK)] if MARK in before else before.rstrip("\n") + "\n\n"
     after = head + document()

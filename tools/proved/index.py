@@ -1,5 +1,8 @@
-"""Says whether each definition that ARCHITECTURE.md's index by topic names stands in the named file of the named crate, and
-ends with 1 where one doesn't.
+"""index.py [TOPIC]
+
+Says where the definitions stand to which ARCHITECTURE.md's index by topic leads: for each topic that has the text TOPIC the topic, and
+the file and the line of each of its definitions. Without one it tries all topics, and prints what isn't where the index says. The
+last line is 'N passed, N failed', and the status is 1 where one failed.
 """
 
 import os
@@ -10,7 +13,7 @@ TOP = os.path.dirname(os.path.dirname(os.path.dirname(os.path.realpath(__file__)
 
 
 def entries():
-    """The crate, the file and the definitions of each part of the index: `dae_x File `a`, `b`; ..`."""
+    """The topic, the crate, the file and the definitions of each part of the index: `dae_x File `a`, `b`; ..`."""
     with open(f"{TOP}/ARCHITECTURE.md", encoding="utf-8") as text:
         for line in text:
             cells = line.split("|")
@@ -19,20 +22,36 @@ def entries():
             for part in cells[2].split(";"):
                 found = re.match(r"(dae_\w+) ([A-Z].*)", part.strip())
                 for piece in re.split(r", (?=[A-Z])", found.group(2)) if found else []:
-                    yield found.group(1), re.match(r"\w+", piece).group(), re.findall(r"`([^`]+)`", piece)
+                    yield cells[1].strip(), found.group(1), re.match(r"\w+", piece).group(), re.findall(r"`([^`]+)`", piece)
 
 
-def main():
-    missing = 0
-    for crate, file, names in entries():
-        path = f"{TOP}/crates/{crate}/specs/{file}.antt"
-        text = open(path, encoding="utf-8").read() if os.path.exists(path) else None
-        for name in names or [None]:
-            if text is None or (name and not re.search(rf"(?m)^(?:\w+ )*{re.escape(name)}\b", text)):
-                print(f"{crate} {file}: {name or 'no such file'}")
-                missing += 1
-    return int(missing > 0)
+def place_of(path, name):
+    """The line of the definition of a name in a file, or its first line where no name is told; nothing where it isn't there."""
+    if not os.path.exists(f"{TOP}/{path}"):
+        return None
+    with open(f"{TOP}/{path}", encoding="utf-8") as file:
+        found = re.search(rf"(?m)^(?:\w+ )*{re.escape(name)}\b", text := file.read()) if name else re.match("", text := file.read())
+    return found and text[:found.start()].count("\n") + 1
+
+
+def main(words):
+    if len(words) > 1 or words and words[0].startswith("-"):
+        sys.exit(__doc__)
+    passed = failed = 0
+    for topic, crate, file, names in entries():
+        if words and words[0] not in topic:
+            continue
+        for name in names or [""]:
+            path = f"crates/{crate}/specs/{file}.antt"
+            line = place_of(path, name)
+            passed, failed = passed + bool(line), failed + (not line)
+            if not line:
+                print(f"{topic}: {crate} {file}: {name or 'no such file'}")
+            elif words:
+                print(f"{topic}: {path}:{line} {name}".rstrip())
+    print(f"{passed} passed, {failed} failed")
+    return 1 if failed else 0
 
 
 if __name__ == "__main__":
-    sys.exit(main())
+    sys.exit(main(sys.argv[1:]))

@@ -121,7 +121,7 @@ def check_refusal(name, command):
 
 
 def main():
-    if len(sys.argv) < 2:
+    if len(sys.argv) < 2 or sys.argv[1].startswith("-"):
         sys.exit(__doc__)
     with tempfile.TemporaryDirectory() as folder:
         for name, made in images(folder).items():

@@ -53,6 +53,8 @@ def waves(_):
 
 
 def main(command):
+    if command and command[0].startswith("-"):
+        sys.exit(__doc__)
     checks = {"by hand, load 8": lambda _: by_hand(8), "by hand, load 1": lambda _: by_hand(1), "adds up": adds_up,
               "well-formed": well_formed, "waves": waves}
     failed = [name for name, check in checks.items() if not check(command)]

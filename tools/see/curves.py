@@ -52,6 +52,7 @@ def draw(rows, depth):
     def at(load, gain):
         return 70 + math.log(load) / math.log(LOADS[-1]) * 600, 250 - math.log2(gain) * 44
 
+    picture.text(14, 62, "times as fast", size=10)
     for gain in GAINS:
         y = at(1, gain)[1]
         picture.line((70, y), (670, y), svg.INK if gain == 1 else svg.GRID, 1.4 if gain == 1 else 1)

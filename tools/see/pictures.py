@@ -8,7 +8,7 @@ from runs import decoupled
 SIDES = ("A", "E")
 COLOURS = {
     "steps": svg.GREEN, "held": "#a6d9c8", "halted": "#eeeeee", "ld": svg.YELLOW, "al": svg.ORANGE, "sa": svg.PURPLE,
-    "sd": svg.PURPLE, "ab": svg.SKY, "eb": svg.RED, "cq": "#999999",
+    "sd": "#8c4a74", "ab": svg.SKY, "eb": svg.RED, "cq": "#999999",
 }
 SAYS = {
     "steps": "works", "held": "in a product or quotient", "halted": "has halted", "ld": "waits for ld", "al": "waits for al",
@@ -85,14 +85,14 @@ def pipeline(run, first, last):
     draw_band(picture, axis, moments, "A", 80, above=True)
     draw_band(picture, axis, moments, "E", 260, above=False)
     picture.text(24, 103, "A", size=18, weight="bold", fill=svg.BLUE)
-    picture.text(14, 190, "memory", fill=svg.GREY)
+    picture.text(14, 190, "memory", size=10, fill=svg.GREY)
     picture.text(24, 283, "E", size=18, weight="bold", fill=svg.RED)
     picture.clip((60, 100), (1020, 180))
     for access in run.accesses:
         if is_seen(access, first, last, len(run.moments)):
             draw_access(picture, axis, access, len(run.moments))
     picture.end_clip()
-    axis.draw(picture, 312)
+    axis.draw(picture, 312, "ticks; beside the bars: lines of the source")
     picture.legend(60, 360, [*legend_of(moments), (svg.GREY, "memory loads"), (svg.ORANGE, "filled, waits for E"),
                              (svg.PURPLE, "store: address to datum")])
     return picture.svg()
@@ -117,7 +117,8 @@ def lines(run, text):
     total = {(side, row): sum(count for (number, _), count in counts[side].items() if number == row)
              for side in SIDES for row in rows}
     most = max(total.values(), default=1)
-    picture = svg.Picture(1040, 110 + 30 * len(rows), f"{run.name}: ticks by source line", summary(run))
+    picture = svg.Picture(1040, 144 + 30 * len(rows), f"{run.name}: ticks by source line", summary(run))
+    svg.TimeAxis(480, 480, 0, max(1, most)).draw(picture, 74 + 30 * len(rows))
     for place, row in enumerate(rows):
         y = 70 + 30 * place
         picture.text(34, y + 14, str(row), anchor="end", fill=svg.GREY, family="monospace")
@@ -132,7 +133,7 @@ def lines(run, text):
                     x += count * 480 / most
             if total[side, row]:
                 picture.text(x + 4, top + 9, str(total[side, row]), size=9, fill=svg.GREY)
-    picture.legend(42, 96 + 30 * len(rows), [it for it in legend_of(run.moments) if it[1] != SAYS["halted"]])
+    picture.legend(42, 130 + 30 * len(rows), [it for it in legend_of(run.moments) if it[1] != SAYS["halted"]])
     return picture.svg()
 
 

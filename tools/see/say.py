@@ -2,10 +2,11 @@
 """say.py WORDS..
 
 Runs `./dae WORDS..`, and says more behind each note for which a person would want it, on standard error: the source line of a
-refusal with a caret and the cause in words (docs/LANGUAGE.md has them), what a trap is, what to do about a depth or about a run
-that goes on. The notes, standard output and the status stay as they are.
+refusal with a caret and the cause in words (docs/LANGUAGE.md and docs/MACHINE.md have them), what a trap is, what to do about a
+depth or about a run that goes on. The notes, standard output and the status stay as they are.
 """
 
+import contextlib
 import os
 import re
 import subprocess
@@ -19,11 +20,20 @@ TRAPS = {
 }
 
 
+# What is refused of an assembly text or of a certificate, by a line of it.
+OF_A_TEXT = {
+    "asm-line": "the line has no form of an assembly text, or stands out of order, or the text ends before it (docs/MACHINE.md)",
+    "asm-label": "the line defines a label again, or uses one that its side doesn't define",
+    "asm-value": "the line has a number that is out of its bounds",
+    "guard-line": "the line may not stand there in a certificate (docs/GUARD.md)",
+}
+
+
 def causes():
     """The cause in words for each name of a refusal."""
     with open(f"{TOP}/docs/LANGUAGE.md", encoding="utf-8") as file:
         rows = re.findall(r"^\| ((?:`[a-z-]+` ?)+)\| ([^|]+)\|", file.read(), re.M)
-    return {name: cause.strip() for names, cause in rows for name in re.findall(r"`([^`]+)`", names)}
+    return OF_A_TEXT | {name: cause.strip() for names, cause in rows for name in re.findall(r"`([^`]+)`", names)}
 
 
 def say(text):
@@ -45,14 +55,23 @@ def show_place(place):
     say(f"{'':>5} | {blank}^")
 
 
-def explain(note, known):
-    """Says what a person may want to know of a note."""
+def show_line(name, number):
+    """Shows a line of a text, or where it ends before that line, this."""
+    with contextlib.suppress(OSError), open(name, encoding="latin-1") as file:
+        lines = file.read().removesuffix("\n").split("\n")
+        say(f"{number:>5} | {lines[int(number) - 1]}" if int(number) <= len(lines) else f"the text has {len(lines)} lines")
+
+
+def explain(note, known, file):
+    """Says what a person may want to know of a note; FILE is the last of the words."""
     first, *rest = note.split(" ")
     if note == "words":
         say("`./dae help` lists the jobs, their options and their files")
     elif first == "refused" and rest:
         for place in rest[1:]:
             show_place(place)
+        if rest[0] in OF_A_TEXT and rest[1:]:
+            show_line(file, rest[1])
         say(known.get(rest[0], "docs/LANGUAGE.md says what is refused"))
     elif first == "trapped":
         say(TRAPS.get(note[8:], "docs/LANGUAGE.md lists the traps"))
@@ -65,11 +84,13 @@ def explain(note, known):
 
 
 def main(words):
+    if not words or words[0] in ("--help", "-h"):
+        sys.exit(__doc__)
     done = subprocess.run([f"{TOP}/dae", *words], stderr=subprocess.PIPE, check=False)
     known = causes()
     for note in done.stderr.decode("utf-8", "replace").splitlines():
         print(note, file=sys.stderr)
-        explain(note, known)
+        explain(note, known, words[-1])
     return done.returncode
 
 

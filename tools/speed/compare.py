@@ -81,7 +81,7 @@ def best_of(rounds, runs):
 
 
 def main():
-    if not 2 <= len(sys.argv) <= 5:
+    if not 2 <= len(sys.argv) <= 5 or sys.argv[1].startswith("-"):
         sys.exit(__doc__)
     program = os.path.abspath(sys.argv[1])
     steps, rounds = [int(word) for word in sys.argv[2:4]] + [10_000_000, 5][len(sys.argv[2:4]) :]

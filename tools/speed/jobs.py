@@ -2,11 +2,12 @@
 """jobs.py [--write] PROGRAM
 
 Measures what the jobs of PROGRAM, the built program, take: the seconds of a processor (the best of ROUNDS runs) on the image of
-compare.py, and on the pairs that tools/guard/worst.py makes. It says of each table of docs/MEASURES.md that it makes whether it still
+compare.py, on a long assembly text, and on the pairs that tools/guard/worst.py makes. It says of each table of docs/MEASURES.md that it makes whether it still
 holds; with --write it puts what it measured there. A table stands between its line and the line `<!-- end -->`:
 
     <!-- speed jobs -->     exec, trace, check and debug
     <!-- speed time -->     timed runs by the depth of all queues
+    <!-- speed assembly --> asm of a long text, and dis of its image
     <!-- speed guard -->    guard on pairs that cost much
 
 A table holds where its words and whole numbers are the same, and no number with a point is more than twice what the page says, or
@@ -24,8 +25,10 @@ import compare                                                                  
 
 TOP = os.path.dirname(os.path.dirname(compare.HERE))
 PAGE = f"{TOP}/docs/MEASURES.md"
-TABLE = re.compile(r"<!-- speed (\w+) -->\n(.*?)<!-- end -->", re.S)
+TABLE = re.compile(r"<!-- speed (jobs|time|assembly|guard) -->\n(.*?)<!-- end -->", re.S)
 ROUNDS, SMALL = 3, 0.05
+HEAD = ".budget 0 0 0 0 0 0 0\n.memory 1024\n.calls 1\n.private 0 0\n.entry 0 0\n"
+LINE = "addi x5,x5,1\n"
 
 
 def taken(words, cwd=None):
@@ -79,6 +82,17 @@ def time(program, room):
     return table(["depth", "steps", "ticks", "millions of ticks a second", "of steps"], rows)
 
 
+def assembly(program, room):
+    """asm of a text that is mostly one instruction many times, and dis of its image."""
+    with open(f"{room}/long.s", "w", encoding="ascii") as file:
+        file.write(f"{HEAD}.a\n{LINE * 760_000}ecall\n.e\necall\n.data\n")
+    rows = []
+    for words in (["asm", "--to=long.img", "long.s"], ["dis", "long.img"]):
+        _, seconds, _ = taken([program, *words], room)
+        rows.append([f"`{words[0]}`", f"{os.path.getsize(f'{room}/{words[-1]}'):,}", f"{seconds:.2f}"])
+    return table(["job", "bytes of its file", "seconds"], rows)
+
+
 def guard(program, room):
     subprocess.run([sys.executable, f"{TOP}/tools/guard/worst.py", room], stdout=subprocess.DEVNULL, check=True)
     rows = []
@@ -90,6 +104,9 @@ def guard(program, room):
     return table(["pair", "answer", "seconds", "megabytes"], rows)
 
 
+KINDS = {"jobs": jobs, "time": time, "assembly": assembly, "guard": guard}
+
+
 def holds(made, kept):
     one, other = (re.findall(r"[\d,]*\.\d+|[^\s|]+", it) for it in (made, kept))
     is_near = lambda x, y: x < SMALL and y < SMALL or x <= 2 * y and y <= 2 * x
@@ -99,12 +116,12 @@ def holds(made, kept):
 
 def main(words):
     programs = [it for it in words if it != "--write"]
-    if len(programs) != 1:
+    if len(programs) != 1 or programs[0].startswith("-"):
         sys.exit(__doc__)
     held = []
 
     def measured(found):
-        made = {"jobs": jobs, "time": time, "guard": guard}[found[1]](os.path.abspath(programs[0]), room)
+        made = KINDS[found[1]](os.path.abspath(programs[0]), room)
         held.append(holds(made, found[2]))
         print(f"{'holds' if held[-1] else 'differs'}: speed {found[1]}\n{made}" if not held[-1] else f"holds: speed {found[1]}", flush=True)
         return f"<!-- speed {found[1]} -->\n{made}<!-- end -->"

@@ -194,7 +194,7 @@ def seconds(words, rounds):
 
 
 def main():
-    if len(sys.argv) < 2:
+    if len(sys.argv) < 2 or sys.argv[1].startswith("-"):
         sys.exit(__doc__)
     program = os.path.abspath(sys.argv[1])
     tokens, rounds = [int(word) for word in sys.argv[2:4]] + [60_000, 3][len(sys.argv[2:4]):]

@@ -12,6 +12,8 @@ they stand outside of the gate.)
 import os
 import sys
 
+if len(sys.argv) < 4 or sys.argv[1].startswith("-"):
+    sys.exit(__doc__)
 OTHER = sys.argv[1]
 sys.path.insert(0, OTHER)
 sys.path.insert(0, os.path.join(OTHER, "tests"))

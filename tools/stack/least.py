@@ -91,7 +91,7 @@ def holds(made, kept):
 
 def main(words):
     programs = [it for it in words if it != "--write"]
-    if len(programs) != 1:
+    if len(programs) != 1 or programs[0].startswith("-"):
         sys.exit(__doc__)
     with tempfile.TemporaryDirectory() as room:
         made = "| source, nested twice here | times | kilobytes |\n|---|---:|---:|\n" + "".join(

@@ -69,7 +69,7 @@ def circles(goes):
 
 
 def main(words):
-    if len(words) != 1:
+    if len(words) != 1 or words[0].startswith("-"):
         sys.exit(__doc__)
     sizes, goes, unknown = functions(words[0])
     parts = circles(goes)

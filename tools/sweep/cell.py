@@ -12,12 +12,18 @@ import shlex
 import subprocess
 import sys
 
-sys.dont_write_bytecode = True
-sys.path.insert(0, f"{os.path.dirname(os.path.dirname(os.path.realpath(__file__)))}/record")
-import record                                                                   # noqa: E402
+QUEUES = ("ld", "al", "sa", "sd", "ab", "eb", "cq")
+PRODUCT, QUOTIENT = 3, 20
+
+
+class NotMade(Exception):
+    """The program told no end."""
 
 
 def by_record(image, numbers):
+    sys.dont_write_bytecode = True
+    sys.path.insert(0, f"{os.path.dirname(os.path.dirname(os.path.realpath(__file__)))}/record")
+    import record
     machine = record.opened(image, numbers)
     if any(numbers[queue] < need for queue, need in machine.image.budget.items()):
         return {"end": "depth", "steps": None, "ticks": None}
@@ -33,8 +39,17 @@ def by_command(image, numbers, command):
     told = {line[0]: int(line[1]) for line in notes if line[0] in ("steps", "ticks")}
     end = next((" ".join(line) for line in notes if line[0] in ("ended", "trapped", "running", "stuck", "depth")), None)
     if end is None:
-        sys.exit(f"cell.py: {shlex.join(command)} time {image}: {done.stderr}")
+        raise NotMade(f"{shlex.join([*command, 'time', *options, image])}: {done.stderr}")
     return {"end": "depth" if end.startswith("depth") else end, "steps": told.get("steps"), "ticks": told.get("ticks")}
+
+
+def make(image, kept, command, depth, load, ticks):
+    """Makes a cell and keeps it; without a command by tools/record."""
+    numbers = {**dict.fromkeys(QUEUES, depth), "load": load, "mul": PRODUCT, "div": QUOTIENT, "ticks": ticks}
+    cell = by_command(image, numbers, command) if command else by_record(image, numbers)
+    with open(f"{kept}.new", "w", encoding="ascii") as file:
+        json.dump(cell, file)
+    os.replace(f"{kept}.new", kept)
 
 
 def main(words):
@@ -47,14 +62,11 @@ def main(words):
             names.append(word)
     if len(names) != 1 or not {"depth", "load", "ticks", "to"} <= set(told) <= {"depth", "load", "ticks", "to", "command"}:
         sys.exit(__doc__)
-    depths = dict.fromkeys(record.decoupled.QUEUES, int(told["depth"]))
-    numbers = {**record.NUMBERS, **depths, "load": int(told["load"]), "ticks": int(told["ticks"])}
-    command = shlex.split(told.get("command", ""))
-    cell = by_command(names[0], numbers, command) if command else by_record(names[0], numbers)
-    with open(f"{told['to']}.new", "w", encoding="ascii") as file:
-        json.dump(cell, file)
-    os.replace(f"{told['to']}.new", told["to"])
+    make(names[0], told["to"], shlex.split(told.get("command", "")), *(int(told[it]) for it in ("depth", "load", "ticks")))
 
 
 if __name__ == "__main__":
-    main(sys.argv[1:])
+    try:
+        main(sys.argv[1:])
+    except NotMade as error:
+        sys.exit(f"cell.py: {error}")

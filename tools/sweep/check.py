@@ -1,10 +1,11 @@
 #!/usr/bin/env python3
-"""check.py [--command=WORDS] [OPTION.. SOURCE..]
+"""check.py [--command=WORDS] [--jobs=N] [OPTION.. SOURCE..]
 
 Makes one sweep in four ways, and says whether its tables are the same, byte for byte: at one go; broken off twice and gone on with;
 by GNU parallel over the lines of --list, by two names of hosts that a shell stands for in the place of ssh; and by a shell for each
-line, as an array of Slurm does it. Options and sources are those of sweep.py; without them it is the sweep of 500 cells that
-docs/GUIDE.md shows. The last line is 'N passed, N failed'. It wants GNU parallel.
+line, as an array of Slurm does it. Each way makes N cells at once (as many as there are processors). Options and sources are those
+of sweep.py; without them it is the sweep of 500 cells that docs/GUIDE.md shows. The last line is 'N passed, N failed'. It wants GNU
+parallel.
 """
 
 import os
@@ -28,6 +29,11 @@ SHELL = '#!/bin/sh\nwhile [ "${1#-}" != "$1" ]; do shift; done\nshift\n[ "$1" !=
 
 def words_of(words, out, *more):
     return [sys.executable, f"{HERE}/sweep.py", f"--out={out}", *more, *words]
+
+
+def jobs_of(words):
+    """How many cells are made at once."""
+    return int(next((it.partition("=")[2] for it in words if it.startswith("--jobs=")), os.cpu_count() or 1))
 
 
 def call(words, **how):
@@ -68,7 +74,8 @@ def by_parallel(words, out):
         with open(f"{room}/shell", "w", encoding="ascii") as file:
             file.write(SHELL)
         os.chmod(f"{room}/shell", 0o755)
-        hosts = ["--ssh", f"{room}/shell", "--sshlogin", f"{os.cpu_count()}/one,{os.cpu_count()}/other"]
+        one = (jobs_of(words) + 1) // 2
+        hosts = ["--ssh", f"{room}/shell", "--sshlogin", f"{one}/one,{max(1, jobs_of(words) - one)}/other"]
         call(["parallel", "--will-cite", "--workdir", ".", *hosts], input=listed(words, out))
     call(words_of(words, out))
 
@@ -78,7 +85,7 @@ def by_array(words, out):
     text, kept = listed(words, out), f"{out}/list"
     with open(kept, "wb") as file:
         file.write(text)
-    with ThreadPoolExecutor(os.cpu_count()) as pool:
+    with ThreadPoolExecutor(jobs_of(words)) as pool:
         for it in [pool.submit(call, ["sh", "-c", f'sed -n "${{SLURM_ARRAY_TASK_ID}}p" {kept} | sh'],
                                env={**os.environ, "SLURM_ARRAY_TASK_ID": str(number)}) for number in range(1, text.count(b"\n") + 1)]:
             it.result()
@@ -86,13 +93,17 @@ def by_array(words, out):
 
 
 def main(words):
-    command = next((it for it in words if it.startswith("--command=")), "--command=./dae")
-    rest = [it for it in words if it != command] or FIVE_HUNDRED
+    if {"--help", "-h"} & set(words):
+        sys.exit(__doc__)
+    # (a shell starts what is to run beside it with this signal ignored, which the sweep would inherit)
+    signal.signal(signal.SIGINT, signal.default_int_handler)
+    own = [it for it in words if it.startswith(("--command=", "--jobs="))]
+    rest = [*own, *([it for it in words if it not in own] or FIVE_HUNDRED)]
     tables, passed = {}, 0
     with tempfile.TemporaryDirectory() as room:
         for way in (at_one_go, broken_off, by_parallel, by_array):
             begun, out = time.monotonic(), f"{room}/{way.__name__}"
-            way([command, *rest], out)
+            way(rest, out)
             with open(f"{out}/table.csv", "rb") as file:
                 tables[way] = file.read()
             is_same = tables[way] == tables[at_one_go] and cells(out) == tables[way].count(b"\n") - 1

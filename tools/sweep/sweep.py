@@ -39,7 +39,8 @@ from concurrent.futures import ThreadPoolExecutor, as_completed
 
 sys.dont_write_bytecode = True
 HERE = os.path.dirname(os.path.realpath(__file__))
-sys.path.insert(0, f"{os.path.dirname(HERE)}/see")
+sys.path[:0] = [HERE, f"{os.path.dirname(HERE)}/see"]
+import cell                                                                     # noqa: E402
 import svg                                                                      # noqa: E402
 
 DEFAULTS = {"out": "sweep", "depths": "1,2,4,8,16", "loads": "1,8,64", "caps": "4", "ticks": "1000000", "command": "./dae",
@@ -97,8 +98,19 @@ def cells(told, sources):
 def words_of(told, row, image, kept):
     """The command that makes a cell and keeps it."""
     by = shlex.join(["--command=" + told["command"]]) if told["by"] == "time" else ""
-    return (f"{shlex.quote(sys.executable)} {shlex.quote(HERE)}/cell.py --depth={row['depth']} --load={row['load']} "
+    return (f"{shlex.quote(sys.executable)} -I -S {shlex.quote(HERE)}/cell.py --depth={row['depth']} --load={row['load']} "
             f"--ticks={told['ticks']} --to={shlex.quote(kept)} {by} {shlex.quote(image)}")
+
+
+def made_by(told):
+    """What makes a cell: a call of the program, or a process of its own that counts."""
+    def by_time(row, image, kept):
+        cell.make(image, kept, shlex.split(told["command"]), row["depth"], row["load"], int(told["ticks"]))
+
+    def by_record(*it):
+        subprocess.run(words_of(told, *it), shell=True, check=True)
+
+    return by_time if told["by"] == "time" else by_record
 
 
 def is_kept(kept, image):
@@ -109,14 +121,14 @@ def make(told, missing):
     """Makes the cells, several at once, with a bar of progress. What is broken off begins no further cell."""
     done, pool = 0, ThreadPoolExecutor(int(told["jobs"]))
     try:
-        running = [pool.submit(subprocess.run, words_of(told, *it), shell=True, check=True) for it in missing]
+        running = [pool.submit(made_by(told), *it) for it in missing]
         for it in as_completed(running):
             it.result()
             done += 1
             bar = "#" * (40 * done // len(missing))
             print(f"\r[{bar:<40}] {done} of {len(missing)} cells", end="", file=sys.stderr)
-    except subprocess.CalledProcessError as error:
-        sys.exit(f"sweep.py: a cell isn't made: {error.cmd}")
+    except (cell.NotMade, subprocess.CalledProcessError) as error:
+        sys.exit(f"sweep.py: a cell isn't made: {error}")
     except KeyboardInterrupt:
         sys.exit(f"\nsweep.py: broken off behind {done} of {len(missing)} cells; the same command goes on")
     finally:
@@ -155,7 +167,7 @@ def draw(rows):
     fastest cell of the row and latency."""
     lines = sorted({(it["program"], it["cap"]) for it in rows})
     loads, depths = sorted({it["load"] for it in rows}), sorted({it["depth"] for it in rows})
-    wide, cell = 52 * len(depths) + 14, {(it["program"], it["cap"], it["load"], it["depth"]): it for it in rows}
+    wide, at = 52 * len(depths) + 14, {(it["program"], it["cap"], it["load"], it["depth"]): it for it in rows}
     picture = svg.Picture(210 + wide * len(loads), 110 + 22 * len(lines), "Ticks by depth of the queues and latency of a load",
                           "darker: more ticks than the best depth of the same program and latency; white: as few")
     for group, load in enumerate(loads):
@@ -163,7 +175,7 @@ def draw(rows):
         for place, depth in enumerate(depths):
             picture.text(190 + group * wide + 52 * place + 25, 82, f"{depth}", anchor="middle", fill=svg.GREY)
         for line, (program, cap) in enumerate(lines):
-            told = [cell[program, cap, load, depth] for depth in depths]
+            told = [at[program, cap, load, depth] for depth in depths]
             least = min((it["ticks"] for it in told if it["ticks"]), default=1)
             for place, it in enumerate(told):
                 corner = (190 + group * wide + 52 * place, 90 + 22 * line)

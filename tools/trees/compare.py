@@ -17,6 +17,8 @@ along with the tree: every token has to be the one that the tree wants there, up
 import os
 import sys
 
+if len(sys.argv) < 4 or sys.argv[1].startswith("-"):
+    sys.exit(__doc__)
 OTHER = sys.argv[1]
 sys.path.insert(0, OTHER)
 

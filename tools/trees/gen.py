@@ -632,6 +632,8 @@ def changed(random, text):
 
 
 def main():
+    if len(sys.argv) < 5 or sys.argv[1].startswith("-"):
+        sys.exit(__doc__)
     folder = sys.argv[1]
     chooser = random.Random(int(sys.argv[2]))
     texts = [open(name, encoding="latin-1", newline="").read() for name in sys.argv[5:]]

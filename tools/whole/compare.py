@@ -29,6 +29,8 @@ import sys
 import tempfile
 import time
 
+if len(sys.argv) < 4 or sys.argv[1].startswith("-"):
+    sys.exit(__doc__)
 PROGRAM, OTHER = os.path.abspath(sys.argv[1]), os.path.abspath(sys.argv[2])
 sys.path.insert(0, OTHER)
 sys.path.insert(0, os.path.join(OTHER, "tests"))

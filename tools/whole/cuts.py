@@ -189,6 +189,8 @@ class Fault:
 
 
 def main():
+    if len(sys.argv) < 5 or sys.argv[1].startswith("-"):
+        sys.exit(__doc__)
     other, folder, first, count = os.path.abspath(sys.argv[1]), sys.argv[2], int(sys.argv[3]), int(sys.argv[4])
     sys.path[:0] = [other, os.path.join(other, "tests")]
     from fuzz_gcc import generate

@@ -167,6 +167,8 @@ with open(os.path.join(HERE, "..", "meaning", "programs", "inventory.c")) as inv
 
 
 def main():
+    if len(sys.argv) < 2 or sys.argv[1].startswith("-"):
+        sys.exit(__doc__)
     program = os.path.abspath(sys.argv[1])
     rows()
     wrong = count = 0
