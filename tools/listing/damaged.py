@@ -24,7 +24,7 @@ NUMBERS = """-1 0 1 2 3 4 5 7 8 15 16 17 31 32 63 64 80 255 256 1024 2047 2048 -
     1048575 1048576 -1048576 -1048578 67108864 67108880 134217724 134217728 1073741824 1073741828 4294967295 4294967296
     99999999999999999999 00 01 +1 0x10 -0""".split()
 WORDS = """start loop done next x0 x5 x31 x32 x05 a0 a e .a .e .data .word .byte .line .name .budget .memory .calls .private
-    .entry .text add addi sub lw sw lb sb jal jalr beq bltu lui auipc ecall mul slli nop _l L9 é""".split()
+    .entry .text add addi sub lw sw lb sb jal jalr beq bltu lui auipc ecall mul slli nop _l Up é""".split()
 SIGNS = [",", "(", ")", ":", ";", " ", "\t", "", "\r", "-", "."]
 TOKEN = re.compile(r"-?[0-9]+|[.A-Za-z_][A-Za-z0-9_]*|[,():]")
 # one text that has each kind of line
