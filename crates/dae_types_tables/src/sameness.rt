@@ -3,10 +3,18 @@
 ghost use Rattle.std.specs.Prelude.{◌≡◌, Ok};
 ghost use Rattle.dae_types_kinds.specs.Types.{same, same_within, counts_agree, composite, composite_within};
 ghost use Rattle.dae_types_rules.specs.Plan.{Gives};
+ghost use Rattle.dae_types_tables.specs.Layers.{layer_shape, wrapped};
 ghost use Rattle.dae_types_tables.specs.Seen.{tables, LeavesAnd};
 
 use crate::Checker;
 use dae_types_kinds::{CheckError, Shape};
+
+/// What stands round a type: a pointer to it, or an array of it.
+#[derive(Clone, Copy)]
+enum Layer {
+    Pointer,
+    Array(Option<u32>),
+}
 
 impl Checker {
     /// Whether two types are the same.
@@ -59,40 +67,68 @@ impl Checker {
         self.composite_within(depth, left, right)
     }
 
-    /// The composite of two same types of at most so many shapes within one another.
+    /// The composite of two same types of at most so many shapes within one another. Pointers and arrays are gone through
+    /// from the outermost to the innermost and back, so that only functions and lists of parameters call again.
     fn composite_within(
         &mut self,
         depth: usize,
-        left: usize,
-        right: usize,
+        mut left: usize,
+        mut right: usize,
     ) -> Result<usize, CheckError>
         ensures { LeavesAnd self.new result (composite_within depth (tables self.old) left right) }
     {
-        if depth == 0 {
-            return Ok(left);
+        let mut layers = Vec::new(*self.shapes.allocator());
+        let mut inner = depth;
+        while inner > 0 {
+            inner -= 1;
+            match (self.shape_of(left), self.shape_of(right)) {
+                (Shape::Pointer(one), Shape::Pointer(other)) => {
+                    layers.push(Layer::Pointer)?;
+                    left = one;
+                    right = other;
+                }
+                (Shape::Array(one, count), Shape::Array(other, size)) => {
+                    layers.push(Layer::Array(count.or(size)))?;
+                    left = one;
+                    right = other;
+                }
+                (Shape::Function(one, first), Shape::Function(other, second)) => {
+                    let result = self.composite_within(inner, one, other)?;
+                    let parameters = self.composite_within(inner, first, second)?;
+                    let id = self.make(Shape::Function(result, parameters))?;
+                    return self.wrap(layers, id);
+                }
+                (Shape::Parameter(first, one), Shape::Parameter(second, other)) => {
+                    let before = self.composite_within(inner, first, second)?;
+                    let last = self.composite_within(inner, one, other)?;
+                    let id = self.make(Shape::Parameter(before, last))?;
+                    return self.wrap(layers, id);
+                }
+                _ => return self.wrap(layers, left),
+            }
         }
-        let inner = depth - 1;
-        match (self.shape_of(left), self.shape_of(right)) {
-            (Shape::Pointer(one), Shape::Pointer(other)) => {
-                let to = self.composite_within(inner, one, other)?;
-                self.make(Shape::Pointer(to))
-            }
-            (Shape::Array(one, count), Shape::Array(other, size)) => {
-                let element = self.composite_within(inner, one, other)?;
-                self.make(Shape::Array(element, count.or(size)))
-            }
-            (Shape::Function(one, first), Shape::Function(other, second)) => {
-                let result = self.composite_within(inner, one, other)?;
-                let parameters = self.composite_within(inner, first, second)?;
-                self.make(Shape::Function(result, parameters))
-            }
-            (Shape::Parameter(first, one), Shape::Parameter(second, other)) => {
-                let before = self.composite_within(inner, first, second)?;
-                let last = self.composite_within(inner, one, other)?;
-                self.make(Shape::Parameter(before, last))
-            }
-            _ => Ok(left),
+        self.wrap(layers, left)
+    }
+
+    /// Makes pointers and arrays round a type, the innermost first, and gives the outermost.
+    fn wrap(&mut self, mut layers: Vec<Layer>, id: usize) -> Result<usize, CheckError>
+        ensures { LeavesAnd self.new result (wrapped layers.items (tables self.old, id)) }
+    {
+        let mut within = id;
+        while let Some(layer) = layers.pop() {
+            within = self.make(layer_shape(layer, within))?;
         }
+        Ok(within)
+    }
+}
+
+/// The shape of a pointer to a type, or of an array of it.
+fn layer_shape(layer: Layer, id: usize) -> Shape
+    ensures { result ≡ layer_shape layer id }
+{
+    match layer {
+        Layer::Pointer => Shape::Pointer(id),
+        Layer::Array(count) => Shape::Array(id, count),
     }
 }
 
