@@ -1,9 +1,10 @@
 pub mod Behind
+mod Comparing
 pub mod Counted
-pub mod Deeper
 mod Examples
 mod Finding
 mod Kept
+mod Known
 mod Outlines
 mod Same
 mod Small

@@ -1,5 +1,6 @@
 pub mod Linkage
 pub mod Across
+pub mod Couples
 pub mod Clashes
 pub mod Placing
 pub mod Meanings

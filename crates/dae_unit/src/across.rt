@@ -1,12 +1,16 @@
 // The same type in two files.
 
-ghost use Rattle.std.specs.Prelude.{◌≡◌, ◌<◌, ◌∷◌, [], MatchOption, length, filter, option_copied, slice_get, is_some, false};
+ghost use Rattle.std.specs.Prelude.{◌≡◌, ◌&&◌, ℕ, suc, ◌+◌, ◌<◌, ◌≤◌, ◌∷◌, ◌++◌, [], IfOk, MatchOption, OnOk, length, filter, option_copied, slice_get, is_some, false};
 ghost use Rattle.dae_types_kinds.specs.Types.{counts_agree, layout_of, shape_of};
 ghost use Rattle.dae_types_typed.specs.Sound.{bytes_of, is_member_of, members_of, tables_of};
-ghost use Rattle.dae_unit.specs.Across.{same_tag, tag_of, same_members, same_bodies, same_structure, same_plain, shape_across, same_within_files, same_across};
+ghost use Rattle.dae_unit.specs.Across.{same_tag, tag_of, same_members, same_structure, same_plain, shape_across, same_within_files, same_across};
+ghost use Rattle.dae_unit.specs.Couples.{AreKnown, agree_within, all_agree, all_hold, cost, depth_of, goals_at, shape_in, weight};
 
+use crate::couples::{Couple, Goal, Task};
 use dae_types_kinds::{Component, Shape};
 use dae_types_typed::FileParts;
+use indexmap::IndexMap;
+use std::alloc::{AllocError, Global};
 
 fn counts_agree(left: Option<u32>, right: Option<u32>) -> bool
     ensures { result ≡ counts_agree left right }
@@ -101,114 +105,293 @@ fn same_plain(left: Shape, right: Shape) -> bool
     }
 }
 
-/// A structure of one file and one of another.
-#[derive(Clone, Copy)]
-pub struct Couple {
-    pub left: usize,
-    pub right: usize,
-}
-
-#[cycle(across)]
-fn same_members(depth: usize, f: &FileParts, g: &FileParts, structures: Couple) -> bool
-    ensures { result
-        ≡ same_members (same_within_files depth f.now g.now false) f.now g.now
-        (members_of (tables_of f.now) structures.left)
-        (members_of (tables_of g.now) structures.right) }
+/// The shapes of a couple's types.
+fn shapes_of(f: &FileParts, g: &FileParts, couple: Couple) -> (Shape, Shape)
+    ensures left { result.0 ≡ shape_in f.now couple.structures couple.left }
+    ensures right { result.1 ≡ shape_in g.now couple.structures couple.right }
 {
-    let mut left = f.components.as_slice();
-    let mut right = g.components.as_slice();
-    while let Some((x, more)) = next_member(left, structures.left) {
-        match next_member(right, structures.right) {
-            Some((y, others)) => {
-                if bytes_of(f, x.name) != bytes_of(g, y.name) {
-                    return false;
-                }
-                if !same_within(depth, f, g, false, x.type_id, y.type_id) {
-                    return false;
-                }
-                left = more;
-                right = others;
-            }
-            None => return false,
-        }
+    if couple.structures {
+        return (Shape::Struct(couple.left), Shape::Struct(couple.right));
     }
-    next_member(right, structures.right).is_none()
+    (shape_of(f, couple.left), shape_of(g, couple.right))
 }
 
-#[cycle(across)]
-fn same_structure(
-    depth: usize,
+/// A couple by the numbers of its structures, where both types are structures.
+fn by_structures(f: &FileParts, g: &FileParts, couple: Couple) -> Couple
+    ensures { (k : ℕ) → agree_within k f.now g.now result ≡ agree_within k f.now g.now couple }
+{
+    match shapes_of(f, g, couple) {
+        (Shape::Struct(left), Shape::Struct(right)) => Couple {
+            structures: true,
+            behind: couple.behind,
+            left,
+            right,
+        },
+        _ => couple,
+    }
+}
+
+/// Puts two types that a couple is made of behind others.
+fn push_part(
     f: &FileParts,
     g: &FileParts,
     behind: bool,
-    structures: Couple,
-) -> bool
-    ensures { result
-        ≡ same_structure
-        (same_within_files depth f.now g.now false) f.now g.now behind structures.left
-        structures.right }
+    types: (usize, usize),
+    parts: &mut Vec<Couple>,
+) -> Result<(), AllocError>
+    ensures same { OnOk result
+        ((k : ℕ) → all_agree k f.now g.now parts.new.items
+        ≡ (all_agree k f.now g.now parts.old.items
+        && same_within_files k f.now g.now behind types.0 types.1)) }
+    ensures one { OnOk result (length parts.new.items ≡ length parts.old.items + 1) }
 {
-    if !same_tag(tag_of(f, structures.left), tag_of(g, structures.right)) {
-        return false;
-    }
-    if behind {
-        return true;
-    }
-    let complete = is_complete(f, structures.left) && is_complete(g, structures.right);
-    complete && same_members(depth, f, g, structures)
+    let couple = Couple {
+        structures: false,
+        behind,
+        left: types.0,
+        right: types.1,
+    };
+    parts.push(by_structures(f, g, couple))?;
+    Ok(())
 }
 
-#[cycle(across)]
-fn same_shapes(
-    depth: usize,
+/// Puts the types of the members of two structures behind others, unless their names or their number differ.
+fn push_members(
+    f: &FileParts,
+    g: &FileParts,
+    structures: (usize, usize),
+    parts: &mut Vec<Couple>,
+) -> Result<bool, AllocError>
+    ensures same { IfOk result
+        (λ agree. (k : ℕ) → (agree && all_agree k f.now g.now parts.new.items)
+        ≡ (all_agree k f.now g.now parts.old.items
+        && same_members (same_within_files k f.now g.now false) f.now g.now
+        (members_of (tables_of f.now) structures.0)
+        (members_of (tables_of g.now) structures.1))) }
+    ensures few { OnOk result
+        (length parts.new.items ≤ length parts.old.items + length f.now.components) }
+{
+    let mut left = f.components.as_slice();
+    let mut right = g.components.as_slice();
+    while let Some((x, more)) = next_member(left, structures.0) {
+        match next_member(right, structures.1) {
+            Some((y, others)) => {
+                if bytes_of(f, x.name) != bytes_of(g, y.name) {
+                    return Ok(false);
+                }
+                push_part(f, g, false, (x.type_id, y.type_id), parts)?;
+                left = more;
+                right = others;
+            }
+            None => return Ok(false),
+        }
+    }
+    Ok(next_member(right, structures.1).is_none())
+}
+
+/// Puts the types of the members of two structures behind others, unless their tags differ or, where they don't stand behind a
+/// pointer, they aren't both complete.
+fn push_structures(
+    f: &FileParts,
+    g: &FileParts,
+    behind: bool,
+    structures: (usize, usize),
+    parts: &mut Vec<Couple>,
+) -> Result<bool, AllocError>
+    ensures same { IfOk result
+        (λ agree. (k : ℕ) → (agree && all_agree k f.now g.now parts.new.items)
+        ≡ (all_agree k f.now g.now parts.old.items
+        && same_structure (same_within_files k f.now g.now false) f.now g.now behind
+        structures.0 structures.1)) }
+    ensures few { OnOk result
+        (length parts.new.items ≤ length parts.old.items + length f.now.components) }
+{
+    if !same_tag(tag_of(f, structures.0), tag_of(g, structures.1)) {
+        return Ok(false);
+    }
+    if behind {
+        return Ok(true);
+    }
+    if !is_complete(f, structures.0) || !is_complete(g, structures.1) {
+        return Ok(false);
+    }
+    push_members(f, g, structures, parts)
+}
+
+/// Puts the types that two shapes are made of behind others, unless these differ whatever they are made of.
+#[tactic(auto, using(crate::proofs::Comparing::plain_last))]
+fn push_shapes(
     f: &FileParts,
     g: &FileParts,
     behind: bool,
     shapes: (Shape, Shape),
-) -> bool
-    ensures { result
-        ≡ shape_across (same_within_files depth f.now g.now) f.now g.now behind shapes.0 shapes.1 }
+    parts: &mut Vec<Couple>,
+) -> Result<bool, AllocError>
+    ensures same { IfOk result
+        (λ agree. (k : ℕ) → (agree && all_agree k f.now g.now parts.new.items)
+        ≡ (all_agree k f.now g.now parts.old.items
+        && shape_across (same_within_files k f.now g.now) f.now g.now behind shapes.0 shapes.1)) }
+    ensures few { OnOk result
+        (length parts.new.items ≤ length parts.old.items + (length f.now.components + 2)) }
 {
     match shapes {
-        (Shape::Pointer(m), Shape::Pointer(n)) => same_within(depth, f, g, true, m, n),
+        (Shape::Pointer(m), Shape::Pointer(n)) => push_part(f, g, true, (m, n), parts)?,
         (Shape::Array(m, count), Shape::Array(n, other)) => {
-            counts_agree(count, other) && same_within(depth, f, g, behind, m, n)
+            push_part(f, g, behind, (m, n), parts)?;
+            return Ok(counts_agree(count, other));
         }
         (Shape::Struct(left), Shape::Struct(right)) => {
-            same_structure(depth, f, g, behind, Couple { left, right })
+            return push_structures(f, g, behind, (left, right), parts);
         }
         (Shape::Function(m, ps), Shape::Function(n, qs)) => {
-            same_within(depth, f, g, behind, m, n) && same_within(depth, f, g, behind, ps, qs)
+            push_part(f, g, behind, (m, n), parts)?;
+            push_part(f, g, behind, (ps, qs), parts)?;
         }
         (Shape::Parameter(ps, m), Shape::Parameter(qs, n)) => {
-            same_within(depth, f, g, behind, ps, qs) && same_within(depth, f, g, behind, m, n)
+            push_part(f, g, behind, (ps, qs), parts)?;
+            push_part(f, g, behind, (m, n), parts)?;
         }
-        (left, right) => same_plain(left, right),
+        (left, right) => return Ok(same_plain(left, right)),
     }
+    Ok(true)
 }
 
-#[cycle(across)]
-fn same_within(
-    depth: usize,
+/// Puts the types that a couple is made of behind others, unless it differs whatever they are.
+fn push_parts(
     f: &FileParts,
     g: &FileParts,
-    behind: bool,
-    left: usize,
-    right: usize,
-) -> bool
-    ensures { result ≡ same_within_files depth f.now g.now behind left right }
+    couple: Couple,
+    parts: &mut Vec<Couple>,
+) -> Result<bool, AllocError>
+    ensures same { IfOk result
+        (λ agree. (k : ℕ) → (agree && all_agree k f.now g.now parts.new.items)
+        ≡ (all_agree k f.now g.now parts.old.items
+        && agree_within (suc k) f.now g.now couple)) }
+    ensures few { OnOk result
+        (length parts.new.items ≤ length parts.old.items + (length f.now.components + 2)) }
 {
-    if depth == 0 {
-        return false;
-    }
-    let shapes = (shape_of(f, left), shape_of(g, right));
-    same_shapes(depth - 1, f, g, behind, shapes)
+    push_shapes(f, g, couple.behind, shapes_of(f, g, couple), parts)
 }
 
-/// Whether a type of one file and one of another are the same.
-#[tactic(auto, unfolding(crate::specs::Across::same_across))]
-pub fn same_across(f: &FileParts, g: &FileParts, left: usize, right: usize) -> bool
-    ensures { result ≡ same_across f.now g.now left right }
+/// Puts couples that are to be compared within so many levels behind other tasks.
+fn push_goals(tasks: &mut Vec<Task>, parts: &[Couple], depth: usize) -> Result<(), AllocError>
+    ensures { OnOk result (tasks.new.items ≡ tasks.old.items ++ goals_at depth parts.now) }
 {
-    same_within(f.shapes.len(), f, g, false, left, right)
+    for part in parts {
+        tasks.push(Task::Compare(Goal {
+            couple: *part,
+            depth,
+        }))?;
+    }
+    Ok(())
+}
+
+/// Compares a couple level by level: what it is made of is still to be compared, and then it is to be noted.
+fn compare(
+    alloc: Global,
+    f: &FileParts,
+    g: &FileParts,
+    known: &IndexMap<Couple, usize>,
+    tasks: &mut Vec<Task>,
+    goal: Goal,
+) -> Result<bool, AllocError>
+    requires { AreKnown f.now g.now known.now.entries }
+    ensures same { IfOk result
+        (λ agree. (agree && all_hold f.now g.now tasks.new.items)
+        ≡ (all_hold f.now g.now tasks.old.items
+        && agree_within goal.depth f.now g.now goal.couple)) }
+    ensures less { OnOk result
+        (let most = length f.now.components + 2 in
+        weight most tasks.new.items < weight most tasks.old.items + cost most goal.depth) }
+{
+    if let Some(enough) = known.get(&goal.couple) {
+        if *enough <= goal.depth {
+            return Ok(true);
+        }
+    }
+    if goal.depth == 0 {
+        return Ok(false);
+    }
+    let mut parts = Vec::new(alloc);
+    if !push_parts(f, g, goal.couple, &mut parts)? {
+        return Ok(false);
+    }
+    tasks.push(Task::Note(goal.couple))?;
+    push_goals(tasks, parts.as_slice(), goal.depth - 1)?;
+    Ok(true)
+}
+
+/// The least number of levels within which each of these couples is known to be the same, where each is.
+fn depth_of(known: &IndexMap<Couple, usize>, couples: &[Couple]) -> Option<usize>
+    ensures { result ≡ depth_of known.now.entries 0 couples.now }
+{
+    let mut depth = 0;
+    for couple in couples {
+        match known.get(couple) {
+            Some(enough) => depth = depth.max(*enough),
+            None => return None,
+        }
+    }
+    Some(depth)
+}
+
+/// Notes that a couple is the same, where all that it is made of is known to be.
+fn note(
+    alloc: Global,
+    f: &FileParts,
+    g: &FileParts,
+    known: &mut IndexMap<Couple, usize>,
+    couple: Couple,
+) -> Result<(), AllocError>
+    requires { AreKnown f.now g.now known.old.entries }
+    ensures { OnOk result (AreKnown f.now g.now known.new.entries) }
+{
+    let mut parts = Vec::new(alloc);
+    if !push_parts(f, g, couple, &mut parts)? {
+        return Ok(());
+    }
+    if let Some(depth) = depth_of(known, parts.as_slice()) {
+        if depth < usize::MAX {
+            known.insert(couple, depth + 1)?;
+        }
+    }
+    Ok(())
+}
+
+/// Whether a type of one file and one of another are the same, by what is known of the types of these files; from then on
+/// more is known.
+#[tactic(auto, unfolding(crate::specs::Across::same_across))]
+pub fn same_across(
+    alloc: Global,
+    f: &FileParts,
+    g: &FileParts,
+    known: &mut IndexMap<Couple, usize>,
+    types: (usize, usize),
+) -> Result<bool, AllocError>
+    requires { AreKnown f.now g.now known.old.entries }
+    ensures same { IfOk result (λ same. same ≡ same_across f.now g.now types.0 types.1) }
+    ensures known { OnOk result (AreKnown f.now g.now known.new.entries) }
+{
+    let couple = Couple {
+        structures: false,
+        behind: false,
+        left: types.0,
+        right: types.1,
+    };
+    let mut tasks = Vec::new(alloc);
+    tasks.push(Task::Compare(Goal {
+        couple: by_structures(f, g, couple),
+        depth: f.shapes.len(),
+    }))?;
+    while let Some(task) = tasks.pop() {
+        match task {
+            Task::Compare(goal) => {
+                if !compare(alloc, f, g, known, &mut tasks, goal)? {
+                    return Ok(false);
+                }
+            }
+            Task::Note(couple) => note(alloc, f, g, known, couple)?,
+        }
+    }
+    Ok(true)
 }

@@ -3,15 +3,19 @@
 ghost use Rattle.std.specs.Prelude.{◌≡◌, ◌∷◌, ℕ, List, IfOk, None, OnOk, cond, find, reverse, slice_get};
 ghost use Rattle.std.specs.Borrow.{Bor};
 ghost use Rattle.std.specs.List.{list_any};
+ghost use Rattle.std.specs.Map.{lookup};
 ghost use Rattle.std.specs.Str.{bytes_eq};
 ghost use Rattle.dae_types_typed.specs.Linkage.{is_function, type_in};
-ghost use Rattle.dae_unit.specs.Clashes.{clashes, types_differ, first_clash, is_library_in, is_missing, first_missing, is_main};
+ghost use Rattle.dae_unit.specs.Clashes.{clashes, same_types, types_differ, first_clash, is_library_in, is_missing, first_missing, is_main};
+ghost use Rattle.dae_unit.specs.Couples.{AreKnownOf, entries_or_none, same_two};
 ghost use Rattle.dae_unit.specs.Identities.{AreGivers};
+ghost use Rattle.dae_unit.specs.Linkage.{entity_of};
 ghost use Rattle.dae_unit.specs.Later.{AreLater, AreNextDefinitions, entry_of_name, items_or_none, nearest, put_first};
 ghost use Rattle.dae_unit.specs.declared.rows.FileRow.{FileRow};
 ghost use Rattle.dae_unit.specs.declared.errors.Clash.TheVariants.{Definitions, Types};
 
 use crate::across::same_across;
+use crate::couples::{Couple, KnownTypes};
 use crate::errors::Clash;
 use crate::givers::{givers_of, is_given};
 use crate::identities::Identity;
@@ -46,20 +50,66 @@ pub fn type_in(parts: &FileParts, entity: Entity) -> usize
     }
 }
 
-fn types_differ(files: &[TypedFile], x: FileRow, y: FileRow) -> bool
-    ensures { result ≡ types_differ files.now x y }
+/// Takes what is known of the types of two files.
+fn take_known(alloc: Global, known: &mut KnownTypes, two: (usize, usize)) -> IndexMap<Couple, usize>
+    ensures taken { result.entries ≡ entries_or_none (lookup (same_two two) known.old.entries) }
+    ensures kept { (q : ℕ × ℕ)
+        → lookup (same_two q) known.new.entries
+        ≡ cond (same_two two q) None (lookup (same_two q) known.old.entries) }
+{
+    match known.swap_remove(&two) {
+        Some(couples) => couples,
+        None => IndexMap::new(alloc),
+    }
+}
+
+/// Whether the types of an object or a function of two files are the same.
+fn same_types(
+    alloc: Global,
+    files: &[TypedFile],
+    known: &mut KnownTypes,
+    x: FileRow,
+    y: FileRow,
+) -> Result<bool, AllocError>
+    requires { AreKnownOf files.now known.old.entries }
+    ensures same { IfOk result
+        (λ same. same
+        ≡ same_types (slice_get files.now x.file) (slice_get files.now y.file) (entity_of x)
+        (entity_of y)) }
+    ensures known { OnOk result (AreKnownOf files.now known.new.entries) }
+{
+    let f = match files.get(x.file) {
+        Some(file) => file.parts(),
+        None => return Ok(true),
+    };
+    let g = match files.get(y.file) {
+        Some(file) => file.parts(),
+        None => return Ok(true),
+    };
+    let left = type_in(f, x.declaration.entity);
+    let right = type_in(g, y.declaration.entity);
+    let two = (x.file, y.file);
+    let mut couples = take_known(alloc, known, two);
+    let same = same_across(alloc, f, g, &mut couples, (left, right))?;
+    known.insert(two, couples)?;
+    Ok(same)
+}
+
+fn types_differ(
+    alloc: Global,
+    files: &[TypedFile],
+    known: &mut KnownTypes,
+    x: FileRow,
+    y: FileRow,
+) -> Result<bool, AllocError>
+    requires { AreKnownOf files.now known.old.entries }
+    ensures differ { IfOk result (λ differ. differ ≡ types_differ files.now x y) }
+    ensures known { OnOk result (AreKnownOf files.now known.new.entries) }
 {
     if x.file == y.file {
-        return false;
+        return Ok(false);
     }
-    match (files.get(x.file), files.get(y.file)) {
-        (Some(f), Some(g)) => {
-            let left = type_in(f.parts(), x.declaration.entity);
-            let right = type_in(g.parts(), y.declaration.entity);
-            !same_across(f.parts(), g.parts(), left, right)
-        }
-        _ => false,
-    }
+    Ok(!same_types(alloc, files, known, x, y)?)
 }
 
 /// A declaration with the later one that it clashes with, or else what was found among the later ones.
@@ -117,15 +167,24 @@ fn first_redefinition(
 }
 
 /// The last of these declarations whose type isn't that of another.
-fn last_differing(files: &[TypedFile], row: FileRow, others: &[FileRow]) -> Option<FileRow>
-    ensures { result ≡ find (types_differ files.now row) (reverse others.now) }
+fn last_differing(
+    alloc: Global,
+    files: &[TypedFile],
+    known: &mut KnownTypes,
+    row: FileRow,
+    others: &[FileRow],
+) -> Result<Option<FileRow>, AllocError>
+    requires { AreKnownOf files.now known.old.entries }
+    ensures last { IfOk result
+        (λ last. last ≡ find (types_differ files.now row) (reverse others.now)) }
+    ensures known { OnOk result (AreKnownOf files.now known.new.entries) }
 {
     for number in (0..others.len()).rev() {
-        if types_differ(files, row, others[number]) {
-            return Some(others[number]);
+        if types_differ(alloc, files, known, row, others[number])? {
+            return Ok(Some(others[number]));
         }
     }
-    None
+    Ok(None)
 }
 
 /// Puts a declaration behind others, in place of the last where both declare one object or function of one file.
@@ -165,9 +224,12 @@ fn take_others<'f>(
 fn next_difference<'f>(
     alloc: Global,
     files: &'f [TypedFile],
+    known: &mut KnownTypes,
     later: &mut IndexMap<&'f [u8], Vec<FileRow>>,
     row: FileRow,
 ) -> Result<Option<FileRow>, AllocError>
+    requires { AreKnownOf files.now known.old.entries }
+    ensures known { OnOk result (AreKnownOf files.now known.new.entries) }
     ensures clash { IfOk result
         (λ other. (ds : List FileRow) → AreLater files.now ds later.old.entries
         → other ≡ find (clashes files.now Types row) ds) }
@@ -178,7 +240,7 @@ fn next_difference<'f>(
     match external_name(files, row.file, row.declaration.entity) {
         Some(name) => {
             let mut others = take_others(alloc, later, name);
-            let other = last_differing(files, row, others.as_slice());
+            let other = last_differing(alloc, files, known, row, others.as_slice())?;
             put_last(&mut others, row)?;
             later.insert(name, others)?;
             Ok(other)
@@ -195,11 +257,12 @@ fn first_difference(
 ) -> Result<Option<(FileRow, FileRow)>, AllocError>
     ensures { IfOk result (λ found. found ≡ first_clash files.now Types rows.now) }
 {
+    let mut known = IndexMap::new(alloc);
     let mut later = IndexMap::new(alloc);
     let mut found = None;
     for number in (0..rows.len()).rev() {
         let row = &rows[number];
-        let other = next_difference(alloc, files, &mut later, *row)?;
+        let other = next_difference(alloc, files, &mut known, &mut later, *row)?;
         found = nearest(*row, other, found);
     }
     Ok(found)

@@ -11,6 +11,7 @@ mod across;
 mod causes;
 mod clashes;
 mod contents;
+mod couples;
 mod errors;
 mod givers;
 mod identities;

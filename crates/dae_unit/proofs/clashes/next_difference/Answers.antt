@@ -11,7 +11,7 @@ returns-in_ok-insert-in-Some-clause-clash c ds all =
     let row = c.args.row in
     let called : name_of files row ≡ Some c.in-Some.name.now = search rules in
     let others = c.as_slice.ensures.value ∙ c.take_others-others.ensures.others in
-    c.last_differing-other.ensures ∙ ap (λ xs. find (types_differ files row) (reverse xs)) others
+    c.in_ok-other-in-Some.ensures.last ∙ ap (λ xs. find (types_differ files row) (reverse xs)) others
     ∙ difference_is_next files row c.in-Some.name c.args.later.now.entries called ds all
 
 pub returns-in_ok-insert-in-Some-clause-noted : goal.returns-in_ok-insert-in-Some-clause-noted
