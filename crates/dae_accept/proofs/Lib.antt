@@ -3,5 +3,4 @@ mod Faults
 mod Files
 mod Joined
 mod Origins
-mod Starts
 mod Within

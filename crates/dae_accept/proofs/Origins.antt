@@ -1,23 +1,21 @@
 -- The files of an accepted program are typed, with the parameters of their functions.
-use Rattle.std.proofs.Common.{◌≡◌, ℕ, List, [], ◌∷◌}
+use Rattle.std.proofs.Common.{ℕ, List, [], ◌∷◌}
 use Rattle.std.specs.List.{AllByRecursion}
 use Rattle.dae_tree.specs.Files.{Contents, IsFile}
 use Rattle.dae_program.specs.declared.program.Program.{Program}
 use Rattle.dae_types_typed.specs.declared.files.FileParts.{FileParts}
-use Rattle.dae_types.specs.Answers.{IsTypedFile, start_in}
+use Rattle.dae_types.specs.Answers.{IsTypedFile}
 use Rattle.dae_types.specs.Names.{numbers_in}
 use Rattle.dae_sizes.specs.Sources.{AreTypedAs, IsTypedAs}
 use Rattle.dae_unit_join.specs.Promise.{HaveParameters, IsJoinedTo}
 use Rattle.dae_accept_sources.specs.Read.{AreRead}
 use Rattle.dae_accept.specs.Accepted.{AreTyped}
 use Rattle.dae_accept.specs.Origins.{IsOfFiles}
-use Rattle.dae_accept.proofs.Starts.{starts_keep_literals}
 
 one_typed : (c : Contents) (t : FileParts) → IsFile c → IsTypedFile c t → HaveParameters t → IsTypedAs c t
 one_typed c t parsed h p = record {
   parsed = parsed;
-  start = start_in c;
-  literals = starts_keep_literals c.stdio c.stdlib (numbers_in c.names) c.literals;
+  numbers = numbers_in c.names;
   typed = record { tables = h.tables; products = h.products; spellings = c.names; checked = h.checked; reads = h.reads };
   parameters = p;
 }

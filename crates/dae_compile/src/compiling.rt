@@ -17,6 +17,7 @@ use dae_link_sides::CodeError;
 use dae_lower_bounds::sets_bounded;
 use dae_sizes::{
     definitions_are_short, forms_are_within, frames_are_within, functions_initialise_constants,
+    functions_test_values,
 };
 use std::alloc::Global;
 
@@ -45,6 +46,7 @@ pub fn compile(
     forms_are_within();
     frames_are_within();
     functions_initialise_constants();
+    functions_test_values();
     sets_bounded();
     later_forms_do_programs();
     let program = accept(alloc, texts, options.memory)?;

@@ -1,5 +1,5 @@
 -- The functions of a typed file are small beside its definitions.
-use Rattle.std.proofs.Common.{◌≡◌, ℕ, zero, suc, ◌+◌, ◌*◌, ◌≤◌, List, [], ◌∷◌, ◌++◌, length, drop, Some, None, Result, Ok, Err, inl, inr, refl, sym, ap, ◌∙◌, subst, arith}
+use Rattle.std.proofs.Common.{◌≡◌, ℕ, zero, suc, ◌+◌, ◌*◌, ◌≤◌, Bool, List, [], ◌∷◌, ◌++◌, length, drop, Some, None, Result, Ok, Err, inl, inr, refl, sym, ap, ◌∙◌, subst, arith}
 use Rattle.std.proofs.lemmas.List.{length-drop}
 use Rattle.std.proofs.lemmas.List.Sums.{count_by-le-length}
 use Rattle.std.specs.Prelude.{slice_get}
@@ -19,7 +19,7 @@ use Rattle.dae_types_kinds.specs.Types.{shape_of, shape_or}
 use Rattle.dae_types_kinds.specs.Values.{routine_type, parameters_of}
 use Rattle.dae_types_rules.specs.Plan.{IsChecked, check_of}
 use Rattle.dae_types_plans.specs.Steps.{parameters_from, parameter_types}
-use Rattle.dae_types_file_plans.specs.Files.{Product, Declares, Data, Body, plan_file}
+use Rattle.dae_types_file_plans.specs.Files.{Product, Declares, Data, Body, Numbers, start_of, plan_file}
 use Rattle.dae_types_file_plans.specs.Promise.{FilesAreChecked}
 use Rattle.dae_types_typed.specs.Frames.{is_variable, variables_of, slots_of}
 use Rattle.dae_types_typed.specs.Reading.{Written, written_in, view_functions}
@@ -33,9 +33,12 @@ use Rattle.dae_sizes.specs.Paid.{for_each, bytes_of_literal, price}
 use Rattle.dae_lower_formed.specs.Code.{most_code_in}
 use Rattle.std.specs.List.{AllByRecursion}
 use Rattle.dae_lower_bounds.specs.Constants.{InitialisesConstants}
+use Rattle.dae_lower_bounds.specs.Voids.{void_statements}
+use Rattle.dae_void_laws.specs.Tested.{BodyTestsValues, BodiesTestValues}
 use Rattle.dae_sizes.specs.From.{AreFrom}
 use Rattle.dae_unit.specs.Parameters.{HasParameters}
 use Rattle.dae_sizes.specs.Small.{IsPlanned, HasFew, HasLittle, VariablesAreFew, CodeIsLittle}
+use Rattle.dae_sizes.specs.Tests.{HasTestedValues}
 use Rattle.dae_sizes.proofs.From.{AreAlike, from_alike, alike_all}
 use Rattle.dae_sizes.proofs.Trees.{made_in, code_in, slots_made, slots_code}
 
@@ -210,3 +213,33 @@ are_constant bodies checked xs s file is =
     let paid = from_paid 0 s.literals xs (bodies_in is.products) (paid_by bodies checked 0 xs s t is.products (omega arith) is.checked) in
     all_from {R = λ x f. IsConstant f} IsConstant (λ x f h. h) xs file.functions
     (from_alike {S = λ x f. IsConstant f} (λ x d f p b. subst InitialisesConstants (sym b.body) p.constants) xs (bodies_in is.products) file.functions paid (alike t is.spellings is.products file.functions reads.functions))
+
+-- ---- tests
+
+tested_bodies : (ps : List Product) → AllByRecursion BodyTestsValues ps → AllByRecursion (λ (d : PlannedBody). HasTestedValues d.statements) (bodies_in ps)
+tested_bodies [] h = tt
+tested_bodies (Declares d ∷ ps) h = tested_bodies ps h.1
+tested_bodies (Data o items ∷ ps) h = tested_bodies ps h.1
+tested_bodies (Body r locals storages body ∷ ps) h = (h.0, tested_bodies ps h.1)
+
+tested_alike : (t : Tables) (ds : List PlannedBody) (fs : List TypedFunction) → AllByRecursion (λ (d : PlannedBody). HasTestedValues d.statements) ds → AreAlike (IsBodyOf t) ds fs → AllByRecursion (λ (f : TypedFunction). HasTestedValues (view_statements f.body)) fs
+tested_alike t [] [] h a = tt
+tested_alike t [] (f ∷ fs) h a = absurd a
+tested_alike t (d ∷ ds) [] h a = absurd a
+tested_alike t (d ∷ ds) (f ∷ fs) h a = (let b = a.0 in ap void_statements b.body ∙ h.0, tested_alike t ds fs h.1 a.1)
+
+-- what no rule is broken in is what a check gives
+tested_by : BodiesTestValues → FilesAreChecked → (stdio stdlib : Bool) (n : Numbers) (ls : List (List ℕ)) (xs : List External) (t : Tables) (products : List Product) → IsChecked (plan_file xs) (start_of stdio stdlib n ls) (Ok (t, products)) → AllByRecursion BodyTestsValues products
+tested_by tests checked stdio stdlib n ls xs t products h = by (check_of (plan_file xs) s) refl (checked xs s) where
+  s : Tables
+  s = start_of stdio stdlib n ls
+
+  by : (r : Result (Tables × List Product) Breach) → check_of (plan_file xs) s ≡ r → IsChecked (plan_file xs) s r → AllByRecursion BodyTestsValues products
+  by (Ok y) e k = subst (AllByRecursion BodyTestsValues) (some_same products y.1 products (sym k.0.1 ∙ h.0.1)) (tests xs stdio stdlib n ls y.0 y.1 e)
+  by (Err f) e k = absurd (h.1 f.rule f.place k)
+
+pub are_tested : BodiesTestValues → FilesAreChecked → (stdio stdlib : Bool) (n : Numbers) (ls : List (List ℕ)) (xs : List External) (file : FileParts) → IsPlanned xs (start_of stdio stdlib n ls) file → AllByRecursion (λ (f : TypedFunction). HasTestedValues (view_statements f.body)) file.functions
+are_tested tests checked stdio stdlib n ls xs file is =
+    let t = is.tables in
+    let reads = is.reads in
+    tested_alike t (bodies_in is.products) file.functions (tested_bodies is.products (tested_by tests checked stdio stdlib n ls xs t is.products is.checked)) (alike t is.spellings is.products file.functions reads.functions)

@@ -3,6 +3,7 @@ use Rattle.std.proofs.Common.{◌≡◌, ℕ, suc, List, [], ◌∷◌, ◌++◌
 use Rattle.dae_tree.specs.Files.{Contents}
 use Rattle.dae_tree.specs.FileViews.{view_externals}
 use Rattle.dae_tree.specs.Trees.{External}
+use Rattle.dae_program.specs.Trees.{Statements}
 use Rattle.dae_program.specs.Views.{view_statements}
 use Rattle.dae_program.specs.declared.program.Function.{Function}
 use Rattle.dae_types_typed.specs.declared.files.FileParts.{FileParts}
@@ -10,12 +11,16 @@ use Rattle.dae_types_typed.specs.declared.files.TypedFunction.{TypedFunction}
 use Rattle.dae_unit.specs.Meanings.{function_of, functions_in, functions_from}
 use Rattle.std.specs.List.{AllByRecursion}
 use Rattle.dae_types_file_plans.specs.Promise.{FilesAreChecked}
+use Rattle.dae_lower_bounds.specs.Constants.{InitialisesConstants}
+use Rattle.dae_void_laws.specs.Tested.{BodiesTestValues}
 use Rattle.dae_sizes.specs.Bodies.{BodiesPaid}
-use Rattle.dae_sizes.specs.Constants.{IsConstantFunction, FunctionsInitialiseConstants}
-use Rattle.dae_sizes.proofs.Functions.{IsConstant, are_constant}
+use Rattle.dae_sizes.specs.Constants.{FunctionsInitialiseConstants}
+use Rattle.dae_sizes.proofs.Functions.{are_constant, are_tested}
+use Rattle.dae_sizes.proofs.Starts.{starts_keep_literals}
 use Rattle.dae_sizes.specs.From.{AreFrom}
 use Rattle.dae_sizes.specs.Small.{HasFew, HasLittle, VariablesAreFew, CodeIsLittle}
-use Rattle.dae_sizes.specs.Sources.{Source, sources_of, sources_in, IsTypedAs, AreTypedAs}
+use Rattle.dae_sizes.specs.Sources.{Source, sources_of, sources_in, start_by, IsTypedAs, AreTypedAs}
+use Rattle.dae_sizes.specs.Tests.{HasTestedValues, FunctionsTestValues}
 use Rattle.dae_sizes.specs.Promise.{FunctionsAreFew, FunctionsAreLittle}
 
 -- ---- lists that come from one another
@@ -70,33 +75,44 @@ pub functions_are_few : VariablesAreFew → FunctionsAreFew
 functions_are_few few cs files t =
     let S : Source → Function → Type 0 = λ x f. HasFew x.external f.variables f.parameters (view_statements f.body) in
     subst (AreFrom S (sources_in cs)) (sym (functions_from_is [] 0 files))
-    (joined S (λ k c file is. sources_from (λ x (f : TypedFunction). HasFew x f.variables f.parameters (view_statements f.body)) S c.literals k (λ x f h. h) (view_externals c.externals) file.functions (few (view_externals c.externals) is.start file is.typed is.parameters)) 0 cs files t)
+    (joined S (λ k c file is. sources_from (λ x (f : TypedFunction). HasFew x f.variables f.parameters (view_statements f.body)) S c.literals k (λ x f h. h) (view_externals c.externals) file.functions (few (view_externals c.externals) (start_by c is.numbers) file is.typed is.parameters)) 0 cs files t)
 
 pub functions_are_little : CodeIsLittle → FunctionsAreLittle
 functions_are_little little cs files t =
     let S : Source → Function → Type 0 = λ x f. HasLittle x.literals x.external f.parameters (view_statements f.body) in
     subst (AreFrom S (sources_in cs)) (sym (functions_from_is [] 0 files))
-    (joined S (λ k c file is. sources_from (λ x (f : TypedFunction). HasLittle (let s = is.start in s.literals) x f.parameters (view_statements f.body)) S c.literals k (λ x f h. subst (λ (ls : List (List ℕ)). HasLittle ls x f.parameters (view_statements f.body)) is.literals h) (view_externals c.externals) file.functions (little (view_externals c.externals) is.start file is.typed is.parameters)) 0 cs files t)
+    (joined S (λ k c file is. sources_from (λ x (f : TypedFunction). HasLittle (let s = start_by c is.numbers in s.literals) x f.parameters (view_statements f.body)) S c.literals k (λ x f h. subst (λ (ls : List (List ℕ)). HasLittle ls x f.parameters (view_statements f.body)) (starts_keep_literals c.stdio c.stdlib is.numbers c.literals) h) (view_externals c.externals) file.functions (little (view_externals c.externals) (start_by c is.numbers) file is.typed is.parameters)) 0 cs files t)
 
--- ---- and their aggregates get constants alone
+-- ---- what holds of the functions of each file
 
 all_append : {X : Type 0} (P : X → Type 0) (xs ys : List X) → AllByRecursion P xs → AllByRecursion P ys → AllByRecursion P (xs ++ ys)
 all_append P [] ys h k = k
 all_append P (x ∷ xs) ys h k = (h.0, all_append P xs ys h.1 k)
 
-constant_in : (k : ℕ) (fs : List TypedFunction) → AllByRecursion IsConstant fs → AllByRecursion IsConstantFunction (functions_of k fs)
-constant_in k [] h = tt
-constant_in k (f ∷ fs) h = (h.0, constant_in k fs h.1)
+all_functions_have : (P : Statements → Type 0) (k : ℕ) (fs : List TypedFunction) → AllByRecursion (λ (f : TypedFunction). P (view_statements f.body)) fs → AllByRecursion (λ (f : Function). P (view_statements f.body)) (functions_of k fs)
+all_functions_have P k [] h = tt
+all_functions_have P k (f ∷ fs) h = (h.0, all_functions_have P k fs h.1)
 
-constant_from : BodiesPaid → FilesAreChecked → (k : ℕ) (cs : List Contents) (files : List FileParts) → AreTypedAs cs files → AllByRecursion IsConstantFunction (all_functions k files)
-constant_from bodies checked k [] [] t = tt
-constant_from bodies checked k [] (f ∷ fs) t = absurd t
-constant_from bodies checked k (c ∷ cs) [] t = absurd t
-constant_from bodies checked k (c ∷ cs) (f ∷ fs) t =
-    let is = t.0 in
-    all_append IsConstantFunction (functions_of k f.functions) (all_functions (suc k) fs)
-    (constant_in k f.functions (are_constant bodies checked (view_externals c.externals) is.start f is.typed)) (constant_from bodies checked (suc k) cs fs t.1)
+all_files_have : (P : Statements → Type 0) → ((c : Contents) (file : FileParts) → IsTypedAs c file → AllByRecursion (λ (f : TypedFunction). P (view_statements f.body)) file.functions) →
+    (k : ℕ) (cs : List Contents) (files : List FileParts) → AreTypedAs cs files → AllByRecursion (λ (f : Function). P (view_statements f.body)) (all_functions k files)
+all_files_have P each k [] [] t = tt
+all_files_have P each k [] (f ∷ fs) t = absurd t
+all_files_have P each k (c ∷ cs) [] t = absurd t
+all_files_have P each k (c ∷ cs) (f ∷ fs) t =
+    all_append (λ (g : Function). P (view_statements g.body)) (functions_of k f.functions) (all_functions (suc k) fs)
+    (all_functions_have P k f.functions (each c f t.0)) (all_files_have P each (suc k) cs fs t.1)
 
+all_have : (P : Statements → Type 0) → ((c : Contents) (file : FileParts) → IsTypedAs c file → AllByRecursion (λ (f : TypedFunction). P (view_statements f.body)) file.functions) →
+    (cs : List Contents) (files : List FileParts) → AreTypedAs cs files → AllByRecursion (λ (f : Function). P (view_statements f.body)) (functions_from [] 0 files)
+all_have P each cs files t =
+    subst (AllByRecursion (λ (f : Function). P (view_statements f.body))) (sym (functions_from_is [] 0 files)) (all_files_have P each 0 cs files t)
+
+-- aggregates get constants alone
 pub functions_initialise_constants : BodiesPaid → FilesAreChecked → FunctionsInitialiseConstants
 functions_initialise_constants bodies checked cs files t =
-    subst (AllByRecursion IsConstantFunction) (sym (functions_from_is [] 0 files)) (constant_from bodies checked 0 cs files t)
+    all_have InitialisesConstants (λ c file is. are_constant bodies checked (view_externals c.externals) (start_by c is.numbers) file is.typed) cs files t
+
+-- no statement tests what has no value
+pub functions_test_values : BodiesTestValues → FilesAreChecked → FunctionsTestValues
+functions_test_values tests checked cs files t =
+    all_have HasTestedValues (λ c file is. are_tested tests checked c.stdio c.stdlib is.numbers c.literals (view_externals c.externals) file is.typed) cs files t

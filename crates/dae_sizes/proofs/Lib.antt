@@ -18,6 +18,7 @@ mod Values
 mod From
 mod Trees
 mod Functions
+mod Starts
 mod Forms
 mod Joined
 mod Totals

@@ -35,6 +35,7 @@ use Rattle.dae_types_typed.specs.declared.files.FileParts.{FileParts}
 use Rattle.dae_sizes.specs.Worth.{declares_in_value}
 use Rattle.dae_sizes.specs.Data.{IsNumberOrAddress, HasConstant, HoldsConstants, HasConstantData, DataAreConstant}
 use Rattle.dae_sizes.specs.Small.{IsPlanned}
+use Rattle.dae_sizes.specs.Sources.{start_by}
 use Rattle.dae_sizes.proofs.Within.{Within, none, stays, fewer, unmeasured, pure_within, node_reads, maps_stays, maps_reads, chain_within, nothing_within, looks_within, settles_within}
 use Rattle.dae_sizes.proofs.Steps.{base_within, maps_keeps}
 use Rattle.dae_sizes.proofs.Expressions.{inner, declarator_within, specifiers_within}
@@ -256,4 +257,4 @@ data_are_constant checked [] [] t = tt
 data_are_constant checked [] (f ∷ fs) t = absurd t
 data_are_constant checked (c ∷ cs) [] t = absurd t
 data_are_constant checked (c ∷ cs) (f ∷ fs) t =
-    let is = t.0 in (file_constant checked (view_externals c.externals) is.start f is.typed, data_are_constant checked cs fs t.1)
+    let is = t.0 in (file_constant checked (view_externals c.externals) (start_by c is.numbers) f is.typed, data_are_constant checked cs fs t.1)

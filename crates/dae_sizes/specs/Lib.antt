@@ -7,6 +7,7 @@ pub mod Small
 pub mod Sources
 pub mod Promise
 pub mod Constants
+pub mod Tests
 pub mod Written
 pub mod Data
 pub mod WrittenStatements

@@ -1,11 +1,12 @@
 -- The definitions and declarations that a program comes from, file by file.
-use Rattle.std.specs.Prelude.{◌≡◌, ℕ, ◌+◌, ◌≤◌, List, [], ◌∷◌, ◌++◌, length}
+use Rattle.std.specs.Prelude.{ℕ, ◌+◌, ◌≤◌, List, [], ◌∷◌, ◌++◌, length}
 use Rattle.std.specs.List.{AllByRecursion}
 use Rattle.dae_tree.specs.Files.{Contents, IsFile}
 use Rattle.dae_tree.specs.FileViews.{view_externals}
 use Rattle.dae_tree.specs.Statements.{spell_file}
 use Rattle.dae_tree.specs.Trees.{External}
 use Rattle.dae_types_kinds.specs.Tables.{Tables}
+use Rattle.dae_types_file_plans.specs.Files.{Numbers, start_of}
 use Rattle.dae_types_typed.specs.declared.files.FileParts.{FileParts}
 use Rattle.dae_sizes.specs.Worth.{IsDefinition}
 use Rattle.dae_unit.specs.Parameters.{HasParameters}
@@ -24,13 +25,16 @@ abbrev pub sources_in : List Contents → List Source
 sources_in [] = []
 sources_in (c ∷ cs) = sources_of c.literals (view_externals c.externals) ++ sources_in cs
 
--- the file is one of the grammar, no rule is broken in it, and this is what it comes to; each function has the parameters of
--- its type
+-- what is declared before the first token of a file: the functions of the headers that it includes, by the numbers of their names
+abbrev pub start_by : Contents → Numbers → Tables
+start_by c n = start_of c.stdio c.stdlib n c.literals
+
+-- the file is one of the grammar, no rule is broken in it from such a start on, and this is what it comes to; each function has
+-- the parameters of its type
 pub record IsTypedAs (c : Contents) (file : FileParts) : Type 0 where
   pub parsed : IsFile c
-  pub start : Tables
-  pub literals : start.literals ≡ c.literals
-  pub typed : IsPlanned (view_externals c.externals) start file
+  pub numbers : Numbers
+  pub typed : IsPlanned (view_externals c.externals) (start_by c numbers) file
   pub parameters : AllByRecursion (HasParameters file) file.functions
 
 abbrev pub AreTypedAs : List Contents → List FileParts → Type 0

@@ -12,6 +12,7 @@ ghost use Rattle.dae_sizes.specs.Promise.{FormsAreWithin, FramesAreSmall, Frames
 ghost use Rattle.dae_sizes.specs.Promise.{FunctionsAreFew, FunctionsAreLittle};
 ghost use Rattle.dae_sizes.specs.Promise.{StreamsAreLittle, StreamsAreWithin};
 ghost use Rattle.dae_sizes.specs.Small.{CodeIsLittle, VariablesAreFew};
+ghost use Rattle.dae_sizes.specs.Tests.{FunctionsTestValues};
 ghost use Rattle.dae_sizes.specs.Worth.{DefinitionsAreLong, PartsPay, TokensPay};
 ghost use Rattle.dae_sizes.specs.Written.{TypedAreFew};
 ghost use Rattle.dae_sizes.specs.WrittenStatements.{BlocksAreFew};
@@ -144,6 +145,14 @@ pub fn functions_initialise_constants()
     ensures { FunctionsInitialiseConstants }
 {
     bodies_paid();
+    dae_types_file_plans::files_are_checked();
+}
+
+/// No statement of the functions that files join to tests the value of a call of exit or abort: each test is of a value.
+pub fn functions_test_values()
+    ensures { FunctionsTestValues }
+{
+    dae_void_laws::bodies_test_values();
     dae_types_file_plans::files_are_checked();
 }
 

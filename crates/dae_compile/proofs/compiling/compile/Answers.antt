@@ -16,7 +16,7 @@ returns-in-Ok-clause-compiled c =
         accepted = c.in_ok-program.ensures.accepted;
         compiled = image;
         keeps = c.in-Ok.ensures.keeps;
-        accesses = keeps_accesses c.sets_bounded.ensures c.later_forms_do_programs.ensures c.functions_initialise_constants.ensures
+        accesses = keeps_accesses c.sets_bounded.ensures c.later_forms_do_programs.ensures c.functions_initialise_constants.ensures c.functions_test_values.ensures
             (texts_in c.args.texts.now) c.in_ok-program.program c.args.options.calls c.args.options.cap result.image range.called c.in_ok-program.ensures.files image;
         budget = c.in-Ok.ensures.budget;
         small = small c.forms_are_within.ensures c.frames_are_within.ensures (texts_in c.args.texts.now) c.in_ok-program.program c.args.options.calls c.args.options.cap result.image

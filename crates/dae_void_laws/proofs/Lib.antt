@@ -1,0 +1,6 @@
+mod Kept
+mod Values
+mod Steps
+mod Plans
+mod Statements
+mod Files
