@@ -11,8 +11,10 @@ use dae_types_typed::TypedFile;
 use std::alloc::Global;
 use std::process::Abort;
 
-/// Texts that break one rule, and the line and column where.
-const FIRST_BROKEN: [(&[u8], Rule, u32, u32); 85] = [
+/// A text, the rule that it breaks, and the line and column where.
+type Broken = (&'static [u8], Rule, u32, u32);
+
+static FIRST_BROKEN: [Broken; 85] = [
     (b"int m(){return y;}", Rule::Undeclared, 1, 16),
     (b"int m(){f();}", Rule::Undeclared, 1, 9),
     (b"int m(){{int y=1;y=2;}return y;}", Rule::Undeclared, 1, 30),
@@ -270,7 +272,7 @@ const FIRST_BROKEN: [(&[u8], Rule, u32, u32); 85] = [
     (b"int m(){return 1(2);}", Rule::BadCall, 1, 16),
 ];
 
-const OTHERS_BROKEN: [(&[u8], Rule, u32, u32); 84] = [
+static OTHERS_BROKEN: [Broken; 84] = [
     (
         b"int f(int a);int m(){return f();}",
         Rule::ArgumentCount,
@@ -583,7 +585,7 @@ const OTHERS_BROKEN: [(&[u8], Rule, u32, u32); 84] = [
 ];
 
 /// Texts that break no rule.
-const UNBROKEN: [&[u8]; 59] = [
+static UNBROKEN: [&[u8]; 59] = [
     b"int f(void);int m(){return f();}int f(void){}",
     b"extern int a;int a;int m(){int a;{char a;}}",
     b"int a;int a=1;int a;int f(void);int f(void){return 0;}int f(void);",
@@ -693,35 +695,49 @@ fn offset_of(file: &TypedFile, type_id: usize, name: u32) -> Option<u32> {
     }
 }
 
-#[test]
-fn each_broken_rule_is_told_at_its_place(rt: HostRuntime) {
-    for (text, rule, line, col) in &FIRST_BROKEN {
+fn first_broken() -> &'static [Broken] {
+    FIRST_BROKEN.as_slice()
+}
+
+fn others_broken() -> &'static [Broken] {
+    OTHERS_BROKEN.as_slice()
+}
+
+fn unbroken() -> &'static [&'static [u8]] {
+    UNBROKEN.as_slice()
+}
+
+/// Each text breaks its rule at its place.
+fn check_broken(rt: &impl Abort, alloc: Global, rows: &[Broken]) {
+    for (text, rule, line, col) in rows {
         let place = Place {
             file: 0,
             line: *line,
             col: *col,
         };
-        assert!(rt; is_told(rt.alloc(), text, *rule, place));
+        assert!(rt; is_told(alloc, text, *rule, place));
     }
+}
+
+fn check_unbroken(rt: &impl Abort, alloc: Global, texts: &[&[u8]]) {
+    for text in texts {
+        assert!(rt; is_taken(alloc, text));
+    }
+}
+
+#[test]
+fn each_broken_rule_is_told_at_its_place(rt: HostRuntime) {
+    check_broken(&rt, rt.alloc(), first_broken());
 }
 
 #[test]
 fn each_other_broken_rule_is_told_at_its_place(rt: HostRuntime) {
-    for (text, rule, line, col) in &OTHERS_BROKEN {
-        let place = Place {
-            file: 0,
-            line: *line,
-            col: *col,
-        };
-        assert!(rt; is_told(rt.alloc(), text, *rule, place));
-    }
+    check_broken(&rt, rt.alloc(), others_broken());
 }
 
 #[test]
 fn near_misses_are_taken(rt: HostRuntime) {
-    for text in &UNBROKEN {
-        assert!(rt; is_taken(rt.alloc(), text));
-    }
+    check_unbroken(&rt, rt.alloc(), unbroken());
 }
 
 #[test]

@@ -1,8 +1,9 @@
-//! Calls of the jobs that compile source files and run nothing, and of words that spell no job, with what is due where nothing fails.
+//! Calls of the jobs that compile or assemble and run nothing, and of words that spell no job, with what is due where nothing fails.
 
+use crate::images::LISTING;
 use crate::programs::{Call, SUMS};
 
-static CALLS: [Call; 6] = [
+static CALLS: [Call; 10] = [
     Call {
         words: "compile --to=q a.c",
         image: None,
@@ -57,6 +58,55 @@ static CALLS: [Call; 6] = [
         status: 2,
         out: &[],
         note: &["refused syntax a.c:1:24\n"],
+        early: 1,
+        kept: false,
+    },
+    Call {
+        words: "asm --to=q t",
+        image: None,
+        texts: &[("t", LISTING)],
+        status: 0,
+        out: &[],
+        note: &["kept q\n"],
+        early: 0,
+        kept: true,
+    },
+    Call {
+        words: "asm --to=q t",
+        image: None,
+        texts: &[(
+            "t",
+            ".budget 1 0 1 1 0 0 0\n.memory 64\n.calls 1\n.private 0 0\n.entry 0 0\n.a\nsw x30,16(x0)\nlw x30,20(x0)\nbeq x0,x0,3\n.e\naddi x10,x30,0\naddi x30,x10,1\necall\n.data\n.byte 0 0 0 0 7 0 0 0\n",
+        )],
+        status: 2,
+        out: &[],
+        note: &["refused asm-value 9\n"],
+        early: 1,
+        kept: false,
+    },
+    Call {
+        words: "asm --to=q t",
+        image: None,
+        texts: &[(
+            "t",
+            ".budget 1 0 1 1 0 0 0\n.memory 64\n.calls 1\n.private 0 0\n.entry 0 0\n.a\nsw x30,16(x0)\nlw x30,20(x0)\njal x0,up\n.e\naddi x10,x30,0\naddi x30,x10,1\necall\n.data\n.byte 0 0 0 0 7 0 0 0\n",
+        )],
+        status: 2,
+        out: &[],
+        note: &["refused asm-label 9\n"],
+        early: 1,
+        kept: false,
+    },
+    Call {
+        words: "asm --to=q t",
+        image: None,
+        texts: &[(
+            "t",
+            ".budget 1 0 1 1 0 0 0\n.memory 64\n.calls 1\n.private 0 0\n.entry 0 0\n.a\nsw x30,16(x0)\nlw x30,20(x0)\necall\n.e\naddi x10,x30,0\naddi x30,x10,1\necall\n.byte 0 0 0 0 7 0 0 0\n",
+        )],
+        status: 2,
+        out: &[],
+        note: &["refused asm-line 14\n"],
         early: 1,
         kept: false,
     },

@@ -70,8 +70,8 @@ fn check_answer(
     let line = call.words;
     let mut shelf = shelf_of(alloc, call, failing.shelf)?;
     let (status, out, note) = answer_over(alloc, line, &mut shelf, failing)?;
-    assert_eq!(rt; status, due.status, "{line}");
-    assert_eq!(rt; out.as_slice(), due.out, "{line}");
+    let is_due = (status, out.as_slice()) == (due.status, due.out);
+    assert!(rt; is_due, "{line}");
     assert!(rt; is_noted(note.as_slice(), due.note), "{line}");
     check_shelf(rt, &shelf, call, due.kept);
     Ok(())

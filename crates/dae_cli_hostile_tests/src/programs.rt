@@ -1,4 +1,4 @@
-//! Calls of the jobs that run source files, with what is due where nothing fails.
+//! Calls of the jobs that compile and run, `run` and `big`, with what is due where nothing fails.
 
 /// A call: its words, and what is due for it.
 pub struct Call {
@@ -24,7 +24,7 @@ pub struct Call {
 pub const SUMS: &str =
     "#include <stdio.h>\nint a[4]={1,2,3,4};int b[4]={10,20,30,40};int c[4];int main(void){int i;for(i=0;i<4;i++)c[i]=a[i]+b[i];for(i=0;i<4;i++)printf(\"%d\\n\",c[i]);return 0;}";
 
-static CALLS: [Call; 13] = [
+static CALLS: [Call; 16] = [
     Call {
         words: "run --ld=2 --al=1 --sa=1 --sd=1 --ab=1 --eb=1 --cq=1 a.c",
         image: None,
@@ -218,6 +218,44 @@ static CALLS: [Call; 13] = [
             "steps ",
         ],
         early: 3,
+        kept: false,
+    },
+    Call {
+        words: "big 3",
+        image: None,
+        texts: &[],
+        status: 0,
+        out: &["32", "\n"],
+        note: &[
+            "budget ld 1 al 0 sa 1 sd 1 ab 1 eb 0 cq 0\n",
+            "ended 0\n",
+            "steps ",
+        ],
+        early: 1,
+        kept: false,
+    },
+    Call {
+        words: "big --steps=100 3",
+        image: None,
+        texts: &[],
+        status: 3,
+        out: &[],
+        note: &[
+            "budget ld 1 al 0 sa 1 sd 1 ab 1 eb 0 cq 0\n",
+            "running\n",
+            "steps 100\n",
+        ],
+        early: 3,
+        kept: false,
+    },
+    Call {
+        words: "big --memory=64 3",
+        image: None,
+        texts: &[],
+        status: 2,
+        out: &[],
+        note: &["refused data-too-large 276\n"],
+        early: 1,
         kept: false,
     },
 ];

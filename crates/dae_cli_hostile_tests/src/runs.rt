@@ -21,7 +21,33 @@ pub const PRINTS: &str = "\
     1305a00093081000730000001305600193082000730000001305a0009308100073000000130510029308200073000000\
     1305a00093081000730000001305c00293082000730000001305a0009308100073000000130550009308000073000000";
 
-static CALLS: [Call; 10] = [
+/// Ten products in a loop.
+const PRODUCTS: &str = "\
+    444145310200000001000000010000000100000001000000010000000100000001000000400000000100000010000000\
+    1000000000000000000000000100000006000000000000000000000000000000730000009302a000338352029382f2ff\
+    e39c02fe1305030073000000";
+
+/// Messages and copies of A to an E that quotients hold back.
+const MESSAGES_TO_E: &str = "\
+    444145310200000001000000010000000100000001000000010000000100000001000000400000000100000010000000\
+    100000000000000000000000070000000d000000000000000000000000000000930e7000930e9000930eb000130e3000\
+    130e4000130e50007300000093820e0033c3520213830e00b313530293830e0033f5630293020e0033e5530293020e00\
+    b3b5530213030e003385620273000000";
+
+/// Messages and data of stores of E to an A that quotients hold back.
+const MESSAGES_TO_A: &str = "\
+    444145310200000001000000010000000100000001000000010000000100000001000000400000000100000010000000\
+    1000000000000000000000000c00000007000000000000000000000000000000b352730213830e00b342630213830e00\
+    2328e001b3726302232ae001b3226302232ce001832f400193830f0073000000930e1000930e2000130f5000130f6000\
+    130f70001305300073000000";
+
+/// A program that prints, and traps.
+const TRAPS: &str = "\
+    444145310200000001000000010000000100000001000000010000000100000001000000400000000100000010000000\
+    100000000000000000000000010000000900000000000000000000000000000073000000130540059308100073000000\
+    130590ff9308200073000000130550009308500073000000";
+
+static CALLS: [Call; 16] = [
     Call {
         words: "exec --show=16,1 p",
         image: Some(PRINTS),
@@ -160,6 +186,108 @@ static CALLS: [Call; 10] = [
             "waits E ld 9 sd 0 ab 0 eb 0 cq 0\n",
         ],
         early: 7,
+        kept: false,
+    },
+    Call {
+        words: "time --ticks=3 p",
+        image: Some(TRAPS),
+        texts: &[],
+        status: 3,
+        out: &["T"],
+        note: &[
+            "budget ld 1 al 1 sa 1 sd 1 ab 1 eb 1 cq 1\n",
+            "running\n",
+            "steps 4\n",
+            "ticks 3\n",
+            "waits A ld 0 al 0 sa 0 ab 0 eb 0 cq 0\n",
+            "waits E ld 0 sd 0 ab 0 eb 0 cq 0\n",
+        ],
+        early: 1,
+        kept: false,
+    },
+    Call {
+        words: "time --ticks=3 p",
+        image: Some(TRAPS),
+        texts: &[],
+        status: 3,
+        out: &["T"],
+        note: &[
+            "budget ld 1 al 1 sa 1 sd 1 ab 1 eb 1 cq 1\n",
+            "running\n",
+            "steps 4\n",
+            "ticks 3\n",
+            "waits A ld 0 al 0 sa 0 ab 0 eb 0 cq 0\n",
+            "waits E ld 0 sd 0 ab 0 eb 0 cq 0\n",
+        ],
+        early: 1,
+        kept: false,
+    },
+    Call {
+        words: "time --ticks=3 p",
+        image: Some(TRAPS),
+        texts: &[],
+        status: 3,
+        out: &["T"],
+        note: &[
+            "budget ld 1 al 1 sa 1 sd 1 ab 1 eb 1 cq 1\n",
+            "running\n",
+            "steps 4\n",
+            "ticks 3\n",
+            "waits A ld 0 al 0 sa 0 ab 0 eb 0 cq 0\n",
+            "waits E ld 0 sd 0 ab 0 eb 0 cq 0\n",
+        ],
+        early: 1,
+        kept: false,
+    },
+    Call {
+        words: "time --ticks=3 p",
+        image: Some(TRAPS),
+        texts: &[],
+        status: 3,
+        out: &["T"],
+        note: &[
+            "budget ld 1 al 1 sa 1 sd 1 ab 1 eb 1 cq 1\n",
+            "running\n",
+            "steps 4\n",
+            "ticks 3\n",
+            "waits A ld 0 al 0 sa 0 ab 0 eb 0 cq 0\n",
+            "waits E ld 0 sd 0 ab 0 eb 0 cq 0\n",
+        ],
+        early: 1,
+        kept: false,
+    },
+    Call {
+        words: "time --ticks=3 p",
+        image: Some(TRAPS),
+        texts: &[],
+        status: 3,
+        out: &["T"],
+        note: &[
+            "budget ld 1 al 1 sa 1 sd 1 ab 1 eb 1 cq 1\n",
+            "running\n",
+            "steps 4\n",
+            "ticks 3\n",
+            "waits A ld 0 al 0 sa 0 ab 0 eb 0 cq 0\n",
+            "waits E ld 0 sd 0 ab 0 eb 0 cq 0\n",
+        ],
+        early: 1,
+        kept: false,
+    },
+    Call {
+        words: "time --ticks=3 p",
+        image: Some(TRAPS),
+        texts: &[],
+        status: 3,
+        out: &["T"],
+        note: &[
+            "budget ld 1 al 1 sa 1 sd 1 ab 1 eb 1 cq 1\n",
+            "running\n",
+            "steps 4\n",
+            "ticks 3\n",
+            "waits A ld 0 al 0 sa 0 ab 0 eb 0 cq 0\n",
+            "waits E ld 0 sd 0 ab 0 eb 0 cq 0\n",
+        ],
+        early: 1,
         kept: false,
     },
     Call {

@@ -5,8 +5,7 @@ use dae_io::{FailingCall, MemShelf, MemSink};
 use std::alloc::{AllocError, Global};
 use std::test::Fail;
 
-/// Options for schedules of every kind.
-pub const SCHEDULES: [&str; 7] = [
+static SCHEDULES: [&str; 7] = [
     "--schedule=round",
     "--schedule=a",
     "--schedule=e",
@@ -15,6 +14,11 @@ pub const SCHEDULES: [&str; 7] = [
     "--schedule=seed:1",
     "--schedule=seed:4294967295",
 ];
+
+/// Options for schedules of every kind.
+pub fn schedules() -> &'static [&'static str] {
+    SCHEDULES.as_slice()
+}
 
 /// The words of a line, which have blanks between them.
 pub fn words_in(alloc: Global, line: &str) -> Result<Vec<String>, AllocError> {

@@ -1,5 +1,9 @@
-/// Texts of files, with the status and the output that are due. Outputs are those of gcc with wrapping arithmetic.
-pub const FILES: [(&[u8], u8, &[u8]); 55] = [
+//! Texts of files. Their outputs are those of gcc with wrapping arithmetic.
+
+/// A text, and the status and the output that are due.
+pub type File = (&'static [u8], u8, &'static [u8]);
+
+static FILES: [File; 55] = [
     (
         b"#include <stdio.h>\nint a;int b;int _c;int Dn;int int0;int main(void){a=1390851128;b=647892279;_c=1695753998;Dn=207388624;int0=311111475;_c=a+Dn-int0*b+a-_c-int0*int0*a+int0;printf(\"%d\\n\",Dn+_c*a*_c+int0-b+Dn*_c);return 0;}",
         0,
@@ -264,3 +268,8 @@ pub const FILES: [(&[u8], u8, &[u8]); 55] = [
         b"7\n",
     ),
 ];
+
+/// All files.
+pub fn files() -> &'static [File] {
+    FILES.as_slice()
+}

@@ -10,7 +10,7 @@ use std::process::Abort;
 use std::test::Fail;
 
 // Words that spell no job, with spaces between them.
-const NONE: [&str; 32] = [
+static NONE: [&str; 32] = [
     "exec",
     "exec -p",
     "exec p q",
@@ -62,16 +62,21 @@ fn options_of<A: Abort>(rt: &A, alloc: Global, line: &str) -> Result<RunOptions,
     }
 }
 
-#[test]
-fn no_job_is_spelled(rt: HostRuntime) -> Result<(), Fail> {
-    for line in NONE {
-        let words = words_in(rt.alloc(), line)?;
-        assert!(rt;
-            spelled_job(rt.alloc(), words.as_slice())?.is_none(),
-            "{line}"
-        );
+fn none() -> &'static [&'static str] {
+    NONE.as_slice()
+}
+
+fn spell_none(rt: &impl Abort, alloc: Global, lines: &[&str]) -> Result<(), Fail> {
+    for line in lines {
+        let words = words_in(alloc, line)?;
+        assert!(rt; spelled_job(alloc, words.as_slice())?.is_none(), "{line}");
     }
     Ok(())
+}
+
+#[test]
+fn no_job_is_spelled(rt: HostRuntime) -> Result<(), Fail> {
+    spell_none(&rt, rt.alloc(), none())
 }
 
 #[test]

@@ -1,7 +1,7 @@
 //! Rows of words and texts, with the status, the output and the lines that are due.
 
-use crate::calls::{SCHEDULES, answer_over, lines_of, shelf_of};
-use crate::files::FILES;
+use crate::calls::{answer_over, lines_of, schedules, shelf_of};
+use crate::files::{File, files};
 use crate::rows::{ROWS, Row};
 use dae_io::MemShelf;
 use std::alloc::{AllocError, Global};
@@ -30,7 +30,7 @@ fn each_row_is_answered(rt: HostRuntime) -> Result<(), Fail> {
 /// The row's answer under each schedule.
 fn answers_alike(rt: &impl Abort, alloc: Global, row: &Row) -> Result<(), Fail> {
     let options = row.words.strip_prefix("run").unwrap_or(row.words);
-    for schedule in SCHEDULES {
+    for schedule in schedules() {
         let words = format!(in alloc; "run {schedule}{options}")?;
         answers_row(rt, alloc, row, words.as_str())?;
     }
@@ -68,12 +68,16 @@ fn runs(
     Ok(())
 }
 
-#[test]
-fn each_file_is_run(rt: HostRuntime) -> Result<(), Fail> {
-    for (text, status, due) in &FILES {
-        runs(&rt, rt.alloc(), "run a.c", text, *status, due, None)?;
+fn runs_files(rt: &impl Abort, alloc: Global, files: &[File]) -> Result<(), Fail> {
+    for (text, status, due) in files {
+        runs(rt, alloc, "run a.c", text, *status, due, None)?;
     }
     Ok(())
+}
+
+#[test]
+fn each_file_is_run(rt: HostRuntime) -> Result<(), Fail> {
+    runs_files(&rt, rt.alloc(), files())
 }
 
 /// A text, in parts that stand as often as stated, with the status and the lines that are due.
@@ -83,7 +87,7 @@ struct Long {
     note: &'static [u8],
 }
 
-const LONG: [Long; 20] = [
+static LONG: [Long; 20] = [
     Long {
         parts: &[(b"int main(void){return 0;}\xff", 1)],
         status: 2,
@@ -232,14 +236,18 @@ fn text_of(alloc: Global, parts: &[(&[u8], u32)]) -> Result<Vec<u8>, AllocError>
     Ok(text)
 }
 
-#[test]
-fn each_long_text_is_answered(rt: HostRuntime) -> Result<(), Fail> {
-    for row in &LONG {
-        let text = text_of(rt.alloc(), row.parts)?;
+fn long_texts() -> &'static [Long] {
+    LONG.as_slice()
+}
+
+/// Each text is answered so for the words.
+fn answers_long(rt: &impl Abort, alloc: Global, words: &str, rows: &[Long]) -> Result<(), Fail> {
+    for row in rows {
+        let text = text_of(alloc, row.parts)?;
         runs(
-            &rt,
-            rt.alloc(),
-            "run a.c",
+            rt,
+            alloc,
+            words,
             text.as_slice(),
             row.status,
             b"",
@@ -249,8 +257,13 @@ fn each_long_text_is_answered(rt: HostRuntime) -> Result<(), Fail> {
     Ok(())
 }
 
+#[test]
+fn each_long_text_is_answered(rt: HostRuntime) -> Result<(), Fail> {
+    answers_long(&rt, rt.alloc(), "run a.c", long_texts())
+}
+
 /// Texts that are read twice, in one room for their bytes and one for their tokens.
-const TWICE: [Long; 4] = [
+static TWICE: [Long; 4] = [
     Long {
         parts: &[(b" ", 524_288)],
         status: 2,
@@ -273,21 +286,13 @@ const TWICE: [Long; 4] = [
     },
 ];
 
+fn texts_read_twice() -> &'static [Long] {
+    TWICE.as_slice()
+}
+
 #[test]
 fn files_share_one_room(rt: HostRuntime) -> Result<(), Fail> {
-    for row in &TWICE {
-        let text = text_of(rt.alloc(), row.parts)?;
-        runs(
-            &rt,
-            rt.alloc(),
-            "run a.c a.c",
-            text.as_slice(),
-            row.status,
-            b"",
-            Some(row.note),
-        )?;
-    }
-    Ok(())
+    answers_long(&rt, rt.alloc(), "run a.c a.c", texts_read_twice())
 }
 
 /// Words that run so many files, which are put on the shelf.

@@ -1,7 +1,8 @@
 // The words of instructions that blocks are made of, as binutils and LLVM assemble them; behind each its disassembly.
 use dae_encode::{Inst, decode};
+use std::process::Abort;
 
-const WORDS: [(u32, Inst); 115] = [
+static WORDS: [(u32, Inst); 115] = [
     (0x123452b7, Inst::Lui(5, 305_418_240)), // lui t0,0x12345
     (0xfffff437, Inst::Lui(8, -4096)), // lui s0,0xfffff
     (0x00001297, Inst::Auipc(5, 4096)), // auipc t0,0x1
@@ -119,9 +120,17 @@ const WORDS: [(u32, Inst); 115] = [
     (0x00000073, Inst::Ecall), // ecall
 ];
 
+fn words() -> &'static [(u32, Inst)] {
+    WORDS.as_slice()
+}
+
+fn check_words(rt: &impl Abort, rows: &[(u32, Inst)]) {
+    for (word, inst) in rows {
+        assert_eq!(rt; decode(*word), Some(*inst));
+    }
+}
+
 #[test]
 fn words_are_meant_so(rt: HostRuntime) {
-    for (word, inst) in WORDS {
-        assert_eq!(rt; decode(word), Some(inst));
-    }
+    check_words(&rt, words());
 }

@@ -17,7 +17,7 @@ use dae_split_pair::{decouple, is_scoped};
 use std::alloc::{AllocError, Global};
 use std::test::Fail;
 
-const SCHEDULES: [Schedule; 6] = [
+static SCHEDULES: [Schedule; 6] = [
     Schedule::Round,
     Schedule::A,
     Schedule::E,
@@ -25,6 +25,10 @@ const SCHEDULES: [Schedule; 6] = [
     Schedule::Drain,
     Schedule::Seed(7),
 ];
+
+fn schedules() -> &'static [Schedule] {
+    SCHEDULES.as_slice()
+}
 
 // A queue holds an item at least.
 fn depths_of(budget: Depths) -> Depths
@@ -117,8 +121,8 @@ fn ends(
     let Some(image) = image_of(alloc, ir, content)? else {
         return Ok(false);
     };
-    for schedule in SCHEDULES {
-        let (rest, out) = run(alloc, &image, schedule, 1_000_000)?;
+    for schedule in schedules() {
+        let (rest, out) = run(alloc, &image, *schedule, 1_000_000)?;
         if rest != Some(Rest::Final(end)) || out.as_slice() != printed {
             return Ok(false);
         }
@@ -131,8 +135,8 @@ fn goes_on(alloc: Global, ir: &Ir, letter: Option<u8>) -> Result<bool, Fail> {
     let Some(image) = image_of(alloc, ir, &[])? else {
         return Ok(false);
     };
-    for schedule in SCHEDULES {
-        let (rest, out) = run(alloc, &image, schedule, 1000)?;
+    for schedule in schedules() {
+        let (rest, out) = run(alloc, &image, *schedule, 1000)?;
         if rest.is_some() || out.is_empty() != letter.is_none() {
             return Ok(false);
         }

@@ -1,8 +1,10 @@
 // Words from an assembler and disassembler, and results from an emulator.
 use dae_base::{LoadKind, Queue, Side, Width};
 use dae_encode::{Inst, QueueUse, decode, encode, next, queue_use, value};
+use std::process::Abort;
 
-const WORDS: [(u32, Inst); 157] = [
+// A word and the instruction that it spells.
+static WORDS: [(u32, Inst); 157] = [
     (0x00000073, Inst::Ecall),
     (0x003100b3, Inst::Add(1, 2, 3)),
     (0x023100b3, Inst::Mul(1, 2, 3)),
@@ -163,7 +165,7 @@ const WORDS: [(u32, Inst); 157] = [
 ];
 
 // FENCE and EBREAK first, then words whose opcode is in the table, then others.
-const OTHER_WORDS: [u32; 43] = [
+static OTHER_WORDS: [u32; 43] = [
     0x0000000f, 0x00100073, 0x30200073, 0x00002073, 0x02c3db23, 0x9e64a0e3, 0x0fb671b3, 0x4260a3e7,
     0x03b64e67, 0x95cba533, 0x0383e3f3, 0x003e7623, 0x67574f23, 0x036e4c73, 0x0354b3f3, 0x00346fa3,
     0xaed33483, 0x03beb823, 0x41516803, 0x7d2635e7, 0x026a1713, 0x03429873, 0x43327a83, 0x0ac4ebb3,
@@ -173,7 +175,7 @@ const OTHER_WORDS: [u32; 43] = [
 ];
 
 // An instruction, the values of its two sources, and its result.
-const RESULTS: [(Inst, u32, u32, u32); 237] = [
+static RESULTS: [(Inst, u32, u32, u32); 237] = [
     (Inst::Add(3, 1, 2), 0x0, 0x0, 0x0),
     (Inst::Add(3, 1, 2), 0x1, 0xffffffff, 0x0),
     (Inst::Add(3, 1, 2), 0x1, 0x10000, 0x10001),
@@ -414,7 +416,7 @@ const RESULTS: [(Inst, u32, u32, u32); 237] = [
 ];
 
 // A branch, the values of its two sources, and whether it is taken.
-const BRANCHES: [(Inst, u32, u32, bool); 36] = [
+static BRANCHES: [(Inst, u32, u32, bool); 36] = [
     (Inst::Beq(1, 2, 0x400), 0xdeadbeef, 0x1f, false),
     (Inst::Beq(1, 2, 0x400), 0x80000000, 0xffffffff, false),
     (Inst::Beq(1, 2, 0x400), 0x80000000, 0x1, false),
@@ -454,7 +456,7 @@ const BRANCHES: [(Inst, u32, u32, bool); 36] = [
 ];
 
 // A jump with the value of its base, and the address that it goes to.
-const TARGETS: [(Inst, u32, u32); 6] = [
+static TARGETS: [(Inst, u32, u32); 6] = [
     (Inst::Jal(1, -4), 0, 0xfc),
     (Inst::Jal(0, 0x800), 0, 0x900),
     (Inst::Jalr(1, 5, 0), 0x200, 0x200),
@@ -464,7 +466,7 @@ const TARGETS: [(Inst, u32, u32); 6] = [
 ];
 
 // A side, an instruction, whether copies are allowed, and the access.
-const ACCESSES: [(Side, Inst, bool, Option<QueueUse>); 28] = [
+static ACCESSES: [(Side, Inst, bool, Option<QueueUse>); 28] = [
     (
         Side::A,
         Inst::Lw(30, 5, 0),
@@ -570,31 +572,61 @@ const ACCESSES: [(Side, Inst, bool, Option<QueueUse>); 28] = [
     (Side::E, Inst::Addi(31, 10, 0), true, None),
 ];
 
-#[test]
-fn words_spell_instructions(rt: HostRuntime) {
-    for (word, want) in &WORDS {
+fn words() -> &'static [(u32, Inst)] {
+    WORDS.as_slice()
+}
+
+fn other_words() -> &'static [u32] {
+    OTHER_WORDS.as_slice()
+}
+
+fn results() -> &'static [(Inst, u32, u32, u32)] {
+    RESULTS.as_slice()
+}
+
+fn branches() -> &'static [(Inst, u32, u32, bool)] {
+    BRANCHES.as_slice()
+}
+
+fn targets() -> &'static [(Inst, u32, u32)] {
+    TARGETS.as_slice()
+}
+
+fn accesses() -> &'static [(Side, Inst, bool, Option<QueueUse>)] {
+    ACCESSES.as_slice()
+}
+
+fn check_words(rt: &impl Abort, rows: &[(u32, Inst)]) {
+    for (word, want) in rows {
         let inst = decode(*word);
         assert_eq!(rt; inst, Some(*want), "at {word}");
         if let Some(inst) = inst {
             assert_eq!(rt; encode(inst), *word);
         }
     }
-    for word in &OTHER_WORDS {
+}
+
+fn check_other_words(rt: &impl Abort, rows: &[u32]) {
+    for word in rows {
         assert_eq!(rt; decode(*word), None, "at {word}");
     }
 }
 
-#[test]
-fn instructions_compute(rt: HostRuntime) {
-    for (inst, first, second, want) in &RESULTS {
+fn check_results(rt: &impl Abort, rows: &[(Inst, u32, u32, u32)]) {
+    for (inst, first, second, want) in rows {
         assert_eq!(rt;
-            value(inst, 0x100, *first, *second),
-            *want,
+            (
+                value(inst, 0x100, *first, *second),
+                next(inst, 0x100, *first, *second)
+            ),
+            (*want, 0x104),
             "{first} and {second}"
         );
-        assert_eq!(rt; next(inst, 0x100, *first, *second), 0x104);
     }
-    for (inst, first, second, taken) in &BRANCHES {
+}
+
+fn check_branches(rt: &impl Abort, rows: &[(Inst, u32, u32, bool)]) {
+    for (inst, first, second, taken) in rows {
         let want = if *taken { 0x500 } else { 0x104 };
         assert_eq!(rt;
             next(inst, 0x100, *first, *second),
@@ -604,13 +636,36 @@ fn instructions_compute(rt: HostRuntime) {
     }
 }
 
-#[test]
-fn jumps_and_accesses(rt: HostRuntime) {
-    for (inst, base, want) in &TARGETS {
-        assert_eq!(rt; next(inst, 0x100, *base, 0), *want, "from {base}");
-        assert_eq!(rt; value(inst, 0x100, *base, 0), 0x104);
+fn check_targets(rt: &impl Abort, rows: &[(Inst, u32, u32)]) {
+    for (inst, base, want) in rows {
+        assert_eq!(rt;
+            (next(inst, 0x100, *base, 0), value(inst, 0x100, *base, 0)),
+            (*want, 0x104),
+            "from {base}"
+        );
     }
-    for (side, inst, copies, want) in &ACCESSES {
+}
+
+fn check_accesses(rt: &impl Abort, rows: &[(Side, Inst, bool, Option<QueueUse>)]) {
+    for (side, inst, copies, want) in rows {
         assert_eq!(rt; queue_use(*side, inst, *copies), *want);
     }
+}
+
+#[test]
+fn words_spell_instructions(rt: HostRuntime) {
+    check_words(&rt, words());
+    check_other_words(&rt, other_words());
+}
+
+#[test]
+fn instructions_compute(rt: HostRuntime) {
+    check_results(&rt, results());
+    check_branches(&rt, branches());
+}
+
+#[test]
+fn jumps_and_accesses(rt: HostRuntime) {
+    check_targets(&rt, targets());
+    check_accesses(&rt, accesses());
 }

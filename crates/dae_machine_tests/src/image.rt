@@ -9,45 +9,60 @@ use std::process::Abort;
 use std::test::*;
 
 /// Version 1: one ECALL against one ADDI.
-fn halts() -> [u8; 84] {
-    [
-        68, 65, 69, 49, 1, 0, 0, 0, 0, 0, 0, 0, 0, 0, 0, 0, 0, 0, 0, 0, 0, 0, 0, 0, 0, 0, 0, 0, 0,
-        0, 0, 0, 64, 0, 0, 0, 1, 0, 0, 0, 0, 0, 0, 0, 0, 0, 0, 0, 0, 0, 0, 0, 0, 0, 0, 0, 1, 0, 0,
-        0, 1, 0, 0, 0, 0, 0, 0, 0, 0, 0, 0, 0, 0, 0, 0, 0, 115, 0, 0, 0, 147, 2, 15, 0,
-    ]
+static HALTS: [u8; 84] = [
+    68, 65, 69, 49, 1, 0, 0, 0, 0, 0, 0, 0, 0, 0, 0, 0, 0, 0, 0, 0, 0, 0, 0, 0, 0, 0, 0, 0, 0, 0,
+    0, 0, 64, 0, 0, 0, 1, 0, 0, 0, 0, 0, 0, 0, 0, 0, 0, 0, 0, 0, 0, 0, 0, 0, 0, 0, 1, 0, 0, 0, 1,
+    0, 0, 0, 0, 0, 0, 0, 0, 0, 0, 0, 0, 0, 0, 0, 115, 0, 0, 0, 147, 2, 15, 0,
+];
+
+fn halts() -> &'static [u8]
+    ensures { length result.now ≡ 84 }
+{
+    HALTS.as_slice()
 }
 
 /// Version 1: loads a word, adds one to it and stores the sum.
-fn adds() -> [u8; 108] {
-    [
-        68, 65, 69, 49, 1, 0, 0, 0, 1, 0, 0, 0, 0, 0, 0, 0, 1, 0, 0, 0, 1, 0, 0, 0, 0, 0, 0, 0, 0,
-        0, 0, 0, 64, 0, 0, 0, 1, 0, 0, 0, 0, 0, 0, 0, 0, 0, 0, 0, 0, 0, 0, 0, 0, 0, 0, 0, 3, 0, 0,
-        0, 3, 0, 0, 0, 8, 0, 0, 0, 0, 0, 0, 0, 0, 0, 0, 0, 35, 40, 224, 1, 3, 47, 64, 1, 115, 0, 0,
-        0, 19, 5, 15, 0, 19, 15, 21, 0, 115, 0, 0, 0, 0, 0, 0, 0, 7, 0, 0, 0,
-    ]
+static ADDS: [u8; 108] = [
+    68, 65, 69, 49, 1, 0, 0, 0, 1, 0, 0, 0, 0, 0, 0, 0, 1, 0, 0, 0, 1, 0, 0, 0, 0, 0, 0, 0, 0, 0,
+    0, 0, 64, 0, 0, 0, 1, 0, 0, 0, 0, 0, 0, 0, 0, 0, 0, 0, 0, 0, 0, 0, 0, 0, 0, 0, 3, 0, 0, 0, 3,
+    0, 0, 0, 8, 0, 0, 0, 0, 0, 0, 0, 0, 0, 0, 0, 35, 40, 224, 1, 3, 47, 64, 1, 115, 0, 0, 0, 19, 5,
+    15, 0, 19, 15, 21, 0, 115, 0, 0, 0, 0, 0, 0, 0, 7, 0, 0, 0,
+];
+
+fn adds() -> &'static [u8]
+    ensures { length result.now ≡ 108 }
+{
+    ADDS.as_slice()
 }
 
 /// Version 2: sends one copy.
-fn copies() -> [u8; 96] {
-    [
-        68, 65, 69, 49, 2, 0, 0, 0, 0, 0, 0, 0, 0, 0, 0, 0, 0, 0, 0, 0, 0, 0, 0, 0, 0, 0, 0, 0, 0,
-        0, 0, 0, 1, 0, 0, 0, 64, 0, 0, 0, 1, 0, 0, 0, 0, 0, 0, 0, 0, 0, 0, 0, 0, 0, 0, 0, 0, 0, 0,
-        0, 2, 0, 0, 0, 2, 0, 0, 0, 0, 0, 0, 0, 0, 0, 0, 0, 0, 0, 0, 0, 19, 14, 144, 0, 115, 0, 0,
-        0, 19, 5, 14, 0, 115, 0, 0, 0,
-    ]
+static COPIES: [u8; 96] = [
+    68, 65, 69, 49, 2, 0, 0, 0, 0, 0, 0, 0, 0, 0, 0, 0, 0, 0, 0, 0, 0, 0, 0, 0, 0, 0, 0, 0, 0, 0,
+    0, 0, 1, 0, 0, 0, 64, 0, 0, 0, 1, 0, 0, 0, 0, 0, 0, 0, 0, 0, 0, 0, 0, 0, 0, 0, 0, 0, 0, 0, 2,
+    0, 0, 0, 2, 0, 0, 0, 0, 0, 0, 0, 0, 0, 0, 0, 0, 0, 0, 0, 19, 14, 144, 0, 115, 0, 0, 0, 19, 5,
+    14, 0, 115, 0, 0, 0,
+];
+
+fn copies() -> &'static [u8]
+    ensures { length result.now ≡ 96 }
+{
+    COPIES.as_slice()
 }
 
 /// Version 2: three line marks, from 112 on, and two names, at 160 and 167.
-fn marked() -> [u8; 173] {
-    [
-        68, 65, 69, 49, 2, 0, 0, 0, 1, 0, 0, 0, 0, 0, 0, 0, 1, 0, 0, 0, 1, 0, 0, 0, 0, 0, 0, 0, 0,
-        0, 0, 0, 0, 0, 0, 0, 64, 0, 0, 0, 1, 0, 0, 0, 0, 0, 0, 0, 0, 0, 0, 0, 0, 0, 0, 0, 0, 0, 0,
-        0, 3, 0, 0, 0, 3, 0, 0, 0, 8, 0, 0, 0, 3, 0, 0, 0, 2, 0, 0, 0, 35, 40, 224, 1, 3, 47, 64,
-        1, 115, 0, 0, 0, 19, 5, 15, 0, 19, 15, 21, 0, 115, 0, 0, 0, 0, 0, 0, 0, 7, 0, 0, 0, 0, 0,
-        0, 0, 0, 0, 0, 0, 0, 0, 0, 0, 3, 0, 0, 0, 0, 0, 0, 0, 2, 0, 0, 0, 0, 0, 0, 0, 4, 0, 0, 0,
-        1, 0, 0, 0, 1, 0, 0, 0, 1, 0, 0, 0, 7, 0, 0, 0, 3, 0, 0, 0, 97, 46, 99, 2, 0, 0, 0, 195,
-        169,
-    ]
+static MARKED: [u8; 173] = [
+    68, 65, 69, 49, 2, 0, 0, 0, 1, 0, 0, 0, 0, 0, 0, 0, 1, 0, 0, 0, 1, 0, 0, 0, 0, 0, 0, 0, 0, 0,
+    0, 0, 0, 0, 0, 0, 64, 0, 0, 0, 1, 0, 0, 0, 0, 0, 0, 0, 0, 0, 0, 0, 0, 0, 0, 0, 0, 0, 0, 0, 3,
+    0, 0, 0, 3, 0, 0, 0, 8, 0, 0, 0, 3, 0, 0, 0, 2, 0, 0, 0, 35, 40, 224, 1, 3, 47, 64, 1, 115, 0,
+    0, 0, 19, 5, 15, 0, 19, 15, 21, 0, 115, 0, 0, 0, 0, 0, 0, 0, 7, 0, 0, 0, 0, 0, 0, 0, 0, 0, 0,
+    0, 0, 0, 0, 0, 3, 0, 0, 0, 0, 0, 0, 0, 2, 0, 0, 0, 0, 0, 0, 0, 4, 0, 0, 0, 1, 0, 0, 0, 1, 0, 0,
+    0, 1, 0, 0, 0, 7, 0, 0, 0, 3, 0, 0, 0, 97, 46, 99, 2, 0, 0, 0, 195, 169,
+];
+
+fn marked() -> &'static [u8]
+    ensures { length result.now ≡ 173 }
+{
+    MARKED.as_slice()
 }
 
 /// An offset, the number that is put there, and the fault that is found then.
@@ -120,11 +135,11 @@ fn renewed(alloc: Global, old: &[u8]) -> Result<Vec<u8>, AllocError>
 
 #[test]
 fn old_versions_are_written_as_the_new_one(rt: HostRuntime) -> Result<(), Fail> {
-    let image = read(rt.alloc(), &halts())?;
+    let image = read(rt.alloc(), halts())?;
     assert_eq!(rt; image.memory, 64);
     assert_eq!(rt; image.code_e.as_slice(), [0x000f_0293].as_slice());
     let written = write(rt.alloc(), &image)?;
-    let wanted = renewed(rt.alloc(), &halts())?;
+    let wanted = renewed(rt.alloc(), halts())?;
     assert_eq!(rt; written.as_slice(), wanted.as_slice());
     assert_eq!(rt; written.len(), 88);
     Ok(())
@@ -132,7 +147,7 @@ fn old_versions_are_written_as_the_new_one(rt: HostRuntime) -> Result<(), Fail> 
 
 /// A load of another offset in the code, and the data.
 fn check_adds(rt: &impl Abort, alloc: Global) -> Result<(), Fail> {
-    let other = changed(alloc, &adds(), 80, 0x0100_2f03)?;
+    let other = changed(alloc, adds(), 80, 0x0100_2f03)?;
     let image = read(alloc, &other)?;
     assert_eq!(rt;
         image.code_a.as_slice(),
@@ -147,26 +162,26 @@ fn check_adds(rt: &impl Abort, alloc: Global) -> Result<(), Fail> {
 
 #[test]
 fn new_versions_come_back(rt: HostRuntime) -> Result<(), Fail> {
-    let image = read_back(&rt, rt.alloc(), &copies())?;
+    let image = read_back(&rt, rt.alloc(), copies())?;
     assert_eq!(rt; image.budget.cq, 1);
-    let image = read_back(&rt, rt.alloc(), &marked())?;
+    let image = read_back(&rt, rt.alloc(), marked())?;
     assert_eq!(rt; (image.lines.len(), image.names.len()), (3, 2));
     check_adds(&rt, rt.alloc())
 }
 
 #[test]
 fn short_and_long(rt: HostRuntime) -> Result<(), Fail> {
-    check_short(&rt, rt.alloc(), &halts());
-    check_short(&rt, rt.alloc(), &adds());
-    check_short(&rt, rt.alloc(), &copies());
-    check_short(&rt, rt.alloc(), &marked());
-    let mut longer = Vec::from_slice(rt.alloc(), &halts())?;
+    check_short(&rt, rt.alloc(), halts());
+    check_short(&rt, rt.alloc(), adds());
+    check_short(&rt, rt.alloc(), copies());
+    check_short(&rt, rt.alloc(), marked());
+    let mut longer = Vec::from_slice(rt.alloc(), halts())?;
     longer.push(0)?;
     assert_eq!(rt; fault(rt.alloc(), &longer), Some(Trailing(84)));
     Ok(())
 }
 
-const OLD_FIELDS: [Row; 6] = [
+static OLD_FIELDS: [Row; 6] = [
     (0, 826622208, Some(BadField(Field::Magic, 0))),
     (4, 3, Some(BadField(Field::Version, 4))),
     (32, 65, Some(BadField(Field::Memory, 32))),
@@ -175,13 +190,17 @@ const OLD_FIELDS: [Row; 6] = [
     (68, 300000, Some(BadField(Field::LineCount, 68))),
 ];
 
+fn rows_of_old_fields() -> &'static [Row] {
+    OLD_FIELDS.as_slice()
+}
+
 #[test]
 fn old_fields(rt: HostRuntime) -> Result<(), Fail> {
-    check_rows(&rt, rt.alloc(), &adds(), &OLD_FIELDS)?;
+    check_rows(&rt, rt.alloc(), adds(), rows_of_old_fields())?;
     Ok(())
 }
 
-const QUEUE_AND_MEMORY_FIELDS: [Row; 32] = [
+static QUEUE_AND_MEMORY_FIELDS: [Row; 32] = [
     (0, 826622277, Some(BadField(Field::Magic, 0))),
     (4, 0, Some(BadField(Field::Version, 4))),
     (4, 3, Some(BadField(Field::Version, 4))),
@@ -216,13 +235,17 @@ const QUEUE_AND_MEMORY_FIELDS: [Row; 32] = [
     (48, 2, Some(BadField(Field::PrivateE, 48))),
 ];
 
+fn rows_of_queues_and_memory() -> &'static [Row] {
+    QUEUE_AND_MEMORY_FIELDS.as_slice()
+}
+
 #[test]
 fn queue_and_memory_fields(rt: HostRuntime) -> Result<(), Fail> {
-    check_rows(&rt, rt.alloc(), &marked(), &QUEUE_AND_MEMORY_FIELDS)?;
+    check_rows(&rt, rt.alloc(), marked(), rows_of_queues_and_memory())?;
     Ok(())
 }
 
-const CODE_AND_LENGTH_FIELDS: [Row; 24] = [
+static CODE_AND_LENGTH_FIELDS: [Row; 24] = [
     (52, 8, None),
     (52, 12, Some(BadField(Field::WordsA, 60))),
     (52, 134217724, Some(BadField(Field::WordsA, 60))),
@@ -249,13 +272,17 @@ const CODE_AND_LENGTH_FIELDS: [Row; 24] = [
     (76, 1025, Some(BadField(Field::NameCount, 76))),
 ];
 
+fn rows_of_code_and_lengths() -> &'static [Row] {
+    CODE_AND_LENGTH_FIELDS.as_slice()
+}
+
 #[test]
 fn code_and_length_fields(rt: HostRuntime) -> Result<(), Fail> {
-    check_rows(&rt, rt.alloc(), &marked(), &CODE_AND_LENGTH_FIELDS)?;
+    check_rows(&rt, rt.alloc(), marked(), rows_of_code_and_lengths())?;
     Ok(())
 }
 
-const MARKS_AND_NAMES: [Row; 22] = [
+static MARKS_AND_NAMES: [Row; 22] = [
     (112, 2, Some(BadField(Field::Line, 112))),
     (112, 1, Some(BadField(Field::Line, 128))),
     (116, 3, Some(BadField(Field::Line, 112))),
@@ -280,8 +307,12 @@ const MARKS_AND_NAMES: [Row; 22] = [
     (169, 0x41c3_0000, Some(BadField(Field::Name, 167))),
 ];
 
+fn rows_of_marks_and_names() -> &'static [Row] {
+    MARKS_AND_NAMES.as_slice()
+}
+
 #[test]
 fn marks_and_names(rt: HostRuntime) -> Result<(), Fail> {
-    check_rows(&rt, rt.alloc(), &marked(), &MARKS_AND_NAMES)?;
+    check_rows(&rt, rt.alloc(), marked(), rows_of_marks_and_names())?;
     Ok(())
 }

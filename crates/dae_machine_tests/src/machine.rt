@@ -1,5 +1,7 @@
 //! The worked images, and the words of a generator.
 
+ghost use Rattle.std.specs.Prelude.{◌≡◌, length};
+
 use dae_base::{Depths, Queue, Side, Width};
 use dae_core::CoreAnswer;
 use dae_image::{Image, read};
@@ -9,14 +11,14 @@ use std::process::Abort;
 use std::test::*;
 
 /// The access processor halts, and the execute processor has a word that is no legal instruction there.
-const HALTS: [u8; 84] = [
+const HALTS: &[u8] = &[
     68, 65, 69, 49, 1, 0, 0, 0, 0, 0, 0, 0, 0, 0, 0, 0, 0, 0, 0, 0, 0, 0, 0, 0, 0, 0, 0, 0, 0, 0,
     0, 0, 64, 0, 0, 0, 1, 0, 0, 0, 0, 0, 0, 0, 0, 0, 0, 0, 0, 0, 0, 0, 0, 0, 0, 0, 1, 0, 0, 0, 1,
     0, 0, 0, 0, 0, 0, 0, 0, 0, 0, 0, 0, 0, 0, 0, 115, 0, 0, 0, 147, 2, 15, 0,
 ];
 
 /// A store to address 16 and a load from address 20 beside it: the load's word 7 is the status.
-const STORES_BESIDE: [u8; 108] = [
+const STORES_BESIDE: &[u8] = &[
     68, 65, 69, 49, 1, 0, 0, 0, 1, 0, 0, 0, 0, 0, 0, 0, 1, 0, 0, 0, 1, 0, 0, 0, 0, 0, 0, 0, 0, 0,
     0, 0, 64, 0, 0, 0, 1, 0, 0, 0, 0, 0, 0, 0, 0, 0, 0, 0, 0, 0, 0, 0, 0, 0, 0, 0, 3, 0, 0, 0, 3,
     0, 0, 0, 8, 0, 0, 0, 0, 0, 0, 0, 0, 0, 0, 0, 35, 40, 224, 1, 3, 47, 64, 1, 115, 0, 0, 0, 19, 5,
@@ -24,7 +26,7 @@ const STORES_BESIDE: [u8; 108] = [
 ];
 
 /// The same, but the load is of the bytes that the older store is to write, whose datum comes from that load.
-const STORES_THERE: [u8; 108] = [
+const STORES_THERE: &[u8] = &[
     68, 65, 69, 49, 1, 0, 0, 0, 1, 0, 0, 0, 0, 0, 0, 0, 1, 0, 0, 0, 1, 0, 0, 0, 0, 0, 0, 0, 0, 0,
     0, 0, 64, 0, 0, 0, 1, 0, 0, 0, 0, 0, 0, 0, 0, 0, 0, 0, 0, 0, 0, 0, 0, 0, 0, 0, 3, 0, 0, 0, 3,
     0, 0, 0, 8, 0, 0, 0, 0, 0, 0, 0, 0, 0, 0, 0, 35, 40, 224, 1, 3, 47, 0, 1, 115, 0, 0, 0, 19, 5,
@@ -32,7 +34,7 @@ const STORES_THERE: [u8; 108] = [
 ];
 
 /// A copy of 9 from the access processor is the status.
-const COPIES: [u8; 96] = [
+const COPIES: &[u8] = &[
     68, 65, 69, 49, 2, 0, 0, 0, 0, 0, 0, 0, 0, 0, 0, 0, 0, 0, 0, 0, 0, 0, 0, 0, 0, 0, 0, 0, 0, 0,
     0, 0, 1, 0, 0, 0, 64, 0, 0, 0, 1, 0, 0, 0, 0, 0, 0, 0, 0, 0, 0, 0, 0, 0, 0, 0, 0, 0, 0, 0, 2,
     0, 0, 0, 2, 0, 0, 0, 0, 0, 0, 0, 0, 0, 0, 0, 0, 0, 0, 0, 19, 14, 144, 0, 115, 0, 0, 0, 19, 5,
@@ -79,6 +81,43 @@ fn check_run(
     Ok(())
 }
 
+/// An image, how its runs rest, their steps, and the bytes from address 16 on.
+type Worked = (&'static [u8], Rest, u64, &'static [u8]);
+
+static WORKED: [Worked; 4] = [
+    (HALTS, Rest::Stuck, 1, &[0, 0, 0, 0, 0, 0, 0, 0]),
+    (
+        STORES_BESIDE,
+        Rest::Final(End::Ended(7)),
+        8,
+        &[8, 0, 0, 0, 7, 0, 0, 0],
+    ),
+    (STORES_THERE, Rest::Stuck, 3, &[0, 0, 0, 0, 7, 0, 0, 0]),
+    (
+        COPIES,
+        Rest::Final(End::Ended(9)),
+        4,
+        &[0, 0, 0, 0, 0, 0, 0, 0],
+    ),
+];
+
+fn worked_images() -> &'static [Worked] {
+    WORKED.as_slice()
+}
+
+static SCHEDULES: [Schedule; 6] = [
+    Schedule::Round,
+    Schedule::A,
+    Schedule::E,
+    Schedule::Fill,
+    Schedule::Drain,
+    Schedule::Seed(7),
+];
+
+fn schedules() -> &'static [Schedule] {
+    SCHEDULES.as_slice()
+}
+
 fn check_runs(
     rt: &impl Abort,
     alloc: Global,
@@ -87,37 +126,29 @@ fn check_runs(
 ) -> Result<(), Fail> {
     assert!(rt; bytes.len() <= 108);
     let image = read(alloc, bytes)?;
-    for schedule in [
-        Schedule::Round,
-        Schedule::A,
-        Schedule::E,
-        Schedule::Fill,
-        Schedule::Drain,
-        Schedule::Seed(7),
-    ] {
-        check_run(rt, alloc, &image, schedule, due)?;
+    for schedule in schedules() {
+        check_run(rt, alloc, &image, *schedule, due)?;
+    }
+    Ok(())
+}
+
+fn check_worked(rt: &impl Abort, alloc: Global, rows: &[Worked]) -> Result<(), Fail> {
+    for (bytes, rest, steps, memory) in rows {
+        check_runs(rt, alloc, bytes, (*rest, *steps, memory))?;
     }
     Ok(())
 }
 
 #[test]
 fn worked_images_end_alike_under_all_schedules(rt: HostRuntime) -> Result<(), Fail> {
-    let rows: [(&[u8], (Rest, u64, &[u8])); 4] = [
-        (&HALTS, (Rest::Stuck, 1, &[0, 0, 0, 0, 0, 0, 0, 0])),
-        (
-            &STORES_BESIDE,
-            (Rest::Final(End::Ended(7)), 8, &[8, 0, 0, 0, 7, 0, 0, 0]),
-        ),
-        (&STORES_THERE, (Rest::Stuck, 3, &[0, 0, 0, 0, 7, 0, 0, 0])),
-        (
-            &COPIES,
-            (Rest::Final(End::Ended(9)), 4, &[0, 0, 0, 0, 0, 0, 0, 0]),
-        ),
-    ];
-    for (bytes, due) in rows {
-        check_runs(&rt, rt.alloc(), bytes, due)?;
-    }
-    Ok(())
+    check_worked(&rt, rt.alloc(), worked_images())
+}
+
+/// The image of the store beside a load.
+fn stores_beside() -> &'static [u8]
+    ensures { length result.now ≡ 108 }
+{
+    STORES_BESIDE
 }
 
 fn check_step(rt: &impl Abort, machine: &mut Machine, pick: Pick) {
@@ -127,7 +158,7 @@ fn check_step(rt: &impl Abort, machine: &mut Machine, pick: Pick) {
 
 /// The machine after a store's address and a load, whose word has come.
 fn loaded(rt: &impl Abort, alloc: Global) -> Result<Machine, Fail> {
-    let image = read(alloc, &STORES_BESIDE)?;
+    let image = read(alloc, stores_beside())?;
     let mut machine = opened(alloc, &image)?;
     for pick in [Pick::A, Pick::A, Pick::Fill(Side::E, 0)] {
         check_step(rt, &mut machine, pick);
@@ -172,26 +203,37 @@ fn a_load_passes_an_older_store_beside_it(rt: HostRuntime) -> Result<(), Fail> {
 
 #[test]
 fn a_depth_below_the_budget_is_refused(rt: HostRuntime) -> Result<(), Fail> {
-    let mut bytes = STORES_BESIDE;
-    bytes[8] = 2;
-    let image = read(rt.alloc(), &bytes)?;
+    let mut bytes = Vec::from_slice(rt.alloc(), stores_beside())?;
+    bytes.as_mut_slice()[8] = 2;
+    let image = read(rt.alloc(), bytes.as_slice())?;
     let refusal = Machine::open(rt.alloc(), &image, ONES).err();
     assert_eq!(rt; refusal, Some(OpenError::DepthBelow(Queue::Ld, 2, 1)));
     Ok(())
 }
 
+/// A schedule, and its first two words.
+static FIRST_WORDS: [(Schedule, u32, u32); 6] = [
+    (Schedule::Seed(1), 15_496, 24_200),
+    (Schedule::Round, 0, 1),
+    (Schedule::A, 0, 0),
+    (Schedule::E, 1, 1),
+    (Schedule::Fill, 2, 2),
+    (Schedule::Drain, 3, 3),
+];
+
+fn first_words() -> &'static [(Schedule, u32, u32)] {
+    FIRST_WORDS.as_slice()
+}
+
+fn check_words(rt: &impl Abort, rows: &[(Schedule, u32, u32)]) {
+    for (schedule, first, second) in rows {
+        let mut words = Words::of(*schedule);
+        assert_eq!(rt; words.next(), *first);
+        assert_eq!(rt; words.next(), *second);
+    }
+}
+
 #[test]
 fn words_of_schedules(rt: HostRuntime) {
-    for (schedule, first, second) in [
-        (Schedule::Seed(1), 15_496, 24_200),
-        (Schedule::Round, 0, 1),
-        (Schedule::A, 0, 0),
-        (Schedule::E, 1, 1),
-        (Schedule::Fill, 2, 2),
-        (Schedule::Drain, 3, 3),
-    ] {
-        let mut words = Words::of(schedule);
-        assert_eq!(rt; words.next(), first);
-        assert_eq!(rt; words.next(), second);
-    }
+    check_words(&rt, first_words());
 }
