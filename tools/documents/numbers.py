@@ -7,6 +7,7 @@ what it holds (without any all are tried, the quick ones first):
     prose       what pages say of numbers that stand elsewhere: in tables, in `./dae help`, in tools/
     lines       no line of a page has more than 110 columns, but for rows of tables, commands and links
     tools       docs/TOOLS.md names each tool
+    bodies      docs/PROVED.md's wrong bodies stand where it says, and those with a star in the gate; docs/GATE.md counts all edits
     index       ARCHITECTURE.md's index by topic, and the contracts of docs/PROVED.md (tools/proved)
     course      each table and each output in docs/COURSE.md, docs/SMITH.md and docs/GUIDE.md (tools/course/measure.py): a minute
     jobs        docs/MEASURES.md, what the jobs take (tools/speed/jobs.py): half a minute
@@ -15,11 +16,16 @@ what it holds (without any all are tried, the quick ones first):
     machine     docs/MEASURES.md, steps a second beside C's simulator (tools/speed/compare.py), up to a factor of two, and the
                 processor's instructions a step (tools/speed/instructions.py): some minutes
     shapes      docs/MEASURES.md, no source takes longer to compile than by `gcc -O0` (tools/speed/shapes.py): some minutes
+    stack       docs/MEASURES.md, the stack that nested sources need (tools/stack/least.py): a minute
+    edges       docs/MEASURES.md, the calls at the edges by kind and status (tools/hostile/edges.py): some minutes
+    refusals    docs/MEASURES.md, the allocations of a call, each of which is refused (tools/allocations/refuse.py): some minutes
+    sweep       docs/MEASURES.md, one sweep in four ways (tools/sweep/check.py): a quarter of an hour
 
 What pages call measured once, in a run of hours or beside an implementation that isn't here, has its command in the page; `measured`
 prints these with their pages. The last line is 'N passed, N failed'.
 """
 
+import glob
 import os
 import re
 import subprocess
@@ -32,7 +38,8 @@ COLUMNS = 110
 MEASURED = (
     ("README.md, docs/GATE.md", "the comparisons under tools/ (meaning, forms, split, trees, whole, calls) beside another implementation"),
     ("README.md, docs/GATE.md", "rt ci, with tools/gate: minutes and the table a crate"),
-    ("docs/MEASURES.md", "tools/hostile/stress.py --stack=1024 PROGRAM 100000"),
+    ("docs/MEASURES.md", "tools/hostile/stress.py --stack=1024 PROGRAM 100000, and 20000 asm big"),
+    ("docs/GATE.md", "tools/listing/binutils.py, where the GNU binutils for RISC-V are; rt plant in the folders of crates"),
     ("docs/GUIDE.md", "tools/launcher/rows.py --real: what the first call takes, and the second"),
 )
 
@@ -131,6 +138,19 @@ def tools(_):
             yield os.path.basename(it) in named, f"TOOLS: {it}"
 
 
+def bodies(_):
+    """The wrong bodies that the page names stand in the gate where they have a star, else in tools/edits; and how many edits there are."""
+    gate, others = (glob.glob(f"{TOP}/{it}/*.edit") for it in ("crates/*/must-fail", "tools/edits/*"))
+    for names in re.findall(r"^\| [^|]+ \| (dae_\w+ `.+) \|$", page("docs/PROVED.md"), re.M):
+        crate = names.split(" ")[0]
+        for name, star in re.findall(r"`(\w+)`( \*)?", names):
+            at = f"{TOP}/crates/{crate}/must-fail" if star else f"{TOP}/tools/edits/{crate}"
+            yield f"{at}/{name}.edit" in (gate if star else others), f"PROVED: {crate} {name}{star}"
+    said = re.search(r"the gate tries (\d+) edits, and (\d+) stand in tools/edits", re.sub(r"\s+", " ", page("docs/GATE.md")))
+    wanted = [str(len(it)) for it in (gate, others)]
+    yield bool(said) and [*said.groups()] == wanted, f"GATE: {said and said[0]}; there are {' and '.join(wanted)}"
+
+
 def listings(program):
     """How many images come back of how many, as the page says."""
     words, said = re.search(r"(tools/listing/back\.py .*)\n\n.*, (\d+) of them", page("docs/MEASURES.md")).groups()
@@ -149,10 +169,36 @@ def machine(program):
         yield is_good, f"MEASURES: depth {one.split(' ')[0]}" + ("" if is_good else f": {one}, and the page has {other}")
 
 
+def edges(program):
+    """The calls of each kind by status, and how many kinds of nesting and limits there are, as the page says."""
+    done = run(sys.executable, "tools/hostile/edges.py", program)
+    made = {(kind, status): int(count) for kind, status, count in re.findall(r"^(\w+) +(\S+) +(\d+)$", done.stdout, re.M)}
+    section = page("docs/MEASURES.md").split("## Hostile words, files and sinks")[1]
+    heads, *rows = ([cell.strip() for cell in it.split("|")] for it in ROW.findall(section.split("| call |")[0]) if not it.startswith("-"))
+    kept = {(row[0], status): int(cell.replace(",", "")) for row in rows for status, cell in zip(heads[1:], row[1:]) if cell}
+    for kind in sorted({it for it, _ in (*made, *kept)}):
+        one, other = ({it[1]: count for it, count in counts.items() if it[0] == kind} for counts in (made, kept))
+        yield one == other, f"MEASURES: {kind}" + ("" if one == other else f": {one}, and the page has {other}")
+    for count, of in re.findall(r"^(\d+) (kinds of nesting|limits)", done.stdout, re.M):
+        yield f"{count} {of}" in section, f"MEASURES: {count} {of}"
+    yield done.returncode == 0, f"tools/hostile/edges.py: {(done.stdout + done.stderr).strip().split(chr(10))[-1]}"
+
+
+def refusals(program):
+    """How many allocations the calls make, each of which is refused in turn."""
+    done = run(sys.executable, "tools/allocations/refuse.py", program)
+    made = sorted(re.findall(r", (\d+) allocations, ", done.stdout))
+    table = page("docs/MEASURES.md").split("| call | allocations |")[1].split("\n\n")[0]
+    kept = sorted(it.replace(",", "") for it in re.findall(r"\| ([\d,]+) \|$", table, re.M))
+    yield made == kept, f"MEASURES: {len(made)} calls" + ("" if made == kept else f" with {', '.join(made)}, and the page has {', '.join(kept)}")
+    yield done.returncode == 0, "tools/allocations/refuse.py: each refused" + ("" if done.returncode == 0 else f", not so: {done.stdout}")
+
+
 KINDS = {
     "prose": prose,
     "lines": lines,
     "tools": tools,
+    "bodies": bodies,
     "index": lambda program: [*held_by("tools/proved/index.py")(program), *held_by("tools/proved/contracts.py", "--check")(program)],
     "course": held_by("tools/course/measure.py", "--command=PROGRAM"),
     "jobs": held_by("tools/speed/jobs.py", "PROGRAM"),
@@ -160,6 +206,10 @@ KINDS = {
     "listings": listings,
     "machine": lambda program: [*machine(program), *held_by("tools/speed/instructions.py", "PROGRAM")(program)],
     "shapes": held_by("tools/speed/shapes.py", "PROGRAM"),
+    "stack": held_by("tools/stack/least.py", "PROGRAM"),
+    "edges": edges,
+    "refusals": refusals,
+    "sweep": held_by("tools/sweep/check.py", "--command=PROGRAM"),
 }
 
 

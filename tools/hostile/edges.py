@@ -4,7 +4,8 @@
 Calls PROGRAM at the edges, where stress.py goes by chance; with --every only at each N-th of them. The kinds (all without a word):
 
     nests       some 330 kinds of nesting, each as deep as it is accepted, and once deeper: that is refused `too-deep`
-    types       three kinds of types that are made of one another by tags and names, as deep as the tokens of a job let them be
+    types       six kinds of types that are made of one another by tags and names, or of parameters, as deep as the tokens of a job or
+                the largest object let them be; two of these are compared across two files
     limits      a text, a file, a job or a word at each limit, with the note that is due, and one beyond, which is refused by its name
     images      each prefix of three images, and each with one byte changed in three ways, by exec and dis: a prefix is no image
     traces      each prefix of three traces, and each with one byte changed in three ways, by check
@@ -57,15 +58,22 @@ def nests():
 
 
 def types():
-    """Each kind of types that are made of one another, as deep as 65,536 tokens let them be: its name, and its text."""
+    """Each kind of types that are made of one another, as deep as 65,536 tokens let them be: its name, and its texts."""
     chain = lambda one, other, count: one + "".join(other(it) for it in range(1, count))
     texts = {
         "structures": chain("struct s0{int x;};", lambda it: f"struct s{it}{{struct s{it - 1} x;}};", 7_279) + "struct s7278 v={1};",
         "arrays": chain("typedef int a0[1];", lambda it: f"typedef a{it - 1} a{it}[1];", 9_359) + "a9358 v={1};",
         "pointers": "".join(chain(f"typedef int *{name}0;", lambda it, name=name: f"typedef {name}{it - 1} *{name}{it};", 6_550) for name in "ab")
                     + "extern a6549 x;extern b6549 x;",
+        "parameters": 2 * f"int f({','.join(['int'] * 16_000)});",
     }
-    return [(name, text + MAIN) for name, text in texts.items()]
+    names = ",".join(f"v{it}" for it in range(8_000))
+    shared = {
+        "structures in two files": chain("struct s0{int x;};", lambda it: f"struct s{it}{{struct s{it - 1} x;}};", 1_800) + f"extern struct s1799 {names};",
+        # of the greatest size, and of 67,108,864 parts
+        "twice the same structure in two files": chain("struct s0{char x;};", lambda it: f"struct s{it}{{struct s{it - 1} x;struct s{it - 1} y;}};", 27) + "extern struct s26 v;",
+    }
+    return [(name, [text + MAIN]) for name, text in texts.items()] + [(name, [text, text + MAIN]) for name, text in shared.items()]
 
 
 def texts_at(count):
@@ -184,8 +192,9 @@ class Edges:
                 self.fail("nests", says, f"{high} times isn't refused too-deep, and {low} accepted: {depth(high)[1][-1]}")
 
     def types(self):
-        for name, text in types():
-            status, notes = self.call("types", ["compile", "--to=kept", self.file("x.c", text.encode())], name)
+        for name, texts in types():
+            files = [self.file(f"x{it}.c", text.encode()) for it, text in enumerate(texts)]
+            status, notes = self.call("types", ["compile", "--to=kept", *files], name)
             if status not in (0, 2):
                 self.fail("types", name, f"status {status}, {notes[-1][:80]}")
 

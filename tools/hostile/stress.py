@@ -5,7 +5,7 @@ Calls PROGRAM so many times with hostile words, files and sinks: random bytes an
 beyond, and damaged, cut and spliced texts, images, traces, scripts, certificates and assembly, by texts.py. JOBs are run,
 compile, exec, trace, check, time, dis, asm, debug, guard, report, big and words; without any each has its share.
 
-A call fails that is ended by a signal, takes more than ten seconds of a processor or two minutes by the clock, takes more than a
+A call fails that is ended by a signal, takes more than ten seconds of a processor or twenty minutes by the clock, takes more than a
 gigabyte beside the private memories that its image asks for (which may be a gigabyte each), answers a status that its job doesn't
 have, or puts a note that isn't one of its status. --keep keeps the files and words of each call that fails. --stack runs the program
 with a stack of that size. At the end stands a line for each job and status, how often it came, and the longest and the largest call.
@@ -29,7 +29,7 @@ import tempfile
 
 import texts
 
-SECONDS, PATIENCE, KILOBYTES = 10, 120, 1 << 20
+SECONDS, PATIENCE, KILOBYTES = 10, 1200, 1 << 20
 
 QUEUES = ["ld", "al", "sa", "sd", "ab", "eb", "cq"]
 

@@ -1,8 +1,9 @@
 """index.py [TOPIC]
 
-Says where the definitions stand to which ARCHITECTURE.md's index by topic leads: for each topic that has the text TOPIC the topic, and
-the file and the line of each of its definitions. Without one it tries all topics, and prints what isn't where the index says. The
-last line is 'N passed, N failed', and the status is 1 where one failed.
+Says where the definitions stand to which ARCHITECTURE.md's index by topic leads: for each row that has the text TOPIC, in capitals or
+not, in its topic, in the name of a definition or of its file, the topic, and the file and the line of each such definition. Without
+one it tries all topics, and prints what isn't where the index says. The last line is 'N passed, N failed', and the status is 1 where
+one failed, or where no row has TOPIC.
 """
 
 import os
@@ -39,9 +40,9 @@ def main(words):
         sys.exit(__doc__)
     passed = failed = 0
     for topic, crate, file, names in entries():
-        if words and words[0] not in topic:
-            continue
         for name in names or [""]:
+            if words and words[0].lower() not in f"{topic} {file} {name}".lower():
+                continue
             path = f"crates/{crate}/specs/{file}.antt"
             line = place_of(path, name)
             passed, failed = passed + bool(line), failed + (not line)
@@ -50,7 +51,7 @@ def main(words):
             elif words:
                 print(f"{topic}: {path}:{line} {name}".rstrip())
     print(f"{passed} passed, {failed} failed")
-    return 1 if failed else 0
+    return 1 if failed or not passed else 0
 
 
 if __name__ == "__main__":

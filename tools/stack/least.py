@@ -37,9 +37,17 @@ def pointers(count):
     return f"{chains}extern a{count - 1} x;extern b{count - 1} x;{MAIN}"
 
 
+def parameters(count):
+    return 2 * f"int f({','.join(['int'] * count)});" + MAIN
+
+
 def nested(kind, count):
     before, begin, inside, end, behind = kind
     return before + begin * count + inside + end * count + behind
+
+
+OF_TYPES = {"structures in structures": structures, "arrays of arrays": arrays, "pointers to pointers, twice": pointers,
+            "parameters of a function, declared twice": parameters}
 
 
 class Compiler:
@@ -79,7 +87,7 @@ def rows(compiler):
         if least > 2 * STEP:
             name = nested(kind, 2).replace("\n", " ")
             yield f"`{name}`", count, least
-    for name, text in (("structures in structures", structures), ("arrays of arrays", arrays), ("pointers to pointers, twice", pointers)):
+    for name, text in OF_TYPES.items():
         for count in (1000, 2000):
             yield name, count, compiler.least(text(count))
 
