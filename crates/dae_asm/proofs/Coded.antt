@@ -11,7 +11,7 @@ use Rattle.dae_asm_data.specs.Bounds.{Bound, HasCode, Code, IsKept, AreKept, IsF
 use Rattle.dae_asm.specs.Assembly.{code_bounds}
 use Rattle.dae_asm.specs.Making.{IsCode}
 
-abbrev kept_on : ℕ × Bound → Type 0
+abbrev pub kept_on : ℕ × Bound → Type 0
 kept_on b = IsKept b.1
 
 abbrev as_bounds : List (ℕ × Claim) → List (ℕ × Bound)

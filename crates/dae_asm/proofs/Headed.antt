@@ -13,9 +13,7 @@ use Rattle.dae_asm_data.specs.Bounds.{Bound, Budget, Number, Entry, IsKept, AreK
 use Rattle.dae_asm.specs.declared.head.Head.{Head}
 use Rattle.dae_asm.specs.Assembly.{counts_of, head_bounds}
 use Rattle.dae_asm.specs.Making.{IsHead}
-
-abbrev kept_on : ℕ × Bound → Type 0
-kept_on b = IsKept b.1
+use Rattle.dae_asm.proofs.Coded.{kept_on}
 
 kept_next : (n : ℕ) (b : Bound) (rest : List (ℕ × Bound)) → IsKept b → AreKept rest → AreKept ((n, b) ∷ rest)
 kept_next n b rest k more = All-cons kept_on (n, b) rest k more

@@ -9,11 +9,12 @@ use Rattle.dae_asm_lines.specs.Lines.{numbers_in}
 use Rattle.dae_asm_order.specs.Sheets.{Row}
 use Rattle.dae_asm_sheet.specs.declared.rows.Row as code
 use Rattle.dae_asm_sheet.specs.Rows.{row_seen, rows_seen, bytes_in}
+use Rattle.dae_asm_values.proofs.Laws.{rows_from}
 use Rattle.dae_asm_data.specs.Data.{NumberRow, numbers, AreBytes, IsData}
 use Rattle.dae_asm_data.specs.Bounds.{Data, IsFirstBroken, data_bounds}
 use Rattle.dae_asm_data.specs.Parts.{IsContent}
 use Rattle.dae_asm_data.specs.Walking.{Leads, Put, IsPut, PutRow, IsRowPut}
-use Rattle.dae_asm_data.proofs.Leading.{rows_from, starts, goes_on, passes, breaks, ends}
+use Rattle.dae_asm_data.proofs.Leading.{starts, goes_on, passes, breaks, ends}
 
 abbrev pub small : ℕ → Type 0
 small b = b < 256

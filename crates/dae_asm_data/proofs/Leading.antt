@@ -1,14 +1,8 @@
 -- Bounds that are looked at one by one.
-use Rattle.std.proofs.Common.{◌≡◌, ℕ, ◌+◌, ◌<◌, List, [], ◌∷◌, ◌++◌, length, drop, get_or, inl, inr, refl, ap, add-one, drop-cons}
+use Rattle.std.proofs.Common.{ℕ, ◌+◌, List, [], ◌∷◌, ◌++◌, inl, inr, refl}
 use Rattle.std.proofs.lemmas.List.Elements.{All-nil, All-cons, All-head, All-tail, All-append}
-use Rattle.dae_asm_sheet.specs.declared.rows.Row as code
-use Rattle.dae_asm_sheet.specs.Rows.{row_seen, rows_seen}
 use Rattle.dae_asm_data.specs.Bounds.{Bound, IsKept, AreKept, IsFirstBroken}
 use Rattle.dae_asm_data.specs.Walking.{Leads}
-
--- the rows from one on
-pub rows_from : (rows : List code.Row) (i : ℕ) (d : code.Row) → i < length rows → rows_seen (drop i rows) ≡ row_seen (get_or rows i d) ∷ rows_seen (drop (i + 1) rows)
-rows_from rows i d within = let here : drop i rows ≡ get_or rows i d ∷ drop (i + 1) rows = rw (add-one, drop-cons rows i d) in ap rows_seen here
 
 -- ---- bounds
 

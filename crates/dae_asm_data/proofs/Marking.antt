@@ -11,13 +11,14 @@ use Rattle.dae_image.specs.Contents.{follows, code_length, is_line, are_lines}
 use Rattle.dae_asm_order.specs.Sheets.{Row}
 use Rattle.dae_asm_sheet.specs.declared.rows.Row as code
 use Rattle.dae_asm_sheet.specs.Rows.{row_seen, rows_seen, marks_in}
+use Rattle.dae_asm_values.proofs.Laws.{rows_from}
 use Rattle.dae_asm_data.specs.declared.faults.Found.TheVariants as founds
 use Rattle.dae_asm_data.specs.declared.marks.Counts.{Counts}
 use Rattle.dae_asm_data.specs.Data.{MarkRow, SaysMark, IsBehind, words_on, IsMark}
 use Rattle.dae_asm_data.specs.Bounds.{Mark, mark_bounds}
 use Rattle.dae_asm_data.specs.Parts.{places, spelled, HasCounts, AreMarks}
 use Rattle.dae_asm_data.specs.Walking.{Leads, IsSpelled, may_stand, IsLast, OneMark, IsMarkFound}
-use Rattle.dae_asm_data.proofs.Leading.{rows_from, passes, ends}
+use Rattle.dae_asm_data.proofs.Leading.{passes, ends}
 
 -- ---- one mark of a line
 

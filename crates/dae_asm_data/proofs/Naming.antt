@@ -10,6 +10,7 @@ use Rattle.dae_image.specs.Contents.{is_name}
 use Rattle.dae_asm_order.specs.Sheets.{Row}
 use Rattle.dae_asm_sheet.specs.declared.rows.Row as code
 use Rattle.dae_asm_sheet.specs.Rows.{row_seen, rows_seen, names_in}
+use Rattle.dae_asm_values.proofs.Laws.{rows_from}
 use Rattle.dae_asm_data.specs.declared.faults.Found.{Found}
 use Rattle.dae_asm_data.specs.declared.faults.Found.TheVariants as founds
 use Rattle.dae_asm_data.specs.Data.{NumberRow, AreBytes, SaysName, IsName}
@@ -17,7 +18,7 @@ use Rattle.dae_asm_data.specs.Bounds.{Name, name_bounds}
 use Rattle.dae_asm_data.specs.Parts.{AreNames}
 use Rattle.dae_asm_data.specs.Walking.{Leads, IsPut, IsNameFound, OneName, IsNameAt}
 use Rattle.dae_asm_data.proofs.Bytes.{as_numbers, was_put}
-use Rattle.dae_asm_data.proofs.Leading.{rows_from, passes, ends}
+use Rattle.dae_asm_data.proofs.Leading.{passes, ends}
 
 -- ---- one name
 

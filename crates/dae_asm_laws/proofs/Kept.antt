@@ -14,7 +14,8 @@ use Rattle.dae_image.specs.Contents.{header, code_length, follows, is_line, are_
 use Rattle.dae_image.specs.Images.{contents}
 use Rattle.dae_image.specs.Ranges.{IsIn, is_in, entry_range, name_range}
 use Rattle.std.specs.Str.{is_utf8}
-use Rattle.dae_asm_laws.proofs.Bytes.{text_bytes}
+use Rattle.dae_asm_laws.proofs.Bytes.{text_bytes, AreBytes}
+use Rattle.dae_asm_laws.proofs.Same.{mark_place}
 use Rattle.dae_asm_lines.specs.Items as items
 use Rattle.dae_asm_lines.specs.Targets.{Target}
 use Rattle.dae_asm_order.specs.Sheets.{Row, Sheet}
@@ -75,10 +76,7 @@ split (z ∷ zs) rest (b ∷ bs) e =
     let said = s.said in
     record { first = b ∷ s.first; more = s.more; whole = ap (λ (l : List ℕ). b ∷ l) s.whole; said = cc; others = s.others }
 
-abbrev Small : List ℕ → Type 0
-Small bs = AllByRecursion (λ b. b < 256) bs
-
-apart : (xs ys : List ℕ) → Small (xs ++ ys) → Small xs × Small ys
+apart : (xs ys : List ℕ) → AreBytes (xs ++ ys) → AreBytes xs × AreBytes ys
 apart [] ys h = (tt, h)
 apart (x ∷ xs) ys h = let r = apart xs ys h.1 in ((h.0, r.0), r.1)
 
@@ -88,11 +86,11 @@ length_said [] (b ∷ bs) e = absurd cc
 length_said (z ∷ zs) [] e = absurd cc
 length_said (z ∷ zs) (b ∷ bs) e = let rest : zs ≡ map (λ k. pos k) bs = cc in let r = length_said zs bs rest in omega arith
 
-data_kept : (z : ℤ) (memory before : ℕ) (rows : List NumberRow) (bs : List ℕ) → z ≡ pos memory → numbers rows ≡ map (λ b. pos b) bs → Small bs → 16 + before + length bs ≤ memory → Kept (data_bounds z before rows)
+data_kept : (z : ℤ) (memory before : ℕ) (rows : List NumberRow) (bs : List ℕ) → z ≡ pos memory → numbers rows ≡ map (λ b. pos b) bs → AreBytes bs → 16 + before + length bs ≤ memory → Kept (data_bounds z before rows)
 data_kept z memory before [] bs e said small inside = tt
 data_kept z memory before (row ∷ rows) bs e said small inside =
     let s = split row.1 (numbers rows) bs said in
-    let parts = apart s.first s.more (subst Small s.whole small) in
+    let parts = apart s.first s.more (subst AreBytes s.whole small) in
     let n = ap length s.whole ∙ length-append s.first s.more in
     let m = length_said row.1 s.first s.said in (
       (s.first, record { bytes = record { said = s.said; small = All-from_recursion (λ b. b < 256) s.first parts.0 }; inside = (memory, (e, omega arith)) }),
@@ -101,13 +99,10 @@ data_kept z memory before (row ∷ rows) bs e said small inside =
 
 -- ---- marks
 
-abbrev place : LineMark → Side × ℤ × ℤ × ℤ
-place m = (m.side, pos m.word, pos m.file, pos m.line)
-
 abbrev row_place : MarkRow → Side × ℤ × ℤ × ℤ
 row_place r = (r.1, r.2, r.3, r.4)
 
-says_mark : (row : MarkRow) (m : LineMark) → row_place row ≡ place m → SaysMark row m
+says_mark : (row : MarkRow) (m : LineMark) → row_place row ≡ mark_place m → SaysMark row m
 says_mark row m e = record {
   side = ap (λ (p : Side × ℤ × ℤ × ℤ). p.0) e;
   word = ap (λ (p : Side × ℤ × ℤ × ℤ). p.1) e;
@@ -141,12 +136,12 @@ on_side h counts A c = c.words_a
 on_side h counts E c = c.words_e
 
 marks_kept : (h : Header) (counts : Counts) (before : ℕ) (row : Option MarkRow) (last : Option LineMark) (rows : List MarkRow) (ms : List LineMark) → Counted h counts → Last row last
-    → map (λ r. row_place r) rows ≡ map (λ m. place m) ms → are_lines h last ms ≡ true → AllByRecursion (λ m. m.line < 2 ^ 32) ms → before + length ms ≤ 262144 → Kept (mark_bounds counts before row rows)
+    → map (λ r. row_place r) rows ≡ map (λ m. mark_place m) ms → are_lines h last ms ≡ true → AllByRecursion (λ m. m.line < 2 ^ 32) ms → before + length ms ≤ 262144 → Kept (mark_bounds counts before row rows)
 marks_kept h counts before row last [] ms c l e good small few = tt
 marks_kept h counts before row last (r ∷ rows) [] c l e good small few = absurd cc
 marks_kept h counts before row last (r ∷ rows) (m ∷ ms) c l e good small few =
-    let first : row_place r ≡ place m = cc in
-    let rest : map (λ x. row_place x) rows ≡ map (λ x. place x) ms = cc in
+    let first : row_place r ≡ mark_place m = cc in
+    let rest : map (λ x. row_place x) rows ≡ map (λ x. mark_place x) ms = cc in
     let says = says_mark r m first in
     let parts = and_parts (is_line h last m) (are_lines h (Some m) ms) good in
     let p = and_parts (follows last m) (nat_lt m.word (code_length h m.side) && (nat_lt m.file h.names && nat_lt 0 m.line)) parts.0 in
@@ -170,7 +165,7 @@ marks_kept h counts before row last (r ∷ rows) (m ∷ ms) c l e good small few
 
 -- ---- names
 
-names_kept : (before : ℕ) (rows : List NumberRow) (names : List (List ℕ)) → map (λ r. r.1) rows ≡ map (λ name. map (λ b. pos b) name) names → AllByRecursion (λ name. (is_name name ≡ true) × Small name) names → before + length names ≤ 1024 → Kept (name_bounds before rows)
+names_kept : (before : ℕ) (rows : List NumberRow) (names : List (List ℕ)) → map (λ r. r.1) rows ≡ map (λ name. map (λ b. pos b) name) names → AllByRecursion (λ name. (is_name name ≡ true) × AreBytes name) names → before + length names ≤ 1024 → Kept (name_bounds before rows)
 names_kept before [] names e good few = tt
 names_kept before (row ∷ rows) [] e good few = absurd cc
 names_kept before (row ∷ rows) (name ∷ names) e good few =
@@ -191,7 +186,7 @@ mapped : {X Y : Type 0} (f : X → Y) (xs : List X) → length (map f xs) ≡ le
 mapped f [] = refl
 mapped f (x ∷ xs) = let r = mapped f xs in omega arith
 
-names_good : (names : List (List ℕ)) → list_all is_name names ≡ true → AllByRecursion (λ name. (is_name name ≡ true) × Small name) names
+names_good : (names : List (List ℕ)) → list_all is_name names ≡ true → AllByRecursion (λ name. (is_name name ≡ true) × AreBytes name) names
 names_good [] h = tt
 names_good (name ∷ names) h =
     let parts = and_parts (is_name name) (list_all is_name names) h in

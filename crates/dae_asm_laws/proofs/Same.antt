@@ -1,14 +1,14 @@
 -- A text says one image.
 use Rattle.std.proofs.Common.{◌≡◌, ℕ, ℤ, pos, List, [], ◌∷◌, map, refl, sym, ap, ◌∙◌, subst}
-use Rattle.std.proofs.Props.{props}
 use Rattle.dae_base.specs.declared.Depths.{Depths}
 use Rattle.dae_base.specs.declared.Side.{Side}
 use Rattle.dae_encode.specs.declared.Inst.{Inst}
 use Rattle.dae_encode.specs.Spelling.{encoded}
 use Rattle.dae_image.specs.declared.Image.{Image}
 use Rattle.dae_image.specs.declared.LineMark.{LineMark}
-use Rattle.dae_image.specs.Contents.{Contents, Fits}
+use Rattle.dae_image.specs.Contents.{Contents}
 use Rattle.dae_image.specs.Images.{contents}
+use Rattle.dae_image.proofs.Laws.{same_image}
 use Rattle.dae_asm_lines.specs.declared.Operands.{Operands}
 use Rattle.dae_asm_lines.specs.declared.Operands.TheVariants.{Registers, Immediate, Based, Branch, Upper, Jump, Alone}
 use Rattle.dae_asm_lines.specs.Targets.{Target, Given, Named}
@@ -19,17 +19,6 @@ use Rattle.dae_asm_values.specs.Values.{depths, IsAddress, IsOffset, AreOperands
 use Rattle.dae_asm_values.specs.Claims.{Claim, Spells, Does, Meets, AreMet}
 use Rattle.dae_asm.specs.Assembly.{Says, Asm}
 use Rattle.dae_asm_laws.proofs.Ordered.{one_sheet}
-
--- ---- images by what they hold
-
-abbrev holding : (c : Contents) → Fits c → Image
-holding c fits = record { budget = c.budget; memory = c.memory; calls = c.calls; private_a = c.private_a; private_e = c.private_e; entry_a = c.entry_a; entry_e = c.entry_e; code_a = c.code_a; code_e = c.code_e; content = c.content; lines = c.lines; names = c.names; fits = fits }
-
-by_contents : (x y : Image) → contents x ≡ contents y → x ≡ y
-by_contents x y e = subst (λ (c : Contents). (f : Fits c) → x ≡ holding c f) e (λ f. ap (holding (contents x)) (one_fit x.fits f)) y.fits
-  where
-    one_fit : {c : Contents} (f g : Fits c) → f ≡ g
-    one_fit = hlevel props
 
 -- ---- numbers
 
@@ -61,10 +50,10 @@ same_mark m k a b c d =
     let e : record { side = m.side; word = m.word; file = m.file; line = m.line } ≡ record { side = k.side; word = k.word; file = k.file; line = k.line } = cc in
     e
 
-abbrev place : LineMark → Side × ℤ × ℤ × ℤ
-place m = (m.side, pos m.word, pos m.file, pos m.line)
+abbrev pub mark_place : LineMark → Side × ℤ × ℤ × ℤ
+mark_place m = (m.side, pos m.word, pos m.file, pos m.line)
 
-one_place : (m k : LineMark) → place m ≡ place k → m ≡ k
+one_place : (m k : LineMark) → mark_place m ≡ mark_place k → m ≡ k
 one_place m k e =
     let s : m.side ≡ k.side = ap (λ (p : Side × ℤ × ℤ × ℤ). p.0) e in
     let w : pos m.word ≡ pos k.word = ap (λ (p : Side × ℤ × ℤ × ℤ). p.1) e in
@@ -75,13 +64,13 @@ one_place m k e =
     let line : m.line ≡ k.line = cc in
     same_mark m k s word file line
 
-same_marks : (ms ks : List LineMark) → map (λ m. place m) ms ≡ map (λ m. place m) ks → ms ≡ ks
+same_marks : (ms ks : List LineMark) → map (λ m. mark_place m) ms ≡ map (λ m. mark_place m) ks → ms ≡ ks
 same_marks [] [] e = refl
 same_marks [] (k ∷ ks) e = absurd cc
 same_marks (m ∷ ms) [] e = absurd cc
 same_marks (m ∷ ms) (k ∷ ks) e =
-    let first : place m ≡ place k = cc in
-    let rest : map (λ x. place x) ms ≡ map (λ x. place x) ks = cc in
+    let first : mark_place m ≡ mark_place k = cc in
+    let rest : map (λ x. mark_place x) ms ≡ map (λ x. mark_place x) ks = cc in
     let one = one_place m k first in
     let more = same_marks ms ks rest in
     cc
@@ -159,4 +148,4 @@ pub one_image : (text : List ℕ) (i j : Image) → Asm text i → Asm text j �
 one_image text i j h k =
     let same : k.sheet ≡ h.sheet = one_sheet text k.sheet h.sheet k.ordered h.ordered in
     let says : Says h.sheet (contents j) = subst (λ (s : Sheet). Says s (contents j)) same k.says in
-    by_contents i j (same_contents h.sheet (contents i) (contents j) h.says says)
+    same_image i j (same_contents h.sheet (contents i) (contents j) h.says says)

@@ -30,7 +30,7 @@ skipped (line ∷ lines) (suc count) behind (one_skipped l rest) =
     let r = skipped lines count behind rest in
     record { front = line ∷ r.front; whole = ap (λ (ls : List (List ℕ)). line ∷ ls) r.whole; many = ap suc r.many; items = λ n. skips l (r.items (suc n)) }
 
-nothing_and_item : (line : List ℕ) (item : Item) → IsLine line None → IsLine line (Some item) → ⊥
+pub nothing_and_item : (line : List ℕ) (item : Item) → IsLine line None → IsLine line (Some item) → ⊥
 nothing_and_item line item a b = let e = one_line line None (Some item) a b in cc
 
 -- lines have one list of items

@@ -12,13 +12,13 @@ use Rattle.dae_asm_order.specs.Sheets.{Row, Sheet, rows_of, is_code}
 use Rattle.dae_asm_order.specs.Order.{Begin}
 use Rattle.dae_asm_order.specs.Walking.{place_behind, or_none, place_after, is_last}
 
-abbrev byte_row : ℕ × List ℤ → Row
+abbrev pub byte_row : ℕ × List ℤ → Row
 byte_row b = (b.0, items.Bytes b.1)
 
-abbrev mark_row : ℕ × Side × ℤ × ℤ × ℤ → Row
+abbrev pub mark_row : ℕ × Side × ℤ × ℤ × ℤ → Row
 mark_row m = (m.0, items.Mark m.1 m.2 m.3 m.4)
 
-abbrev name_row : ℕ × List ℤ → Row
+abbrev pub name_row : ℕ × List ℤ → Row
 name_row n = (n.0, items.Name n.1)
 
 -- ---- from places to rows

@@ -7,6 +7,7 @@ use Rattle.dae_asm_lines.proofs.Laws.{one_line}
 use Rattle.dae_asm_order.specs.declared.lines.Lines.{Lines}
 use Rattle.dae_asm_order.specs.Sheets.{Row, AreItems, none, skips, says, Skips, none_skipped, one_skipped, lines_of}
 use Rattle.dae_asm_order.specs.Walking.{IsItem, IsBadNext, IsEnd}
+use Rattle.dae_asm_order.proofs.Laws.{nothing_and_item}
 
 -- lines say these rows from here on
 pub record HasRows (lines : Lines) (rows : List Row) : Type 0 where
@@ -24,9 +25,6 @@ from_start text all lines e z h =
     let there = subst (λ (t : List ℕ). AreItems 1 (lines_of t) all) (sym e) h in
     record { rest = all; whole = refl; items = record { are = subst (λ (k : ℕ). AreItems k (lines_of lines.text.now) all) n there } }
 
-not_both : (line : List ℕ) (item : Item) → IsLine line None → IsLine line (Some item) → ⊥
-not_both line item a b = let e = one_line line None (Some item) a b in cc
-
 -- lines that say nothing are passed over
 passed : (n count : ℕ) (lines behind : List (List ℕ)) (rows : List Row) → Skips lines count behind → AreItems n lines rows → AreItems (n + count) behind rows
 passed n zero lines behind rows none_skipped h = let e : n ≡ n + 0 = omega arith in subst (λ (k : ℕ). AreItems k lines rows) e h
@@ -34,7 +32,7 @@ passed n (suc count) [] behind rows s h = elim s [ ]
 passed n (suc count) (line ∷ lines) behind rows (one_skipped l rest) (skips l' h) =
     let e : suc n + count ≡ n + suc count = omega arith in
     subst (λ (k : ℕ). AreItems k behind rows) e (passed (suc n) count lines behind rows rest h)
-passed n (suc count) (line ∷ lines) behind ((m, item) ∷ rows) (one_skipped l rest) (says l' h) = absurd (not_both line item l l')
+passed n (suc count) (line ∷ lines) behind ((m, item) ∷ rows) (one_skipped l rest) (says l' h) = absurd (nothing_and_item line item l l')
 
 -- the first of rows, and the others
 record First (n : ℕ) (item : Item) (lines : List (List ℕ)) (rows : List Row) : Type 0 where
@@ -43,7 +41,7 @@ record First (n : ℕ) (item : Item) (lines : List (List ℕ)) (rows : List Row)
   pub items : AreItems (suc n) lines others
 
 is_first : (n : ℕ) (line : List ℕ) (item : Item) (lines : List (List ℕ)) (rows : List Row) → IsLine line (Some item) → AreItems n (line ∷ lines) rows → First n item lines rows
-is_first n line item lines rows l (skips l' h) = absurd (not_both line item l' l)
+is_first n line item lines rows l (skips l' h) = absurd (nothing_and_item line item l' l)
 is_first n line item lines ((m, other) ∷ rows) l (says l' h) =
     let e = one_line line (Some other) (Some item) l' l in
     let same : other ≡ item = cc in

@@ -5,18 +5,10 @@ use Rattle.dae_base.specs.declared.Side.{Side}
 use Rattle.dae_base.specs.declared.Side.TheVariants.{A, E}
 use Rattle.dae_asm_lines.specs.Items as items
 use Rattle.dae_asm_order.specs.Sheets.{Row, Sheet, rows_of, is_code}
+use Rattle.dae_asm_order.proofs.Laws.{byte_row, mark_row, name_row}
 use Rattle.dae_asm_sheet.specs.declared.sheet.Part.{Part}
 use Rattle.dae_asm_sheet.specs.declared.sheet.Part.TheVariants as parts
 use Rattle.dae_asm_sheet.specs.Rows.{belongs, part_length, front, back, bytes_in, marks_in, names_in, first, cut}
-
-abbrev byte_row : ℕ × List ℤ → Row
-byte_row b = (b.0, items.Bytes b.1)
-
-abbrev mark_row : ℕ × Side × ℤ × ℤ × ℤ → Row
-mark_row m = (m.0, items.Mark m.1 m.2 m.3 m.4)
-
-abbrev name_row : ℕ × List ℤ → Row
-name_row n = (n.0, items.Name n.1)
 
 abbrev Belong : Part → List Row → Type 0
 Belong part rows = list_all (λ r. belongs part r.1) rows ≡ true

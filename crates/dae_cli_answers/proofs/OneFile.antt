@@ -1,11 +1,9 @@
 -- For a file at most one answer is due, but for want of memory, where at most one is for what it holds.
 use Rattle.std.proofs.Common.{◌≡◌, ℕ, ◌≤◌, List, length, refl, ap, sym, ◌∙◌, subst, arith}
 use Rattle.std.specs.Prelude.{Option, Some, IfSome}
-use Rattle.std.proofs.Props.{props}
 use Rattle.dae_image.specs.declared.Image.{Image}
 use Rattle.dae_image.specs.declared.fault.ImageError.{ImageError}
-use Rattle.dae_image.specs.Contents.{Contents, Fits}
-use Rattle.dae_image.specs.Images.{contents}
+use Rattle.dae_image.proofs.Laws.{same_image}
 use Rattle.dae_cli_drive.specs.Images.{IsSingle}
 use Rattle.dae_cli_drive.specs.Notes.{image_line}
 use Rattle.dae_cli_drive.specs.Puts.{Answer, Put, told}
@@ -17,16 +15,6 @@ use Rattle.dae_cli_answers.specs.One.{IsSeenWhole}
 
 -- ---- images
 
--- an image is what it holds
-abbrev holding : (c : Contents) → Fits c → Image
-holding c fits = record { budget = c.budget; memory = c.memory; calls = c.calls; private_a = c.private_a; private_e = c.private_e; entry_a = c.entry_a; entry_e = c.entry_e; code_a = c.code_a; code_e = c.code_e; content = c.content; lines = c.lines; names = c.names; fits = fits }
-
-one_fit : (c : Contents) → IsProp (Fits c)
-one_fit c = hlevel props
-
-by_contents : (x y : Image) → contents x ≡ contents y → x ≡ y
-by_contents x y e = subst (λ (c : Contents). (f : Fits c) → x ≡ holding c f) e (λ f. ap (holding (contents x)) (one_fit (contents x) x.fits f)) y.fits
-
 at_text : {held : Option (List ℕ)} {text t : List ℕ} → held ≡ Some text → IfSome held (λ x. x ≡ t) → t ≡ text
 at_text {held} {text} {t} e h = sym (subst (λ (o : Option (List ℕ)). IfSome o (λ x. x ≡ t)) e h)
 
@@ -35,7 +23,7 @@ same_text s whole n t u h k = at_text (whole.told n) h ∙ sym (at_text (whole.t
 
 pub one_of_bytes : {bytes : List ℕ} {D : Image → Answer → Type 0} → ((i : Image) → IsSingle (D i)) → IsSingle (DueOfBytes bytes D)
 one_of_bytes {bytes} {D} single a b (due_image i is d) (due_image j is' d') m n =
-    let same : i ≡ j = by_contents i j (let u = sym is.read ∙ is'.read in cc) in
+    let same : i ≡ j = same_image i j (let u = sym is.read ∙ is'.read in cc) in
     single j a b (subst (λ (x : Image). D x a) same d) d' m n
 one_of_bytes single a b (due_image i is d) (due_no_image f none) m n = absurd (none.none i is.spells)
 one_of_bytes single a b (due_image i is d) due_memory_to_decode m n = absurd (n refl)

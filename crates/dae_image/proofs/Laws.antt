@@ -1,2 +1,3 @@
 -- The laws of this crate that proofs of other crates use.
 pub use Rattle.dae_image.proofs.FieldLaws.{IsIn-from_test}
+pub use Rattle.dae_image.proofs.ReadLaws.{same_image}

@@ -24,7 +24,7 @@ made c fits = record { budget = c.budget; memory = c.memory; calls = c.calls; pr
 Fits-prop : (c : Contents) → IsProp (Fits c)
 Fits-prop c = hlevel props
 
-same_image : (x y : Image) → contents x ≡ contents y → x ≡ y
+pub same_image : (x y : Image) → contents x ≡ contents y → x ≡ y
 same_image x y e = subst (λ (c : Contents). (f : Fits c) → x ≡ made c f) e (λ f. ap (made (contents x)) (Fits-prop (contents x) x.fits f)) y.fits
 
 fails_only : (image : Image) (e : ImageError) → Fails e (Ok (contents image)) → e ≡ Memory

@@ -26,7 +26,7 @@ use Rattle.dae_asm_values.specs.Values.{AreOperands}
 use Rattle.dae_asm_values.specs.Claims.{code_claims, AreMet}
 use Rattle.dae_asm_data.specs.Data.{NumberRow, numbers, MarkRow}
 use Rattle.dae_asm_data.specs.Parts.{places, spelled}
-use Rattle.dae_asm_laws.proofs.Laws.{text_bytes}
+use Rattle.dae_asm_laws.proofs.Laws.{text_bytes, mark_place}
 use Rattle.dae_listing.specs.Canon.{row, word_text, byte_row, content_rows, mark_row, rows}
 use Rattle.dae_listing_laws.proofs.Digits.{is_plain}
 use Rattle.dae_listing_laws.proofs.Known.{is_known}
@@ -149,9 +149,6 @@ chunks_of n (a ∷ b ∷ c ∷ d ∷ e ∷ f ∷ g ∷ h ∷ i ∷ j ∷ k ∷ l
 chunks_of n bs small = one_chunk n bs (omega arith) (omega arith) small
 
 -- ---- marks
-
-abbrev mark_place : LineMark → Side × ℤ × ℤ × ℤ
-mark_place m = (m.side, pos m.word, pos m.file, pos m.line)
 
 abbrev pub marks_from : ℕ → List LineMark → List MarkRow
 marks_from n [] = []
