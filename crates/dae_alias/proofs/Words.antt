@@ -1,10 +1,11 @@
 -- Words, their remainders, and bytes of memory that a store leaves.
-use Rattle.std.proofs.Common.{◌≡◌, ◌⊎◌, ℕ, zero, suc, ◌+◌, ◌-◌, ◌%◌, ◌/◌, ◌^◌, ◌<◌, ◌≤◌, false, List, [], ◌∷◌, length, None, inl, inr, refl, ap, ◌∙◌, arith}
+use Rattle.std.proofs.Common.{◌≡◌, ◌⊎◌, ℕ, zero, suc, ◌+◌, ◌-◌, ◌%◌, ◌^◌, ◌<◌, ◌≤◌, false, List, [], ◌∷◌, length, None, inl, inr, refl, ap, ◌∙◌, arith}
 use Rattle.std.specs.Prelude.{slice_index, slice_set}
 use Rattle.dae_base.specs.Words.{plus, minus, size, width_of, extended, loaded, stored, bytes_at, from_bytes, low_bytes, written}
 use Rattle.dae_base.specs.declared.Width.{Width}
 use Rattle.dae_base.specs.declared.Width.TheVariants.{B1, B2, B4}
 use Rattle.dae_base.specs.declared.LoadKind.{LoadKind}
+use Rattle.dae_base.proofs.Laws.{length-low_bytes}
 use Rattle.dae_meaning.specs.Operations.{misplaced}
 use Rattle.dae_alias.specs.Addresses.{ranges_meet}
 
@@ -45,15 +46,11 @@ bytes_written (suc count) a bs y m (inl h) =
 bytes_written (suc count) a bs y m (inr h) =
     rw (index_written bs y m a (inr (omega (arith, h))), bytes_written count (a + 1) bs y m (inr (omega (arith, h)))) refl
 
-low_length : (n w : ℕ) → length (low_bytes n w) ≡ n
-low_length zero w = refl
-low_length (suc n) w = ap suc (low_length n (w / 256))
-
 pub loaded_beside : (kind : LoadKind) (a : ℕ) (width : Width) (y x : ℕ) (m : List ℕ)
     → (a + size (width_of kind) ≤ y) ⊎ (y + size width ≤ a) → loaded kind a (stored width y x m) ≡ loaded kind a m
 loaded_beside kind a width y x m h =
     ap (λ (bs : List ℕ). extended kind (from_bytes bs))
-    (bytes_written (size (width_of kind)) a (low_bytes (size width) x) y m (rw (low_length (size width) x) h))
+    (bytes_written (size (width_of kind)) a (low_bytes (size width) x) y m (rw (length-low_bytes (size width) x) h))
 
 -- ---- accesses that are apart
 

@@ -3,5 +3,6 @@ mod Spellings
 mod Options
 mod Lists
 mod Budgets
+mod Bytes
 mod Tests
 pub mod Laws

@@ -1,8 +1,6 @@
 -- What stands before and behind a byte, and words with one blank between.
-use Rattle.std.proofs.Common.{◌≡◌, ◌≢◌, ℕ, zero, suc, ◌+◌, ◌<◌, Bool, true, not, ◌&&◌, nat_eq, List, [], ◌∷◌, ◌++◌, length, get_or, take, drop, refl, ap, sym, ◌∙◌, arith, drop-cons, length-take}
+use Rattle.std.proofs.Common.{◌≡◌, ◌≢◌, ℕ, suc, ◌+◌, ◌<◌, List, [], ◌∷◌, ◌++◌, length, get_or, take, drop, refl, ap, sym, ◌∙◌, arith, drop-cons, length-take}
 use Rattle.std.specs.Prelude.{Option, None, Some}
-use Rattle.std.proofs.lemmas.Bool.Decides.{nat_tests}
-use Rattle.std.proofs.lemmas.Bool.{and_parts}
 use Rattle.std.proofs.lemmas.List.{append-nil, take-append-drop, get_or-take}
 use Rattle.dae_certificate.specs.Cuts.{Lacks, onward, IsCut}
 use Rattle.dae_certificate.specs.Lines.{spaced}
@@ -70,17 +68,3 @@ first_word bytes front w ws back cut lacks e = cut_once 32 front w back (others 
 pub words_join : (bytes front w : List ℕ) (ws : List (List ℕ)) (back : Option (List ℕ)) → IsCut 32 bytes front back
     → front ≡ w → back ≡ others ws → bytes ≡ spaced (w ∷ ws)
 words_join bytes front w ws back cut e f = cut.whole ∙ (rw (e, f) refl ∙ sym (spaced_parts w ws))
-
--- ---- texts without a byte
-
-abbrev pub lacks : ℕ → List ℕ → Bool
-lacks c [] = true
-lacks c (b ∷ bs) = not (nat_eq b c) && lacks c bs
-
-not_this : (x c : ℕ) → not (nat_eq x c) ≡ true → x ≢ c
-not_this x c h = grind (arith, nat_tests)
-
-pub lacks_at : (c : ℕ) (xs : List ℕ) → lacks c xs ≡ true → Lacks c xs
-lacks_at c [] h i k = absurd (omega arith)
-lacks_at c (x ∷ xs) h zero k = not_this x c (and_parts (not (nat_eq x c)) (lacks c xs) h).0
-lacks_at c (x ∷ xs) h (suc i) k = lacks_at c xs (and_parts (not (nat_eq x c)) (lacks c xs) h).1 i (omega arith)

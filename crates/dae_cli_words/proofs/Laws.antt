@@ -5,6 +5,7 @@ use Rattle.std.proofs.Props.{props}
 use Rattle.std.specs.Str.Parse.{digits_value}
 use Rattle.std.proofs.lemmas.Fmt.{decimal_is_IsNumeral}
 use Rattle.dae_base.specs.declared.Depths.{Depths}
+use Rattle.dae_base.proofs.Laws.{Lacks}
 use Rattle.dae_machine.specs.declared.Schedule.{Schedule}
 use Rattle.dae_machine.specs.declared.Schedule.TheVariants.{Round, A, E, Fill, Drain, Seed}
 use Rattle.dae_cli_options.specs.Options.{AreCosts, AreInRange}
@@ -22,7 +23,7 @@ use Rattle.dae_cli_words.specs.Values.{AreChosen, AreCostsOf, AreDepthsOf, IsCho
 use Rattle.dae_cli_words.specs.Words.{AskFor, AsksFor, IsKept, SpellsJob, names_of}
 use Rattle.dae_cli_words.proofs.Fronts.{files_plain, same_middle}
 use Rattle.dae_cli_words.proofs.Commands.{names_ok, same_command, settings_dashed}
-use Rattle.dae_cli_words.proofs.Spelling.{Lacks, no_comma_in}
+use Rattle.dae_cli_words.proofs.Spelling.{no_comma_in}
 
 -- ---- numbers and parts of a text
 

@@ -1,15 +1,14 @@
 -- The one spelling of numbers, of what is shown and of a seed.
-use Rattle.std.proofs.Common.{◌≡◌, ◌≢◌, ℕ, ◌<◌, ◌^◌, zero, suc, Bool, true, not, ◌&&◌, nat_eq, List, [], ◌∷◌, ◌++◌, length, get_or, refl, ap, ◌∙◌, arith}
+use Rattle.std.proofs.Common.{◌≡◌, ◌≢◌, ℕ, ◌<◌, ◌^◌, List, ◌∷◌, ◌++◌, refl, ap, ◌∙◌, arith}
 use Rattle.std.specs.Prelude.{None, Some, Result, Ok, codes, decimal}
 use Rattle.std.specs.Borrow.{Bor}
 use Rattle.std.specs.Int.{IsInRange as IsByteFrom}
 use Rattle.std.specs.Result.{result_ok}
 use Rattle.std.specs.Str.Parse.{ParsesUnsigned}
-use Rattle.std.proofs.lemmas.Bool.Decides.{nat_tests}
 use Rattle.std.proofs.lemmas.Fmt.{parse-decimal, digits_decimal}
 use Rattle.std.proofs.lemmas.Str.Parse.{numerals_by_value, tells_digits, not_in_digits}
 use Rattle.std.proofs.lemmas.Str.Pattern.{IsSplitOnceResult, split_after, split_parts}
-use Rattle.std.proofs.lemmas.Bool.{and_parts}
+use Rattle.dae_base.proofs.Laws.{lacks_at, Lacks}
 use Rattle.dae_machine.specs.declared.Schedule.TheVariants.{Seed}
 use Rattle.dae_cli_options.specs.Ranges.{IsFromTo}
 use Rattle.dae_cli_options.specs.declared.options.Shown.{Shown}
@@ -42,22 +41,6 @@ other_number text r n parses some other = record {
 }
 
 -- parts of a text
-
--- the sign stands nowhere in the text
-abbrev pub lacks : ℕ → List ℕ → Bool
-lacks c [] = true
-lacks c (b ∷ bs) = not (nat_eq b c) && lacks c bs
-
-abbrev pub Lacks : ℕ → List ℕ → Type 0
-Lacks c xs = (i : ℕ) → i < length xs → get_or xs i 0 ≢ c
-
-not_this : (x c : ℕ) → not (nat_eq x c) ≡ true → x ≢ c
-not_this x c h = grind (arith, nat_tests)
-
-pub lacks_at : (c : ℕ) (xs : List ℕ) → lacks c xs ≡ true → Lacks c xs
-lacks_at c [] h i k = absurd (omega arith)
-lacks_at c (x ∷ xs) h zero k = not_this x c (and_parts (not (nat_eq x c)) (lacks c xs) h).0
-lacks_at c (x ∷ xs) h (suc i) k = lacks_at c xs (and_parts (not (nat_eq x c)) (lacks c xs) h).1 i (omega arith)
 
 -- a text is parted at the first of a sign
 pub record IsParted (c : ℕ) (text before after : List ℕ) : Type 0 where

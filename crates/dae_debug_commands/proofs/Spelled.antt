@@ -1,5 +1,5 @@
 -- The one spelling of a number, and of two with a blank between them.
-use Rattle.std.proofs.Common.{◌≡◌, ◌≢◌, ℕ, zero, suc, ◌<◌, ◌^◌, List, ◌++◌, length, get_or, refl, ap, sym, ◌∙◌, subst, arith}
+use Rattle.std.proofs.Common.{◌≡◌, ◌≢◌, ℕ, zero, suc, ◌<◌, ◌^◌, List, ◌++◌, refl, ap, sym, ◌∙◌, subst, arith}
 use Rattle.std.specs.Prelude.{None, Some, Result, Ok, codes, decimal}
 use Rattle.std.specs.Borrow.{Bor}
 use Rattle.std.specs.Int.{IsInRange}
@@ -10,6 +10,7 @@ use Rattle.std.proofs.lemmas.Fmt.{IsAscii-decimal, parse-decimal, digits_decimal
 use Rattle.std.proofs.lemmas.Str.{IsAscii-append, IsUtf8-from_ascii}
 use Rattle.std.proofs.lemmas.Str.Parse.{numerals_by_value, tells_digits, not_in_digits}
 use Rattle.std.proofs.lemmas.Str.Pattern.{IsSplitOnceResult, split_after, split_parts}
+use Rattle.dae_base.proofs.Laws.{Lacks}
 use Rattle.dae_cli_options.specs.Ranges.{IsFromTo}
 use Rattle.dae_debug_commands.specs.Commands.{IsTheOne, SpellsNumber, SpellsPair, pair_text}
 
@@ -47,10 +48,6 @@ no_text bytes least most small none = record {
 }
 
 -- ---- two numbers
-
--- the byte stands nowhere in them
-abbrev pub Lacks : ℕ → List ℕ → Type 0
-Lacks c xs = (i : ℕ) → i < length xs → get_or xs i 0 ≢ c
 
 no_blank : (n most : ℕ) → IsFromTo 0 most n → most < 2 ^ 64 → Lacks 32 (decimal n)
 no_blank n most w small =

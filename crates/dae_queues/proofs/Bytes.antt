@@ -1,14 +1,11 @@
 -- A store leaves what a load finds elsewhere.
-use Rattle.std.proofs.Common.{◌≡◌, ◌≢◌, ℕ, zero, suc, ◌+◌, ◌/◌, ◌<◌, ◌≤◌, ◌⊎◌, inl, inr, false, ◌&&◌, List, [], ◌∷◌, length, refl, ap, ◌∙◌, arith, get_or-set_other}
+use Rattle.std.proofs.Common.{◌≡◌, ◌≢◌, ℕ, zero, suc, ◌+◌, ◌<◌, ◌≤◌, ◌⊎◌, inl, inr, false, ◌&&◌, List, [], ◌∷◌, length, refl, ap, ◌∙◌, arith, get_or-set_other}
 use Rattle.std.specs.Prelude.{nat_lt, slice_index, slice_set}
 use Rattle.std.proofs.lemmas.Bool.Decides.{nat_tests}
 use Rattle.dae_base.specs.declared.Width.{Width}
 use Rattle.dae_base.specs.declared.LoadKind.{LoadKind}
 use Rattle.dae_base.specs.Words.{size, width_of, overlap, bytes_at, from_bytes, low_bytes, written, extended, loaded, stored}
-
-pub length-low_bytes : (n w : ℕ) → length (low_bytes n w) ≡ n
-length-low_bytes zero w = refl
-length-low_bytes (suc n) w = ap suc (length-low_bytes n (w / 256))
+use Rattle.dae_base.proofs.Laws.{length-low_bytes}
 
 -- the address i is not among the written ones
 pub index_other : (bs : List ℕ) (i a : ℕ) (m : List ℕ) → (i < a) ⊎ (a + length bs ≤ i) → slice_index (written a bs m) i ≡ slice_index m i
