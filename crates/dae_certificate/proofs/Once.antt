@@ -4,13 +4,14 @@ use Rattle.std.specs.Prelude.{Option, None, Some, codes, decimal}
 use Rattle.std.proofs.lemmas.Fmt.{decimal_injective}
 use Rattle.std.proofs.lemmas.List.{append-nil, append_assoc, reverse-append, reverse-reverse, length-reverse}
 use Rattle.dae_base.proofs.Laws.{lacks_at}
+use Rattle.dae_base.specs.Ones.{IsTheOne}
 use Rattle.dae_ranges.specs.declared.Range.{Range}
 use Rattle.dae_ranges.specs.Ranges.{highest}
 use Rattle.dae_certificate.specs.declared.Known.{Known}
 use Rattle.dae_certificate.specs.declared.lines.Line.{Line}
 use Rattle.dae_certificate.specs.declared.lines.Line.TheVariants.{Node, Register}
 use Rattle.dae_certificate.specs.Cuts.{Lacks, IsCut}
-use Rattle.dae_certificate.specs.Lines.{IsTheOne, counter_text, side_text, range_words, line_text, spaced, IsCounter, IsRange, IsLine, SpellsWord, SpellsCounter, SpellsCounters, SpellsEnds, SpellsLine, may_follow}
+use Rattle.dae_certificate.specs.Lines.{counter_text, side_text, range_words, line_text, spaced, IsCounter, IsRange, IsLine, SpellsWord, SpellsCounter, SpellsCounters, SpellsEnds, SpellsLine, may_follow}
 use Rattle.dae_certificate.specs.Certificates.{AreLines, IsBadLine, Certifies, nodes_of}
 use Rattle.dae_certificate.proofs.Parts.{others, spaced_parts}
 use Rattle.dae_certificate.proofs.Spellings.{no_blank, no_blank_in, no_blank_side, no_letter, halted_word, counter_word, two_counters, count_is, by_ends, one_range, one_register, one_node, one_named}

@@ -12,13 +12,14 @@ use Rattle.std.proofs.lemmas.Nat.{div-add-mod', mod-mul-add, div-mul-add}
 use Rattle.dae_base.specs.declared.Side.{Side}
 use Rattle.dae_base.specs.declared.Side.TheVariants.{A, E}
 use Rattle.dae_base.proofs.Laws.{lacks_at}
+use Rattle.dae_base.specs.Ones.{IsTheOne}
 use Rattle.dae_ranges.specs.declared.Range.{Range}
 use Rattle.dae_ranges.specs.Ranges.{highest}
 use Rattle.dae_certificate.specs.declared.lines.NamedRange.{NamedRange}
 use Rattle.dae_certificate.specs.declared.lines.Line.{Line}
 use Rattle.dae_certificate.specs.declared.lines.Line.TheVariants.{Node, Register}
 use Rattle.dae_certificate.specs.Cuts.{Lacks, IsCut}
-use Rattle.dae_certificate.specs.Lines.{IsTheOne, counter_text, side_text, range_words, spaced, IsCounter, IsRange, SpellsWord, SpellsCounter, SpellsCounters, SpellsEnds, SpellsRange, SpellsLine}
+use Rattle.dae_certificate.specs.Lines.{counter_text, side_text, range_words, spaced, IsCounter, IsRange, SpellsWord, SpellsCounter, SpellsCounters, SpellsEnds, SpellsRange, SpellsLine}
 use Rattle.dae_certificate.proofs.Parts.{first_word, words_join}
 
 -- ---- numbers

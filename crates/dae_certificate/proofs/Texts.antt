@@ -4,9 +4,10 @@ use Rattle.std.specs.Prelude.{Option, None, Some, nat_eq, unwrap_or}
 use Rattle.std.specs.Borrow.{Bor}
 use Rattle.std.proofs.lemmas.Bool.Decides.{nat_tests}
 use Rattle.std.proofs.lemmas.List.{append-nil, append_assoc, reverse-append, reverse-reverse, length-reverse}
+use Rattle.dae_base.specs.Ones.{IsTheOne}
 use Rattle.dae_certificate.specs.declared.lines.Line.{Line}
 use Rattle.dae_certificate.specs.Cuts.{Lacks, IsCut, bytes_of}
-use Rattle.dae_certificate.specs.Lines.{line_text, SpellsLine, IsTheOne, may_follow}
+use Rattle.dae_certificate.specs.Lines.{line_text, SpellsLine, may_follow}
 use Rattle.dae_certificate.specs.Certificates.{text_lines, AreLines, IsBadLine, Certifies, nodes_of}
 
 not_feed : (c : ℕ) (cs : List ℕ) → Lacks 10 (c ∷ cs) → nat_eq c 10 ≡ false

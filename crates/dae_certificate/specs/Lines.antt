@@ -1,5 +1,5 @@
 -- The lines of a certificate, the bytes that spell each, and which line may stand behind others.
-use Rattle.std.specs.Prelude.{◌≡◌, ℕ, suc, not, ◌≤◌, ◌<◌, ◌^◌, Bool, true, false, ◌&&◌, nat_lt, nat_eq, List, [], ◌∷◌, ◌++◌, Option, Some, None, IfSome, codes, decimal}
+use Rattle.std.specs.Prelude.{◌≡◌, ℕ, suc, not, ◌≤◌, ◌<◌, ◌^◌, Bool, true, false, ◌&&◌, nat_lt, nat_eq, List, [], ◌∷◌, ◌++◌, Option, Some, None, codes, decimal}
 use Rattle.dae_base.specs.declared.Side.{Side}
 use Rattle.dae_base.specs.declared.Side.TheVariants.{A, E}
 use Rattle.dae_ranges.specs.declared.Range.{Range}
@@ -7,11 +7,6 @@ use Rattle.dae_ranges.specs.Ranges.{highest}
 use Rattle.dae_certificate.specs.declared.lines.NamedRange.{NamedRange}
 use Rattle.dae_certificate.specs.declared.lines.Line.{Line}
 use Rattle.dae_certificate.specs.declared.lines.Line.TheVariants.{Node, Register}
-
--- the value has the property, and no other has it; or None, and no value has it
-pub record IsTheOne {X : Type 0} (Has : X → Type 0) (found : Option X) : Type 0 where
-  pub has : IfSome found Has
-  pub only : (x : X) → Has x → found ≡ Some x
 
 -- ---- their words
 

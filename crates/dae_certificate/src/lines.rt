@@ -1,5 +1,6 @@
 // One line of a certificate: what its words say.
-ghost use Rattle.dae_certificate.specs.Lines.{IsTheOne, SpellsLine, SpellsCounters, SpellsRange, SpellsEnds};
+ghost use Rattle.dae_base.specs.Ones.{IsTheOne};
+ghost use Rattle.dae_certificate.specs.Lines.{SpellsLine, SpellsCounters, SpellsRange, SpellsEnds};
 
 use crate::words::{counter, cut, number};
 use dae_base::Side;

@@ -1,6 +1,7 @@
 // Words of a line: what stands before a byte, and decimal numbers.
 ghost use Rattle.std.specs.Prelude.{◌≡◌};
-ghost use Rattle.dae_certificate.specs.Lines.{IsTheOne, SpellsWord, SpellsCounter};
+ghost use Rattle.dae_base.specs.Ones.{IsTheOne};
+ghost use Rattle.dae_certificate.specs.Lines.{SpellsWord, SpellsCounter};
 ghost use Rattle.dae_certificate.specs.Cuts.{IsCut, bytes_of};
 
 use itoa::Buffer;

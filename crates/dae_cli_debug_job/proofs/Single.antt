@@ -2,9 +2,9 @@
 use Rattle.std.proofs.Common.{◌≡◌, ℕ, List, [], ◌∷◌, ◌++◌, map, refl, ap, sym, ◌∙◌, subst}
 use Rattle.std.specs.Prelude.{Option, Some, None}
 use Rattle.dae_base.specs.declared.Depths.{Depths}
+use Rattle.dae_base.specs.Ones.{IsTheOne}
 use Rattle.dae_image.specs.declared.Image.{Image}
 use Rattle.dae_debug_commands.specs.declared.Command.{Command}
-use Rattle.dae_debug_commands.specs.Commands.{IsTheOne}
 use Rattle.dae_debug_commands.specs.Scripts.{AreRead, lines_of}
 use Rattle.dae_debug.specs.Sessions.{HeldSession, opened_session}
 use Rattle.dae_debug.proofs.LawsOfSessions.{one_script}

@@ -5,6 +5,7 @@ use Rattle.dae_base.specs.declared.Queue.TheVariants.{Ld, Al, Sa, Sd, Ab, Eb, Cq
 use Rattle.dae_core.specs.Held.{CanHold}
 use Rattle.dae_cli_options.specs.Options.{AreDepths}
 use Rattle.dae_cli_options.specs.Ranges.{IsFromTo}
+pub use Rattle.dae_cli_options.proofs.Spelled.{no_number, one_number, other_number}
 
 -- each queue can hold an item
 pub can_hold : {d : Depths} → AreDepths d → CanHold d

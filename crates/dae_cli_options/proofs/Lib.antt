@@ -1,1 +1,2 @@
+mod Spelled
 pub mod Laws

@@ -13,13 +13,14 @@ use Rattle.dae_cli_options.specs.declared.options.Costs.{Costs}
 use Rattle.dae_cli_options.specs.declared.options.Options.{Options}
 use Rattle.dae_cli_options.specs.declared.options.RunOptions.{RunOptions}
 use Rattle.dae_cli_options.specs.declared.options.Shown.{Shown}
+use Rattle.dae_cli_options.specs.Spelling.{SpellsNumber}
 use Rattle.dae_cli_settings.specs.Settings.{AreSettings, Setting, given, text_of}
 use Rattle.dae_cli_settings.proofs.Laws.{same_settings}
 use Rattle.dae_cli_words.specs.declared.command.Command.{Command}
 use Rattle.dae_cli_words.specs.declared.command.Command.TheVariants as cmd
 use Rattle.dae_cli_words.specs.declared.values.Chosen.{Chosen}
 use Rattle.dae_cli_words.specs.Asked.{Asked, Big, Compile, Exec, Trace, Time, Check, Debug, Guard, Asm, Dis}
-use Rattle.dae_cli_words.specs.Values.{AreChosen, AreCostsOf, AreDepthsOf, IsChosen, IsCompilingOf, IsNumber, IsRunOf, IsSchedule, IsShown, SpellsMemory, SpellsNumber, SpellsSchedule, SpellsSomeShown, schedule_text, shown_text}
+use Rattle.dae_cli_words.specs.Values.{AreChosen, AreCostsOf, AreDepthsOf, IsChosen, IsCompilingOf, IsNumber, IsRunOf, IsSchedule, IsShown, SpellsMemory, SpellsSchedule, SpellsSomeShown, schedule_text, shown_text}
 use Rattle.dae_cli_words.specs.Words.{AskFor, AsksFor, IsKept, SpellsJob, names_of}
 use Rattle.dae_cli_words.proofs.Fronts.{files_plain, same_middle}
 use Rattle.dae_cli_words.proofs.Commands.{names_ok, same_command, settings_dashed}

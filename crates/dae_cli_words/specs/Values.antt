@@ -1,5 +1,5 @@
 -- The values of options: their spellings, their ranges, and what stands where an option isn't set.
-use Rattle.std.specs.Prelude.{◌≡◌, ℕ, ◌%◌, List, ◌∷◌, ◌++◌, codes, decimal, Option, None, Some, IfSome, IsSomeAnd, MatchOption}
+use Rattle.std.specs.Prelude.{◌≡◌, ℕ, ◌%◌, List, ◌∷◌, ◌++◌, codes, decimal, Option, None, Some, IsSomeAnd, MatchOption}
 use Rattle.dae_base.specs.declared.Depths.{Depths}
 use Rattle.dae_machine.specs.declared.Schedule.{Schedule}
 use Rattle.dae_machine.specs.declared.Schedule.TheVariants.{Round, A, E, Fill, Drain, Seed}
@@ -8,23 +8,14 @@ use Rattle.dae_cli_options.specs.declared.options.Costs.{Costs}
 use Rattle.dae_cli_options.specs.declared.options.Options.{Options}
 use Rattle.dae_cli_options.specs.declared.options.RunOptions.{RunOptions}
 use Rattle.dae_cli_options.specs.declared.options.Shown.{Shown}
+use Rattle.dae_cli_options.specs.Spelling.{SpellsNumber}
 use Rattle.dae_cli_words.specs.declared.values.Chosen.{Chosen}
-
--- the one value with a property, or None where no value has it
-pub record IsTheOne {X : Type 0} (Has : X → Type 0) (found : Option X) : Type 0 where
-  pub has : IfSome found Has
-  pub only : (x : X) → Has x → found ≡ Some x
 
 -- the value found has the property, or there is None, and no value has it
 abbrev pub FindsIfAny : {X : Type 0} → Option X → (X → Type 0) → Type 0
 FindsIfAny found Has = MatchOption found ((x : _) → ¬ (Has x)) Has
 
 -- ---- the one spelling of a value
-
--- the decimal digits of a number, which is in a range
-pub record SpellsNumber (least most : ℕ) (text : List ℕ) (n : ℕ) : Type 0 where
-  pub text_is : text ≡ decimal n
-  pub within : IsFromTo least most n
 
 abbrev pub schedule_text : Schedule → List ℕ
 schedule_text Round = codes "round"

@@ -1,12 +1,13 @@
 -- The words that spell a job: its command, its options in any order and each at most once, and the names of files.
 use Rattle.std.specs.Prelude.{◌≡◌, ℕ, List, [], ◌∷◌, ◌++◌, map, codes, Option, Some}
 use Rattle.dae_cli_options.specs.Names.{AreFiles, IsFileName}
+use Rattle.dae_cli_options.specs.Spelling.{SpellsNumber}
 use Rattle.dae_cli_settings.specs.Settings.{AreSettings, Setting, given, text_of}
 use Rattle.dae_cli_words.specs.declared.command.Command.{Command}
 use Rattle.dae_cli_words.specs.declared.command.Command.TheVariants as cmd
 use Rattle.dae_cli_words.specs.declared.values.Chosen.{Chosen}
 use Rattle.dae_cli_words.specs.Asked.{Asked, Run, Big, Compile, Report, Exec, Trace, Time, Check, Debug, Guard, Asm, Dis}
-use Rattle.dae_cli_words.specs.Values.{AreChosen, SpellsNumber}
+use Rattle.dae_cli_words.specs.Values.{AreChosen}
 
 -- ---- the commands: the word of each, the options that it takes, and what it asks for
 

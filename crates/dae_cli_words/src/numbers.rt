@@ -1,7 +1,9 @@
 // Values of options that texts spell, each in one way.
 ghost use Rattle.std.specs.Prelude.{◌≡◌};
 ghost use Rattle.dae_machine.specs.declared.Schedule.TheVariants.{Seed};
-ghost use Rattle.dae_cli_words.specs.Values.{IsTheOne, SpellsMemory, SpellsNumber, SpellsSchedule, SpellsShown};
+ghost use Rattle.dae_base.specs.Ones.{IsTheOne};
+ghost use Rattle.dae_cli_options.specs.Spelling.{SpellsNumber};
+ghost use Rattle.dae_cli_words.specs.Values.{SpellsMemory, SpellsSchedule, SpellsShown};
 
 use dae_cli_options::Shown;
 use dae_machine::Schedule;

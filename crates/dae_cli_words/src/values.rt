@@ -5,7 +5,8 @@ ghost use Rattle.dae_machine.specs.declared.Schedule.TheVariants.{Round};
 ghost use Rattle.dae_cli_options.specs.Options.{AreDepths};
 ghost use Rattle.dae_cli_options.specs.Ranges.{IsFromTo};
 ghost use Rattle.dae_cli_settings.specs.Settings.{option_in};
-ghost use Rattle.dae_cli_words.specs.Values.{AreChosen, AreCostsOf, AreDepthsOf, FindsIfAny, IsChosen, IsCompilingOf, IsMemory, IsNumber, IsRunOf, IsTheOne, SpellsMemory, SpellsSchedule, SpellsSomeShown};
+ghost use Rattle.dae_base.specs.Ones.{IsTheOne};
+ghost use Rattle.dae_cli_words.specs.Values.{AreChosen, AreCostsOf, AreDepthsOf, FindsIfAny, IsChosen, IsCompilingOf, IsMemory, IsNumber, IsRunOf, SpellsMemory, SpellsSchedule, SpellsSomeShown};
 
 use crate::numbers::{memory_of, number, schedule_of, shown_of};
 use clap::ArgMatches;

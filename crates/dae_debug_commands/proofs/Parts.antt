@@ -3,7 +3,8 @@ use Rattle.std.proofs.Common.{◌≡◌, ℕ, List, refl, ap, arith}
 use Rattle.std.specs.Prelude.{Option, None, Some, option_map}
 use Rattle.dae_base.specs.declared.Side.{Side}
 use Rattle.dae_base.specs.declared.Side.TheVariants.{A}
-use Rattle.dae_debug_commands.specs.Commands.{IsTheOne, SpellsBreakOn, SpellsPair, SpellsShown}
+use Rattle.dae_base.specs.Ones.{IsTheOne}
+use Rattle.dae_debug_commands.specs.Commands.{SpellsBreakOn, SpellsPair, SpellsShown}
 
 -- the values of one kind are made from those of another
 pub by_parts : {X Y : Type 0} (Has : X → Type 0) (Spells : Y → Type 0) (make : X → Y) (found : Option X) → ((x : X) → Has x → Spells (make x))

@@ -1,5 +1,5 @@
 -- The one spelling of each command.
-use Rattle.std.specs.Prelude.{◌≡◌, ℕ, ◌<◌, ◌^◌, List, ◌++◌, codes, decimal, Option, Some, IfSome}
+use Rattle.std.specs.Prelude.{◌≡◌, ℕ, ◌<◌, ◌^◌, List, ◌++◌, codes, decimal}
 use Rattle.dae_base.specs.declared.Side.{Side}
 use Rattle.dae_machine.specs.declared.Pick.{Pick}
 use Rattle.dae_machine.specs.declared.Pick.TheVariants.{A, E, Fill, Drain}
@@ -53,16 +53,6 @@ pub record SpellsCommand (line : List ℕ) (command : Command) : Type 0 where
   pub in_range : IsInRange command
 
 -- ---- the parts of a line, as they are read
-
--- the one value with a property, or None where no value has it
-pub record IsTheOne {X : Type 0} (Has : X → Type 0) (found : Option X) : Type 0 where
-  pub has : IfSome found Has
-  pub only : (x : X) → Has x → found ≡ Some x
-
--- a number in decimal digits, which is in a range
-pub record SpellsNumber (least most : ℕ) (text : List ℕ) (n : ℕ) : Type 0 where
-  pub text_is : text ≡ decimal n
-  pub within : IsFromTo least most n
 
 -- two numbers, each in its range
 pub record SpellsPair (most_first least most : ℕ) (text : List ℕ) (pair : ℕ × ℕ) : Type 0 where

@@ -1,8 +1,9 @@
 -- A script: its lines, and the commands that they spell.
 use Rattle.std.specs.Prelude.{ℕ, ◌==◌, if◌then◌else◌, List, [], ◌∷◌, Option}
 use Rattle.std.specs.List.{AllZip}
+use Rattle.dae_base.specs.Ones.{IsTheOne}
 use Rattle.dae_debug_commands.specs.declared.Command.{Command}
-use Rattle.dae_debug_commands.specs.Commands.{IsTheOne, SpellsCommand}
+use Rattle.dae_debug_commands.specs.Commands.{SpellsCommand}
 
 -- a byte in front of the first line
 abbrev pub in_front : ℕ → List (List ℕ) → List (List ℕ)

@@ -1,6 +1,8 @@
 // Decimal numbers, each spelled in one way.
 ghost use Rattle.std.specs.Prelude.{◌≡◌, ◌≤◌};
-ghost use Rattle.dae_debug_commands.specs.Commands.{IsTheOne, SpellsNumber, SpellsPair};
+ghost use Rattle.dae_base.specs.Ones.{IsTheOne};
+ghost use Rattle.dae_cli_options.specs.Spelling.{SpellsNumber};
+ghost use Rattle.dae_debug_commands.specs.Commands.{SpellsPair};
 
 use itoa::Buffer;
 

@@ -1,7 +1,8 @@
 // The command that a line spells.
 ghost use Rattle.std.specs.Prelude.{◌≡◌};
 ghost use Rattle.dae_trace.specs.Lines.{side_text};
-ghost use Rattle.dae_debug_commands.specs.Commands.{IsTheOne, SpellsBreak, SpellsBreakOn, SpellsCommand, SpellsPick, SpellsShown};
+ghost use Rattle.dae_base.specs.Ones.{IsTheOne};
+ghost use Rattle.dae_debug_commands.specs.Commands.{SpellsBreak, SpellsBreakOn, SpellsCommand, SpellsPick, SpellsShown};
 
 use crate::numbers::{number, pair};
 use crate::{Breakpoint, Command};

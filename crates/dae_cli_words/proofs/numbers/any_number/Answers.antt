@@ -1,5 +1,5 @@
 use Rattle.std.proofs.Common.{rules}
-use Rattle.dae_cli_words.proofs.Spelling.{no_number, one_number, other_number}
+use Rattle.dae_cli_options.proofs.Laws.{no_number, one_number, other_number}
 use Rattle.dae_cli_words.proofs.numbers.any_number.Goals as goal
 
 pub returns-in_err-number : goal.returns-in_err-number
