@@ -6,12 +6,13 @@ use Rattle.dae_base.specs.Words.{size, width_of, loaded, stored, extended}
 use Rattle.dae_base.specs.declared.Place.{Place}
 use Rattle.dae_base.specs.declared.Width.{Width}
 use Rattle.dae_base.specs.declared.LoadKind.{LoadKind}
+use Rattle.dae_base.proofs.Laws.{stored_length}
 use Rattle.dae_meaning.specs.Worlds.{World, ticked, fetched, back}
 use Rattle.dae_meaning.specs.Results.{Result, At, Next, Leaves, Skips, Returns, Halted, Trapped, Astray, Run, ◌▷◌, within, checked}
 use Rattle.dae_meaning.specs.Alike.{Alike, BothAt, BothOver, FirstStrays, Alikes}
 use Rattle.dae_meaning.specs.Variables.{Env, put, entered}
 use Rattle.dae_meaning.specs.Operations.{misplaced, spelled, passed}
-use Rattle.dae_meaning.proofs.Laws.{bind_alike, turns_alike, within_both, stored_length, alike_weaker}
+use Rattle.dae_meaning.proofs.Laws.{bind_alike, turns_alike, within_both, alike_weaker}
 use Rattle.dae_ir.specs.Code.{Done, Do, If, Loop, exec, Each}
 use Rattle.dae_ir.specs.Form.{Form, Program, Calls, value, values, holds, computed, fault, called, ended, does, meaning, with_stored, deeper, calls_of, all_loads}
 use Rattle.dae_ir.specs.Scope.{IsIn, ValueIn, TestIn, CheckIn, ItemIn}

@@ -1,16 +1,14 @@
 -- The bytes of UTF-8 are bytes.
-use Rattle.std.proofs.Common.{◌≡◌, ℕ, ◌+◌, ◌/◌, ◌%◌, ◌<◌, Bool, true, false, ◌&&◌, cond, List, [], ◌∷◌, ◌++◌, refl, subst, arith}
+use Rattle.std.proofs.Common.{◌≡◌, ℕ, ◌+◌, ◌/◌, ◌%◌, ◌<◌, Bool, true, false, ◌&&◌, cond, List, [], ◌∷◌, refl, subst, arith}
 use Rattle.std.specs.Prelude.{nat_lt, nat_le}
 use Rattle.std.specs.Char.{encode_utf8, IsScalar}
-use Rattle.std.specs.List.{AllByRecursion}
 use Rattle.std.specs.Str.{is_utf8, encode_utf8_all}
 use Rattle.std.proofs.Math.Utf8.{scalars}
 use Rattle.std.proofs.lemmas.Bool.{and_parts}
 use Rattle.std.proofs.lemmas.Bool.Decides.{nat_tests}
 use Rattle.std.proofs.lemmas.Str.{IsUtf8-from_is_utf8}
-
-abbrev pub AreBytes : List ℕ → Type 0
-AreBytes bs = AllByRecursion (λ b. b < 256) bs
+use Rattle.dae_base.specs.Words.{AreBytes}
+use Rattle.dae_base.proofs.Laws.{bytes-append}
 
 one_byte : (c : ℕ) → nat_lt c 128 ≡ true → c < 256
 one_byte c e = grind (arith, nat_tests)
@@ -38,13 +36,9 @@ of_char : (c : ℕ) → IsScalar c → AreBytes (encode_utf8 c)
 unfolding encode_utf8
 of_char c h = by_size c (nat_lt c 128) (nat_lt c 2048) (nat_lt c 65536) refl refl refl (below c (nat_lt c 55296) (nat_le 57344 c) (nat_lt c 1114112) refl refl refl h)
 
-join : (xs ys : List ℕ) → AreBytes xs → AreBytes ys → AreBytes (xs ++ ys)
-join [] ys h k = k
-join (x ∷ xs) ys h k = (h.0, join xs ys h.1 k)
-
 of_chars : (cs : List ℕ) → scalars cs ≡ true → AreBytes (encode_utf8_all cs)
 of_chars [] h = tt
-of_chars (c ∷ cs) h = let parts = and_parts _ (scalars cs) h in join (encode_utf8 c) (encode_utf8_all cs) (of_char c parts.0) (of_chars cs parts.1)
+of_chars (c ∷ cs) h = let parts = and_parts _ (scalars cs) h in bytes-append (encode_utf8 c) (encode_utf8_all cs) (of_char c parts.0) (of_chars cs parts.1)
 
 pub text_bytes : (bs : List ℕ) → is_utf8 bs ≡ true → AreBytes bs
 text_bytes bs e = let t = IsUtf8-from_is_utf8 bs e in let same = t.1 in subst AreBytes same.1 (of_chars t.0 same.0)

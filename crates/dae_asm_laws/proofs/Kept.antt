@@ -7,6 +7,7 @@ use Rattle.std.proofs.lemmas.Bool.Decides.{nat_tests}
 use Rattle.std.proofs.lemmas.List.Elements.{All-from_recursion, recursion_from_All}
 use Rattle.dae_base.specs.declared.Side.{Side}
 use Rattle.dae_base.specs.declared.Side.TheVariants.{A, E}
+use Rattle.dae_base.specs.Words.{AreBytes}
 use Rattle.dae_image.specs.declared.Image.{Image}
 use Rattle.dae_image.specs.declared.LineMark.{LineMark}
 use Rattle.dae_image.specs.declared.header.Header.{Header}
@@ -14,7 +15,7 @@ use Rattle.dae_image.specs.Contents.{header, code_length, follows, is_line, are_
 use Rattle.dae_image.specs.Images.{contents}
 use Rattle.dae_image.specs.Ranges.{IsIn, is_in, entry_range, name_range}
 use Rattle.std.specs.Str.{is_utf8}
-use Rattle.dae_asm_laws.proofs.Bytes.{text_bytes, AreBytes}
+use Rattle.dae_asm_laws.proofs.Bytes.{text_bytes}
 use Rattle.dae_asm_laws.proofs.Same.{mark_place}
 use Rattle.dae_asm_lines.specs.Items as items
 use Rattle.dae_asm_lines.specs.Targets.{Target}

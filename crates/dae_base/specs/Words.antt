@@ -1,7 +1,8 @@
 -- Words of 32 bits, and words in memory as little-endian bytes. A word is a number below 2 ^ 32, and arithmetic on words
 -- is modulo 2 ^ 32 (RISC-V unprivileged manual, "RV32I Base Integer Instruction Set"; its memory is little-endian).
-use Rattle.std.specs.Prelude.{ℕ, zero, suc, ◌+◌, ◌-◌, ◌*◌, ◌/◌, ◌%◌, ◌^◌, ℤ, Bool, ◌&&◌, nat_lt, if◌then◌else◌, List, [], ◌∷◌, slice_index, slice_set}
+use Rattle.std.specs.Prelude.{ℕ, zero, suc, ◌+◌, ◌-◌, ◌*◌, ◌/◌, ◌%◌, ◌^◌, ℤ, Bool, ◌&&◌, nat_lt, if◌then◌else◌, List, [], ◌∷◌, slice_index, slice_set, ◌<◌}
 use Rattle.std.specs.Int.{w32, cast_signed, cast_unsigned}
+use Rattle.std.specs.List.{AllByRecursion}
 use Rattle.dae_base.specs.declared.Width.{Width}
 use Rattle.dae_base.specs.declared.Width.TheVariants.{B1, B2, B4}
 use Rattle.dae_base.specs.declared.LoadKind.{LoadKind}
@@ -79,3 +80,7 @@ stored width addr w memory = written addr (low_bytes (size width) w) memory
 -- two ranges share a byte
 abbrev pub overlap : ℕ → Width → ℕ → Width → Bool
 overlap x wx y wy = nat_lt x (y + size wy) && nat_lt y (x + size wx)
+
+-- bytes are numbers below 256
+abbrev pub AreBytes : List ℕ → Type 0
+AreBytes xs = AllByRecursion (λ (x : ℕ). x < 256) xs

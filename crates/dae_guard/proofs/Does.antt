@@ -2,7 +2,7 @@
 use Rattle.std.proofs.Common.{◌≡◌, ℕ, zero, suc, ◌<◌, ◌≤◌, ◌^◌, ◌⊎◌, inl, inr, Bool, true, false, ◌&&◌, ◌||◌, List, [], ◌∷◌, length, map, refl, ap, sym, ◌∙◌, subst, arith}
 use Rattle.std.specs.Prelude.{Some, None, nat_lt, nat_le, ◌==◌, if◌then◌else◌, slice_index}
 use Rattle.std.proofs.lemmas.Bool.Decides.{nat_tests}
-use Rattle.dae_base.proofs.Laws.{and_true, if_some_is, map_some_is, and_then_some}
+use Rattle.dae_base.proofs.Laws.{and_true, if_some_is, map_some_is, and_then_some, written_length, stored_bytes}
 use Rattle.dae_base.specs.declared.Side.{Side}
 use Rattle.dae_base.specs.declared.Side.TheVariants.{A, E}
 use Rattle.dae_base.specs.declared.Width.{Width}
@@ -31,7 +31,7 @@ use Rattle.dae_guard.specs.Waiting.{allows, given, after_use}
 use Rattle.dae_guard.specs.Moves.{Terms, private, Outcome, outcomes_by, shape, After, on, did}
 use Rattle.dae_guard.specs.StandsFor.{Registers, IsSide, Wait}
 use Rattle.dae_guard.proofs.Waits.{given_has, PutsIn, StoresCounted, used}
-use Rattle.dae_guard.proofs.Memories.{stored_bytes, length_written, loaded_has}
+use Rattle.dae_guard.proofs.Memories.{loaded_has}
 use Rattle.dae_guard.proofs.Values.{other, imm_12}
 use Rattle.dae_guard.proofs.Sides.{reads, holds_plain, put_result, AnyComes, comes}
 
@@ -213,7 +213,7 @@ module _ (t : Terms) (side : Side) (rs : List Range) (c : ℕ) (q : Waiting) (p 
           let is : (on (plus c 4) rs, after_use u addr q) ∷ [] ≡ ms = cc in
           let bytes = stored width (address p (peek u qs) base offset) (operand p (peek u qs) second) p.private in
           let next' : Processor = record p { counter = plus p.counter 4; private = bytes } in
-          let size' : length bytes ≡ private t side = length_written (low_bytes (size width) (operand p (peek u qs) second)) (address p (peek u qs) base offset) p.private ∙ stands.size in
+          let size' : length bytes ≡ private t side = written_length (low_bytes (size width) (operand p (peek u qs) second)) (address p (peek u qs) base offset) p.private ∙ stands.size in
           record {
             quiet = rw (e, no_fault width base offset good) refl;
             came = (next', []);

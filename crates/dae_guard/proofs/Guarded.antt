@@ -4,6 +4,8 @@ use Rattle.std.specs.Prelude.{Option, Some, None, if◌then◌else◌, slice_ind
 use Rattle.std.proofs.lemmas.List.{length-replicate}
 use Rattle.std.proofs.lemmas.List.Elements.{recursion_from_All}
 use Rattle.dae_base.specs.declared.Depths.{Depths}
+use Rattle.dae_base.specs.Words.{AreBytes}
+use Rattle.dae_base.proofs.Laws.{zero_bytes}
 use Rattle.dae_image.specs.declared.Image.{Image}
 use Rattle.dae_core.specs.Queues.{empty_queues}
 use Rattle.dae_machine.specs.Memory.{QueuesCount}
@@ -18,7 +20,7 @@ use Rattle.dae_guard.specs.Sets.{Node}
 use Rattle.dae_certificate.specs.declared.Known.{Known}
 use Rattle.dae_guard.specs.Nodes.{known_node, is_final, range_at}
 use Rattle.dae_guard.specs.Moves.{Terms, next_nodes}
-use Rattle.dae_guard.specs.StandsFor.{AreBytes, IsSide, StandsFor, AnyStands, CodesFit}
+use Rattle.dae_guard.specs.StandsFor.{IsSide, StandsFor, AnyStands, CodesFit}
 use Rattle.dae_guard.specs.Walk.{Walked, Ends, Halts, Passes, walk, walk_start, after_next, Yes, verdict, verdict_of, guarded, terms_of, opened_side, opened_node}
 use Rattle.dae_guard.proofs.Never.{Leads, never_stuck}
 use Rattle.dae_guard.proofs.Walking.{IsKnown, Sound, goes}
@@ -77,10 +79,6 @@ single_at : (n r : ℕ) → r < n → range_at (replicate n (single 0)) r ≡ si
 single_at zero r h = absurd (omega arith)
 single_at (suc n) zero h = refl
 single_at (suc n) (suc r) h = single_at n r (omega arith)
-
-zero_bytes : (n : ℕ) → AreBytes (replicate n 0)
-zero_bytes zero = tt
-zero_bytes (suc n) = (omega arith, zero_bytes n)
 
 fresh_is : (entry size : ℕ) → IsSide size (opened_side entry) (fresh entry size)
 fresh_is entry size = record {

@@ -2,7 +2,7 @@
 use Rattle.std.proofs.Common.{◌≡◌, ℕ, zero, suc, ◌%◌, ◌/◌, ◌+◌, ◌<◌, ◌^◌, ◌⊎◌, inl, inr, Bool, true, false, List, [], ◌∷◌, map, refl, ap, ◌∙◌, subst}
 use Rattle.std.specs.Prelude.{Option, Some, None, if◌then◌else◌, ◌==◌, slice_get}
 use Rattle.std.specs.List.{AllByRecursion}
-use Rattle.dae_base.proofs.Laws.{map_some_is, and_then_some, if_some_is}
+use Rattle.dae_base.proofs.Laws.{map_some_is, and_then_some, if_some_is, stored_bytes}
 use Rattle.dae_base.specs.declared.Side.{Side}
 use Rattle.dae_base.specs.declared.Side.TheVariants.{A, E}
 use Rattle.dae_base.specs.Words.{loaded, stored}
@@ -29,7 +29,7 @@ use Rattle.dae_guard.specs.StandsFor.{StandsAt, IsSide, Wait, StandsFor, AnyStan
 use Rattle.dae_guard.proofs.Does.{AnyAfter, does_any}
 use Rattle.dae_guard.proofs.Waits.{allowed}
 use Rattle.dae_guard.proofs.Fills.{fillable, drainable}
-use Rattle.dae_guard.proofs.Memories.{stored_bytes, loaded_has}
+use Rattle.dae_guard.proofs.Memories.{loaded_has}
 
 -- ---- the memory
 

@@ -1,11 +1,11 @@
 -- A pair of codes that can't get stuck.
 use Rattle.std.specs.Prelude.{◌≡◌, List, ℕ, length}
 use Rattle.dae_base.specs.declared.Depths.{Depths}
+use Rattle.dae_base.specs.Words.{AreBytes}
 use Rattle.dae_image.specs.declared.Image.{Image}
 use Rattle.dae_machine.specs.declared.Pick.{Pick}
 use Rattle.dae_machine.specs.Machine.{State, Runs, IsStuck}
 use Rattle.dae_machine.specs.Opened.{opened, setup_of}
-use Rattle.dae_guard.specs.StandsFor.{AreBytes}
 
 -- whatever bytes common memory holds, no run of the machine with queues of these depths leads to a
 -- stuck state

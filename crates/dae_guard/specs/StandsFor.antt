@@ -1,6 +1,7 @@
 -- Which states of a machine a node stands for.
 use Rattle.std.specs.Prelude.{◌≡◌, ℕ, ◌-◌, ◌<◌, ◌^◌, ◌⊎◌, true, List, [], ◌∷◌, length, Option, Some, None, slice_index, is_some}
 use Rattle.std.specs.List.{AllByRecursion}
+use Rattle.dae_base.specs.Words.{AreBytes}
 use Rattle.dae_encode.specs.Processor.{Processor}
 use Rattle.dae_queues.specs.declared.Slot.{Slot}
 use Rattle.dae_queues.specs.declared.StoreAt.{StoreAt}
@@ -16,10 +17,6 @@ use Rattle.dae_guard.specs.Sets.{Waiting}
 use Rattle.dae_guard.specs.Sets.{Node}
 use Rattle.dae_guard.specs.Nodes.{range_at}
 use Rattle.dae_guard.specs.Moves.{Terms}
-
--- bytes are numbers below 256
-abbrev pub AreBytes : List ℕ → Type 0
-AreBytes xs = AllByRecursion (λ (x : ℕ). x < 256) xs
 
 -- item by item
 abbrev pub Pairs : {X Y : Type 0} → (X → Y → Type 0) → List X → List Y → Type 0

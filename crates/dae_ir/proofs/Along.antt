@@ -2,12 +2,13 @@
 use Rattle.std.proofs.Common.{ℕ, zero, suc, Bool, List, if◌then◌else◌, length, refl}
 use Rattle.dae_base.specs.Words.{width_of}
 use Rattle.dae_base.specs.declared.Width.{Width}
+use Rattle.dae_base.proofs.Laws.{stored_bytes, stored_length}
 use Rattle.dae_meaning.specs.declared.Spelling.{Spelling}
 use Rattle.dae_meaning.specs.Worlds.{World, KeepsMemory, ticked, fetched, back}
 use Rattle.dae_meaning.specs.Results.{Result, At, Over, turns, world_of}
 use Rattle.dae_meaning.specs.Operations.{misplaced, spelled}
 use Rattle.dae_meaning.specs.Variables.{Env}
-use Rattle.dae_meaning.proofs.Laws.{IsCourse, Along, bind_along, turns_along, choice_along, within_along, checked_along, Prints, prints, keeps_memory, stored_length, stored_bytes}
+use Rattle.dae_meaning.proofs.Laws.{IsCourse, Along, bind_along, turns_along, choice_along, within_along, checked_along, Prints, prints, keeps_memory}
 use Rattle.dae_ir.specs.Code.{Code, Done, Do, If, Loop, Meaning, exec}
 use Rattle.dae_ir.specs.Form.{Program, Calls, value, values, fault, called, deeper, ended, with_stored, with_printed, does, meaning, calls_of}
 use Rattle.dae_ir.specs.Laws.{Counting, MemoryKept}

@@ -4,6 +4,7 @@ use Rattle.dae_base.specs.declared.Place.{Place}
 use Rattle.dae_base.specs.declared.Width.{Width}
 use Rattle.dae_base.specs.declared.Depths.{Depths}
 use Rattle.dae_base.specs.Words.{stored}
+use Rattle.dae_base.proofs.Laws.{stored_bytes, stored_length}
 use Rattle.dae_encode.specs.declared.Halt.{Halt}
 use Rattle.dae_encode.specs.declared.Halt.TheVariants.{Plain, Trap}
 use Rattle.dae_encode.specs.Processor.{Processor}
@@ -41,8 +42,6 @@ use Rattle.dae_machine.specs.Walks.{AreWords, WordsWait}
 use Rattle.dae_machine_rounds.proofs.Does.{Does, here, did_a}
 use Rattle.dae_machine_rounds.proofs.Both.{does_both}
 use Rattle.dae_machine_rounds.proofs.Worlds.{loads_words, Like, LoadsWords, fault_code}
-use Rattle.dae_meaning.proofs.Laws.{stored_bytes}
-use Rattle.dae_meaning.proofs.Laws.{stored_length}
 use Rattle.dae_machine_rounds.proofs.Slots.{Counts, Loads, held, resting, sending, waiting_slots, filled_slots, words_for, NoneBars, none_waits, new_waits}
 use Rattle.dae_machine_rounds.proofs.PartsA.{HasRoom, Passes, Fails, Comes, parts_come}
 use Rattle.dae_machine_rounds.proofs.PartsE.{parts_taken}

@@ -2,6 +2,7 @@
 use Rattle.std.proofs.Common.{◌≡◌, ℕ, ◌+◌, ◌*◌, ◌≤◌, ◌⊎◌, inl, inr, List, ◌++◌, length, refl, ap, sym, ◌∙◌, subst, append_assoc, length-append, arith}
 use Rattle.std.specs.Prelude.{Some}
 use Rattle.std.proofs.Math.Nat.{mul-add}
+use Rattle.dae_base.specs.Words.{AreBytes}
 use Rattle.dae_encode.specs.declared.Halt.{Halt}
 use Rattle.dae_encode.specs.declared.Halt.TheVariants.{Status, Trap}
 use Rattle.dae_encode.specs.Processor.{Processor}
@@ -10,7 +11,7 @@ use Rattle.dae_machine.specs.Runs.{often}
 use Rattle.dae_machine.specs.Ends.{is_a, is_e, AwaitsMessage}
 use Rattle.dae_machine.specs.Machine.{Setup, State, step, Runs, IsFinal}
 use Rattle.dae_machine.proofs.LawsOfRuns.{run-on}
-use Rattle.dae_meaning.specs.Worlds.{World, AreBytes}
+use Rattle.dae_meaning.specs.Worlds.{World}
 use Rattle.dae_meaning.specs.Results.{Result, At, Over, Way, Next, Leaves, Skips, Returns, Halted as HaltedWith, Trapped, Going, Astray}
 use Rattle.dae_ir.specs.Code.{Done}
 use Rattle.dae_ir.specs.Canonical.{Sides}

@@ -1,10 +1,10 @@
 -- Worlds that differ in counts alone, and what memories hold.
 use Rattle.std.proofs.Common.{◌≡◌, ℕ, ◌<◌, ◌^◌, Bool, false, List, length, Some, nat_eq, refl, arith}
-use Rattle.dae_base.specs.Words.{loaded}
+use Rattle.dae_base.specs.Words.{loaded, AreBytes}
 use Rattle.dae_base.specs.declared.Width.{Width}
 use Rattle.dae_base.specs.declared.LoadKind.{LoadKind}
-use Rattle.dae_meaning.specs.Worlds.{World, AreBytes, ticked, fetched}
-use Rattle.dae_meaning.proofs.Laws.{loads_are_words}
+use Rattle.dae_base.proofs.Laws.{loads_are_words}
+use Rattle.dae_meaning.specs.Worlds.{World, ticked, fetched}
 use Rattle.dae_meaning.specs.Operations.{misplaced, passed}
 use Rattle.dae_meaning.specs.Variables.{Env}
 use Rattle.dae_ir.specs.Form.{Program, value, fault}

@@ -8,6 +8,7 @@ use Rattle.dae_base.specs.declared.Place.{Place}
 use Rattle.dae_base.specs.Words.{plus}
 use Rattle.dae_base.specs.declared.Side.TheVariants.{A, E}
 use Rattle.dae_base.specs.declared.Depths.{Depths}
+use Rattle.dae_base.proofs.Laws.{zero_bytes}
 use Rattle.dae_encode.specs.declared.Halt.TheVariants.{Plain, Status}
 use Rattle.dae_encode.specs.declared.Inst.TheVariants.{Ecall}
 use Rattle.dae_encode.specs.declared.QueueUse.TheVariants.{Nothing}
@@ -35,7 +36,6 @@ use Rattle.dae_machine_rounds.specs.Spots.{weight, Spot, Came, Moves, acts, goes
 use Rattle.dae_machine.specs.Walks.{Goes, stays, quiet}
 use Rattle.dae_machine_rounds.specs.Sides.{Walked}
 use Rattle.dae_machine_runs.specs.Promises.{OnlyEnds}
-use Rattle.dae_machine_runs.proofs.Forms.{zero_bytes}
 use Rattle.dae_machine_runs.proofs.Calls.{body_of}
 use Rattle.dae_machine_runs.proofs.Whole.{ends_as}
 

@@ -1,5 +1,5 @@
 -- An image whose code does the pair of a form does the form, with all depths that reach its budget.
-use Rattle.std.proofs.Common.{zero, suc, ◌∷◌, ◌<◌, ◌*◌, ◌+◌, ◌-◌, arith, replicate, ◌++◌, length, ◌≡◌, ℕ, ◌≤◌, inl, inr, Bool, true, false, List, [], Option, Some, None, refl, ap, sym, ◌∙◌, subst}
+use Rattle.std.proofs.Common.{◌<◌, ◌*◌, ◌+◌, ◌-◌, replicate, length, ◌≡◌, ℕ, ◌≤◌, inl, inr, Bool, true, false, List, [], Option, Some, None, refl, ap, sym, ◌∙◌, subst}
 use Rattle.std.specs.Prelude.{is_some}
 use Rattle.dae_base.specs.declared.Side.{Side}
 use Rattle.dae_base.specs.declared.Side.TheVariants.{A, E}
@@ -16,7 +16,7 @@ use Rattle.dae_machine.specs.Machine.{Setup, State, step, Runs, IsFinal, IsCount
 use Rattle.dae_machine.specs.Ends.{AwaitsMessage, HasRuns, GoesOn}
 use Rattle.dae_machine.proofs.LawsOfRuns.{runs_deeper}
 use Rattle.dae_machine.proofs.LawsOfRuns.{can_only_end, goes_on}
-use Rattle.dae_meaning.specs.Worlds.{World, AreBytes}
+use Rattle.dae_meaning.specs.Worlds.{World}
 use Rattle.dae_meaning.specs.Results.{Result, Over, End, Halted, Trapped, Going, Astray, world_of}
 use Rattle.dae_meaning.specs.Variables.{Env}
 use Rattle.dae_ir.specs.Form.{Program, deeper}
@@ -38,6 +38,7 @@ use Rattle.dae_ir.specs.declared.stream.Pair.{Pair}
 use Rattle.dae_machine_rounds.specs.Spots.{Ends as Here, point, Spot, spot}
 use Rattle.dae_machine_rounds.specs.Sides.{Implements}
 use Rattle.dae_base.specs.Budgets.{Reaches}
+use Rattle.dae_base.proofs.Laws.{bytes-append, zero_bytes}
 use Rattle.dae_machine_runs.specs.Promises.{Begins, OnlyEnds, EndsAs, Ends, Continues, Tells, DoesForm}
 use Rattle.dae_machine_rounds.proofs.Laws.{Counts, IsSound, order_run}
 use Rattle.dae_machine.proofs.LawsOfRuns.{memory_length, data_fit}
@@ -96,14 +97,6 @@ same_end c r s end w t h e =
     record { world = x.0; is = x.1; memory = y.0; printed = y.1; items = y.2 }
 
 -- ---- the opened memory
-
-bytes-append : (xs ys : List ℕ) → AreBytes xs → AreBytes ys → AreBytes (xs ++ ys)
-bytes-append [] ys h k = k
-bytes-append (x ∷ xs) ys h k = (h.0, bytes-append xs ys h.1 k)
-
-pub zero_bytes : (n : ℕ) → AreBytes (replicate n 0)
-zero_bytes zero = tt
-zero_bytes (suc n) = (omega arith, zero_bytes n)
 
 opened_sound : (ir : Ir) (image : Image) → IsSound (setup_of image image.budget) (start ir (opened image).memory)
 opened_sound ir image = record {

@@ -1,61 +1,8 @@
--- Laws for the crates above: memory keeps its length and its bytes; what ends alike goes on alike; and what each step of a
--- world keeps is kept by whole stretches.
-use Rattle.std.proofs.Common.{◌≡◌, ℕ, zero, suc, ◌+◌, ◌/◌, ◌<◌, ◌^◌, Bool, true, false, if◌then◌else◌, List, [], ◌∷◌, ◌++◌, length, Option, Some, None, refl, ap, sym, ◌∙◌, subst, arith, append_assoc, append-nil}
-use Rattle.std.specs.Prelude.{slice_index, slice_set}
-use Rattle.dae_base.specs.Words.{size, loaded, stored, low_bytes, written}
-use Rattle.dae_base.specs.declared.Width.{Width}
-use Rattle.dae_base.specs.declared.LoadKind.{LoadKind}
-use Rattle.dae_base.specs.declared.LoadKind.TheVariants.{I8, U8, I16, U16, I32}
-use Rattle.dae_meaning.specs.Worlds.{World, AreBytes, KeepsMemory, ticked}
+-- Laws for the crates above: what ends alike goes on alike, and what each step of a world keeps is kept by whole stretches.
+use Rattle.std.proofs.Common.{◌≡◌, ℕ, zero, suc, ◌+◌, Bool, true, false, if◌then◌else◌, List, [], ◌++◌, Option, Some, None, refl, ap, sym, ◌∙◌, subst, append_assoc, append-nil}
+use Rattle.dae_meaning.specs.Worlds.{World, KeepsMemory, ticked}
 use Rattle.dae_meaning.specs.Results.{End, Halted, Trapped, Result, At, Over, Next, Leaves, Skips, Returns, Going, Astray, Run, ◌▷◌, ◌↻◌, turns, world_of, within, checked}
 use Rattle.dae_meaning.specs.Alike.{Alike, BothAt, BothOver, FirstStrays, Alikes, IsFront, IsUnder, Stays, Grows}
-
--- ---- memory
-
-byte_at : (m : List ℕ) (i : ℕ) → AreBytes m → slice_index m i < 256
-byte_at [] i h = omega arith
-byte_at (b ∷ m) zero h = h.0
-byte_at (b ∷ m) (suc i) h = byte_at m i h.1
-
-pub loads_are_words : (kind : LoadKind) (address : ℕ) (m : List ℕ) → AreBytes m → loaded kind address m < 2 ^ 32
-loads_are_words I8 a m h = let b0 = byte_at m a h in grind arith
-loads_are_words U8 a m h = let b0 = byte_at m a h in omega arith
-loads_are_words I16 a m h = let b0 = byte_at m a h in let b1 = byte_at m (a + 1) h in grind arith
-loads_are_words U16 a m h = let b0 = byte_at m a h in let b1 = byte_at m (a + 1) h in omega arith
-loads_are_words I32 a m h =
-    let b0 = byte_at m a h in
-    let b1 = byte_at m (a + 1) h in
-    let b2 = byte_at m (a + 1 + 1) h in
-    let b3 = byte_at m (a + 1 + 1 + 1) h in
-    omega arith
-
-set_bytes : (m : List ℕ) (i b : ℕ) → AreBytes m → b < 256 → AreBytes (slice_set m i b)
-set_bytes [] i b h k = tt
-set_bytes (c ∷ m) zero b h k = (k, h.1)
-set_bytes (c ∷ m) (suc i) b h k = (h.0, set_bytes m i b h.1 k)
-
-written_bytes : (bs : List ℕ) (i : ℕ) (m : List ℕ) → AreBytes bs → AreBytes m → AreBytes (written i bs m)
-written_bytes [] i m h k = k
-written_bytes (b ∷ bs) i m h k = written_bytes bs (i + 1) (slice_set m i b) h.1 (set_bytes m i b k h.0)
-
-low_bytes_are : (n w : ℕ) → AreBytes (low_bytes n w)
-low_bytes_are zero w = tt
-low_bytes_are (suc n) w = (omega arith, low_bytes_are n (w / 256))
-
-pub stored_bytes : (width : Width) (address x : ℕ) (m : List ℕ) → AreBytes m → AreBytes (stored width address x m)
-stored_bytes width address x m h = written_bytes (low_bytes (size width) x) address m (low_bytes_are (size width) x) h
-
-set_length : (m : List ℕ) (i b : ℕ) → length (slice_set m i b) ≡ length m
-set_length [] i b = refl
-set_length (c ∷ m) zero b = refl
-set_length (c ∷ m) (suc i) b = ap suc (set_length m i b)
-
-written_length : (bs : List ℕ) (i : ℕ) (m : List ℕ) → length (written i bs m) ≡ length m
-written_length [] i m = refl
-written_length (b ∷ bs) i m = written_length bs (i + 1) (slice_set m i b) ∙ set_length m i b
-
-pub stored_length : (width : Width) (address x : ℕ) (m : List ℕ) → length (stored width address x m) ≡ length m
-stored_length width address x m = written_length (low_bytes (size width) x) address m
 
 -- ---- what ends alike
 

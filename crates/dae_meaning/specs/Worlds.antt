@@ -1,6 +1,6 @@
 -- The world that a program runs in: what is there beside its variables.
-use Rattle.std.specs.Prelude.{◌≡◌, ℕ, ◌+◌, ◌<◌, Bool, if◌then◌else◌, List, length}
-use Rattle.std.specs.List.{AllByRecursion}
+use Rattle.std.specs.Prelude.{◌≡◌, ℕ, ◌+◌, Bool, if◌then◌else◌, List, length}
+use Rattle.dae_base.specs.Words.{AreBytes}
 
 -- common memory, by its bytes; what was printed; where the running function's frame begins and ends; how many calls are
 -- active; and how many items of work, loads and stores were done
@@ -13,9 +13,6 @@ pub record World : Type 0 where
   pub items : ℕ
   pub loads : ℕ
   pub stores : ℕ
-
-abbrev pub AreBytes : List ℕ → Type 0
-AreBytes memory = AllByRecursion (λ (b : ℕ). b < 256) memory
 
 -- the later world's memory is as long, and holds bytes where the earlier one's does
 pub record KeepsMemory (w u : World) : Type 0 where

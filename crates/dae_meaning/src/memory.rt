@@ -1,10 +1,9 @@
 // Laws of memory: the contracts of functions that do nothing.
 
 ghost use Rattle.std.specs.Prelude.{◌≡◌, ◌<◌, ◌^◌, ℕ, List, length};
-ghost use Rattle.dae_base.specs.Words.{loaded, stored};
+ghost use Rattle.dae_base.specs.Words.{AreBytes, loaded, stored};
 ghost use Rattle.dae_base.specs.declared.LoadKind.{LoadKind};
 ghost use Rattle.dae_base.specs.declared.Width.{Width};
-ghost use Rattle.dae_meaning.specs.Worlds.{AreBytes};
 
 /// A store changes no memory's length.
 pub fn memory_keeps_length()

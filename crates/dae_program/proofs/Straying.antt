@@ -1,12 +1,12 @@
 -- A program whose objects are placed never goes astray.
-use Rattle.std.proofs.Common.{◌≡◌, ℕ, zero, suc, ◌+◌, ◌%◌, ◌≤◌, Bool, true, false, not, ◌&&◌, ◌||◌, nat_eq, nat_lt, List, [], ◌∷◌, length, Option, Some, None, if◌then◌else◌, refl, ap, sym, ◌∙◌, subst, arith, length-set}
-use Rattle.std.specs.Prelude.{slice_set}
+use Rattle.std.proofs.Common.{◌≡◌, ℕ, zero, suc, ◌+◌, ◌%◌, ◌≤◌, Bool, true, false, not, ◌&&◌, ◌||◌, nat_eq, nat_lt, List, [], ◌∷◌, length, Option, Some, None, if◌then◌else◌, refl, ap, sym, ◌∙◌, subst, arith}
 use Rattle.std.proofs.lemmas.Bool.Decides.{nat_tests}
-use Rattle.dae_base.specs.Words.{plus, extended, loaded, low_bytes, written, size, width_of}
+use Rattle.dae_base.specs.Words.{plus, extended, loaded, low_bytes, size, width_of}
 use Rattle.dae_base.specs.declared.Width.{Width}
 use Rattle.dae_base.specs.declared.Width.TheVariants.{B1}
 use Rattle.dae_base.specs.declared.LoadKind.{LoadKind}
 use Rattle.dae_base.specs.declared.LoadKind.TheVariants.{U8}
+use Rattle.dae_base.proofs.Laws.{written_length}
 use Rattle.dae_meaning.specs.Results.{Result, At, Over, Way, Next, Leaves, Skips, Returns, End, Halted, Trapped, Astray, Going, Run, ◌▷◌, ◌↻◌, within}
 use Rattle.dae_meaning.specs.Worlds.{World, ticked, back}
 use Rattle.dae_meaning.specs.Operations.{combined, misplaced, passed, spelled}
@@ -28,10 +28,6 @@ use Rattle.dae_program.specs.Statements.{test as tested, do_effects as evaluated
 use Rattle.dae_program.specs.Switches.{leave_switch as left, first_arm, with_work, count_labels}
 use Rattle.dae_program.specs.Calls.{keep_parameters as kept, enter as entered_world, no_room, result_of as came_back, call as calls_of}
 use Rattle.dae_program.specs.Promise.{NamedNeverStray}
-
-length-written : (bs : List ℕ) (a : ℕ) (m : List ℕ) → length (written a bs m) ≡ length m
-length-written [] a m = refl
-length-written (b ∷ bs) a m = length-written bs (a + 1) (slice_set m a b) ∙ length-set m a b
 
 abbrev tests : Bool → Bool → Bool → Option ℕ
 tests a b c = if not a then Some 3 else (if b || c then Some 2 else None)
@@ -108,7 +104,7 @@ module _ (memory start top depth : ℕ) where
   fine_left r (Halts end w h) = Halts end w h
 
   inside_written : (width : Width) (x y : ℕ) (w : World) → Inside w → Inside (with_written width x y w)
-  inside_written width x y w i = (length-written (low_bytes (size width) y) x w.memory ∙ i.0, i.1, i.2, i.3)
+  inside_written width x y w i = (written_length (low_bytes (size width) y) x w.memory ∙ i.0, i.1, i.2, i.3)
 
   well : (width : Width) (x : ℕ) (w : World) → Inside w → IsGood width x memory → misplaced width x (length w.memory) ≡ None
   well width x w i g = ap (λ l. misplaced width x l) (i.0) ∙ good_placed width x memory g

@@ -2,7 +2,7 @@
 use Rattle.std.proofs.Common.{◌≡◌, ℕ, suc, ◌+◌, ◌-◌, List, [], ◌∷◌, ◌++◌, length, refl, ◌∙◌, arith}
 use Rattle.std.proofs.lemmas.List.{length-append, length-replicate}
 use Rattle.std.specs.Prelude.{slice_get, slice_index, replicate, drop}
-use Rattle.dae_meaning.proofs.Laws.{stored_length}
+use Rattle.dae_base.proofs.Laws.{stored_length}
 use Rattle.dae_program.specs.declared.program.Links.{Links}
 use Rattle.dae_program.specs.declared.statements.Setting.{Setting}
 use Rattle.dae_types_typed.specs.declared.files.Datum.{Datum}
