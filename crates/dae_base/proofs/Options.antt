@@ -1,11 +1,15 @@
 -- What a test or an answer that may be none says of its parts.
 use Rattle.std.proofs.Common.{◌≡◌, Bool, true, false, not, ◌&&◌, ◌||◌, refl}
-use Rattle.std.specs.Prelude.{Option, Some, None, is_some, option_and_then, option_map, if◌then◌else◌}
+use Rattle.std.specs.Prelude.{Option, Some, None, is_some, option_and_then, option_map, if◌then◌else◌, IsTrue}
 use Rattle.std.specs.Bool.{then_some}
 
 pub not_true : (b : Bool) → not b ≡ true → b ≡ false
 not_true true h = cc
 not_true false h = refl
+
+pub is_true : (b : Bool) → IsTrue b → b ≡ true
+is_true true t = refl
+is_true false t = cc
 
 pub and_true : (x y : Bool) → (x && y) ≡ true → (x ≡ true) × (y ≡ true)
 and_true true y h = (refl, h)

@@ -6,7 +6,6 @@ use Rattle.dae_cli_drive.specs.Puts.{Answer}
 use Rattle.dae_cli_files.specs.ImageFiles.{DueOfBytes, due_image, due_no_image, due_memory_to_decode, DueOfImageFile, due_bytes, due_no_bytes, due_memory_for_bytes, IsImageOfFile, NoneOf}
 use Rattle.dae_cli_files.specs.Shelves.{ShelfSeen}
 use Rattle.dae_cli_files.specs.TextFiles.{AreOfFiles, DueOfImageAndText, due_no_bytes_first, due_both, due_memory_for_bytes_first, DueOfTextFile, due_text, due_not_got, due_long, due_memory_for_text, IsTextOfFile, NoneOfBoth, NoneOfText}
-pub use Rattle.dae_cli_files.proofs.Longest.{is_true}
 pub use Rattle.dae_cli_files.proofs.Seen.{fails_before, seen_by, text_before, told_before}
 pub use Rattle.dae_cli_files.proofs.Limits.{longer_text, whole_text}
 pub use Rattle.dae_cli_files.proofs.Kept.{held_before, keeping_before, none_kept, not_begun, once_before, once_kept, one_noted, then_kept}

@@ -1,10 +1,11 @@
 -- No image has as many bytes as are read of its file, so that what is read decides for the whole file.
-use Rattle.std.proofs.Common.{◌≡◌, ◌⊎◌, inl, inr, ℕ, zero, suc, ◌+◌, ◌*◌, ◌<◌, ◌≤◌, Bool, true, false, List, [], ◌∷◌, ◌++◌, length, take, refl, ap, sym, ◌∙◌, subst, length-append, length-take-le, take_all, arith}
-use Rattle.std.specs.Prelude.{Option, Some, None, IfSome, IsTrue}
+use Rattle.std.proofs.Common.{◌≡◌, ◌⊎◌, inl, inr, ℕ, zero, suc, ◌+◌, ◌*◌, ◌<◌, ◌≤◌, true, List, [], ◌∷◌, ◌++◌, length, take, refl, ap, sym, ◌∙◌, subst, length-append, length-take-le, take_all, arith}
+use Rattle.std.specs.Prelude.{Option, Some, None, IfSome}
 use Rattle.std.specs.List.{flat_map, list_all}
 use Rattle.std.specs.Str.{is_utf8}
 use Rattle.std.proofs.lemmas.Bool.{and_parts}
 use Rattle.std.proofs.lemmas.Bool.Decides.{leb_tells}
+use Rattle.dae_base.proofs.Laws.{is_true}
 use Rattle.dae_image.specs.declared.Image.{Image}
 use Rattle.dae_image.specs.declared.LineMark.{LineMark}
 use Rattle.dae_image.specs.declared.fault.ImageError.{ImageError}
@@ -12,17 +13,9 @@ use Rattle.dae_image.specs.Contents.{Contents, Fits, header, is_name}
 use Rattle.dae_image.specs.Images.{contents}
 use Rattle.dae_image.specs.Ranges.{is_in, name_range}
 use Rattle.dae_image.specs.Spelling.{Spells, body, head_1, head_2, line, name, number, numbers}
-use Rattle.dae_image.proofs.Laws.{IsIn-from_test}
+use Rattle.dae_image.proofs.Laws.{IsIn-from_test, length-numbers}
 use Rattle.dae_cli_drive.specs.Puts.{Answer}
 use Rattle.dae_cli_files.specs.ImageFiles.{DueOfBytes, due_image, due_no_image, due_memory_to_decode, IsImageIn, IsNoImage}
-
-pub is_true : (b : Bool) → IsTrue b → b ≡ true
-is_true true t = refl
-is_true false t = cc
-
-numbers_size : (ws : List ℕ) → length (numbers ws) ≡ 4 * length ws
-numbers_size [] = refl
-numbers_size (w ∷ ws) = omega (arith, length-append (number w) (numbers ws), numbers_size ws)
 
 lines_size : (ms : List LineMark) → length (flat_map line ms) ≡ 16 * length ms
 lines_size [] = refl
@@ -37,8 +30,8 @@ names_size (n ∷ ns) good =
 
 body_size : (c : Contents) → Fits c → length (body c) ≤ 400000000
 body_size c fits =
-    let a = numbers_size c.code_a in
-    let e = numbers_size c.code_e in
+    let a = length-numbers c.code_a in
+    let e = length-numbers c.code_e in
     let l = lines_size c.lines in
     let n = names_size c.names (is_true (list_all is_name c.names) fits.names) in
     omega (
@@ -60,8 +53,8 @@ body_size c fits =
     )
 
 head_size : (c : Contents) (bytes : List ℕ) → Spells bytes c → length bytes ≤ 80 + length (body c)
-head_size c bytes (inl e) = omega (arith, ap length e, length-append (numbers (head_2 (header c))) (body c), numbers_size (head_2 (header c)))
-head_size c bytes (inr e) = omega (arith, ap length e.1, length-append (numbers (head_1 (header c))) (body c), numbers_size (head_1 (header c)))
+head_size c bytes (inl e) = omega (arith, ap length e, length-append (numbers (head_2 (header c))) (body c), length-numbers (head_2 (header c)))
+head_size c bytes (inr e) = omega (arith, ap length e.1, length-append (numbers (head_1 (header c))) (body c), length-numbers (head_1 (header c)))
 
 longest : (bytes : List ℕ) (i : Image) → Spells bytes (contents i) → length bytes < 536870912
 longest bytes i spells = omega (arith, head_size (contents i) bytes spells, body_size (contents i) i.fits)

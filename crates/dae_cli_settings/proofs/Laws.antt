@@ -7,6 +7,7 @@ use Rattle.clap.specs.Lexer.{long_of}
 use Rattle.dae_cli_settings.specs.Settings.{AreSettings, Setting, is_name, text_of}
 use Rattle.dae_cli_settings.proofs.Words.{long_is}
 use Rattle.dae_cli_settings.proofs.Walking.{named}
+pub use Rattle.dae_cli_settings.proofs.Tested.{words_from, first_fails, first_holds}
 
 same_setting : (s t : Setting) → is_name s.name ≡ true → is_name t.name ≡ true → text_of s ≡ text_of t → s ≡ t
 same_setting s t h k e =

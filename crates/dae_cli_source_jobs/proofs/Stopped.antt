@@ -6,6 +6,7 @@ use Rattle.std.specs.Str.{is_utf8}
 use Rattle.std.specs.declared.alloc.Global.{Global}
 use Rattle.std.proofs.lemmas.Bool.{and_parts}
 use Rattle.std.proofs.lemmas.List.Elements.{All-from_recursion}
+use Rattle.dae_base.proofs.Laws.{is_true}
 use Rattle.dae_image.specs.Contents.{is_name}
 use Rattle.dae_accept_sources.specs.Read.{IsShort, texts_in}
 use Rattle.dae_image.specs.declared.Image.{Image}
@@ -15,7 +16,6 @@ use Rattle.dae_cli_drive.specs.Lines.{memory_line}
 use Rattle.dae_cli_drive.specs.Puts.{Answer, told}
 use Rattle.dae_cli_files.specs.ImageFiles.{NoneOf}
 use Rattle.dae_cli_files.specs.Shelves.{ShelfSeen}
-use Rattle.dae_cli_files.proofs.Laws.{is_true}
 use Rattle.dae_compile.specs.Images.{IsImageOf}
 use Rattle.dae_cli_source_jobs.specs.Fetching.{AreFetched, IsFirstNotFetched, most_source}
 use Rattle.dae_cli_source_jobs.specs.Sources.{DueOfFiles, due_fetched, due_not_fetched, due_memory_to_fetch, DueOfTexts, due_of_image, due_refused, due_memory_to_compile, IsImageOfFiles}

@@ -1,5 +1,6 @@
 -- For a timed run at most one answer is due.
 use Rattle.std.proofs.Common.{◌≡◌, ◌⊎◌, inl, inr, ℕ, zero, suc, ◌<◌, List, ◌++◌, refl, ap, ◌∙◌, subst, arith}
+use Rattle.std.proofs.lemmas.Bool.{cases_order}
 use Rattle.std.specs.Prelude.{Option}
 use Rattle.dae_image.specs.declared.Image.{Image}
 use Rattle.dae_machine.specs.declared.Pick.{Pick}
@@ -55,22 +56,12 @@ as_rested Stuck most setup t r = r
 as_rested Spent most setup t r = (refl, r.1)
 as_rested SinkFailed most setup t r = r
 
-equal_or_less : (m n : ℕ) → (m ≡ n) ⊎ ((m < n) ⊎ (n < m))
-equal_or_less zero zero = inl refl
-equal_or_less zero (suc n) = inr (inl (omega arith))
-equal_or_less (suc m) zero = inr (inr (omega arith))
-equal_or_less (suc m) (suc n) = by_rest (equal_or_less m n) where
-  by_rest : (m ≡ n) ⊎ ((m < n) ⊎ (n < m)) → (suc m ≡ suc n) ⊎ ((suc m < suc n) ⊎ (suc n < suc m))
-  by_rest (inl e) = inl (ap suc e)
-  by_rest (inr (inl h)) = inr (inl (omega arith))
-  by_rest (inr (inr h)) = inr (inr (omega arith))
-
 -- the answer of a timed run that came out so
 abbrev timed_answer : Setup → Clock → Option Shown → Driven → List Pick → Clock → Answer
 timed_answer setup start show how picks c = answer (status_of how) (puts_of_ticks setup start picks ++ (end_puts how setup c.state show ++ time_puts c))
 
 pub single_ticks : (setup : Setup) (k : Costs) (start : Clock) (most : ℕ) (show : Option Shown) → IsSingle (DueOfTicks setup k start most show)
-single_ticks setup k start most show a b (due_ticks how t r) (due_ticks other u s) n m = by_count (equal_or_less t.ticks u.ticks) where
+single_ticks setup k start most show a b (due_ticks how t r) (due_ticks other u s) n m = by_count (cases_order t.ticks u.ticks) where
   by_count : (t.ticks ≡ u.ticks) ⊎ ((t.ticks < u.ticks) ⊎ (u.ticks < t.ticks)) → timed_answer setup start show how t.picks t.clock ≡ timed_answer setup start show other u.picks u.clock
   by_count (inr (inl h)) = absurd (no_fewer setup k start most how other t u r s h)
   by_count (inr (inr h)) = absurd (no_fewer setup k start most other how u t s r h)

@@ -3,6 +3,7 @@ use Rattle.std.proofs.Common.{◌≡◌, ◌≢◌, ℕ, Bool, true, false, not,
 use Rattle.std.specs.Prelude.{Option, None, Some, MatchOption, is_some}
 use Rattle.std.specs.List.{list_all}
 use Rattle.std.proofs.lemmas.Bool.{and_from, and_parts}
+use Rattle.dae_base.proofs.Laws.{is_true}
 use Rattle.dae_cli_options.specs.Names.{AreFiles, is_file_name}
 use Rattle.dae_cli_settings.specs.Settings.{AreParts, AreSettings, Setting, given, is_plain, text_of}
 use Rattle.dae_cli_words.specs.declared.command.Command.{Command}
@@ -12,7 +13,7 @@ use Rattle.dae_cli_words.specs.Parts.{AreDashed, IsPlain}
 use Rattle.dae_cli_words.specs.Values.{AreChosen}
 use Rattle.dae_cli_words.specs.Words.{AskFor, AsksFor, SpellsJob, names_of, word_of}
 use Rattle.dae_cli_words.proofs.Commands.{same_command, settings_dashed}
-use Rattle.dae_cli_words.proofs.Fronts.{files_plain, same_middle, truth}
+use Rattle.dae_cli_words.proofs.Fronts.{files_plain, same_middle}
 
 pub ask : (command d : Command) (found : List ℕ → Option (List ℕ)) (files : List (List ℕ)) (job : Asked) (chosen : Chosen) → command ≡ d → AreChosen found chosen → AsksFor d found chosen files job → AskFor command found files job
 ask command d found files job chosen is are asks = record { chosen = chosen; are_chosen = are; asks = subst (λ (x : Command). AsksFor x found chosen files job) (sym is) asks }
@@ -63,7 +64,7 @@ module _ (words : List (List ℕ)) (word : List ℕ) (rest middle files : List (
         are_settings = h;
         some = f.some;
         few = omega (arith, few);
-        plain = all_plain files (truth (list_all is_file_name files) f.named);
+        plain = all_plain files (is_true (list_all is_file_name files) f.named);
       }
 
   -- what is found for the options is what the settings give

@@ -1,8 +1,8 @@
 -- The words in front that begin with a dash, and those behind them.
 use Rattle.std.proofs.Common.{◌≡◌, ℕ, zero, suc, ◌+◌, ◌-◌, ◌≤◌, Bool, true, false, not, cond, List, [], ◌∷◌, ◌++◌, length, get_or, take, drop, take_all, map, refl, sym, ap, ◌∙◌, subst, arith}
-use Rattle.std.specs.Prelude.{IsTrue}
 use Rattle.std.specs.List.{list_all, prefix_len}
 use Rattle.std.proofs.lemmas.Bool.{and_parts, not-true}
+use Rattle.dae_base.proofs.Laws.{is_true}
 use Rattle.dae_cli_options.specs.Names.{AreFiles, begins_with_dash, is_file_name}
 use Rattle.dae_cli_words.specs.Parts.{AreDashed, IsPlain}
 
@@ -23,13 +23,9 @@ same_middle (x ∷ xs) (y ∷ ys) f g d d' p p' e =
     let first : x ≡ y = cc in
     (rw (first, rest.0) refl, rest.1)
 
-pub truth : (b : Bool) → IsTrue b → b ≡ true
-truth true t = refl
-truth false t = cc
-
 pub files_plain : (files : List (List ℕ)) → AreFiles files → IsPlain files
 files_plain [] h = tt
-files_plain (w ∷ ws) h = not-true (begins_with_dash w) (and_parts (not (begins_with_dash w)) _ (and_parts (is_file_name w) (list_all is_file_name ws) (truth _ h.named)).0).0
+files_plain (w ∷ ws) h = not-true (begins_with_dash w) (and_parts (not (begins_with_dash w)) _ (and_parts (is_file_name w) (list_all is_file_name ws) (is_true _ h.named)).0).0
 
 -- ---- where the dashed words end
 

@@ -1,5 +1,6 @@
 -- A script has one list of replies, and leads to one session.
 use Rattle.std.proofs.Common.{◌≡◌, ◌⊎◌, inl, inr, ℕ, zero, suc, ◌<◌, ◌≤◌, Bool, true, false, List, [], ◌∷◌, length, get_or, refl, ap, sym, ◌∙◌, subst, arith}
+use Rattle.std.proofs.lemmas.Bool.{cases_order}
 use Rattle.std.specs.Prelude.{Option, Some, None, codes}
 use Rattle.dae_base.specs.declared.Side.{Side}
 use Rattle.dae_base.specs.declared.Side.TheVariants.{A, E}
@@ -38,16 +39,6 @@ takes_one m n o pick other x y =
 
 -- ---- turns
 
-equal_or_less : (m n : ℕ) → (m ≡ n) ⊎ ((m < n) ⊎ (n < m))
-equal_or_less zero zero = inl refl
-equal_or_less zero (suc n) = inr (inl (omega arith))
-equal_or_less (suc m) zero = inr (inr (omega arith))
-equal_or_less (suc m) (suc n) = by_rest (equal_or_less m n) where
-  by_rest : (m ≡ n) ⊎ ((m < n) ⊎ (n < m)) → (suc m ≡ suc n) ⊎ ((suc m < suc n) ⊎ (suc n < suc m))
-  by_rest (inl e) = inl (ap suc e)
-  by_rest (inr (inl h)) = inr (inl (omega arith))
-  by_rest (inr (inr h)) = inr (inr (omega arith))
-
 module _ (breaks : HeldBreaks) (start : HeldMachine) where
   on_one : (k : ℕ) (m n : HeldMachine) → GoesOn breaks start k m → GoesOn breaks start k n → m ≡ n
   on_one zero m n no_turn no_turn = refl
@@ -64,7 +55,7 @@ module _ (breaks : HeldBreaks) (start : HeldMachine) where
 
   further : (j k : ℕ) (m n : HeldMachine) → k < j → GoesOn breaks start k m → GoesOn breaks start j n → Further m
   further zero k m n lt way far = absurd (omega arith)
-  further (suc j) k m n lt way (one_turn {m = l} {pick = p} before turn none) = by_last (λ less. further j k m l less way before) (equal_or_less j k) where
+  further (suc j) k m n lt way (one_turn {m = l} {pick = p} before turn none) = by_last (λ less. further j k m l less way before) (cases_order j k) where
     by_last : (k < j → Further m) → (j ≡ k) ⊎ ((j < k) ⊎ (k < j)) → Further m
     by_last earlier (inr (inr less)) = earlier less
     by_last earlier (inr (inl more)) = absurd (omega (arith, lt, more))
@@ -129,7 +120,7 @@ module _ (breaks : HeldBreaks) (start : HeldMachine) where
   went_one : (turns : ℕ) (end other : HeldMachine) → Went breaks turns start end → Went breaks turns start other → end ≡ other
   went_one turns end other x y = by_count (stopped turns end x) (stopped turns other y) where
     by_count : Stopped turns end → Stopped turns other → end ≡ other
-    by_count a b = by (equal_or_less a.count b.count) where
+    by_count a b = by (cases_order a.count b.count) where
       by : (a.count ≡ b.count) ⊎ ((a.count < b.count) ⊎ (b.count < a.count)) → end ≡ other
       by (inr (inl less)) =
           let most = at_most turns b.count b.at other b.stops in

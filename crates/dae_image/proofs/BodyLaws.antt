@@ -69,7 +69,7 @@ words_of_numbers : (ws : List ℕ) → AllByRecursion (λ w. w < 2 ^ 32) ws → 
 words_of_numbers [] small = refl
 words_of_numbers (w ∷ ws) small = ap (λ (k : ℕ). k ∷ words_of (numbers ws)) (from_le_bytes-to_le_bytes_4 w small.0) ∙ ap (λ (t : List ℕ). w ∷ t) (words_of_numbers ws small.1)
 
-length-numbers : (ws : List ℕ) → length (numbers ws) ≡ 4 * length ws
+pub length-numbers : (ws : List ℕ) → length (numbers ws) ≡ 4 * length ws
 length-numbers [] = refl
 length-numbers (w ∷ ws) = omega (arith, length-append (number w) (numbers ws), length-numbers ws)
 

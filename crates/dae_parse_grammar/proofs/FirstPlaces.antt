@@ -9,7 +9,7 @@ use Rattle.dae_parse_grammar.specs.FirstPlaces.{Places, or_else, nowhere, both, 
 pub record Says (N : ℕ → List Node → List Node) (f : Places) : Type 0 where
   pub law : (limit d i : ℕ) (rest : List Node) → suc limit ≡ d + i → first_deeper limit (N d rest) ≡ or_else (f i) (first_deeper limit rest)
 
-or_else_along : (x y z : Option Place) → or_else x (or_else y z) ≡ or_else (or_else x y) z
+pub or_else_along : (x y z : Option Place) → or_else x (or_else y z) ≡ or_else (or_else x y) z
 or_else_along None y z = refl
 or_else_along (Some x) y z = refl
 

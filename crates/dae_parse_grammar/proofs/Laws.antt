@@ -17,6 +17,7 @@ use Rattle.dae_parse_grammar.proofs.Local as local
 use Rattle.dae_parse_grammar.proofs.Runs as runs
 use Rattle.dae_parse_grammar.proofs.FirstPlaces as firsts
 use Rattle.dae_parse_grammar.proofs.Lengths.{adds_external}
+pub use Rattle.dae_parse_grammar.proofs.FirstPlaces.{or_else_along}
 
 -- a run one step longer
 pub run_next : (turns : ℕ) (s t : State) → step (run turns s) ≡ Some t → run (suc turns) s ≡ t

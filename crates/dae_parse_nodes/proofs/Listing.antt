@@ -23,17 +23,9 @@ use Rattle.dae_parse_grammar.specs.Machine.{onto, arguments_onto, members_onto, 
 use Rattle.dae_parse_parts.specs.declared.reading.Read.{Read}
 use Rattle.dae_parse_parts.specs.Shown.{Holds, IsSeen, Shows, ShowsList, firsts_list, IsLonger}
 use Rattle.dae_parse_nodes.specs.Parts.{ShowsArguments, ShowsMembers, view_line, firsts_line, ShowsEnumerators, view_entry, firsts_entry, ShowsDeclarators, ShowsParameterList, view_parameter, firsts_parameter, ShowsInitialisers, ShowsItems, firsts_item, ShowsDeclarations, ShowsStatements}
-use Rattle.dae_parse_grammar.proofs.Laws.{onto_last}
-use Rattle.dae_parse_parts.proofs.Laws.{holds_same}
+use Rattle.dae_parse_grammar.proofs.Laws.{onto_last, or_else_along}
+use Rattle.dae_parse_parts.proofs.Laws.{holds_same, or_else_none}
 use Rattle.dae_parse_parts.proofs.Laws.{seen_at}
-
-or_else_along : (x y z : Option Place) → or_else x (or_else y z) ≡ or_else (or_else x y) z
-or_else_along None y z = refl
-or_else_along (Some x) y z = refl
-
-or_else_none : (x : Option Place) → x ≡ or_else x None
-or_else_none None = refl
-or_else_none (Some x) = refl
 
 map_last : {T A : Type 0} (view : T → A) (xs : List T) (t : T) → map view (xs ++ t ∷ []) ≡ map view xs ++ view t ∷ []
 map_last view [] t = refl

@@ -14,10 +14,11 @@ use Rattle.dae_tree.specs.Grammar.{void_word}
 use Rattle.dae_tree.specs.Views.{view_specifier, views_specifiers}
 use Rattle.dae_parse_grammar.specs.FirstPlaces.{Places, or_else, both, firsts_specifier, firsts_specifiers}
 use Rattle.dae_parse_grammar.specs.Machine.{specifiers_onto}
+use Rattle.dae_parse_grammar.proofs.Laws.{or_else_along}
 use Rattle.dae_parse_parts.specs.declared.reading.Read.{Read}
 use Rattle.dae_parse_parts.specs.Shown.{Holds, IsSeen, Shows, IsLonger}
 use Rattle.dae_parse_nodes.specs.Parts.{ShowsSpecifiers, ShowsSpecifier, first_place}
-use Rattle.dae_parse_parts.proofs.Laws.{holds_same}
+use Rattle.dae_parse_parts.proofs.Laws.{holds_same, or_else_none}
 use Rattle.dae_parse_parts.proofs.Laws.{seen_at}
 
 -- specifiers before others
@@ -50,14 +51,6 @@ void_of_two _ w ws = refl
 void_joined : (v : tree.Specifier) (ws : tree.Specifiers) (w : tree.Specifier) → void_word (joined (tree.specifier_then v ws) (one w)) ≡ None
 void_joined v tree.no_specifiers w = void_of_two v w tree.no_specifiers
 void_joined v (tree.specifier_then u ws) w = void_of_two v u (joined ws (one w))
-
-or_else_along : (x y z : Option Place) → or_else x (or_else y z) ≡ or_else (or_else x y) z
-or_else_along None y z = refl
-or_else_along (Some x) y z = refl
-
-or_else_none : (x : Option Place) → x ≡ or_else x None
-or_else_none None = refl
-or_else_none (Some x) = refl
 
 firsts_joined : (ws : tree.Specifiers) (w : tree.Specifier) (i : ℕ) → both (firsts_specifiers ws) (firsts_specifier w) i ≡ firsts_specifiers (joined ws (one w)) i
 firsts_joined tree.no_specifiers w i = or_else_none (firsts_specifier w i)

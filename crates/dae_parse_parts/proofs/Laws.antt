@@ -119,13 +119,13 @@ shows_flat view firsts read t a e h d same = record {
   seen = subst (λ (o : Option _). IsSeen view o a) (sym e) d;
 }
 
-or_none : (x : Option Place) → x ≡ or_else x None
-or_none None = refl
-or_none (Some x) = refl
+pub or_else_none : (x : Option Place) → x ≡ or_else x None
+or_else_none None = refl
+or_else_none (Some x) = refl
 
 -- with no nodes behind
 pub shows_alone : {T A : Type 0} (view : T → A) (firsts : A → Places) (read : Read T) (a : A) → Shows view firsts read a → Shows view (λ x. both (firsts x) nowhere) read a
-shows_alone view firsts read a h = record { holds = holds_same read (firsts a) (both (firsts a) nowhere) (λ i. or_none (firsts a i)) h.holds; seen = h.seen }
+shows_alone view firsts read a h = record { holds = holds_same read (firsts a) (both (firsts a) nowhere) (λ i. or_else_none (firsts a i)) h.holds; seen = h.seen }
 
 -- ---- a tree out of its box
 

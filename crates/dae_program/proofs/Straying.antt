@@ -13,6 +13,7 @@ use Rattle.dae_meaning.specs.Operations.{combined, misplaced, passed, spelled}
 use Rattle.dae_meaning.specs.Variables.{Env, put, entered}
 use Rattle.dae_meaning.specs.declared.Operator.{Operator}
 use Rattle.dae_meaning.specs.declared.Spelling.TheVariants.{Byte}
+use Rattle.dae_meaning.proofs.Laws.{IsTold}
 use Rattle.dae_program.specs.declared.statements.Piece.{Piece}
 use Rattle.dae_program.specs.declared.statements.Piece.TheVariants as piece
 use Rattle.dae_program.specs.declared.program.Slot.{Slot}
@@ -44,12 +45,6 @@ good_placed : (width : Width) (x l : ℕ) → IsGood width x l → misplaced wid
 unfolding misplaced
 good_placed width x l h = good_tests (x % size width) x (size width) l h.0 h.1 h.2
 
-abbrev IsEnd : End → Type 0
-IsEnd (Halted status) = Unit {0}
-IsEnd (Trapped code) = Unit {0}
-IsEnd Going = Unit {0}
-IsEnd Astray = ⊥
-
 abbrev Any : {X : Type 0} → X → Type 0
 Any x = Unit {0}
 
@@ -60,11 +55,11 @@ module _ (memory start top depth : ℕ) where
 
   data Sound {X : Type 0} (P : X → Type 0) : Outcome X → Type 0 where
     Given : (x : X) (env : Env) (w : World) → Inside w → P x → Sound P (Gives x env w)
-    Ended : (end : End) (w : World) → IsEnd end → Sound P (Ends end w)
+    Ended : (end : End) (w : World) → IsTold end → Sound P (Ends end w)
 
   data Fine : Result Env → Type 0 where
     Goes : (way : Way) (env : Env) (w : World) → Inside w → Fine (At way env w)
-    Halts : (end : End) (w : World) → IsEnd end → Fine (Over end w)
+    Halts : (end : End) (w : World) → IsTold end → Fine (Over end w)
 
   then_sound : {X Y : Type 0} {P : X → Type 0} {Q : Y → Type 0} (r : Outcome X) (f : X → Env → World → Outcome Y) → Sound P r → ((x : X) (env : Env) (w : World) → Inside w → P x → Sound Q (f x env w)) → Sound Q (r ⟫ f)
   then_sound r f (Given x env w i h) k = k x env w i h

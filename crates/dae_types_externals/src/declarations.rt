@@ -46,7 +46,7 @@ pub fn storage_class(list: &[Specifier]) -> Option<Keyword>
 }
 
 /// Whether a declaration has no declarator.
-#[tactic(auto, using(crate::proofs::Parameters::alone_where_none))]
+#[tactic(auto, using(dae_types_locals::proofs::Laws::alone_where_empty))]
 fn is_alone(items: &[Item]) -> bool
     ensures { result ≡ is_alone (view_items items.now) }
 {

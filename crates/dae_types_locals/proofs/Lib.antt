@@ -1,2 +1,3 @@
 mod Lists
 mod Rows
+pub mod Laws

@@ -1,8 +1,7 @@
 use Rattle.std.proofs.Common.{◌≡◌, map, string_bytes, false, true, sym, ap, ◌∙◌, arith, rules}
 use Rattle.std.proofs.lemmas.List.{at_drop_all}
+use Rattle.dae_cli_settings.proofs.Laws.{words_from, first_fails, first_holds}
 use Rattle.dae_cli_options.specs.Names.{is_file_name}
-use Rattle.dae_cli_words.proofs.Stepping.{words_from}
-use Rattle.dae_cli_words.proofs.Stepping.{first_fails, first_holds}
 use Rattle.dae_cli_words.proofs.parts.are_named.Goals as goal
 
 pub returns-then-not-is_file_name : goal.returns-then-not-is_file_name

@@ -1,7 +1,7 @@
 use Rattle.std.proofs.Common.{◌≡◌, map, string_bytes, false, true, sym, ap, ◌∙◌, arith, rules}
 use Rattle.std.proofs.lemmas.List.{at_drop_all}
+use Rattle.dae_cli_settings.proofs.Laws.{words_from}
 use Rattle.dae_cli_options.specs.Names.{begins_with_dash}
-use Rattle.dae_cli_words.proofs.Stepping.{words_from}
 use Rattle.dae_cli_words.proofs.Stepping.{stops_here, goes_on}
 use Rattle.dae_cli_words.proofs.parts.dashed.Goals as goal
 
