@@ -3,12 +3,9 @@
 use Rattle.std.proofs.Common.{◌≡◌, ℕ, zero, suc, ◌+◌, List, [], ◌∷◌, ◌++◌, length, refl, ap, sym, ◌∙◌, subst, arith}
 use Rattle.std.specs.Prelude.{Option, Some, None, option_map, option_and_then}
 use Rattle.std.proofs.lemmas.Option.{same_Some}
-use Rattle.dae_base.specs.declared.Side.TheVariants.{A, E}
 use Rattle.dae_base.proofs.Laws.{and_then_some, map_some_is}
 use Rattle.dae_machine.specs.declared.Pick.{Pick}
-use Rattle.dae_machine.specs.declared.Pick.TheVariants.{A as MoveA, E as MoveE, Fill, Drain}
-use Rattle.dae_machine.specs.Memory.{fill, drain}
-use Rattle.dae_machine.specs.Machine.{Setup, State, move, moved_a, moved_e, filled, drained, step, IsQuiet}
+use Rattle.dae_machine.specs.Machine.{Setup, State, step, IsQuiet}
 use Rattle.dae_machine.specs.Printing.{behind}
 use Rattle.dae_machine.specs.Runs.{run_by}
 use Rattle.dae_machine.specs.Schedules.{and_then_on, scheduled, turned}
@@ -111,13 +108,6 @@ no_more setup s t words (suc k) more made quiet = by_first (turned setup s (word
   by_first (Some q) e later =
       let sum : suc k + more ≡ suc (k + more) = omega arith in
       ap (scheduled setup s words) sum ∙ list_after setup s words (k + more) (Some q) e ∙ ap (λ (ps : List Pick). q.0 ∷ ps) (later q (made_rest setup s t words k q e made)) ∙ sym (list_after setup s words k (Some q) e)
-
--- a step counts itself
-pub step_counts : (setup : Setup) (s t : State) (p : Pick) → step setup s p ≡ Some t → t.steps ≡ s.steps + 1
-step_counts setup s t MoveA h = let x = map_some_is (moved_a s) (move setup A s.a s.queues) t h in sym (ap (λ z. z.steps) x.2)
-step_counts setup s t MoveE h = let x = map_some_is (moved_e s) (move setup E s.e s.queues) t h in sym (ap (λ z. z.steps) x.2)
-step_counts setup s t (Fill side number) h = let x = map_some_is (filled s) (fill side number s.queues s.memory) t h in sym (ap (λ z. z.steps) x.2)
-step_counts setup s t Drain h = let x = map_some_is (drained s) (drain s.queues s.memory) t h in sym (ap (λ z. z.steps) x.2)
 
 -- the state with this text printed
 abbrev pub printing : List ℕ → State → State

@@ -11,13 +11,13 @@ use Rattle.dae_machine.specs.Turns.{pick_of}
 use Rattle.dae_machine.specs.Rests.{TurnedTo}
 use Rattle.dae_machine.specs.declared.End.{End}
 use Rattle.dae_machine.specs.declared.Turn.TheVariants as turn
-use Rattle.dae_machine.proofs.LawsOfRuns.{quiet_behind}
+use Rattle.dae_machine.proofs.LawsOfRuns.{quiet_behind, step_counts}
 use Rattle.dae_cli_drive.specs.declared.driving.Driven.{Driven}
 use Rattle.dae_cli_drive.specs.declared.driving.Driven.TheVariants.{Final, Stuck, Spent, SinkFailed}
 use Rattle.dae_cli_drive.specs.Turns.{AreOut, DrivesOn, Drives, Rested, StandsLater, StopsAt, puts_of_turns, words_taken}
 use Rattle.dae_cli_drive.specs.Pieces.{pieces, pieces_on, then_later, unprinted}
 use Rattle.dae_cli_drive.specs.Puts.{Put, Out, AreMade, sinks}
-use Rattle.dae_cli_drive.proofs.LawsOfTurns.{Made, kept, kept_text, no_more, one_more, picks_more, printing, rested_behind, step_counts, turn_is}
+use Rattle.dae_cli_drive.proofs.LawsOfTurns.{Made, kept, kept_text, no_more, one_more, picks_more, printing, rested_behind, turn_is}
 use Rattle.dae_cli_drive.proofs.Printed.{pieces_after}
 use Rattle.dae_cli_drive.proofs.Puts.{made_then}
 

@@ -13,14 +13,13 @@ use Rattle.dae_machine.specs.Machine.{Setup, State, step, Runs, IsCounted, IsFin
 use Rattle.dae_machine.specs.Runs.{run_by}
 use Rattle.dae_machine.specs.Schedules.{scheduled}
 use Rattle.dae_machine.specs.Turns.{pick_of}
-use Rattle.dae_machine.proofs.LawsOfRuns.{counted_step}
+use Rattle.dae_machine.proofs.LawsOfRuns.{counted_step, step_counts}
 use Rattle.dae_machine.proofs.LawsOfRuns.{unplain_after}
 use Rattle.dae_machine.proofs.LawsOfRuns.{is_turned}
 use Rattle.dae_machine.proofs.LawsOfRuns.{picked_goes, quiet_where_none}
 use Rattle.dae_cli_drive.specs.declared.driving.Driven.{Driven}
 use Rattle.dae_cli_drive.specs.declared.driving.Driven.TheVariants.{Final, Stuck, Spent}
 use Rattle.dae_cli_drive.specs.Turns.{Rested, Turns}
-use Rattle.dae_cli_drive.proofs.LawsOfTurns.{step_counts}
 
 -- what every state of a run from a good one is
 pub record Good (s : State) : Type 0 where

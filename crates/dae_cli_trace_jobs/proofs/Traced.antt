@@ -8,7 +8,7 @@ use Rattle.dae_machine.specs.Machine.{Setup, State, step, IsCounted, IsQuiet}
 use Rattle.dae_machine.specs.Printing.{behind}
 use Rattle.dae_machine.specs.Schedules.{Standing, coming, scheduled, word_of}
 use Rattle.dae_machine.specs.Turns.{pick_of}
-use Rattle.dae_machine.proofs.LawsOfRuns.{quiet_behind, quiet_where_none}
+use Rattle.dae_machine.proofs.LawsOfRuns.{quiet_behind, quiet_where_none, step_counts}
 use Rattle.dae_trace.specs.Lines.{line}
 use Rattle.dae_trace.specs.Traces.{lines, lines_on}
 use Rattle.dae_trace.proofs.LawsOfTraces.{line_behind, lines_after}
@@ -20,7 +20,7 @@ use Rattle.dae_cli_drive.specs.Notes.{end_puts}
 use Rattle.dae_cli_drive.specs.Turns.{AreOut, Rested, Turns}
 use Rattle.dae_cli_drive.specs.Puts.{AreCut, AreMade, Gives, GivesDue, Out, Put, answer, gives_part, sinks}
 use Rattle.dae_cli_drive.proofs.Laws.{Good, comes_out, cut_after, cut_here, cut_more, gives_same, gives_then, made_then, same_lines}
-use Rattle.dae_cli_drive.proofs.LawsOfTurns.{Made, kept, no_more, nothing_made, one_more, picks_later, picks_more, printing, rested_behind, step_counts, turn_is}
+use Rattle.dae_cli_drive.proofs.LawsOfTurns.{Made, kept, no_more, nothing_made, one_more, picks_later, picks_more, printing, rested_behind, turn_is}
 use Rattle.dae_cli_trace_jobs.specs.Tracing.{DueOfLines, due_traced, TracesAll, TracesInPart, TracesTo, puts_of_lines}
 
 -- ---- on the way: the turns so far were made, and the line of each step was put out

@@ -8,6 +8,7 @@ use Rattle.dae_queues.specs.declared.Slot.{Slot}
 use Rattle.dae_queues.specs.declared.StoreAt.{StoreAt}
 use Rattle.dae_queues.specs.Lists.{rest, waiting, give, with_value, bars, holds, draining_of}
 use Rattle.dae_queues.specs.Numbers.{Counts}
+use Rattle.dae_queues.proofs.LawsOfLists.{SlotsNumbered}
 use Rattle.dae_core.specs.Queues.{Queues}
 use Rattle.dae_ranges.specs.declared.Range.{Range}
 use Rattle.dae_ranges.specs.Ranges.{Has, loaded_range}
@@ -37,9 +38,6 @@ not_barred d low high c s (k ∷ ks) (a ∷ as') h p q (suc n) e f =
     rw (no_touch d c s k a h p.0 o.0, and_false (nat_lt a.number s.stamp), not_barred d (low + 1) high c s ks as' h p.1 q.1 n (omega arith) o.1) refl
 
 -- ---- a fill
-
-abbrev pub SlotsNumbered : ℕ → List Slot → ℕ → Type 0
-SlotsNumbered low ss high = Counts low (map (λ (s : Slot). s.number) ss) high
 
 -- a number below all others gives nothing
 give_none : (n w low high : ℕ) (ss : List Slot) → n < low → SlotsNumbered low ss high → map (give n w) ss ≡ ss

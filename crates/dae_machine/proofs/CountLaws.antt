@@ -1,5 +1,5 @@
 -- Each step keeps the numbers of slots and stores in order.
-use Rattle.std.proofs.Common.{◌≡◌, ℕ, ◌+◌, true, List, [], ◌∷◌, map}
+use Rattle.std.proofs.Common.{◌≡◌, ℕ, true, [], ◌∷◌, map}
 use Rattle.std.specs.Prelude.{Some}
 use Rattle.std.proofs.lemmas.List.{map-append}
 use Rattle.dae_base.specs.declared.Side.{Side}
@@ -7,13 +7,12 @@ use Rattle.dae_base.specs.declared.Side.TheVariants.{A, E}
 use Rattle.dae_encode.specs.declared.QueueUse.{QueueUse}
 use Rattle.dae_queues.specs.declared.StoreAt.{StoreAt}
 use Rattle.dae_core.specs.Queues.{Queues, commit, possible}
-use Rattle.dae_queues.specs.Lists.{rest, with_value, next_store, without_store}
+use Rattle.dae_queues.specs.Lists.{with_value, next_store, without_store}
 use Rattle.dae_machine.specs.Memory.{loads_of, with_loads_of}
 use Rattle.dae_base.specs.declared.Depths.{Depths}
 use Rattle.dae_core.proofs.Laws.{UseOfA, UseOfE, a_nothing, a_load_ld, a_load_al, a_take_al, a_address, a_push_ab, a_push_cq, a_take_eb, e_nothing, e_take_ld}
-use Rattle.dae_queues.specs.Numbers.{Counts}
 use Rattle.dae_machine.specs.Memory.{QueuesCount}
-use Rattle.dae_queues.proofs.LawsOfLists.{counts_more, slots_more, slots_up, slots_rest, slots_given}
+use Rattle.dae_queues.proofs.LawsOfLists.{counts_more, slots_more, slots_up, slots_rest, slots_given, sa_rest}
 
 -- ---- each change keeps the counts
 
@@ -39,10 +38,6 @@ counted_e d x q _ h c = record { ld = c.ld; al = c.al; sa = c.sa }
 pub counted_fill : (side : Side) (n w : ℕ) (q : Queues) → QueuesCount q → QueuesCount (with_loads_of side (with_value n w (loads_of side q).slots) q)
 counted_fill A n w q c = record { ld = c.ld; al = slots_given q.stores.issued n w q.al c.al; sa = c.sa }
 counted_fill E n w q c = record { ld = slots_given q.stores.issued n w q.ld c.ld; al = c.al; sa = c.sa }
-
-sa_rest : (drained issued : ℕ) (as' : List StoreAt) (ws : List ℕ) (s : StoreAt × ℕ) → next_store as' ws ≡ Some s → Counts drained (map (λ (a : StoreAt). a.number) as') issued → Counts (drained + 1) (map (λ (a : StoreAt). a.number) (rest as')) issued
-sa_rest drained issued [] ws s n c = absurd (cc)
-sa_rest drained issued (a ∷ as') ws s n c = c.1
 
 pub counted_drain : (q : Queues) (s : StoreAt × ℕ) → next_store q.stores.sa q.stores.sd ≡ Some s → QueuesCount q → QueuesCount (record q { stores = without_store q.stores })
 counted_drain q s n c = record { ld = c.ld; al = c.al; sa = sa_rest q.stores.drained q.stores.issued q.stores.sa q.stores.sd s n c.sa }

@@ -1,7 +1,7 @@
 -- One final run fixes every run, and a family of runs that never ends tells what every run prints.
 use Rattle.std.proofs.Common.{◌≡◌, ℕ, ◌+◌, ◌<◌, ◌≤◌, ◌⊎◌, inl, inr, Bool, true, false, List, [], ◌∷◌, ◌++◌, length, refl, ap, sym, ◌∙◌, subst, arith, append_assoc}
 use Rattle.std.specs.Prelude.{Some, None, if◌then◌else◌}
-use Rattle.std.proofs.lemmas.List.{append-nil}
+use Rattle.std.proofs.lemmas.List.{append-nil, nil_from_length}
 use Rattle.dae_base.proofs.Laws.{and_then_some, map_some_is}
 use Rattle.dae_base.specs.declared.Side.TheVariants.{A, E}
 use Rattle.dae_machine.specs.declared.Pick.{Pick}
@@ -25,6 +25,13 @@ step_prints setup s t MoveA h = let x = map_some_is (moved_a s) (move setup A s.
 step_prints setup s t MoveE h = let x = map_some_is (moved_e s) (move setup E s.e s.queues) t h in (x.0.0.1, ap (λ (v : State). v.printed) x.2)
 step_prints setup s t (Fill side n) h = let x = map_some_is (filled s) (fill side n s.queues s.memory) t h in ([], append-nil s.printed ∙ ap (λ (v : State). v.printed) x.2)
 step_prints setup s t Drain h = let x = map_some_is (drained s) (drain s.queues s.memory) t h in ([], append-nil s.printed ∙ ap (λ (v : State). v.printed) x.2)
+
+-- a step counts itself
+pub step_counts : (setup : Setup) (s t : State) (p : Pick) → step setup s p ≡ Some t → t.steps ≡ s.steps + 1
+step_counts setup s t MoveA h = let x = map_some_is (moved_a s) (move setup A s.a s.queues) t h in sym (ap (λ z. z.steps) x.2)
+step_counts setup s t MoveE h = let x = map_some_is (moved_e s) (move setup E s.e s.queues) t h in sym (ap (λ z. z.steps) x.2)
+step_counts setup s t (Fill side number) h = let x = map_some_is (filled s) (fill side number s.queues s.memory) t h in sym (ap (λ z. z.steps) x.2)
+step_counts setup s t Drain h = let x = map_some_is (drained s) (drain s.queues s.memory) t h in sym (ap (λ z. z.steps) x.2)
 
 pub step_is_silent : (setup : Setup) (s t : State) (p : Pick) → is_e p ≡ false → step setup s p ≡ Some t → s.printed ≡ t.printed
 step_is_silent setup s t MoveA e h = ap (λ (v : State). v.printed) (map_some_is (moved_a s) (move setup A s.a s.queues) t h).2
@@ -57,10 +64,6 @@ one_is_e Drain q h k = cc
 one_is_e MoveE MoveA h k = cc
 one_is_e MoveE (Fill side n) h k = cc
 one_is_e MoveE Drain h k = cc
-
-no_length : (ps : List Pick) → length ps ≡ 0 → ps ≡ []
-no_length [] h = refl
-no_length (p ∷ ps) h = absurd (omega arith)
 
 first_of : (test : Pick → Bool) (setup : Setup) (s t : State) (ps : List Pick) → 1 ≤ often test ps → Runs setup s ps t → (p : Pick) × (v : State) × (step setup s p ≡ Some v)
 first_of test setup s t [] l r = absurd (omega arith)
@@ -130,7 +133,7 @@ module _ (setup : Setup) (start : State) (c : IsCounted start) where
         let e = d.2 in (
           λ (g : IsFinal setup u). (let z = ap length (stays u end d.0 g.quiet d.1).0 in omega arith),
           λ (g : length qs ≡ length ps). (
-              let z = no_length d.0 (omega arith) in
+              let z = nil_from_length d.0 (omega arith) in
               let r : Runs setup u [] end = rw z at d.1 in
               let same : u ≡ end = cc in
               subst (λ (v : State). IsFinal setup v) (sym same) f),

@@ -33,7 +33,7 @@ run_behind setup s t (p ∷ ps) xs h =
     let x = and_then_some (λ (v : State). run_by (step setup) v ps) (step setup s p) t h in
     rw (step_behind setup s x.0 p xs x.1) (run_behind setup x.0 t ps xs x.2)
 
-enabled_behind : (setup : Setup) (s : State) (p : Pick) (xs : List ℕ) → is_enabled setup (behind xs s) p ≡ is_enabled setup s p
+pub enabled_behind : (setup : Setup) (s : State) (p : Pick) (xs : List ℕ) → is_enabled setup (behind xs s) p ≡ is_enabled setup s p
 enabled_behind setup s MoveA xs = some_map (moved_a (behind xs s)) (move setup A s.a s.queues) ∙ sym (some_map (moved_a s) (move setup A s.a s.queues))
 enabled_behind setup s MoveE xs = some_map (moved_e (behind xs s)) (move setup E s.e s.queues) ∙ sym (some_map (moved_e s) (move setup E s.e s.queues))
 enabled_behind setup s (Fill side n) xs = some_map (filled (behind xs s)) (fill side n s.queues s.memory) ∙ sym (some_map (filled s) (fill side n s.queues s.memory))

@@ -5,7 +5,7 @@ use Rattle.std.specs.List.{AllByRecursion, list_any}
 use Rattle.std.proofs.lemmas.Nat.{mod_below}
 use Rattle.std.proofs.lemmas.Option.{slice_get-get_or}
 use Rattle.std.proofs.lemmas.Bool.Decides.{nat_tests}
-use Rattle.std.proofs.lemmas.List.{length-append}
+use Rattle.std.proofs.lemmas.List.{length-append, nil_from_length}
 use Rattle.std.proofs.lemmas.Bool.{and_parts, not-true}
 use Rattle.dae_base.proofs.Laws.{some_map, all_at}
 use Rattle.dae_base.specs.declared.Side.{Side}
@@ -81,7 +81,7 @@ fillable sa ss memory slot = is_some (filling_of sa slot.number ss memory) ≡ t
 fill_found : (sa : List StoreAt) (ss : List Slot) (memory : List ℕ) (slot : Slot) → waiting slot.number ss ≡ Some slot → list_any (bars slot) sa ≡ false → fillable sa ss memory slot
 fill_found sa ss memory slot found free = rw (found, free)
 
-number_skips : (n low : ℕ) (z : Slot) → z.number ≡ low → low + 1 ≤ n → is_waiting n z ≡ false
+pub number_skips : (n low : ℕ) (z : Slot) → z.number ≡ low → low + 1 ≤ n → is_waiting n z ≡ false
 number_skips n low z e h = grind (arith, nat_tests)
 
 waits_here : (z : Slot) → is_none z.value ≡ true → is_waiting z.number z ≡ true
@@ -253,15 +253,11 @@ chosen_in : (n : ℕ) (ps : List Pick) (l : ℕ) → l ≡ length ps → 0 < l �
 chosen_in n [] l e h = absurd (omega (arith, e, h))
 chosen_in n (p ∷ ps) l e h = ap (λ (k : ℕ). slice_get (p ∷ ps) (n % k)) (sym e)
 
-no_length : (ps : List Pick) → length ps ≡ 0 → ps ≡ []
-no_length [] h = refl
-no_length (p ∷ ps) h = absurd (omega arith)
-
 lengths : (ps qs : List Pick) (a e : ℕ) → a ≡ length ps → e ≡ length qs → a + e ≡ length (ps ++ qs)
 lengths ps qs a e h k = rw (h, k) (sym (length-append ps qs))
 
 pub chosen_neither : (n : ℕ) (ps qs : List Pick) (a e : ℕ) → a ≡ length ps → e ≡ length qs → a + e ≡ 0 → chosen n (ps ++ qs) ≡ None
-chosen_neither n ps qs a e h k none = ap (chosen n) (no_length (ps ++ qs) (sym (lengths ps qs a e h k) ∙ none))
+chosen_neither n ps qs a e h k none = ap (chosen n) (nil_from_length (ps ++ qs) (sym (lengths ps qs a e h k) ∙ none))
 
 pub chosen_left : (n : ℕ) (ps qs : List Pick) (a e : ℕ) → a ≡ length ps → e ≡ length qs → n % (a + e) < a → chosen n (ps ++ qs) ≡ slice_get ps (n % (a + e))
 chosen_left n ps qs a e h k below = chosen_in n (ps ++ qs) (a + e) (lengths ps qs a e h k) (omega (arith, below)) ∙ get_left ps qs (n % (a + e)) (rw (← h) below)

@@ -8,17 +8,17 @@ use Rattle.dae_queues.specs.Numbers.{Counts}
 use Rattle.dae_queues.proofs.CountLaws.{numbers_given}
 use Rattle.dae_queues.specs.Rings.{unfilled, at_place}
 
-abbrev pub Numbered : ℕ → List Slot → ℕ → Type 0
-Numbered low ss high = Counts low (map (λ (s : Slot). s.number) ss) high
+abbrev pub SlotsNumbered : ℕ → List Slot → ℕ → Type 0
+SlotsNumbered low ss high = Counts low (map (λ (s : Slot). s.number) ss) high
 
-pub none_below : (n low high : ℕ) (ss : List Slot) → Numbered low ss high → n < low → waiting n ss ≡ None
+pub none_below : (n low high : ℕ) (ss : List Slot) → SlotsNumbered low ss high → n < low → waiting n ss ≡ None
 none_below n low high [] c l = refl
 none_below n low high (s ∷ ss) c l =
     let e : s.number ≡ low = c.0 in
     let no : is_waiting n s ≡ false = grind (arith, nat_tests) in
     rw (no, none_below n (low + 1) high ss c.1 (omega arith))
 
-pub waiting_at : (low high k : ℕ) (ss : List Slot) → Numbered low ss high → waiting (low + k) ss ≡ option_and_then unfilled (slice_get ss k)
+pub waiting_at : (low high k : ℕ) (ss : List Slot) → SlotsNumbered low ss high → waiting (low + k) ss ≡ option_and_then unfilled (slice_get ss k)
 waiting_at low high k [] c = refl
 waiting_at low high zero (s ∷ ss) c =
     let e : s.number ≡ low = c.0 in
@@ -30,7 +30,7 @@ waiting_at low high (suc k) (s ∷ ss) c =
     let shift : low + suc k ≡ (low + 1) + k = omega arith in
     rw no (ap (λ m. waiting m ss) shift ∙ waiting_at (low + 1) high k ss c.1)
 
-pub waiting_is : (n low high : ℕ) (ss : List Slot) → Numbered low ss high → waiting n ss ≡ at_place ss low n
+pub waiting_is : (n low high : ℕ) (ss : List Slot) → SlotsNumbered low ss high → waiting n ss ≡ at_place ss low n
 waiting_is n low high ss c = by (nat_lt n low) refl where
   by : (b : Bool) → nat_lt n low ≡ b → waiting n ss ≡ cond b None (option_and_then unfilled (slice_get ss (n - low)))
   by true h = none_below n low high ss c (grind (arith, nat_tests))
@@ -47,7 +47,7 @@ given_none n w (s ∷ ss) h = go (is_waiting n s) refl h (given_none n w ss) whe
   go true e k rest = cc
   go false e k rest = rw (e, rest k)
 
-pub given_at : (low high k w : ℕ) (ss : List Slot) (s : Slot) → Numbered low ss high → slice_get ss k ≡ Some s → is_none s.value ≡ true → with_value (low + k) w ss ≡ slice_set ss k (record s { value = Some w })
+pub given_at : (low high k w : ℕ) (ss : List Slot) (s : Slot) → SlotsNumbered low ss high → slice_get ss k ≡ Some s → is_none s.value ≡ true → with_value (low + k) w ss ≡ slice_set ss k (record s { value = Some w })
 given_at low high k w [] s c g v = cc
 given_at low high zero w (z ∷ ss) s c g v =
     let e : z.number ≡ low = c.0 in
@@ -61,7 +61,7 @@ given_at low high (suc k) w (z ∷ ss) s c g v =
     let shift : low + suc k ≡ (low + 1) + k = omega arith in
     rw no (ap (λ (t : List Slot). z ∷ t) (ap (λ m. with_value m w ss) shift ∙ given_at (low + 1) high k w ss s c.1 g v))
 
-pub numbered_more : (low high : ℕ) (ss : List Slot) (s : Slot) → Numbered low ss high → s.number ≡ high → Numbered low (ss ++ s ∷ []) (high + 1)
+pub numbered_more : (low high : ℕ) (ss : List Slot) (s : Slot) → SlotsNumbered low ss high → s.number ≡ high → SlotsNumbered low (ss ++ s ∷ []) (high + 1)
 numbered_more low high [] s c e = (e ∙ sym c, ap (λ n. n + 1) c)
 numbered_more low high (z ∷ ss) s c e = (c.0, numbered_more (low + 1) high ss s c.1 e)
 
@@ -72,7 +72,7 @@ unfilled_is (Some z) s h = go (is_none z.value) refl h where
   go true e k = let same : z ≡ s = cc in (k, sym (ap (λ (t : Slot). is_none t.value) same) ∙ e)
   go false e k = cc
 
-pub given_is : (n low high w : ℕ) (ss : List Slot) (s : Slot) → Numbered low ss high → at_place ss low n ≡ Some s → with_value n w ss ≡ slice_set ss (n - low) (record s { value = Some w })
+pub given_is : (n low high w : ℕ) (ss : List Slot) (s : Slot) → SlotsNumbered low ss high → at_place ss low n ≡ Some s → with_value n w ss ≡ slice_set ss (n - low) (record s { value = Some w })
 given_is n low high w ss s c h = by (nat_lt n low) refl h where
   by : (b : Bool) → nat_lt n low ≡ b → cond b None (option_and_then unfilled (slice_get ss (n - low))) ≡ Some s → with_value n w ss ≡ slice_set ss (n - low) (record s { value = Some w })
   by true e k = cc
@@ -82,5 +82,5 @@ given_is n low high w ss s c h = by (nat_lt n low) refl h where
       let u = unfilled_is (slice_get ss (n - low)) s k in
       ap (λ i. with_value i w ss) (sym m) ∙ given_at low high (n - low) w ss s c u.0 u.1
 
-pub numbered_given : (n low high w : ℕ) (ss : List Slot) → Numbered low ss high → Numbered low (with_value n w ss) high
+pub numbered_given : (n low high w : ℕ) (ss : List Slot) → SlotsNumbered low ss high → SlotsNumbered low (with_value n w ss) high
 numbered_given n low high w ss c = rw (numbers_given n w ss) c

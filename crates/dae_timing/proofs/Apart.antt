@@ -1,7 +1,7 @@
 -- What was printed before changes no tick.
 use Rattle.std.proofs.Common.{◌≡◌, ℕ, suc, ◌+◌, Bool, true, false, List, [], ◌∷◌, ◌++◌, refl, sym, ap, ◌∙◌, subst}
 use Rattle.std.specs.Prelude.{Option, Some, None, is_some, nat_lt, if◌then◌else◌}
-use Rattle.dae_base.proofs.Laws.{none_of, some_map}
+use Rattle.dae_base.proofs.Laws.{none_of}
 use Rattle.dae_base.specs.declared.Side.{Side}
 use Rattle.dae_base.specs.declared.Side.TheVariants.{A, E}
 use Rattle.dae_core.specs.declared.CoreAnswer.{CoreAnswer}
@@ -10,21 +10,14 @@ use Rattle.dae_queues.specs.declared.Slot.{Slot}
 use Rattle.dae_machine.specs.declared.Pick.{Pick}
 use Rattle.dae_machine.specs.declared.Pick.TheVariants.{A as MoveA, E as MoveE, Fill, Drain}
 use Rattle.dae_machine.specs.Answers.{answer, processor}
-use Rattle.dae_machine.specs.Machine.{Setup, State, drained, filled, move, moved_a, moved_e, step}
-use Rattle.dae_machine.specs.Memory.{drain, fill}
+use Rattle.dae_machine.specs.Machine.{Setup, State, step}
+use Rattle.dae_machine.specs.Memory.{drain}
 use Rattle.dae_machine.specs.Printing.{behind}
-use Rattle.dae_machine.specs.Turns.{is_enabled}
-use Rattle.dae_machine.proofs.LawsOfRuns.{step_behind}
+use Rattle.dae_machine.proofs.LawsOfRuns.{step_behind, enabled_behind}
 use Rattle.dae_cli_options.specs.declared.options.Costs.{Costs}
 use Rattle.dae_timing.specs.Clocks.{Clock, free_from}
 use Rattle.dae_timing.specs.Ticks.{Picks, after_drain, after_fill, after_fills, after_move, after_moves, after_pick, after_side, after_tick, after_wait, drain_of, fill_of, first_ripe, in_order, move_of, picks_of, step_of}
 use Rattle.dae_timing.specs.Runs.{HasPick, PrintIsApart, Ticks, clock_behind, no_tick, one_tick}
-
-enabled_behind : (setup : Setup) (s : State) (p : Pick) (xs : List ℕ) → is_enabled setup (behind xs s) p ≡ is_enabled setup s p
-enabled_behind setup s MoveA xs = some_map (moved_a (behind xs s)) (move setup A s.a s.queues) ∙ sym (some_map (moved_a s) (move setup A s.a s.queues))
-enabled_behind setup s MoveE xs = some_map (moved_e (behind xs s)) (move setup E s.e s.queues) ∙ sym (some_map (moved_e s) (move setup E s.e s.queues))
-enabled_behind setup s (Fill side n) xs = some_map (filled (behind xs s)) (fill side n s.queues s.memory) ∙ sym (some_map (filled s) (fill side n s.queues s.memory))
-enabled_behind setup s Drain xs = some_map (drained (behind xs s)) (drain s.queues s.memory) ∙ sym (some_map (drained s) (drain s.queues s.memory))
 
 none_behind : (setup : Setup) (s : State) (p : Pick) (xs : List ℕ) → step setup s p ≡ None → step setup (behind xs s) p ≡ None
 none_behind setup s p xs h = none_of (step setup (behind xs s) p) (enabled_behind setup s p xs ∙ ap is_some h)

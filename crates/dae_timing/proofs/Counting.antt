@@ -19,7 +19,6 @@ use Rattle.dae_queues.specs.declared.Slot.{Slot}
 use Rattle.dae_queues.specs.Lists.{rest}
 use Rattle.dae_core.specs.Queues.{Queues, commit, front, possible, ready}
 use Rattle.dae_core.specs.Moves.{offered_by}
-use Rattle.dae_machine.specs.declared.Pick.{Pick}
 use Rattle.dae_machine.specs.declared.Pick.TheVariants.{A as MoveA, E as MoveE, Fill, Drain}
 use Rattle.dae_machine.specs.Machine.{Setup, State, code, granted, move, moved_a, moved_e, filled, drained, step}
 use Rattle.dae_machine.specs.Memory.{fill, filling, drain, draining}
@@ -106,13 +105,6 @@ move_shifts d side p q (Asks u w i) r h =
     let may = possible_of d u q x.0 in
     let same : r.1 ≡ commit u w q = sym (ap (λ (z : After × Queues). z.1) y.2) in
     rw same (record { ld = shifts_ld d u w q may; al = shifts_al d u w q may })
-
--- a step counts itself
-pub step_counts : (setup : Setup) (s t : State) (p : Pick) → step setup s p ≡ Some t → t.steps ≡ s.steps + 1
-step_counts setup s t MoveA h = let x = map_some_is (moved_a s) (move setup A s.a s.queues) t h in sym (ap (λ z. z.steps) x.2)
-step_counts setup s t MoveE h = let x = map_some_is (moved_e s) (move setup E s.e s.queues) t h in sym (ap (λ z. z.steps) x.2)
-step_counts setup s t (Fill side number) h = let x = map_some_is (filled s) (fill side number s.queues s.memory) t h in sym (ap (λ z. z.steps) x.2)
-step_counts setup s t Drain h = let x = map_some_is (drained s) (drain s.queues s.memory) t h in sym (ap (λ z. z.steps) x.2)
 
 -- a step of a processor moves each load queue by at most one slot
 pub steps_shift : (setup : Setup) (s t : State) (side : Side) → (side ≡ A → step setup s MoveA ≡ Some t) → (side ≡ E → step setup s MoveE ≡ Some t) → BothShift setup.depths s.queues t.queues

@@ -20,6 +20,7 @@ use Rattle.dae_machine.specs.Machine.{Setup, State, filled, step}
 use Rattle.dae_machine.specs.Memory.{fill, filling, loads_of}
 use Rattle.dae_machine.specs.Opened.{opened}
 use Rattle.dae_machine.specs.Turns.{is_enabled}
+use Rattle.dae_machine.proofs.LawsOfRuns.{step_counts}
 use Rattle.dae_cli_options.specs.declared.options.Costs.{Costs}
 use Rattle.dae_timing.specs.declared.prices.Price.{Price}
 use Rattle.dae_timing.specs.declared.prices.Price.TheVariants.{One, Product, Quotient}
@@ -27,7 +28,7 @@ use Rattle.dae_timing.specs.Clocks.{Clock, free_from, issues_after, first_clock}
 use Rattle.dae_timing.specs.Costs.{cost_of, largest}
 use Rattle.dae_timing.specs.Ticks.{after_drain, after_fill, drain_of, fill_of, after_side, move_of, after_move, first_ripe, step_of, after_step, after_pick, after_tick, after_wait}
 use Rattle.dae_timing.specs.Runs.{HasPick, Ticks, no_tick, one_tick}
-use Rattle.dae_timing.proofs.Counting.{SameCounts, drain_same, fill_same, noted_length, step_counts, steps_shift}
+use Rattle.dae_timing.proofs.Counting.{SameCounts, drain_same, fill_same, noted_length, steps_shift}
 
 -- each slot may be filled before this tick
 abbrev pub Ripen : (load bound : ℕ) → List ℕ → Type 0

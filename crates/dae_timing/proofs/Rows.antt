@@ -7,11 +7,11 @@ use Rattle.dae_image.specs.declared.Image.{Image}
 use Rattle.dae_machine.specs.declared.Pick.{Pick}
 use Rattle.dae_machine.specs.Machine.{Setup, State, Runs, run, step}
 use Rattle.dae_machine.specs.Opened.{opened}
+use Rattle.dae_machine.proofs.LawsOfRuns.{step_counts}
 use Rattle.dae_cli_options.specs.declared.options.Costs.{Costs}
 use Rattle.dae_timing.specs.Clocks.{Clock, first_clock}
 use Rattle.dae_timing.specs.Ticks.{after_drain, after_fill, after_side, after_tick, drain_of, fill_of, in_order, picks_of}
 use Rattle.dae_timing.specs.Runs.{Ticks, TimedRun, no_tick, one_tick}
-use Rattle.dae_timing.proofs.Counting.{step_counts}
 use Rattle.dae_timing.proofs.Running.{ticks_are_a_run}
 use Rattle.dae_timing.proofs.Whole.{gone_a, gone_e, taken_counts}
 

@@ -10,7 +10,7 @@ use Rattle.dae_base.specs.declared.Side.TheVariants.{A, E}
 use Rattle.dae_core.specs.Queues.{Queues}
 use Rattle.dae_queues.specs.declared.Slot.{Slot}
 use Rattle.dae_queues.specs.Lists.{first_unfilled, is_waiting, waiting}
-use Rattle.dae_queues.specs.Numbers.{Counts}
+use Rattle.dae_queues.proofs.LawsOfLists.{SlotsNumbered}
 use Rattle.dae_machine.specs.declared.Entry.{Entry}
 use Rattle.dae_machine.specs.declared.Pick.{Pick}
 use Rattle.dae_machine.specs.declared.Pick.TheVariants.{Fill}
@@ -18,6 +18,7 @@ use Rattle.dae_machine.specs.Entries.{entries, slot_entry}
 use Rattle.dae_machine.specs.Machine.{IsCounted, Setup, State, step}
 use Rattle.dae_machine.specs.Memory.{fill, filling, loads_of}
 use Rattle.dae_machine.specs.Turns.{is_enabled}
+use Rattle.dae_machine.proofs.LawsOfRuns.{number_skips}
 use Rattle.dae_timing.specs.Clocks.{load_queue}
 use Rattle.dae_timing.specs.Held.{RiseTo}
 use Rattle.dae_timing.specs.Ticks.{first_ripe}
@@ -55,18 +56,12 @@ ripe_fills setup s side load now (slot ∷ slots) (tick ∷ times) p h = by_test
 
 -- ---- slots before the first unfilled one
 
-abbrev Numbered : ℕ → List Slot → ℕ → Type 0
-Numbered low ss high = Counts low (map (λ (slot : Slot). slot.number) ss) high
-
 below_not : (n low : ℕ) (z : Slot) → z.number ≡ low → n < low → is_waiting n z ≡ false
 below_not n low z e h = grind (arith, nat_tests)
 
-none_below : (n low high : ℕ) (ss : List Slot) → Numbered low ss high → n < low → waiting n ss ≡ None
+none_below : (n low high : ℕ) (ss : List Slot) → SlotsNumbered low ss high → n < low → waiting n ss ≡ None
 none_below n low high [] c h = refl
 none_below n low high (z ∷ ss) c h = rw (below_not n low z c.0 h) (none_below n (low + 1) high ss c.1 (omega (arith, h)))
-
-above_not : (n low : ℕ) (z : Slot) → z.number ≡ low → low + 1 ≤ n → is_waiting n z ≡ false
-above_not n low z e h = grind (arith, nat_tests)
 
 filled_not : (n : ℕ) (z : Slot) → is_none z.value ≡ false → is_waiting n z ≡ false
 filled_not n z h = grind (arith, nat_tests)
@@ -90,12 +85,12 @@ module _ (setup : Setup) (s : State) (side : Side) (load now : ℕ) where
     by_value false e = rw e (ripe_no_issues setup s side load now (drop (first_unfilled ss) ss))
 
   -- where these slots are the last of the queue's, numbered from low on
-  skip_filled : (low high : ℕ) (ss : List Slot) (issues : List ℕ) → Numbered low ss high → ((n : ℕ) → low ≤ n → waiting n (loads_of side s.queues).slots ≡ waiting n ss)
+  skip_filled : (low high : ℕ) (ss : List Slot) (issues : List ℕ) → SlotsNumbered low ss high → ((n : ℕ) → low ≤ n → waiting n (loads_of side s.queues).slots ≡ waiting n ss)
       → first_ripe setup s side load now (drop (first_unfilled ss) ss) (drop (first_unfilled ss) issues) ≡ first_ripe setup s side load now ss issues
   skip_filled low high [] issues c same = refl
   skip_filled low high (z ∷ ss) [] c same = skip_no_issues z ss
   skip_filled low high (z ∷ ss) (t ∷ ts) c same =
-      by_value (is_none z.value) refl (skip_filled (low + 1) high ss ts c.1 (λ n h. same n (omega (arith, h)) ∙ rw (above_not n low z c.0 h) refl)) where
+      by_value (is_none z.value) refl (skip_filled (low + 1) high ss ts c.1 (λ n h. same n (omega (arith, h)) ∙ rw (number_skips n low z c.0 h) refl)) where
         not_here : is_none z.value ≡ false → is_enabled setup s (Fill side z.number) ≡ false
         not_here e =
             none_enabled z.number (same z.number (let h = c.0 in omega (arith, h))

@@ -11,13 +11,13 @@ use Rattle.dae_encode.specs.Processor.{After}
 use Rattle.dae_machine.specs.declared.Pick.{Pick}
 use Rattle.dae_machine.specs.Answers.{answer}
 use Rattle.dae_machine.specs.Machine.{Setup, State, move, step}
+use Rattle.dae_machine.proofs.LawsOfRuns.{step_counts}
 use Rattle.dae_cli_options.specs.declared.options.Costs.{Costs}
 use Rattle.dae_timing.specs.declared.waits.Waits.{Waits}
 use Rattle.dae_timing.specs.Clocks.{Clock, free_from, one_more, waits_for}
 use Rattle.dae_timing.specs.Held.{HeldClock, IsTimed}
 use Rattle.dae_timing.specs.Runs.{with_print}
 use Rattle.dae_timing.specs.Ticks.{after_drain, after_fill, after_fills, drain_of, fill_of, after_side, move_of, picks_of, step_of, after_step, after_pick, after_tick, after_wait}
-use Rattle.dae_timing.proofs.Counting.{step_counts}
 
 -- ---- what is counted along the parts
 
