@@ -4,5 +4,6 @@ mod Options
 mod Lists
 mod Budgets
 mod Bytes
+mod Keys
 mod Tests
 pub mod Laws

@@ -1,5 +1,5 @@
 -- What tests say of their parts, and tests of numbers that follow one another.
-use Rattle.std.proofs.Common.{◌≡◌, ℕ, suc, ◌<◌, ◌^◌, Bool, true, false, not, ◌&&◌, ◌||◌, refl, arith}
+use Rattle.std.proofs.Common.{◌≡◌, ℕ, suc, ◌<◌, ◌^◌, Bool, true, false, not, ◌&&◌, ◌||◌, refl, arith, ◌+◌}
 use Rattle.std.specs.Prelude.{nat_eq}
 use Rattle.std.proofs.lemmas.Bool.{and_parts, false≢true}
 use Rattle.std.proofs.lemmas.Bool.Decides.{nat_tests}
@@ -61,3 +61,6 @@ suc_suc n m = grind (arith, nat_tests)
 
 pub plus_small : (x y : ℕ) → plus x y < 2 ^ 32
 plus_small x y = omega arith
+
+pub suc_plus : (x y : ℕ) → suc (x + y) ≡ suc x + y
+suc_plus x y = omega arith

@@ -6,8 +6,8 @@ use Rattle.std.specs.Map.{lookup, keys_of, values_of}
 use Rattle.std.specs.Str.{bytes_eq}
 use Rattle.indexmap.specs.IndexMap.{insert_entry}
 use Rattle.indexmap.specs.IndexSet.{insert_key}
-use Rattle.std.proofs.lemmas.List.{map-append}
 use Rattle.std.proofs.lemmas.Slice.Eq.{bytes_eq-Decides}
+use Rattle.dae_base.proofs.Laws.{choose_mapped, any_mapped, now_of, same_key}
 use Rattle.dae_tree.specs.Pieces.{Cut}
 use Rattle.dae_tree.specs.Replacing.{Definition, body_of}
 use Rattle.dae_lex.specs.declared.numbers.Numbers.{Numbers}
@@ -96,26 +96,9 @@ pub entries_fit : {V : Type 0} (n : ℕ) (v : V) (es : List (ℕ × V)) → leng
 entries_fit n v [] = omega arith
 entries_fit n v (e ∷ es) = omega (arith, fits_step e es (insert_entry nat_eq es n v) v (nat_eq n e.0) (entries_fit n v es))
 
--- words by their bytes
-abbrev pub now_of : List (Bor (List ℕ)) → List (List ℕ)
-now_of ks = map (λ k. k.now) ks
-
--- keys are equal by their bytes
-abbrev pub same_key : Bor (List ℕ) → Bor (List ℕ) → Bool
-same_key a b = bytes_eq a.now b.now
-
 pub place_mapped : (name : List ℕ) (ks : List (Bor (List ℕ))) → position_or_len (λ k. bytes_eq name k.now) ks ≡ position_or_len (bytes_eq name) (now_of ks)
 place_mapped name [] = refl
 place_mapped name (k ∷ ks) = ap (λ n. cond (not (bytes_eq name k.now)) (1 + n) 0) (place_mapped name ks)
-
-any_mapped : (name : List ℕ) (ks : List (Bor (List ℕ))) → list_any (λ k. bytes_eq name k.now) ks ≡ list_any (bytes_eq name) (now_of ks)
-any_mapped name [] = refl
-any_mapped name (k ∷ ks) = ap (λ b. bytes_eq name k.now || b) (any_mapped name ks)
-
-choose_mapped : (k : Bor (List ℕ)) (ks : List (Bor (List ℕ))) (b : Bool)
-    → now_of (if b then ks else ks ++ k ∷ []) ≡ (if b then now_of ks else now_of ks ++ k.now ∷ [])
-choose_mapped k ks true = refl
-choose_mapped k ks false = map-append (λ (k : Bor (List ℕ)). k.now) ks (k ∷ [])
 
 pub insert_mapped : (k : Bor (List ℕ)) (ks : List (Bor (List ℕ))) → now_of (insert_key same_key ks k) ≡ with_word (now_of ks) k.now
 insert_mapped k ks =

@@ -24,6 +24,7 @@ use Rattle.dae_tree.specs.Order.{IsNoLater, place_of_error, refusals, HasLeastPl
 use Rattle.dae_lex.specs.Cuts.{PlacesFrom}
 use Rattle.dae_lex.specs.Settling.{Fails}
 use Rattle.dae_lex.proofs.Places.{same_place, later, places_earlier, places_all}
+use Rattle.dae_lex.proofs.Spans.{concat, concat_first}
 
 -- the places of items
 abbrev item_places : List Item → List Place
@@ -278,11 +279,6 @@ module _ (n : ℕ) (macros : List Definition) where
       in_line p ps r (inl e) = inl e
       in_line p ps r (inr k) = inr (in_from ps r k)
 
--- the pieces of all lines
-abbrev concat : List (List Cut) → List Cut
-concat [] = []
-concat (l ∷ ls) = l ++ concat ls
-
 lines_places : (n : ℕ) (macros : List Definition) (ls : List (List Cut)) (q : Place) → PlacesFrom q (place_list (concat ls))
     → PlacesFrom q (item_places (replaced_lines n macros ls))
 lines_places n macros [] q w = tt
@@ -297,10 +293,6 @@ lines_places n macros (l ∷ ls) q w =
           let k = chain_in l (concat ls) (item_places rest) q found.0 w found.1.0 more in
           subst (PlacesFrom q) split (places_at found.0 (item_places (line_items n macros (line_of l))) (item_places rest) q found.1.1 k.0 k.1)
     ]
-
-concat_first : (p : Cut) (ls : List (List Cut)) → concat (with_first p ls) ≡ p ∷ concat ls
-concat_first p [] = refl
-concat_first p (l ∷ ls) = refl
 
 line_chain : (p : Cut) (ls : List (List Cut)) (ends : Bool) (q : Place) → IsNoLater q p.place → PlacesFrom p.place (place_list (concat ls))
     → PlacesFrom q (place_list (concat (if ends then [] ∷ ls else with_first p ls)))

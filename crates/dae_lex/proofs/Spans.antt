@@ -95,11 +95,11 @@ follow_wider e [] b c h k = omega arith
 follow_wider e (p ∷ ps) b c h k = (h.0, h.1, follow_wider p.end ps b c h.2 k)
 
 -- the pieces of all lines
-abbrev concat : List (List Cut) → List Cut
+abbrev pub concat : List (List Cut) → List Cut
 concat [] = []
 concat (l ∷ ls) = l ++ concat ls
 
-concat_first : (p : Cut) (ls : List (List Cut)) → concat (with_first p ls) ≡ p ∷ concat ls
+pub concat_first : (p : Cut) (ls : List (List Cut)) → concat (with_first p ls) ≡ p ∷ concat ls
 concat_first p [] = refl
 concat_first p (l ∷ ls) = refl
 

@@ -14,6 +14,7 @@ use Rattle.dae_asm_lines.specs.declared.Operands.TheVariants.{Registers, Immedia
 use Rattle.dae_asm_lines.specs.Names.{name_of, operands_of}
 use Rattle.dae_listing.specs.Canon.{row, register_text, spelled_operands, instruction_text, word_or_instruction, word_text}
 use Rattle.dae_listing_laws.proofs.Rows.{AreFew}
+use Rattle.dae_listing_laws.proofs.Small.{word_is_small}
 
 -- ---- numbers
 
@@ -38,11 +39,8 @@ thirteen z h = five z (omega (arith, ints, h.0)) (omega (arith, ints, h.1))
 shift : (z : ℤ) → pos 0 ≤ℤ z → z <ℤ pos 32 → length (signed_decimal z) ≤ 5
 shift z low high = five z (omega (arith, ints)) (omega (arith, ints))
 
-below : (z : ℤ) → IsSigned 32 z → word z < 2 ^ 32
-below z h = grind (arith, ints)
-
 upper : (z : ℤ) → IsSigned 32 z → length (signed_decimal (pos (word z / 2 ^ 12))) ≤ 7
-upper z h = let small = below z h in length-decimal-le 7 (word z / 2 ^ 12) (omega arith) (omega arith) (omega arith)
+upper z h = let small = word_is_small z h in length-decimal-le 7 (word z / 2 ^ 12) (omega arith) (omega arith) (omega arith)
 
 -- ---- instructions
 

@@ -43,11 +43,11 @@ twenty_one z h = by_bounds z h.0 h.1
 shift : (z : ℤ) → pos 0 ≤ℤ z → z <ℤ pos 32 → IsSmallNumber z
 shift z low high = by_bounds z (omega (arith, ints)) (omega (arith, ints))
 
-below : (z : ℤ) → IsSigned 32 z → word z < 2 ^ 32
-below z h = grind (arith, ints)
+pub word_is_small : (z : ℤ) → IsSigned 32 z → word z < 2 ^ 32
+word_is_small z h = grind (arith, ints)
 
 upper : (z : ℤ) → IsSigned 32 z → IsSmallNumber (pos (word z / 2 ^ 12))
-upper z h = let small = below z h in omega arith
+upper z h = let small = word_is_small z h in omega arith
 
 register : (r : ℕ) → r < 32 → IsSmallRegister (pos r)
 register r h = (r, (refl, h))

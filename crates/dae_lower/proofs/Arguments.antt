@@ -104,7 +104,7 @@ module _ (m n : ℕ) (s : Setup) (l : Links) (p : Program) (calls : Calls) where
         chain m n p calls (λ y n. operands l xs later n ≫ λ ys. nothing (y ∷ ys)) (λ x env w. values s xs env w ⟫ λ words. Gives (x.1 ∷ words)) 0 11 (suc (amount xs)) k k k (assigned a) (assigned_all xs) (omega arith)
         (paid m n p calls 0 2 k (h.value (or later (assigned_all xs)) k j)) (λ x e o u t. tt)
         (λ o r z.
-        weaker m n p calls 11 (amount xs + 11) o 11 (suc (amount xs)) k (assigned_all xs) (omega arith) (omega arith) (omega arith) (λ v z. (or_nowhere m n s l p calls) (assigned_all xs v) z)
+        weaker m n p calls 11 (amount xs + 11) o 11 (suc (amount xs)) k (assigned_all xs) (omega arith) (omega arith) (omega arith) (λ v z. or_nowhere (assigned_all xs v) z)
         (chain m n p calls (λ ys. nothing (((ways l a).value (or later (assigned_all xs)) k).given ∷ ys)) (λ x. Gives (x.0.1 ∷ x.1)) 11 (amount xs + 11) (amount xs + 11) o o k (assigned_all xs) nowhere r
         (knowing m n p calls 11 (amount xs + 11) o (λ x. tt) (λ x o u. tt) (spared m n p calls 11 0 (amount xs) o (i later o (omega (arith, j, r)))))
         (λ x e o' u t. (tt, still m k o later (assigned_all xs) _ e o' j r z t ∙ u.1))
@@ -119,7 +119,7 @@ module _ (m n : ℕ) (s : Setup) (l : Links) (p : Program) (calls : Calls) where
     module _ (called : Called) where
       pub call_value : (place : Place) (f : ℕ) (xs : Expressions) → AllFaithful xs → (AsValue m n s l p calls) (assigned_all xs) (ways l (tree.Call place f xs)).value (value s (tree.Call place f xs))
       call_value place f xs h later k j =
-          weaker m n p calls 0 2 k 0 2 k (assigned_all xs) (omega arith) (omega arith) (omega arith) (λ v z. (or_nowhere m n s l p calls) (assigned_all xs v) z)
+          weaker m n p calls 0 2 k 0 2 k (assigned_all xs) (omega arith) (omega arith) (omega arith) (λ v z. or_nowhere (assigned_all xs v) z)
           (chain m n p calls (λ ys n. only (Do place (Expect (Room (l.callee f))) (one place (Call n (l.callee f) ys))) (Variable n) (n + 1)) (λ x env w. returned env (s.calls f x.1 w)) 0 (amount xs + 9) 2 k k k (assigned_all xs) nowhere (omega arith)
           (paid m n p calls 0 (amount xs) k (h later k j)) (λ x e o u t. tt)
           (λ o r z. record {

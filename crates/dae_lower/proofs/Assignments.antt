@@ -48,7 +48,7 @@ module _ (m n : ℕ) (s : Setup) (l : Links) (p : Program) (calls : Calls) where
 
     pub address_target : (b : Bool) (a : Expression) → (Faithful m n s l p calls) (assigned a) (ways l a) (value s a) → TargetFaithful (tree.AtAddress b a)
     address_target b a h later k j =
-        weaker m n p calls 0 2 k 0 0 k (assigned a) (omega arith) (omega arith) (omega arith) (λ v z. (or_nowhere m n s l p calls) (assigned a v) z)
+        weaker m n p calls 0 2 k 0 0 k (assigned a) (omega arith) (omega arith) (omega arith) (λ v z. or_nowhere (assigned a v) z)
         (chain m n p calls (λ y. nothing (Placed b y)) (λ x. Gives (AtPlace b x.1)) 0 2 2 k k k (assigned a) nowhere (omega arith) (h.value later k j) (λ x e o u t. tt)
         (λ o i z. spared m n p calls 2 0 0 o (nothing_follows m n p calls later o k nowhere (Placed b _) (λ x env. AtPlace b x.1) z (λ x env o d u. (refl, u.1)))))
 
@@ -148,7 +148,7 @@ module _ (m n : ℕ) (s : Setup) (l : Links) (p : Program) (calls : Calls) where
         (chain m n p calls (λ x n. advanced place kind change (spot l t later k).given x n ≫ λ y. nothing (if new then y else x)) (λ x env w. write kind x.0.1 (extended kind (plus x.1 change)) env w ⟫ λ z. Gives (if new then z else x.1)) 9 6 2 o o k nowhere (assigned_target t) r
         (spared m n p calls 6 3 0 o (held_follows m n p calls copied o o place kind copied _ (λ x. x.1) (omega (arith, j, r)) (omega arith) (λ v e. e) (spot_among (assigned_target t) later k o _ z) (λ x o u. u.1)))
         (λ x e o' u v. (tt, standing_alone (assigned_target t) later k o _ x.1 e o' j r z v u.1))
-        (λ g y d. weaker m n p calls 6 2 g 6 2 k (assigned_target t) (omega arith) (omega arith) (omega arith) (λ v z. (or_nowhere m n s l p calls) (assigned_target t v) z)
+        (λ g y d. weaker m n p calls 6 2 g 6 2 k (assigned_target t) (omega arith) (omega arith) (omega arith) (λ v z. or_nowhere (assigned_target t v) z)
         (gives_one new g (held_in place kind copied (spot l t later k).given o).given o r y z d))))) where
           copied : VariableSet
           copied = if new then later else or later (assigned_target t)

@@ -28,7 +28,7 @@ module _ (m n : ℕ) (s : Setup) (l : Links) (p : Program) (calls : Calls) where
     -- 1 or 0 in variable v, as a condition holds
     pub decided_in : {X : Type 0} {Was : X → Env → Type 0} (place : Place) (c : VariableSet) (f : ℕ → Made Condition) (g : Env → World → Outcome ℕ) (q v : ℕ) → m ≤ v → v < q → Follows m n p calls 0 2 q q c Always (Anything {X = (Start m n s l p calls)}) Deciding (f q) (λ x. g) → ((x : X) (e o : Env) → Was x e → Kept m q c e o → Was x o) → Follows m n p calls 0 0 q v c Always Was (λ (z : Unit {0}). Holding (Variable v)) (branches place (f q) (gives place v (Number 1)) (gives place v (Number 0))) (λ x env w. g env w ⟫ decided)
     decided_in place c f g q v low j h stays =
-        weaker m n p calls 0 0 q 0 0 v c (omega arith) (omega arith) (omega arith) (λ u z. (or_nowhere m n s l p calls) (c u) z)
+        weaker m n p calls 0 0 q 0 0 v c (omega arith) (omega arith) (omega arith) (λ u z. or_nowhere (c u) z)
         (branches_follow m n p calls place (gives place v (Number 1)) (gives place v (Number 0)) (λ x. Gives 1) (λ x. Gives 0) 0 1 0 q q v c nowhere (omega (arith, j))
         (knowing m n p calls 0 2 q (λ x. tt) (λ x o u. tt) h) stays
         (λ o i. number_given o v v place 1 nowhere low (omega arith))
@@ -38,7 +38,7 @@ module _ (m n : ℕ) (s : Setup) (l : Links) (p : Program) (calls : Calls) where
     pub in_variable : (c : VariableSet) (f : Made (Unit {0})) (g : Env → World → Outcome ℕ) (later : VariableSet) (k : ℕ) → m ≤ k → Follows m n p calls 0 2 (k + 1) k c Always (Anything {X = (Start m n s l p calls)}) (λ (z : Unit {0}). Holding (Variable k)) f (λ x. g) → Follows m n p calls 0 2 k k c (Lasts m later k) (Anything {X = (Start m n s l p calls)}) Holding (f ≫ λ x. nothing (Variable k)) (λ x. g)
     in_variable c f g later k low h =
         recast m n p calls (λ x env w. g env w ⟫ Gives) (λ x. g) 0 2 k (λ x env w. given_on (g env w))
-        (weaker m n p calls 0 2 k 0 2 k c (omega arith) (omega arith) (omega arith) (λ v z. (or_nowhere m n s l p calls) (c v) z)
+        (weaker m n p calls 0 2 k 0 2 k c (omega arith) (omega arith) (omega arith) (λ v z. or_nowhere (c v) z)
         (sooner m n p calls 0 2 (k + 1) k (omega arith)
         (chain m n p calls (λ x. nothing (Variable k)) (λ x. Gives x.1) 0 2 2 (k + 1) k k c nowhere (omega arith) h (λ x e o u t. tt)
         (λ o i z. spared m n p calls 2 0 0 o (nothing_follows m n p calls later o k nowhere (Variable k) (λ x env. x.1) (inl (omega arith, omega (arith, i))) (λ x env o a u. u.1))))))
@@ -67,7 +67,7 @@ module _ (m n : ℕ) (s : Setup) (l : Links) (p : Program) (calls : Calls) where
     pub value_in : {X : Type 0} {Was : X → Env → Type 0} (place : Place) (c : VariableSet) (f : VariableSet → ℕ → Made Operand) (g : Env → World → Outcome ℕ) (later : VariableSet) (q v : ℕ) → m ≤ v → v < q → (AsValue m n s l p calls) c f g → ((x : X) (e o : Env) → Was x e → Kept m q c e o → Was x o) → Follows m n p calls 0 1 q v c Always Was (λ (z : Unit {0}). Holding (Variable v)) (f later q ≫ gives place v) (λ x. g)
     value_in place c f g later q v low j h stays =
         recast m n p calls (λ x env w. g env w ⟫ Gives) (λ x. g) 0 1 q (λ x env w. given_on (g env w))
-        (weaker m n p calls 0 1 q 0 1 v c (omega arith) (omega arith) (omega arith) (λ u z. (or_nowhere m n s l p calls) (c u) z)
+        (weaker m n p calls 0 1 q 0 1 v c (omega arith) (omega arith) (omega arith) (λ u z. or_nowhere (c u) z)
         (chain m n p calls (gives place v) (λ x. Gives x.1) 0 2 1 q q v c nowhere (omega (arith, j))
         (knowing m n p calls 0 2 q (λ x. tt) (λ x o u. tt) (h later q (omega (arith, low, j)))) stays
         (λ o i z. spared m n p calls 1 1 0 o (gives_follows m n p calls o v v place _ (λ x. x.1) low (omega arith) (λ x o u. u.1)))))

@@ -1,5 +1,6 @@
 -- The form of a program keeps its meaning, whatever the bound on turns.
-use Rattle.std.proofs.Common.{◌≡◌, ℕ, zero, suc, ◌+◌, ◌≤◌, true, false, [], refl, sym, subst, arith}
+use Rattle.std.proofs.Common.{◌≡◌, ℕ, zero, suc, ◌+◌, ◌≤◌, true, false, [], refl, sym, subst, arith, zero-add}
+use Rattle.dae_base.proofs.Laws.{suc_plus}
 use Rattle.dae_meaning.specs.Results.{Result}
 use Rattle.dae_meaning.specs.Alike.{IsFront}
 use Rattle.dae_meaning.specs.Variables.{Env}
@@ -28,12 +29,8 @@ below_on r q t (Fewer w u f) h = Fewer w t (front_on w.printed (program_world u)
 
 module _ (c : ℕ → Outcome ℕ) (b : ℕ → Outcome ℕ) (f : ℕ → Result Env) (up : (n : ℕ) → IsBelow (b n) (c n)) (down : (n : ℕ) → IsBelow (c n) (b (suc n))) (kept : (n : ℕ) → most_bytes ≤ n → IsKept (b n) (f n)) where
   later : (n k : ℕ) → IsBelow (c n) (c (k + n))
-  later n zero = subst (λ (x : ℕ). IsBelow (c n) (c x)) (none n) (Same (c n)) where
-    none : (x : ℕ) → x ≡ 0 + x
-    none x = omega arith
-  later n (suc k) = subst (λ (x : ℕ). IsBelow (c n) (c x)) (one k n) (below_on (c n) (c (k + n)) (c (suc (k + n))) (later n k) (below_on (c (k + n)) (b (suc (k + n))) (c (suc (k + n))) (down (k + n)) (up (suc (k + n))))) where
-    one : (x y : ℕ) → suc (x + y) ≡ suc x + y
-    one x y = omega arith
+  later n zero = subst (λ (x : ℕ). IsBelow (c n) (c x)) (sym (zero-add n)) (Same (c n))
+  later n (suc k) = subst (λ (x : ℕ). IsBelow (c n) (c x)) (suc_plus k n) (below_on (c n) (c (k + n)) (c (suc (k + n))) (later n k) (below_on (c (k + n)) (b (suc (k + n))) (c (suc (k + n))) (down (k + n)) (up (suc (k + n)))))
 
   -- far enough, and one more
   far : (n : ℕ) → IsBelow (c n) (b (suc (most_bytes + n)))

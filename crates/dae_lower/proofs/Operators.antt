@@ -63,7 +63,7 @@ module _ (m n : ℕ) (s : Setup) (l : Links) (p : Program) (calls : Calls) where
 
     pub not_condition : (place : Place) (a : Expression) → (Faithful m n s l p calls) (assigned a) (ways l a) (value s a) → (AsCondition m n s l p calls) (assigned a) (ways l (tree.Not place a)).condition (value s (tree.Not place a))
     not_condition place a h later k j =
-        weaker m n p calls 0 2 k 0 2 k (assigned a) (omega arith) (omega arith) (omega arith) (λ v z. (or_nowhere m n s l p calls) (assigned a v) z)
+        weaker m n p calls 0 2 k 0 2 k (assigned a) (omega arith) (omega arith) (omega arith) (λ v z. or_nowhere (assigned a v) z)
         (chain m n p calls (λ c. nothing (turn c)) (λ x. Gives (bit (nat_eq x.1 0))) 0 2 2 k k k (assigned a) nowhere (omega arith) ((dearer m n s l p calls) (h.condition later k j)) (λ x e o u t. tt)
         (λ o i z. spared m n p calls 2 0 0 o (nothing_follows m n p calls later o k nowhere (turn ((ways l a).condition later k).given) (λ x env. bit (nat_eq x.1 0)) tt (λ x env o d u. turned_decides ((ways l a).condition later k).given.turned _ (nat_eq x.1 0) u.1))))
 

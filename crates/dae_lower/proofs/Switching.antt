@@ -1,5 +1,5 @@
 -- A switch: the search for a label, the arms from there on, and a continue of the loop outside.
-use Rattle.std.proofs.Common.{◌≡◌, ℕ, zero, suc, ◌+◌, ◌*◌, ◌<◌, ◌≤◌, inl, Bool, true, false, not, ◌||◌, nat_eq, List, [], ◌∷◌, length, Option, Some, None, if◌then◌else◌, refl, ap, sym, ◌∙◌, subst, arith}
+use Rattle.std.proofs.Common.{◌≡◌, ℕ, zero, suc, ◌+◌, ◌*◌, ◌<◌, ◌≤◌, inl, Bool, true, false, not, ◌||◌, nat_eq, List, [], ◌∷◌, length, Option, Some, None, if◌then◌else◌, refl, ap, sym, ◌∙◌, subst, arith, add-zero}
 use Rattle.dae_base.specs.declared.Place.{Place}
 use Rattle.dae_meaning.specs.Results.{Result, At, Next, Leaves, Skips, Returns, Run, ◌▷◌, ◌↻◌, turns}
 use Rattle.dae_meaning.specs.Worlds.{World, ticked}
@@ -115,16 +115,12 @@ module _ (m n : ℕ) (s : Setup) (l : Links) (p : Program) (calls : Calls) (plac
       (λ more. subst (λ (r : Result Env). Same m q everything t e (left (does_from s false n first arms env w)) ((r ↻ λ e u. run m n p calls (Do place (Assign (v + 1) (Copy (Number 1))) (one place Break)) e u ↻ more) ▷ run m n p calls (If place (test_of NotEqual (Variable (v + 1)) (Number 0)) (one place Continue) Done Done))) (sym (exec_then (meaning p (λ v. true) calls) n (arms_from l place v 0 arms (v + 2)).code (one place Break) (put true (v + 1) 0 e) (at (j + 1 + 1) w)))
       (same_from m q q everything t t e (put true (v + 1) 0 e) (omega arith) (omega arith) (λ u i x. put_other (v + 1) 0 u e (λ z. omega (arith, z, i, qv))) _ _
       (ends_flagged m n p calls place v q mq qv (put true (v + 1) 0 e) t more (put_same (v + 1) 0 e) _ _
-      (let d = h place v 0 (v + 2) (v + 2) (omega (arith, mq, qv)) (omega arith) (omega arith) in d.1 first first (inl (none first)) env (put true (v + 1) 0 e) w (j + 1 + 1) (t + 6) (agree_put m n p calls nowhere (v + 1) 0 env e (omega (arith, mq, qv)) a) (put_other (v + 1) 0 v e (λ z. omega (arith, z)) ∙ f) (omega (arith, o)))))) n many where
-        none : (x : ℕ) → x + 0 ≡ x
-        none x = omega arith
+      (let d = h place v 0 (v + 2) (v + 2) (omega (arith, mq, qv)) (omega arith) (omega arith) in d.1 first first (inl (add-zero first)) env (put true (v + 1) 0 e) w (j + 1 + 1) (t + 6) (agree_put m n p calls nowhere (v + 1) 0 env e (omega (arith, mq, qv)) a) (put_other (v + 1) 0 v e (λ z. omega (arith, z)) ∙ f) (omega (arith, o)))))) n many
   arms_then place arms h q v first mq qv false g env e w j t a f o =
       once m n p calls (λ r. Same m q everything t e (left (does_from s false n first arms env w)) (r ▷ At Next)) (run m n p calls ((arms_from l place v 0 arms (v + 2)).code ⨾ one place Break)) (At Next) e (at j w)
       (λ more. subst (λ (r : Result Env). Same m q everything t e (left (does_from s false n first arms env w)) ((r ↻ λ e u. At Next e u ↻ more) ▷ At Next)) (sym (exec_then (meaning p (λ v. true) calls) n (arms_from l place v 0 arms (v + 2)).code (one place Break) e (at (j + 1) w)))
       (ends_unflagged m n p calls place v q mq qv e t more _ _ (arms_stay s n arms g first env w)
-      (let d = h place v 0 (v + 2) (v + 2) (omega (arith, mq, qv)) (omega arith) (omega arith) in d.1 first first (inl (none first)) env e w (j + 1) (t + 6) a f (omega (arith, o))))) n many where
-        none : (x : ℕ) → x + 0 ≡ x
-        none x = omega arith
+      (let d = h place v 0 (v + 2) (v + 2) (omega (arith, mq, qv)) (omega arith) (omega arith) in d.1 first first (inl (add-zero first)) env e w (j + 1) (t + 6) a f (omega (arith, o))))) n many
 
   -- so many units of work come first
   worked : {Z : Type 0} {c : VariableSet} {Lasting : ℕ → Z → Type 0} {Is : Z → ℕ → Env → Type 0} {made : Made Z} {g : Env → World → Outcome ℕ} (k count : ℕ) → Follows m n p calls 0 2 k k c Lasting (Anything {X = Unit {0}}) Is made (λ x. g) → Follows m n p calls 0 (2 + 9 * count) k k c Lasting (Anything {X = Unit {0}}) Is made (λ x env w. g env (with_work count w))

@@ -29,6 +29,11 @@ Anything x o = Unit {0}
 abbrev pub Nothing : {Z X : Type 0} → Z → X → Env → Type 0
 Nothing z x o = Unit {0}
 
+-- where one test fails and there is no other
+pub or_nowhere : (b : Bool) → b ≡ false → (b || false) ≡ false
+or_nowhere true z = cc
+or_nowhere false z = refl
+
 module _ (m n : ℕ) (s : Setup) (l : Links) (p : Program) (calls : Calls) where
   abbrev pub AsValue : VariableSet → (VariableSet → ℕ → Made Operand) → (Env → World → Outcome ℕ) → Type 0
   AsValue c f g = (later : VariableSet) (k : ℕ) → m ≤ k → Follows m n p calls 0 2 k k c (Lasts m later k) (Anything {X = Unit {0}}) Holding (f later k) (λ x. g)
@@ -52,31 +57,21 @@ module _ (m n : ℕ) (s : Setup) (l : Links) (p : Program) (calls : Calls) where
   pub as_condition : (c : VariableSet) (f : VariableSet → ℕ → Made Operand) (g : Env → World → Outcome ℕ) → AsValue c f g → AsCondition c (λ later n. f later n ≫ λ x. nothing (isnt_zero x)) g
   as_condition c f g h later k low =
       recast m n p calls (λ x env w. g env w ⟫ Gives) (λ x. g) 0 2 k (λ x env w. given_on (g env w))
-      (weaker m n p calls 0 2 k 0 2 k c (omega arith) (omega arith) (omega arith) (λ v z. by (c v) z)
+      (weaker m n p calls 0 2 k 0 2 k c (omega arith) (omega arith) (omega arith) (λ v z. or_nowhere (c v) z)
       (chain m n p calls (λ x. nothing (isnt_zero x)) (λ x. Gives x.1) 0 2 2 k k k c nowhere (omega arith) (h later k low) (λ x e o u t. tt)
-      (λ o i z. spared m n p calls 2 0 0 o (nonzero o k _ (λ x. x.1) (λ x o u. u.1))))) where
-        by : (b : Bool) → b ≡ false → (b || false) ≡ false
-        by true z = cc
-        by false z = refl
+      (λ o i z. spared m n p calls 2 0 0 o (nonzero o k _ (λ x. x.1) (λ x o u. u.1)))))
 
   pub as_effect : (c : VariableSet) (f : VariableSet → ℕ → Made Operand) (g : Env → World → Outcome ℕ) → AsValue c f g → AsEffect c (λ later n. f later n ≫ λ x. skip) g
   as_effect c f g h later k low =
       recast m n p calls (λ x env w. g env w ⟫ Gives) (λ x. g) 0 2 k (λ x env w. given_on (g env w))
-      (weaker m n p calls 0 2 k 0 2 k c (omega arith) (omega arith) (omega arith) (λ v z. by (c v) z)
+      (weaker m n p calls 0 2 k 0 2 k c (omega arith) (omega arith) (omega arith) (λ v z. or_nowhere (c v) z)
       (chain m n p calls (λ x. skip) (λ x. Gives x.1) 0 2 2 k k k c nowhere (omega arith) (h later k low) (λ x e o u t. tt)
-      (λ o i z. spared m n p calls 2 0 0 o (nothing_follows m n p calls nowhere o k nowhere tt (λ x env. x.1) tt (λ x env o a u. tt))))) where
-        by : (b : Bool) → b ≡ false → (b || false) ≡ false
-        by true z = cc
-        by false z = refl
+      (λ o i z. spared m n p calls 2 0 0 o (nothing_follows m n p calls nowhere o k nowhere tt (λ x env. x.1) tt (λ x env o a u. tt)))))
 
   pub by_value_faithful : (c : VariableSet) (f : VariableSet → ℕ → Made Operand) (g : Env → World → Outcome ℕ) → AsValue c f g → Faithful c (by_value f) g
   by_value_faithful c f g h = record { value = h; effect = as_effect c f g h; condition = as_condition c f g h }
 
   -- ---- a value, and what is made of it
-
-  pub or_nowhere : (b : Bool) → b ≡ false → (b || false) ≡ false
-  or_nowhere true z = cc
-  or_nowhere false z = refl
 
   -- one operand
   pub unary : {Y Z : Type 0} {Lasting : ℕ → Z → Type 0} {Is : Z → Y → Env → Type 0} (c : VariableSet) (f : VariableSet → ℕ → Made Operand) (g : Env → World → Outcome ℕ) (leaf : Operand → ℕ → Made Z) (go : ℕ → Env → World → Outcome Y) (later : VariableSet) (k : ℕ) → m ≤ k → AsValue c f g →

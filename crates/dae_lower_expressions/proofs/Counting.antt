@@ -1,5 +1,5 @@
 -- Numbers of assignments tell what is assigned.
-use Rattle.std.proofs.Common.{◌≡◌, ℕ, ◌+◌, Bool, true, false, not, ◌||◌, nat_eq, if◌then◌else◌, refl, ap, sym, ◌∙◌, arith}
+use Rattle.std.proofs.Common.{◌≡◌, ℕ, ◌+◌, Bool, true, false, not, ◌||◌, nat_eq, if◌then◌else◌, refl, ap, sym, ◌∙◌, arith, add-zero, zero-add}
 use Rattle.std.proofs.lemmas.Bool.Decides.{nat_tests}
 use Rattle.dae_lower.specs.Lowering.{or, assigned, assigned_in, assigned_target, assigned_all}
 use Rattle.dae_lower_maker.specs.Counting.{Counts, never, both, is_counted, Changes}
@@ -13,20 +13,14 @@ use Rattle.dae_program.specs.Trees.{Expression, Target, Expressions, Number, Add
 pub same_counts : {A : Type 0} (c d : ℕ → A) → ((v : ℕ) → c v ≡ d v) → c ≡ d
 same_counts c d h = λ i v. h v i
 
-plus_zero : (n : ℕ) → n + 0 ≡ n
-plus_zero n = omega arith
-
-zero_plus : (n : ℕ) → 0 + n ≡ n
-zero_plus n = omega arith
-
 swapped : (m n k : ℕ) → m + (n + k) ≡ (m + k) + n
 swapped m n k = omega arith
 
 pub with_never : (c : Counts) → both c never ≡ c
-with_never c = same_counts (both c never) c (λ v. plus_zero (c v))
+with_never c = same_counts (both c never) c (λ v. add-zero (c v))
 
 pub never_with : (c : Counts) → both never c ≡ c
-never_with c = same_counts (both never c) c (λ v. zero_plus (c v))
+never_with c = same_counts (both never c) c (λ v. zero-add (c v))
 
 together : (m n k : ℕ) → m + (n + k) ≡ (m + n) + k
 together m n k = omega arith

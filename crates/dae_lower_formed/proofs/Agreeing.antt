@@ -1,6 +1,6 @@
 -- A form of a program does what the definition's form does, function by function. The two differ where there is no function,
 -- which nobody calls.
-use Rattle.std.proofs.Common.{◌≡◌, ℕ, zero, suc, ◌+◌, Bool, true, nat_eq, if◌then◌else◌, List, [], length, Option, Some, None, refl, ap, sym, ◌∙◌, subst, arith}
+use Rattle.std.proofs.Common.{◌≡◌, ℕ, zero, suc, ◌+◌, Bool, true, nat_eq, if◌then◌else◌, List, [], length, Option, Some, None, refl, ap, sym, ◌∙◌, subst}
 use Rattle.std.specs.Prelude.{slice_get}
 use Rattle.dae_base.proofs.Laws.{all_at}
 use Rattle.dae_meaning.specs.Worlds.{World, ticked}
@@ -26,7 +26,7 @@ use Rattle.dae_lower.specs.Keeping.{IsKept, form_run_of, place_in}
 use Rattle.dae_lower.specs.Lowering.{function_code}
 use Rattle.dae_lower_formed.specs.Formed.{IsFunctionFormOf, IsLowered, FormsScoped}
 use Rattle.dae_lower_formed.specs.Order.{DoesTheSame, FormsDoPrograms, LoweredDoPrograms}
-use Rattle.dae_lower_formed.proofs.Programs.{form_there, function_there}
+use Rattle.dae_lower_formed.proofs.Programs.{form_there, function_there, number_is}
 
 abbrev IsThere : List FormFunction → ℕ → Type 0
 IsThere functions f = (g : FormFunction) × (slice_get functions f ≡ Some g)
@@ -125,13 +125,10 @@ module _ (p : Program) (ir : Ir) (low : IsLowered p ir) (scoped : IsScoped ir) w
   abbrev definition_frame : ℕ → ℕ
   definition_frame f = let g = function_in (length p.functions) p.links (slice_get p.functions f) in g.frame
 
-  number_is : (k : ℕ) (f : Function) (g : FormFunction) → IsFunctionFormOf p (0 + k) f g → IsFunctionFormOf p k f g
-  number_is k f g h = subst (λ (n : ℕ). IsFunctionFormOf p n f g) (omega arith) h
-
   bodies : (k : ℕ) → IsThere ir.functions k → body_in (slice_get ir.functions k) ≡ definition_body k
   bodies k t =
       let found = function_of k t.0 t.1 in
-      let form = number_is k found.0 t.0 found.2 in
+      let form = number_is p k found.0 t.0 found.2 in
       ap body_in t.1 ∙ form.body ∙ sym (ap (λ (o : Option Function). function_code (place_in o) (nat_eq k p.main) (function_in (length p.functions) p.links o) (variables_in o)) found.1)
 
   frames : (k : ℕ) → form_frame k ≡ definition_frame k

@@ -1,5 +1,5 @@
 -- What the form of a program does under small bounds is a part of what it does under large ones.
-use Rattle.std.proofs.Common.{◌≡◌, ◌≢◌, ℕ, zero, suc, ◌+◌, ◌≤◌, [], refl, sym, subst, arith}
+use Rattle.std.proofs.Common.{◌≡◌, ◌≢◌, ℕ, zero, suc, ◌+◌, ◌≤◌, [], refl, sym, subst, arith, zero-add}
 use Rattle.dae_meaning.specs.Results.{Result, End, Going, Astray, Halted, Trapped, world_of}
 use Rattle.dae_meaning.specs.Alike.{IsFront, IsUnder, Stays, Grows}
 use Rattle.dae_meaning.specs.Variables.{Env}
@@ -13,6 +13,7 @@ use Rattle.dae_program.specs.Programs.{program_end, meaning_of, program_of, vari
 use Rattle.dae_lower.specs.Keeping.{IsKept, IsOver, MeaningIsKept, ProgramsKept, form_run_of, place_in, with_no_items}
 use Rattle.dae_lower.specs.Lowering.{program_form}
 use Rattle.std.specs.Prelude.{slice_get}
+use Rattle.dae_base.proofs.Laws.{suc_plus}
 use Rattle.dae_lower_formed.specs.Order.{DoesTheSame, FormsDoPrograms}
 
 under_printed : (r q : Result Env) → IsUnder r q → IsFront (world_of r).printed (world_of q).printed
@@ -42,12 +43,8 @@ not_over Going h o = o
 
 module _ (program : ℕ → Outcome ℕ) (form : ℕ → Result Env) (kept : MeaningIsKept program form) (order : (n : ℕ) → IsUnder (form n) (form (suc n))) (stays : (n : ℕ) → end_of (form n) ≢ Astray) where
   later : (n k : ℕ) → IsUnder (form n) (form (k + n))
-  later n zero = subst (λ (x : ℕ). IsUnder (form n) (form x)) (none n) (Stays (form n)) where
-    none : (x : ℕ) → x ≡ 0 + x
-    none x = omega arith
-  later n (suc k) = subst (λ (x : ℕ). IsUnder (form n) (form x)) (one k n) (under_on (form n) (form (k + n)) (form (suc (k + n))) (later n k) (order (k + n))) where
-    one : (x y : ℕ) → suc (x + y) ≡ suc x + y
-    one x y = omega arith
+  later n zero = subst (λ (x : ℕ). IsUnder (form n) (form x)) (sym (zero-add n)) (Stays (form n))
+  later n (suc k) = subst (λ (x : ℕ). IsUnder (form n) (form x)) (suc_plus k n) (under_on (form n) (form (k + n)) (form (suc (k + n))) (later n k) (order (k + n)))
 
   -- far enough
   abbrev far : ℕ → ℕ

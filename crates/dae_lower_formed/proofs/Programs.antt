@@ -46,6 +46,9 @@ module _ (p : Program) where
   first_number : (k : ℕ) (f : Function) (g : FormFunction) → IsFunctionFormOf p k f g → IsFunctionFormOf p (k + 0) f g
   first_number k f g h = subst (λ (n : ℕ). IsFunctionFormOf p n f g) (omega arith) h
 
+  pub number_is : (k : ℕ) (f : Function) (g : FormFunction) → IsFunctionFormOf p (0 + k) f g → IsFunctionFormOf p k f g
+  number_is k f g h = subst (λ (n : ℕ). IsFunctionFormOf p n f g) (omega arith) h
+
   -- the form of a function
   pub form_there : (k : ℕ) (fs : List Function) (gs : List FormFunction) → AreFormsOf p k fs gs → (j : ℕ) (f : Function) → slice_get fs j ≡ Some f → (g : FormFunction) × (slice_get gs j ≡ Some g) × IsFunctionFormOf p (k + j) f g
   form_there k [] gs a j f e = absurd (let c : None ≡ Some f = e in cc)
@@ -107,9 +110,6 @@ module _ (p : Program) (ir : Ir) (low : IsLowered p ir) where
         let g = form_there p 0 p.functions ir.functions forms ((plain p f).callee j) x e in
         subst (λ (o : Option FormFunction). TakesArguments o arguments) (sym g.1) (eqb-true arguments (length x.parameters) h ∙ sym (let i = g.2 in i.parameters))
 
-  number_is : (k : ℕ) (f : Function) (g : FormFunction) → IsFunctionFormOf p (0 + k) f g → IsFunctionFormOf p k f g
-  number_is k f g h = subst (λ (n : ℕ). IsFunctionFormOf p n f g) (omega arith) h
-
   -- good code, with the variables of d set at the entry
   good_at : (k : ℕ) (f : Function) → slice_get p.functions k ≡ Some f → (d : VariableSet) → HoldsParameters (length f.parameters) d → statements_read_set d (let g = plain p f in g.body) ≡ true →
       IsGood ir.functions false (not (nat_eq k p.main)) (form_variables f.place (plain p f) f.variables) d (function_code f.place (nat_eq k p.main) (plain p f) f.variables)
@@ -138,7 +138,7 @@ module _ (p : Program) (ir : Ir) (low : IsLowered p ir) where
     function_is k g e =
         let found = function_there p 0 p.functions ir.functions forms k g e in
         let f = found.0 in
-        let form = number_is k f g found.2 in
+        let form = number_is p k f g found.2 in
         let good = below_good k f found.1 in
         let n = form_variables f.place (plain p f) f.variables in
         let code = function_code f.place (nat_eq k p.main) (plain p f) f.variables in
@@ -155,7 +155,7 @@ module _ (p : Program) (ir : Ir) (low : IsLowered p ir) where
     main_fits (Some f) e h =
         let found = form_there p 0 p.functions ir.functions forms p.main f e in
         let g = found.0 in
-        let form = number_is p.main f g found.2 in
+        let form = number_is p p.main f g found.2 in
         let n = form_variables f.place (plain p f) f.variables in
         let code = function_code f.place (nat_eq p.main p.main) (plain p f) f.variables in
         let good = subst (λ (b : Bool). IsGood ir.functions false (not b) n (below f.variables) code) (same_number p.main) (below_good p.main f e) in
@@ -171,7 +171,7 @@ module _ (p : Program) (ir : Ir) (low : IsLowered p ir) where
   made_first : (k : ℕ) (f : Function) (g : FormFunction) → slice_get p.functions k ≡ Some f → slice_get ir.functions k ≡ Some g → IsSetFirst form_flow (below f.variables) (form_of g.body)
   made_first k f g e i =
       let found = form_there p 0 p.functions ir.functions forms k f e in
-      let form = number_is k f found.0 found.2 in
+      let form = number_is p k f found.0 found.2 in
       subst (λ (h : FormFunction). IsSetFirst form_flow (below f.variables) (form_of h.body)) (same_Some found.0 g (sym found.1 ∙ i))
       (subst (λ (c : Form). IsSetFirst form_flow (below f.variables) c) (sym form.body)
       (good_first ir.functions false (not (nat_eq k p.main)) (form_variables f.place (plain p f) f.variables) (function_code f.place (nat_eq k p.main) (plain p f) f.variables) (below f.variables) (below_good k f e)))
@@ -180,7 +180,7 @@ module _ (p : Program) (ir : Ir) (low : IsLowered p ir) where
   function_first k g e =
       let found = function_there p 0 p.functions ir.functions forms k g e in
       let f = found.0 in
-      let form = number_is k f g found.2 in
+      let form = number_is p k f g found.2 in
       let d = parameters_set (length f.parameters) in
       let good = good_at k f found.1 d (holds_parameters ir.functions p.memory f.variables (counts f) (nat_eq k p.main) (plain p f) (lawful_at k f found.1) (finds f) (bytes_at k f found.1) f.place)
       (first_at k f found.1) in

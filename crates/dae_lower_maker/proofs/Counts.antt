@@ -1,5 +1,5 @@
 -- Numbers in lists, one for each variable.
-use Rattle.std.proofs.Common.{◌≡◌, ℕ, zero, suc, ◌+◌, ◌-◌, ◌<◌, ◌≤◌, List, [], ◌∷◌, ◌++◌, length, get_or, take, set, replicate, nat_eq, if◌then◌else◌, refl, ap, sym, ◌∙◌, slice_index, arith}
+use Rattle.std.proofs.Common.{◌≡◌, ℕ, zero, suc, ◌+◌, ◌-◌, ◌<◌, ◌≤◌, List, [], ◌∷◌, ◌++◌, length, get_or, take, set, replicate, nat_eq, if◌then◌else◌, refl, ap, sym, ◌∙◌, slice_index, arith, add-zero}
 use Rattle.dae_base.proofs.Laws.{suc_suc, suc_zero, zero_suc, same_number}
 use Rattle.dae_lower_maker.specs.Counting.{Counts, both, once}
 
@@ -8,9 +8,6 @@ taken [] zero h = refl
 taken [] (suc n) h = refl
 taken (x ∷ xs) zero h = absurd (omega (arith, h))
 taken (x ∷ xs) (suc n) h = ap (λ ys. x ∷ ys) (taken xs n (omega (arith, h)))
-
-plus_zero : (n : ℕ) → n + 0 ≡ n
-plus_zero n = omega arith
 
 minus_zero : (n : ℕ) → n - 0 ≡ n
 minus_zero n = omega arith
@@ -32,8 +29,8 @@ resized xs ys n k h e = λ i v. (ap (λ zs. slice_index zs v) e ∙ (ap (λ zs. 
 raised_at : (xs : List ℕ) (v u n : ℕ) → v < length xs → n ≡ get_or xs v 0 + 1 → get_or (set xs v n) u 0 ≡ get_or xs u 0 + (if nat_eq u v then 1 else 0)
 raised_at [] v u n h e = absurd (omega (arith, h))
 raised_at (x ∷ xs) zero zero n h e = e
-raised_at (x ∷ xs) zero (suc u) n h e = rw (suc_zero u) (sym (plus_zero (get_or xs u 0)))
-raised_at (x ∷ xs) (suc v) zero n h e = rw (zero_suc v) (sym (plus_zero x))
+raised_at (x ∷ xs) zero (suc u) n h e = rw (suc_zero u) (sym (add-zero (get_or xs u 0)))
+raised_at (x ∷ xs) (suc v) zero n h e = rw (zero_suc v) (sym (add-zero x))
 raised_at (x ∷ xs) (suc v) (suc u) n h e = rw (suc_suc u v) (raised_at xs v u n (omega (arith, h)) e)
 
 pub raised : (xs : List ℕ) (c : Counts) (v n : ℕ) → slice_index xs ≡ c → v < length xs → n ≡ get_or xs v 0 + 1 → slice_index (set xs v n) ≡ both c (once v)

@@ -2,7 +2,7 @@
 use Rattle.std.proofs.Common.{◌≡◌, ℕ, ◌+◌, ◌*◌, ◌≤◌, Bool, true, false, not, ◌&&◌, ◌||◌, List, [], ◌∷◌, ◌++◌, length, Option, Some, None, if◌then◌else◌, refl, ap, sym, ◌∙◌, subst, append-nil, arith}
 use Rattle.dae_base.specs.declared.Place.{Place}
 use Rattle.dae_base.specs.Words.{loaded, width_of}
-use Rattle.dae_base.proofs.Laws.{and_false}
+use Rattle.dae_base.proofs.Laws.{and_false, not_true}
 use Rattle.dae_machine.specs.Machine.{Setup}
 use Rattle.dae_meaning.specs.Worlds.{World, ticked, fetched}
 use Rattle.dae_meaning.specs.Results.{Result, At, Over, Next, Leaves, Skips, Returns, Astray, Run, ◌▷◌, within}
@@ -191,10 +191,6 @@ module _ (setup : Setup) (p : Program) (body : ℕ → Actions) (m : List ℕ) (
   if_open ng true h r r' k b f l = absurd (let e : true ≡ false = h in cc)
   if_open ng false h r r' k b f l = l
 
-  not_sets : (b : Bool) → not b ≡ true → b ≡ false
-  not_sets true h = absurd (let e : false ≡ true = h in cc)
-  not_sets false h = refl
-
   abbrev pub region_a : Meaning Item Test Env
   region_a = region_meaning (does_a c)
 
@@ -208,12 +204,12 @@ module _ (setup : Setup) (p : Program) (body : ℕ → Actions) (m : List ℕ) (
   region_a_does Done fits g h ng k b = close ng g h Done k b (λ env w. At Next env w) (λ ng env w x mem. record { al_taken = x.al_taken; al_reserved = x.al_reserved; moves = 0; fills = 0; instructions = 0; text = []; quiet = λ e. refl; does = here; cost = omega arith; some = omega arith; still = still_itself w })
   region_a_does (Do place (Assign v y) rest) fits g h ng k b =
       let q = Sets place v y in
-      let none = not_sets (c.needs v) fits.0.0 in
+      let none = not_true (c.needs v) fits.0.0 in
       if_open ng (is_full c cap g q) (rw (none, and_false (c.s v)) refl) (closed g (rounds c cap false rest (q ∷ []))) (rounds c cap false rest (g ++ q ∷ [])) k b _
       (joins ng g q (inside_of true of c ng (rounds c cap false rest (g ++ q ∷ [])) k) k b (exec region_a n rest) (region_a_does rest fits.1 (g ++ q ∷ []) (parts-more g q h none) ng k b))
   region_a_does (Do place (Load v kind y) rest) fits g h ng k b =
       let q = Load' place v kind y in
-      let none = not_sets (c.needs v) fits.0.0 in
+      let none = not_true (c.needs v) fits.0.0 in
       if_open ng (is_full c cap g q) (rw (none, and_false (c.s v), and_false (not (c.s v))) refl) (closed g (rounds c cap false rest (q ∷ []))) (rounds c cap false rest (g ++ q ∷ [])) k b _
       (joins ng g q (inside_of true of c ng (rounds c cap false rest (g ++ q ∷ [])) k) k b (exec region_a n rest) (region_a_does rest fits.1 (g ++ q ∷ []) (parts-more g q h (none, fits.0.1)) ng k b))
   region_a_does (Do place Break rest) fits g h ng k b = close ng g h (Do place (Alone Breaks) (rounds c cap false rest [])) k b (exec region_a n (Do place Break rest)) (λ ng. break_does ng place (rounds c cap false rest []) k b (exec region_a n rest))

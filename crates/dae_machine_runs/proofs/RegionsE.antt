@@ -1,7 +1,7 @@
 -- E's run of a region of its own.
 use Rattle.std.proofs.Common.{◌≡◌, ℕ, ◌+◌, ◌*◌, Bool, true, false, not, ◌&&◌, List, ◌∷◌, ◌++◌, length, if◌then◌else◌, refl, ap, sym, ◌∙◌, subst, append-nil, add-zero, arith, []}
 use Rattle.dae_base.specs.declared.Place.{Place}
-use Rattle.dae_base.proofs.Laws.{and_false}
+use Rattle.dae_base.proofs.Laws.{and_false, not_true}
 use Rattle.dae_machine.specs.Machine.{Setup}
 use Rattle.dae_meaning.specs.Worlds.{World, ticked}
 use Rattle.dae_meaning.specs.Results.{Result, At, Next, Run, ◌▷◌}
@@ -126,13 +126,9 @@ module _ (setup : Setup) (p : Program) (body : ℕ → Actions) (m : List ℕ) (
   if_open ng true h r r' k b f l = absurd (let e : true ≡ false = h in cc)
   if_open ng false h r r' k b f l = l
 
-  not_is : (b : Bool) → not b ≡ true → b ≡ false
-  not_is true h = absurd (let e : false ≡ true = h in cc)
-  not_is false h = refl
-
   both_not : (s e : Bool) → not s && not e ≡ true → (s ≡ false) × (e ≡ false)
   both_not true e h = absurd (let z : false ≡ true = h in cc)
-  both_not false e h = (refl, not_is e h)
+  both_not false e h = (refl, not_true e h)
 
   abbrev pub IsItem : Item → Type 0
   IsItem item = is_e_item c item ≡ true
@@ -165,7 +161,7 @@ module _ (setup : Setup) (p : Program) (body : ℕ → Actions) (m : List ℕ) (
   region_e_does Done fits g h ng k b = close ng g h Done k b (λ env w. At Next env w) (λ ng env w x mem. record { al_taken = x.al_taken; al_reserved = x.al_reserved; moves = 0; fills = 0; instructions = 0; text = []; quiet = λ e. refl; does = here; cost = omega arith; some = omega arith; still = still_itself w })
   region_e_does (Do place (Assign v y) rest) fits g h ng k b =
       let q = Sets place v y in
-      let none = not_is (c.s v) fits.0 in
+      let none = not_true (c.s v) fits.0 in
       if_open ng (is_full c cap g q) (rw none refl) (closed g (rounds c cap false rest (q ∷ []))) (rounds c cap false rest (g ++ q ∷ [])) k b _
       (joins g q (inside_of false of c ng (rounds c cap false rest (g ++ q ∷ [])) k) k b (exec region_e n rest) (region_e_does rest fits.1 (g ++ q ∷ []) (parts-more g q h none) ng k b))
   region_e_does (Do place (Load v kind y) rest) fits g h ng k b =

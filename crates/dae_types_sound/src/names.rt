@@ -40,7 +40,7 @@ fn routine_name(parts: &FileParts, routine: Routine) -> Option<&[u8]>
 }
 
 /// Notes a name that is none of those before.
-#[tactic(auto, using(crate::proofs::Noted::insert_mapped, crate::proofs::Noted::any_mapped))]
+#[tactic(auto, using(crate::proofs::Noted::insert_mapped, dae_base::proofs::Laws::any_mapped))]
 fn note<'f>(seen: &mut IndexSet<&'f [u8]>, name: Option<&'f [u8]>) -> Result<(), Doubt>
     ensures fresh { OnOk result (IsNewName seen.old.keys (option_copied name.entry)) }
     ensures noted { OnOk result (IsNoted seen.old.keys seen.new.keys (option_copied name.entry)) }

@@ -1,8 +1,9 @@
 use Rattle.std.proofs.Common.{◌≡◌, [], map, refl, ap, ◌∙◌}
+use Rattle.dae_base.proofs.Laws.{now_of}
 use Rattle.dae_tree.specs.Tokens.{joined, numbered, names_after, literals_after}
 use Rattle.dae_lex.specs.Settling.{read_of}
 use Rattle.dae_lex.specs.Finishing.{Built}
-use Rattle.dae_lex.proofs.Entries.{now_of, values_named}
+use Rattle.dae_lex.proofs.Entries.{values_named}
 use Rattle.dae_lex.proofs.Numbering.{is_reading}
 use Rattle.dae_lex.proofs.reading.finish_text.Goals as goal
 

@@ -1,7 +1,7 @@
 use Rattle.std.proofs.Common.{◌≡◌, ◌∙◌, ap, arith, sym, true}
 use Rattle.std.specs.Prelude.{not}
 use Rattle.std.specs.List.{list_any}
-use Rattle.dae_types_sound.proofs.Noted.{any_mapped, same_key}
+use Rattle.dae_base.proofs.Laws.{any_mapped, same_key}
 use Rattle.dae_types_sound.proofs.names.note.Goals as goal
 
 pub returns-in-Ok-default-true-clause-fresh : goal.returns-in-Ok-default-true-clause-fresh

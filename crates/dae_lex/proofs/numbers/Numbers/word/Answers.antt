@@ -1,7 +1,8 @@
 use Rattle.std.proofs.Common.{ap, sym, subst, ◌∙◌}
 use Rattle.std.specs.List.{position_or_len}
 use Rattle.std.specs.Str.{bytes_eq}
-use Rattle.dae_lex.proofs.Entries.{now_of, place_mapped, insert_mapped}
+use Rattle.dae_base.proofs.Laws.{now_of}
+use Rattle.dae_lex.proofs.Entries.{place_mapped, insert_mapped}
 use Rattle.dae_lex.proofs.Positions.{IsAt, at_word, kept_word}
 use Rattle.dae_lex.proofs.numbers.Numbers.word.Goals as goal
 
