@@ -38,7 +38,8 @@ fn code_from(
 ) -> Result<Vec<u32>, ValueFault>
     requires few { words (rows_seen rows.now) ≤ 33554432 }
     requires formed { AreFormed (rows_seen rows.now) }
-    ensures ok { IfOk result (λ code. IsCode line (looks table.now) (rows_seen rows.now) code.items) }
+    ensures ok { IfOk result
+        (λ code. IsCode line (looks table.now) (rows_seen rows.now) code.items) }
     ensures err { IfErr result
         (IsValueFault (code_bounds line (looks table.now) (rows_seen rows.now))) }
 {

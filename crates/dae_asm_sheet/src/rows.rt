@@ -19,8 +19,8 @@ pub struct Row<'t> {
 /// The items of a text whose lines all say one or nothing.
 pub fn rows_of<'t>(alloc: Global, text: &'t [u8]) -> Result<Vec<Row<'t>>, AllocError>
     requires { length text.now ≤ 134217728 }
-    ensures { IfOk result (λ rows. (all : List sheets.Row) → AreItems 1 (lines_of text.entry.now) all
-        → rows_seen rows.items ≡ all) }
+    ensures { IfOk result (λ rows. (all : List sheets.Row)
+        → AreItems 1 (lines_of text.entry.now) all → rows_seen rows.items ≡ all) }
 {
     let mut rows = Vec::new(alloc);
     let mut lines = Lines::of(text);

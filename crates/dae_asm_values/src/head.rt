@@ -139,7 +139,8 @@ fn address_of(table: &IndexMap<&[u8], Definition>, target: Target<'_>) -> Option
 /// Where a code of so many words is entered; one without words has another fault.
 pub fn entry_of(table: &IndexMap<&[u8], Definition>, count: u32, target: Target<'_>) -> Option<u32>
     requires { count ≤ 33554432 }
-    ensures some { IfSome result (λ n. IsEntry (looks table.now) count (target_seen target.entry) n) }
+    ensures some { IfSome result
+        (λ n. IsEntry (looks table.now) count (target_seen target.entry) n) }
     ensures none { IfNone result ((n : ℕ)
         → IsEntry (looks table.now) count (target_seen target.entry) n → ⊥) }
 {

@@ -23,7 +23,8 @@ pub fn are_settings(names: &[&str], words: &[String]) -> bool
 
 // Whether the word sets an option of these names that none of the rest sets.
 fn is_new_setting(names: &[&str], word: &str, rest: &[String]) -> bool
-    ensures { result ≡ is_new_setting (map (λ n. n.now) names.now) word.now (map string_bytes rest.now) }
+    ensures { result
+        ≡ is_new_setting (map (λ n. n.now) names.now) word.now (map string_bytes rest.now) }
 {
     match name_in(word) {
         Some(name) => is_among(names, name) && !any_sets(rest, name),

@@ -49,7 +49,8 @@ static NONE: [&str; 0] = [];
 impl Command {
     /// The command of a word.
     pub fn named(word: &str) -> Option<Command>
-        ensures { MatchOption result ((c : Command) → word.now ≢ word_of c) (λ c. word.now ≡ word_of c) }
+        ensures { MatchOption result ((c : Command) → word.now ≢ word_of c)
+            (λ c. word.now ≡ word_of c) }
     {
         match word {
             "run" => Some(Command::Run),

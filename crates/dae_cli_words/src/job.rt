@@ -73,7 +73,8 @@ fn job_of<'w>(command: Command, matches: &ArgMatches<'w>, files: &'w [String]) -
     ensures job { MatchOption result
         ((job : Asked)
         → ¬ (AskFor command (option_in matches.now) (map string_bytes files.entry.now) job))
-        (λ job. AskFor command (option_in matches.now) (map string_bytes files.entry.now) (asked job)) }
+        (λ job. AskFor command (option_in matches.now) (map string_bytes files.entry.now)
+        (asked job)) }
     ensures ranges { IfSome result (λ job. HasRanges (asked job)) }
 {
     let chosen = chosen_of(matches)?;

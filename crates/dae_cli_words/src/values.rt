@@ -82,7 +82,8 @@ fn costs_of(matches: &ArgMatches<'_>) -> Option<Costs>
 }
 
 fn depth_in(matches: &ArgMatches<'_>, name: &str) -> Option<u16>
-    ensures choice { IsTheOne (IsNumber 1 4096 8 (first_value (found_of matches.now) name.now)) result }
+    ensures choice { IsTheOne
+        (IsNumber 1 4096 8 (first_value (found_of matches.now) name.now)) result }
     ensures range { IfSome result (IsFromTo 1 4096) }
 {
     let depth = number_in(matches, name, 1, 4_096, 8)? as u16;
@@ -90,7 +91,9 @@ fn depth_in(matches: &ArgMatches<'_>, name: &str) -> Option<u16>
 }
 
 fn memory_in(matches: &ArgMatches<'_>) -> Option<u32>
-    ensures choice { IsTheOne (IsChosen SpellsMemory 1048576 (first_value (found_of matches.now) (codes "memory"))) result }
+    ensures choice { IsTheOne
+        (IsChosen SpellsMemory 1048576 (first_value (found_of matches.now) (codes "memory")))
+        result }
     ensures range { IfSome result IsMemory }
 {
     match matches.get_str("memory") {
@@ -100,7 +103,9 @@ fn memory_in(matches: &ArgMatches<'_>) -> Option<u32>
 }
 
 fn schedule_in(matches: &ArgMatches<'_>) -> Option<Schedule>
-    ensures { IsTheOne (IsChosen SpellsSchedule Round (first_value (found_of matches.now) (codes "schedule"))) result }
+    ensures { IsTheOne
+        (IsChosen SpellsSchedule Round (first_value (found_of matches.now) (codes "schedule")))
+        result }
 {
     match matches.get_str("schedule") {
         Some(text) => schedule_of(text),
@@ -109,7 +114,8 @@ fn schedule_in(matches: &ArgMatches<'_>) -> Option<Schedule>
 }
 
 fn shown_in(matches: &ArgMatches<'_>) -> Option<Option<Shown>>
-    ensures { FindsIfAny result (IsChosen SpellsSomeShown None (first_value (found_of matches.now) (codes "show"))) }
+    ensures { FindsIfAny result
+        (IsChosen SpellsSomeShown None (first_value (found_of matches.now) (codes "show"))) }
 {
     match matches.get_str("show") {
         Some(text) => Some(Some(shown_of(text)?)),
@@ -120,7 +126,8 @@ fn shown_in(matches: &ArgMatches<'_>) -> Option<Option<Shown>>
 // The number that is given to an option, from the least to the most, or the usual one where none is given.
 fn number_in(matches: &ArgMatches<'_>, name: &str, least: u64, most: u64, usual: u64) -> Option<u64>
     requires { IsFromTo least most usual }
-    ensures choice { IsTheOne (IsNumber least most usual (first_value (found_of matches.now) name.now)) result }
+    ensures choice { IsTheOne
+        (IsNumber least most usual (first_value (found_of matches.now) name.now)) result }
     ensures range { IfSome result (IsFromTo least most) }
 {
     match matches.get_str(name) {

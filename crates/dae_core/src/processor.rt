@@ -302,8 +302,8 @@ impl Core {
     #[inline(always)]
     fn compute(&mut self, inst: &Inst, rd: u8, x: u8, y: u8, given: u32) -> u32
         ensures held { IsSame self.old self.new }
-        ensures came { finish self.old.side self.old.processor Nothing inst.now (Computes rd x y) given
-            ≡ Some (self.new.processor, []) }
+        ensures came { finish self.old.side self.old.processor Nothing inst.now
+            (Computes rd x y) given ≡ Some (self.new.processor, []) }
         ensures word { given ≡ 0
             → result ≡ put_word self.old.processor Nothing inst.now (Computes rd x y) }
     {

@@ -15,13 +15,16 @@ unfoldable pub stores : ℕ → ℕ → ℕ → ℤ → Option Inst
 stores f3 x y imm = row (Some (Sb x y imm) ∷ (Some (Sh x y imm) ∷ (Some (Sw x y imm) ∷ []))) f3
 
 unfoldable pub immediates : ℕ → ℕ → ℕ → ℤ → Option Inst
-immediates f3 rd x imm = row (Some (Addi rd x imm) ∷ (None ∷ (Some (Slti rd x imm) ∷ (Some (Sltiu rd x imm) ∷ (Some (Xori rd x imm) ∷ (None ∷ (Some (Ori rd x imm) ∷ (Some (Andi rd x imm) ∷ [])))))))) f3
+immediates f3 rd x imm = row (Some (Addi rd x imm) ∷ (None ∷
+    (Some (Slti rd x imm) ∷ (Some (Sltiu rd x imm) ∷ (Some (Xori rd x imm) ∷ (None ∷ (Some (Ori rd x imm) ∷ (Some (Andi rd x imm) ∷ [])))))))) f3
 
 abbrev pub operations : ℕ → ℕ → ℕ → ℕ → Option Inst
-operations f3 rd x y = row (Some (Add rd x y) ∷ (Some (Sll rd x y) ∷ (Some (Slt rd x y) ∷ (Some (Sltu rd x y) ∷ (Some (Xor rd x y) ∷ (Some (Srl rd x y) ∷ (Some (Or rd x y) ∷ (Some (And rd x y) ∷ [])))))))) f3
+operations f3 rd x y = row (Some (Add rd x y) ∷ (Some (Sll rd x y) ∷
+    (Some (Slt rd x y) ∷ (Some (Sltu rd x y) ∷ (Some (Xor rd x y) ∷ (Some (Srl rd x y) ∷ (Some (Or rd x y) ∷ (Some (And rd x y) ∷ [])))))))) f3
 
 abbrev pub multiplications : ℕ → ℕ → ℕ → ℕ → Option Inst
-multiplications f3 rd x y = row (Some (Mul rd x y) ∷ (Some (Mulh rd x y) ∷ (Some (Mulhsu rd x y) ∷ (Some (Mulhu rd x y) ∷ (Some (Div rd x y) ∷ (Some (Divu rd x y) ∷ (Some (Rem rd x y) ∷ (Some (Remu rd x y) ∷ [])))))))) f3
+multiplications f3 rd x y = row (Some (Mul rd x y) ∷ (Some (Mulh rd x y) ∷
+    (Some (Mulhsu rd x y) ∷ (Some (Mulhu rd x y) ∷ (Some (Div rd x y) ∷ (Some (Divu rd x y) ∷ (Some (Rem rd x y) ∷ (Some (Remu rd x y) ∷ [])))))))) f3
 
 unfoldable pub shifts : ℕ → ℕ → ℕ → ℕ → ℕ → Option Inst
 shifts f3 f7 rd x amount =

@@ -77,7 +77,23 @@ header_at whole bytes = do
   content ← field_at whole fields.DataLength (content_range memory.0) words_e.1
   lines ← field_at whole fields.LineCount line_count_range content.1
   names ← field_at whole fields.NameCount name_count_range lines.1
-  Ok (record { budget = budget.0; memory = memory.0; calls = calls.0; private_a = private_a.0; private_e = private_e.0; entry_a = entry_a.0; entry_e = entry_e.0; words_a = words_a.0; words_e = words_e.0; content = content.0; lines = lines.0; names = names.0 }, names.1)
+  Ok (
+    record {
+      budget = budget.0;
+      memory = memory.0;
+      calls = calls.0;
+      private_a = private_a.0;
+      private_e = private_e.0;
+      entry_a = entry_a.0;
+      entry_e = entry_e.0;
+      words_a = words_a.0;
+      words_e = words_e.0;
+      content = content.0;
+      lines = lines.0;
+      names = names.0;
+    },
+    names.1,
+  )
 
 -- the numbers that bytes spell, four bytes each
 abbrev pub words_of : List ℕ → List ℕ
@@ -141,7 +157,23 @@ body_at whole h bytes = do
   content ← bytes_at whole h.content code_e.1
   lines ← lines_at whole h None h.lines content.1
   names ← names_at whole h.names lines.1
-  Ok (record { budget = h.budget; memory = h.memory; calls = h.calls; private_a = h.private_a; private_e = h.private_e; entry_a = h.entry_a; entry_e = h.entry_e; code_a = code_a.0; code_e = code_e.0; content = content.0; lines = lines.0; names = names.0 }, names.1)
+  Ok (
+    record {
+      budget = h.budget;
+      memory = h.memory;
+      calls = h.calls;
+      private_a = h.private_a;
+      private_e = h.private_e;
+      entry_a = h.entry_a;
+      entry_e = h.entry_e;
+      code_a = code_a.0;
+      code_e = code_e.0;
+      content = content.0;
+      lines = lines.0;
+      names = names.0;
+    },
+    names.1,
+  )
 
 -- all of the bytes
 unfoldable pub image_at : List ℕ → Result Contents ImageError

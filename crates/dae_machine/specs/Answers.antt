@@ -20,7 +20,8 @@ processor E s = s.e
 -- why the processor has no step, or Did with an empty piece where it has one
 abbrev pub answer : Setup → State → Side → CoreAnswer
 answer setup s side =
-    unprinted (answered_by (λ q access. ready setup.depths access q) (λ q queue. front queue q) side (processor side s) s.queues (request setup.copies side (code setup side) setup.memory (processor side s)))
+    unprinted (answered_by (λ q access. ready setup.depths access q) (λ q queue. front queue q) side
+    (processor side s) s.queues (request setup.copies side (code setup side) setup.memory (processor side s)))
 
 -- the refusal names the first queue whose depth is below the budget, with both numbers; memory is wanting only where each
 -- depth reaches it

@@ -49,8 +49,10 @@ may_use d on use' q = belongs on use' && possible d use' q
 -- reservation
 pub data Grants (d : Depths) (on : Side) (m : List ℕ) : ℕ → Queues → List Use → Queues → Type 0 where
   ends : {q : Queues} → Grants d on m 0 q [] q
-  grants : {n : ℕ} {q last : Queues} {u : Use} {uses : List Use} → may_use d on (access_of u) q ≡ true → peek (access_of u) q ≡ given_by u → Grants d on m n (commit (access_of u) (put_by u) q) uses last → Grants d on m n q (u ∷ uses) last
-  owns : {n : ℕ} {q next last : Queues} {kind : LoadKind} {address : ℕ} {uses : List Use} (number : ℕ) → may_use d on (Load Al kind) q ≡ true → fill A number (commit (Load Al kind) address q) m ≡ Some next → Grants d on m n next uses last
+  grants : {n : ℕ} {q last : Queues} {u : Use} {uses : List Use} → may_use d on (access_of u) q ≡ true
+      → peek (access_of u) q ≡ given_by u → Grants d on m n (commit (access_of u) (put_by u) q) uses last → Grants d on m n q (u ∷ uses) last
+  owns : {n : ℕ} {q next last : Queues} {kind : LoadKind} {address : ℕ} {uses : List Use} (number : ℕ)
+      → may_use d on (Load Al kind) q ≡ true → fill A number (commit (Load Al kind) address q) m ≡ Some next → Grants d on m n next uses last
       → Grants d on m (suc n) q (Reserves Al kind address ∷ uses) last
 
 abbrev pub AreWords : List ℕ → Type 0

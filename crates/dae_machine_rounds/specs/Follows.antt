@@ -31,7 +31,8 @@ pub data Follows : Deed → List Use → Outcome → Type 0 where
   went : {env : Env} → Follows (Went env) [] (Leaves env)
   takes : {queue : Queue} {go : ℕ → Deed} {uses : List Use} {o : Outcome} (x : ℕ) → Follows (go x) uses o → Follows (Take queue go) (Takes queue x ∷ uses) o
   pushes : {queue : Queue} {x : ℕ} {rest : Deed} {uses : List Use} {o : Outcome} → Follows rest uses o → Follows (Push queue x rest) (Pushes queue x ∷ uses) o
-  reserves : {queue : Queue} {kind : LoadKind} {address : ℕ} {rest : Deed} {uses : List Use} {o : Outcome} → Follows rest uses o → Follows (Reserve queue kind address rest) (Reserves queue kind address ∷ uses) o
+  reserves : {queue : Queue} {kind : LoadKind} {address : ℕ} {rest : Deed} {uses : List Use} {o : Outcome}
+      → Follows rest uses o → Follows (Reserve queue kind address rest) (Reserves queue kind address ∷ uses) o
   sends : {width : Width} {address : ℕ} {rest : Deed} {uses : List Use} {o : Outcome} → Follows rest uses o → Follows (Send width address rest) (Sends width address ∷ uses) o
   says : {text : List ℕ} {rest : Deed} {uses : List Use} {o : Outcome} → Follows rest uses o → Follows (Say text rest) (Says text ∷ uses) o
   halts : {quit : Quit} → Follows (Halts quit) [] (Quits quit)

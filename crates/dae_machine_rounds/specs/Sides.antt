@@ -37,4 +37,5 @@ pub record Walked (setup : Setup) (by_a : Bool) (At : Spot → Processor → Typ
 -- the side's code does its stream: from each processor that agrees with a spot each move is a walk, of so many instructions
 -- at most for each unit of its weight
 pub record Implements (setup : Setup) (p : Program) (by_a : Bool) (body : ℕ → Actions) (most : ℕ) (At : Spot → Processor → Type 0) : Type 0 where
-  pub moves : {n : ℕ} {s : Spot} {uses : List Use} {c : Came} (q : Processor) → At s q → Moves p by_a setup.memory body n s uses c → AllByRecursion (IsFit setup.memory) uses → Walked setup by_a At n (most * weight s) q uses c
+  pub moves : {n : ℕ} {s : Spot} {uses : List Use} {c : Came} (q : Processor) → At s q → Moves p by_a setup.memory body n s uses c
+      → AllByRecursion (IsFit setup.memory) uses → Walked setup by_a At n (most * weight s) q uses c

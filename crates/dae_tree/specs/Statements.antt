@@ -65,7 +65,8 @@ abbrev mutual
   spell_statement (While p q e s) rest = word keywords.While p ∷ spell_test q e (spell_statement s rest)
   spell_statement (Do p s q r e u) rest = word keywords.Do p ∷ spell_statement s (word keywords.While q ∷ spell_test r e (sign signs.Semicolon u ∷ rest))
   spell_statement (For p q a r b u c s) rest =
-      word keywords.For p ∷ sign signs.LeftParen q ∷ spell_optional a (sign signs.Semicolon r ∷ spell_optional b (sign signs.Semicolon u ∷ spell_optional c (part close_paren ∷ spell_statement s rest)))
+      word keywords.For p ∷ sign signs.LeftParen q ∷ spell_optional a
+      (sign signs.Semicolon r ∷ spell_optional b (sign signs.Semicolon u ∷ spell_optional c (part close_paren ∷ spell_statement s rest)))
   spell_statement (Break p q) rest = word keywords.Break p ∷ sign signs.Semicolon q ∷ rest
   spell_statement (Continue p q) rest = word keywords.Continue p ∷ sign signs.Semicolon q ∷ rest
   spell_statement (Return p e q) rest = word keywords.Return p ∷ spell_optional e (sign signs.Semicolon q ∷ rest)

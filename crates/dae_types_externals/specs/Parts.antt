@@ -64,7 +64,9 @@ plan_defining p k d b t = plan_definition p k (declared_name d) (parameters_in (
 abbrev pub plan_begun : Specifiers → Declarator → Block → Plan (List Product)
 plan_begun ws d b =
     let p = declared_place d (place_of_specifiers ws b.place) in
-    chain tt (changes_to started) (λ x. chain int_id (plan_file_base false ws) (λ t. chain None (plan_type_of_definition p ws t d) (plan_defined_as p (storage_of ws) (declared_name d) (parameters_in (function_part d)) (view_declarations b.declarations.items) (views_statements b.statements.items))))
+    chain tt (changes_to started) (λ x. chain int_id (plan_file_base false ws)
+    (λ t. chain None (plan_type_of_definition p ws t d) (plan_defined_as p (storage_of ws) (declared_name d)
+    (parameters_in (function_part d)) (view_declarations b.declarations.items) (views_statements b.statements.items))))
 
 -- ---- the end of the file
 

@@ -78,8 +78,11 @@ first_placed (Some q) placing p = Some q
 first_placed None placing p = if placing then Some p else None
 
 abbrev pub new_object : Place → Option Name → Option Keyword → Bool → ℕ → Tables → Tables × ℕ
-new_object p n k given t s =
-    (with_name (name_number n) (entity.Object (length s.objects)) (with_object (record { name = name_number n; type_id = t; own = is_static k; initialised = given; placed = first_placed None (given || not (is_extern k)) p }) s), length s.objects)
+new_object p n k given t s = (
+  with_name (name_number n) (entity.Object (length s.objects))
+      (with_object (record { name = name_number n; type_id = t; own = is_static k; initialised = given; placed = first_placed None (given || not (is_extern k)) p }) s),
+  length s.objects,
+)
 
 abbrev pub replaced : Place → Option Keyword → Bool → ℕ → ℕ → Tables → Option Object → Tables
 replaced p k given o t s None = s
@@ -163,7 +166,8 @@ storage_of ws = (seen_behind nothing_seen ws).storage
 
 abbrev pub plan_declared : List Product → Declaration → Plan (List Product)
 plan_declared done d =
-    chain int_id (base_at d.specifiers (plan_specifiers context.File (is_alone d.items) None d.specifiers)) (λ b. plan_items (has_typedef d.specifiers) (place_of_specifiers d.specifiers d.end) (storage_of d.specifiers) b done d.items)
+    chain int_id (base_at d.specifiers (plan_specifiers context.File (is_alone d.items) None d.specifiers))
+    (λ b. plan_items (has_typedef d.specifiers) (place_of_specifiers d.specifiers d.end) (storage_of d.specifiers) b done d.items)
 
 -- ---- where the parameters and locals of a function are kept. Variable 0 holds what the function returns, the next ones the
 -- parameters; other scalars follow, unless their addresses are taken. What is in the frame stands in the order of the text.
@@ -250,7 +254,8 @@ abbrev pub second_time : Option ℕ → Plan program.Statements → Plan (List P
 second_time f body = does (λ s x. (s, elim f [ None ↦ [] | Some g ↦ body_product g s x ])) (in_body body)
 
 abbrev pub twice : ℕ → Option ℕ → Plan program.Statements → Plan (List Product)
-twice n f body = chain [] (looks (λ s. s ∷ [])) (λ olds. chain tt (first_time n body) (λ x. chain tt (changes_to (λ s. settled_locals n (elim olds [ [] ↦ s | old ∷ rest ↦ keep_scope old s ]))) (λ y. second_time f body)))
+twice n f body = chain [] (looks (λ s. s ∷ [])) (λ olds. chain tt (first_time n body)
+    (λ x. chain tt (changes_to (λ s. settled_locals n (elim olds [ [] ↦ s | old ∷ rest ↦ keep_scope old s ]))) (λ y. second_time f body)))
 
 abbrev pub result_type : Tables → Option ℕ → Option ℕ
 result_type s None = None
@@ -280,7 +285,9 @@ plan_defined done ws d q ds ss =
     let n = declared_name d in
     produced
     done
-    (chain tt (changes_to started) (λ x. chain int_id (base_at ws (plan_specifiers context.File false None ws)) (λ b. chain None (settles_name n (some_of (definition_at p (has_typedef ws) (is_direct d) (plan_declarator p false b d)))) (plan_defined_as p (storage_of ws) n (parameters_in (function_part d)) ds ss))))
+    (chain tt (changes_to started) (λ x. chain int_id (base_at ws (plan_specifiers context.File false None ws))
+    (λ b. chain None (settles_name n (some_of (definition_at p (has_typedef ws) (is_direct d) (plan_declarator p false b d))))
+    (plan_defined_as p (storage_of ws) n (parameters_in (function_part d)) ds ss))))
 
 -- ---- the end of the file: each object that has room must have a complete type
 

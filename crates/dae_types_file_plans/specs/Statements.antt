@@ -159,7 +159,8 @@ is_alone _ = false
 
 abbrev pub plan_declaration : program.Statements → Declaration → Plan program.Statements
 plan_declaration done d =
-    chain int_id (base_at d.specifiers (plan_specifiers context.Block (is_alone d.items) None d.specifiers)) (λ b. plan_items (place_of_specifiers d.specifiers d.end) (has_typedef d.specifiers) b done d.items)
+    chain int_id (base_at d.specifiers (plan_specifiers context.Block (is_alone d.items) None d.specifiers))
+    (λ b. plan_items (place_of_specifiers d.specifiers d.end) (has_typedef d.specifiers) b done d.items)
 
 abbrev pub plan_declarations : program.Statements → List Declaration → Plan program.Statements
 plan_declarations done [] = pure done
@@ -361,7 +362,8 @@ abbrev mutual
   plan_statement c (tree.While p q e t) = does (λ s x. (s, program.Loop p (Some x.0) x.1 None program.Done)) (both (plan_condition e) (plan_statement (in_loop c) t))
   plan_statement c (tree.Do p t q r e u) = does (λ s x. (s, program.Do p x.0 x.1 program.Done)) (both (plan_statement (in_loop c) t) (plan_condition e))
   plan_statement c (tree.For p q a r b u d t) =
-      does (λ s x. (s, started (starting_place p a) x.0 (program.Loop p x.1.0 x.1.1.1 x.1.1.0 program.Done))) (both (plan_optional a) (both (plan_test b) (both (plan_optional d) (plan_statement (in_loop c) t))))
+      does (λ s x. (s, started (starting_place p a) x.0 (program.Loop p x.1.0 x.1.1.1 x.1.1.0 program.Done)))
+      (both (plan_optional a) (both (plan_test b) (both (plan_optional d) (plan_statement (in_loop c) t))))
   plan_statement c (tree.Break p q) = break_at p c
   plan_statement c (tree.Continue p q) = continue_at p c
   plan_statement c (tree.Return p e q) = plan_return p c e

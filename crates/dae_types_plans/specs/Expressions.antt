@@ -28,7 +28,8 @@ abbrev mutual
   plan (tree.Prefix p o a) = prefix_at p (place_of a) o (name_in a) (plan a)
   plan (tree.SizeofExpression p a) = sizeof_at p (type_of_value (unused (plan a)))
   plan (tree.SizeofType p q ws d) = sizeof_at p (type_of (chain int_id (base_at ws (plan_specifiers context.TypeName false None ws)) (λ b. plan_declarator (place_of_specifiers ws p) false b d)))
-  plan (tree.Cast p ws d a) = cast_at p (both (type_of (chain int_id (base_at ws (plan_specifiers context.TypeName false None ws)) (λ b. plan_declarator (place_of_specifiers ws p) false b d))) (value_at (place_of a) (plan a)))
+  plan (tree.Cast p ws d a) = cast_at p (both (type_of (chain int_id (base_at ws (plan_specifiers context.TypeName false None ws))
+      (λ b. plan_declarator (place_of_specifiers ws p) false b d))) (value_at (place_of a) (plan a)))
   plan (tree.Binary a p o b) = binary_at (place_of a) (place_of b) o (both (value_at (place_of a) (plan a)) (value_at (place_of b) (plan b)))
   plan (tree.Conditional a p b c) = conditional_at (place_of a) (both (condition_at (place_of a) (plan a)) (both (value_at (place_of b) (plan b)) (value_at (place_of c) (plan c))))
   plan (tree.Assignment a p o b) = assignment_at (place_of a) o (both (plan a) (value_at (place_of b) (plan b)))
@@ -55,11 +56,13 @@ abbrev mutual
   -- the members of structure k, behind members of this layout
   pub plan_members : ℕ → Layout → Members → Plan Layout
   plan_members k l tree.no_members = pure l
-  plan_members k l (tree.member_then ws ds p ms) = chain l (chain int_id (base_at ws (plan_specifiers context.Member false None ws)) (λ b. plan_component_list (place_of_specifiers ws p) k b l ds)) (λ l. plan_members k l ms)
+  plan_members k l (tree.member_then ws ds p ms) = chain l (chain int_id (base_at ws (plan_specifiers context.Member false None ws))
+      (λ b. plan_component_list (place_of_specifiers ws p) k b l ds)) (λ l. plan_members k l ms)
 
   pub plan_component_list : Place → ℕ → ℕ → Layout → Declarators → Plan Layout
   plan_component_list q k b l tree.no_declarators = pure l
-  plan_component_list q k b l (tree.declarator_then d ds) = chain l (member_at (declared_place d q) k l (declared_name d) (plan_declarator (declared_place d q) false b d)) (λ l. plan_component_list q k b l ds)
+  plan_component_list q k b l (tree.declarator_then d ds) = chain l
+      (member_at (declared_place d q) k l (declared_name d) (plan_declarator (declared_place d q) false b d)) (λ l. plan_component_list q k b l ds)
 
   pub plan_enumerators : ℕ → Enumerators → Plan ℕ
   plan_enumerators w tree.no_enumerators = pure w
@@ -81,7 +84,9 @@ abbrev mutual
 
   pub plan_parameters : Place → ℕ → Parameters → Plan ℕ
   plan_parameters q list tree.no_parameters = pure list
-  plan_parameters q list (tree.parameter_then ws d ps) = chain list (parameter_at (declared_place d (place_of_specifiers ws q)) list (declared_name d) (chain int_id (base_at ws (plan_specifiers context.Parameter false None ws)) (λ b. plan_declarator (declared_place d (place_of_specifiers ws q)) true b d))) (λ list. plan_parameters q list ps)
+  plan_parameters q list (tree.parameter_then ws d ps) = chain list
+      (parameter_at (declared_place d (place_of_specifiers ws q)) list (declared_name d)
+      (chain int_id (base_at ws (plan_specifiers context.Parameter false None ws)) (λ b. plan_declarator (declared_place d (place_of_specifiers ws q)) true b d))) (λ list. plan_parameters q list ps)
 
 -- the type of a type name, whose first token has this place where there is none in it
 abbrev pub plan_type : Specifiers → Declarator → Place → Plan ℕ
