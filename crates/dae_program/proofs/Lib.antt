@@ -9,5 +9,5 @@ mod Ends
 mod Straying
 mod SetFirstExamples
 mod LawfulExamples
-mod Cases
+mod CaseExamples
 pub mod LawsOfTrees
