@@ -1,6 +1,6 @@
 -- What tests say of their parts, and tests of numbers that follow one another.
-use Rattle.std.proofs.Common.{◌≡◌, ℕ, suc, ◌<◌, ◌^◌, Bool, true, false, not, ◌&&◌, ◌||◌, refl, arith, ◌+◌}
-use Rattle.std.specs.Prelude.{nat_eq}
+use Rattle.std.proofs.Common.{◌≡◌, ℕ, suc, ◌<◌, ◌^◌, Bool, true, false, not, ◌&&◌, ◌||◌, refl, arith, ◌+◌, zero, ◌≤◌, ◌*◌}
+use Rattle.std.specs.Prelude.{nat_eq, if◌then◌else◌}
 use Rattle.std.proofs.lemmas.Bool.{and_parts, false≢true}
 use Rattle.std.proofs.lemmas.Bool.Decides.{nat_tests}
 use Rattle.dae_base.specs.Words.{plus}
@@ -64,3 +64,11 @@ plus_small x y = omega arith
 
 pub suc_plus : (x y : ℕ) → suc (x + y) ≡ suc x + y
 suc_plus x y = omega arith
+
+pub times_least : (n k : ℕ) → 0 < n → k ≤ n * k
+times_least zero k h = absurd (omega arith)
+times_least (suc n) k h = omega arith
+
+pub choice_small : (t : Bool) (x y : ℕ) → x < 2 ^ 32 → y < 2 ^ 32 → (if t then x else y) < 2 ^ 32
+choice_small true x y a b = a
+choice_small false x y a b = b

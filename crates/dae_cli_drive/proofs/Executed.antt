@@ -3,10 +3,8 @@ use Rattle.std.proofs.Common.{◌≡◌, ℕ, suc, ◌+◌, ◌-◌, List, [], �
 use Rattle.std.specs.Prelude.{Option, None}
 use Rattle.std.proofs.lemmas.List.{map-append}
 use Rattle.dae_io.specs.Sinks.{SinkState}
-use Rattle.dae_image.specs.declared.Image.{Image}
 use Rattle.dae_machine.specs.declared.Pick.{Pick}
 use Rattle.dae_machine.specs.Machine.{Setup, State, IsCounted}
-use Rattle.dae_machine.specs.Opened.{opened}
 use Rattle.dae_machine.specs.Schedules.{Standing, coming, scheduled, word_of}
 use Rattle.dae_cli_drive.specs.declared.driving.Driven.{Driven}
 use Rattle.dae_cli_drive.specs.declared.driving.Driven.TheVariants.{Final, Stuck, Spent, SinkFailed}
@@ -22,9 +20,6 @@ use Rattle.dae_cli_drive.proofs.LawsOfTurns.{Made, picks_later, same_turns}
 use Rattle.dae_cli_drive.proofs.Outcome.{Good, comes_out}
 use Rattle.dae_cli_drive.proofs.Printed.{pieces_after}
 use Rattle.dae_cli_drive.proofs.Puts.{cut_after, cut_here, cut_more, gives_same, gives_then}
-
-pub opened_counted : (image : Image) → IsCounted (opened image)
-opened_counted image = record { ld = record { numbers = refl; stamps = tt }; al = record { numbers = refl; stamps = tt }; sa = refl }
 
 -- the notes after a run don't depend on what was printed
 pub same_lines : (how : Driven) (setup : Setup) (s : State) (show : Option Shown) → end_puts how setup (unprinted s) show ≡ end_puts how setup s show

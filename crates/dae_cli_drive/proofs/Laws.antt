@@ -5,13 +5,14 @@ use Rattle.dae_image.specs.declared.Image.{Image}
 use Rattle.dae_machine.specs.declared.Pick.{Pick}
 use Rattle.dae_machine.specs.Machine.{Setup, State, Runs}
 use Rattle.dae_machine.specs.Opened.{opened}
+use Rattle.dae_machine.proofs.LawsOfRuns.{opened_counted}
 use Rattle.dae_cli_drive.specs.Pieces.{pieces}
 pub use Rattle.dae_cli_drive.proofs.OneAnswer.{one_of_image, one_rest}
 pub use Rattle.dae_cli_drive.proofs.Budgeted.{gives_budgeted, gives_unbudgeted, none_or_some, single_budgeted, single_opened, single_unopened, some_opened, some_same}
 pub use Rattle.dae_cli_drive.proofs.Outcome.{Good, Outcome, comes_out, run_keeps}
 pub use Rattle.dae_cli_drive.proofs.Printed.{pieces_after}
 pub use Rattle.dae_cli_drive.proofs.Puts.{cut_after, cut_here, cut_more, cut_next, gives_failed, gives_next, gives_same, gives_then, made_then, on_err}
-pub use Rattle.dae_cli_drive.proofs.Executed.{opened_counted, same_lines}
+pub use Rattle.dae_cli_drive.proofs.Executed.{same_lines}
 use Rattle.dae_cli_drive.proofs.Printed.{pieces_printed}
 
 -- the steps count themselves

@@ -4,13 +4,14 @@ use Rattle.std.specs.Prelude.{Option}
 use Rattle.std.proofs.lemmas.List.{map-append}
 use Rattle.dae_io.specs.Sinks.{SinkState}
 use Rattle.dae_machine.specs.Machine.{Setup}
+use Rattle.dae_machine.proofs.LawsOfRuns.{opened_counted}
 use Rattle.dae_cli_options.specs.declared.options.Shown.{Shown}
 use Rattle.dae_cli_drive.specs.declared.driving.Driven.{Driven}
 use Rattle.dae_cli_drive.specs.Images.{status_of}
 use Rattle.dae_cli_drive.specs.Notes.{end_puts}
 use Rattle.dae_cli_drive.specs.Pieces.{pieces}
 use Rattle.dae_cli_drive.specs.Puts.{answer, Put, Out, sinks, AreCut, Gives, gives_part, GivesDue}
-use Rattle.dae_cli_drive.proofs.Laws.{Good, cut_after, cut_here, cut_more, gives_same, gives_then, opened_counted, pieces_after, same_lines}
+use Rattle.dae_cli_drive.proofs.Laws.{Good, cut_after, cut_here, cut_more, gives_same, gives_then, pieces_after, same_lines}
 use Rattle.dae_timing.specs.Clocks.{Clock}
 use Rattle.dae_timing.specs.Held.{HeldClock}
 use Rattle.dae_timing.specs.Runs.{with_print}

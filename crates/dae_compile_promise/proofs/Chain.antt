@@ -8,10 +8,10 @@ use Rattle.dae_encode.specs.declared.Halt.{Halt}
 use Rattle.dae_encode.specs.declared.Halt.TheVariants.{Status, Trap}
 use Rattle.dae_image.specs.declared.Image.{Image}
 use Rattle.dae_machine.specs.declared.Pick.{Pick}
-use Rattle.dae_machine.specs.Machine.{Setup, State, Runs, IsCounted, IsFinal, IsStuck}
+use Rattle.dae_machine.specs.Machine.{Setup, State, Runs, IsFinal, IsStuck}
 use Rattle.dae_machine.specs.Opened.{setup_of, opened}
 use Rattle.dae_machine.specs.Ends.{IsPrefixOf, GoesOn as RunsGoOn}
-use Rattle.dae_machine.proofs.LawsOfRuns.{can_only_end, runs_deeper}
+use Rattle.dae_machine.proofs.LawsOfRuns.{can_only_end, runs_deeper, opened_counted}
 use Rattle.dae_meaning.specs.Worlds.{World}
 use Rattle.dae_meaning.specs.Results.{Result, Over, End, Halted, Trapped, Going, Astray, world_of}
 use Rattle.dae_meaning.specs.Variables.{Env, entered}
@@ -152,16 +152,13 @@ module _ (p : Program) (depth : ℕ) (old ir : Ir) (image : Image) (lowered : Is
 
   -- ---- where a run ends
 
-  counted : IsCounted (opened image)
-  counted = record { ld = record { numbers = refl; stamps = tt }; al = record { numbers = refl; stamps = tt }; sa = refl }
-
   -- a run ends before the form has gone on for longer
   not_longer : (depths : Depths) → Reaches depths image.budget → (picks : List Pick) (s : State) → Runs (setup_of image depths) (opened image) picks s → IsFinal (setup_of image depths) s
       → (w : World) → form_meaning (suc (length picks)) ≡ Over Going w → ⊥
   not_longer depths reach picks s runs final w is =
       let x = done.continues (suc (length picks)) w is in
       let run = runs_deeper (setup_of image image.budget) depths (opened image) x.state x.picks reach (as_run (setup_of image image.budget) (opened image) x.state x.picks x.order) in
-      let most = (can_only_end (setup_of image depths) (opened image) counted s picks runs final).at_most x.picks x.state run in
+      let most = (can_only_end (setup_of image depths) (opened image) (opened_counted image) s picks runs final).at_most x.picks x.state run in
       let long = x.long in absurd (omega (arith, most, long))
 
   at_end : (e : End) → IsOver e → e ≢ Astray → IsAtEnd e

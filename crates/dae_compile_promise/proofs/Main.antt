@@ -14,6 +14,7 @@ use Rattle.dae_ir.specs.Scope.{closes, never_returns}
 use Rattle.dae_ir.specs.declared.form.Check.TheVariants.{Room}
 use Rattle.dae_ir.specs.declared.form.Item.{Item}
 use Rattle.dae_ir.specs.declared.form.Item.TheVariants.{Assign, Load, Store, Print, Expect, Break, Continue, Call, Return, Halt}
+use Rattle.dae_lower.proofs.Laws.{IsLeft}
 
 -- ---- it doesn't return, and leaves a loop or goes to its step only inside of one
 
@@ -99,13 +100,6 @@ module _ (p : Program) (counted : ℕ → Bool) (calls : Calls) (n : ℕ) where
       (code_out inside k (and_second (never_returns y) (never_returns k) rest) (and_second (stays true y) (stays inside k) more))
 
 -- ---- and its end isn't reached
-
-abbrev pub IsLeft : {E : Type 0} → Result E → Type 0
-IsLeft (At Next e w) = ⊥
-IsLeft (At Leaves e w) = Unit {0}
-IsLeft (At Skips e w) = Unit {0}
-IsLeft (At Returns e w) = Unit {0}
-IsLeft (Over end w) = Unit {0}
 
 then_left : {E : Type 0} (r : Result E) (f : Run E) → ((e : E) (w : World) → IsLeft (f e w)) → IsLeft (r ▷ f)
 then_left (At Next e w) f k = k e w

@@ -16,10 +16,10 @@ use Rattle.dae_machine.specs.Machine.{State, Runs, step}
 use Rattle.dae_machine.specs.Opened.{opened}
 use Rattle.dae_machine.specs.Tries.{Stepped}
 use Rattle.dae_machine.specs.Turns.{pick_of}
-use Rattle.dae_machine.proofs.LawsOfRuns.{picked_goes, quiet_where_none}
+use Rattle.dae_machine.proofs.LawsOfRuns.{picked_goes, quiet_where_none, opened_counted}
 use Rattle.dae_trace.specs.Lines.{line}
 use Rattle.dae_cli_drive.specs.Notes.{shown_line}
-use Rattle.dae_cli_drive.proofs.Laws.{Good, opened_counted, run_keeps}
+use Rattle.dae_cli_drive.proofs.Laws.{Good, run_keeps}
 use Rattle.dae_debug_commands.specs.declared.Breakpoint.{Breakpoint}
 use Rattle.dae_debug_commands.specs.declared.Command.{Command}
 use Rattle.dae_debug_commands.specs.declared.Command.TheVariants.{Step, Go, Break, Registers, Queues, Stores, Memory, Quit}

@@ -1,5 +1,5 @@
 -- The access of an instruction, field by field, and the side to which it belongs.
-use Rattle.std.proofs.Common.{◌≡◌, ◌≢◌, ℕ, ◌<◌, ◌≤◌, Bool, true, false, if◌then◌else◌, ◌==◌, nat_lt, IfSome, List, [], ◌∷◌, map, Option, Some, None, refl, sym, ap, ◌∙◌, inl, inr, arith, nat_le, subst}
+use Rattle.std.proofs.Common.{◌≡◌, ◌≢◌, ℕ, ◌<◌, ◌≤◌, Bool, true, false, if◌then◌else◌, ◌==◌, nat_lt, IfSome, List, [], ◌∷◌, map, Option, Some, None, refl, sym, ap, ◌∙◌, inl, inr, arith, nat_le, subst, ◌^◌}
 use Rattle.std.proofs.lemmas.Bool.{ltb-true, ltb-false}
 use Rattle.std.proofs.lemmas.Bool.Decides.{leb_tells}
 use Rattle.std.specs.List.{filter}
@@ -15,6 +15,7 @@ use Rattle.dae_encode.specs.declared.QueueUse.TheVariants.{Nothing, Take, Push, 
 use Rattle.dae_encode.specs.declared.Form.{Form}
 use Rattle.dae_encode.specs.declared.Form.TheVariants.{Computes, Loads, Stores, Calls}
 use Rattle.dae_encode.specs.Uses.{RegisterField, Target, LoadTarget, Source, Stored, register, access, accesses, sole, queue_use, field_use, joined, belongs}
+use Rattle.dae_encode.specs.Instructions.{flag}
 
 -- the access of one field, register by register, as the code finds it
 abbrev pub as_source : Bool → Side → ℕ → Option QueueUse
@@ -216,3 +217,7 @@ own_use copies side (Loads kind rd base offset) =
 own_use copies side (Stores width base source offset) =
     subst (λ (o : Option QueueUse). IsOwn side o) (pair copies side (Source base) (Stored width source)) (own_joined side _ _ (own_field copies side (Source base)) (own_field copies side (Stored width source)))
 own_use copies side Calls = refl
+
+pub flag_small : (b : Bool) → flag b < 2 ^ 32
+flag_small true = omega arith
+flag_small false = omega arith

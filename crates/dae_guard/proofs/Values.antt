@@ -10,8 +10,9 @@ use Rattle.dae_base.proofs.Laws.{and_true}
 use Rattle.dae_base.specs.Words.{word, signed, plus}
 use Rattle.dae_encode.specs.declared.Inst.{Inst}
 use Rattle.dae_encode.specs.declared.Inst.TheVariants.{Lui, Auipc, Jal, Jalr, Beq, Bne, Blt, Bge, Bltu, Bgeu, Lb, Lh, Lw, Lbu, Lhu, Sb, Sh, Sw, Addi, Slti, Sltiu, Xori, Ori, Andi, Slli, Srli, Srai, Add, Sub, Sll, Slt, Sltu, Xor, Srl, Sra, Or, And, Mul, Mulh, Mulhsu, Mulhu, Div, Divu, Rem, Remu, Ecall}
-use Rattle.dae_encode.specs.Instructions.{value, next, flag, quotient, remainder, shift_left}
+use Rattle.dae_encode.specs.Instructions.{value, next, quotient, remainder, shift_left}
 use Rattle.dae_encode.specs.Spelling.{InRange, layout, IsSigned}
+use Rattle.dae_encode.proofs.Laws.{flag_small}
 use Rattle.dae_ranges.specs.declared.Range.{Range}
 use Rattle.dae_ranges.specs.Ranges.{Has, single, any_word, is_single, raised, shifted, scaled}
 use Rattle.dae_ranges.proofs.Laws.{single_is, has_single, has_any, raised_has, shifted_has, scaled_has}
@@ -42,10 +43,6 @@ div_abs (negsuc a) (negsuc b) = div-le_self (suc a) (suc b)
 
 signed_some : (x : ℕ) → x < 2 ^ 32 → x ≢ 0 → 0 < unsigned_abs (signed x)
 signed_some x h n = grind (arith, ints)
-
-flag_word : (b : Bool) → flag b < 2 ^ 32
-flag_word true = omega arith
-flag_word false = omega arith
 
 -- an immediate is a word
 pub imm_12 : (imm : ℤ) → IsSigned 12 imm → word imm < 2 ^ 32
@@ -122,8 +119,8 @@ value_small (Sb x y imm) c v w r p q = omega arith
 value_small (Sh x y imm) c v w r p q = omega arith
 value_small (Sw x y imm) c v w r p q = omega arith
 value_small (Addi rd x imm) c v w r p q = omega arith
-value_small (Slti rd x imm) c v w r p q = flag_word (int_lt (signed v) imm)
-value_small (Sltiu rd x imm) c v w r p q = flag_word (nat_lt v (word imm))
+value_small (Slti rd x imm) c v w r p q = flag_small (int_lt (signed v) imm)
+value_small (Sltiu rd x imm) c v w r p q = flag_small (nat_lt v (word imm))
 value_small (Xori rd x imm) c v w r p q = xor_of_32 v (word imm) p (imm_12 imm r.2)
 value_small (Ori rd x imm) c v w r p q = or_of_32 v (word imm) p (imm_12 imm r.2)
 value_small (Andi rd x imm) c v w r p q = let a = and_le_l v (word imm) in omega arith
@@ -133,8 +130,8 @@ value_small (Srai rd x imm) c v w r p q = shr_small v (word imm) p
 value_small (Add rd x y) c v w r p q = omega arith
 value_small (Sub rd x y) c v w r p q = omega arith
 value_small (Sll rd x y) c v w r p q = omega arith
-value_small (Slt rd x y) c v w r p q = flag_word (int_lt (signed v) (signed w))
-value_small (Sltu rd x y) c v w r p q = flag_word (nat_lt v w)
+value_small (Slt rd x y) c v w r p q = flag_small (int_lt (signed v) (signed w))
+value_small (Sltu rd x y) c v w r p q = flag_small (nat_lt v w)
 value_small (Xor rd x y) c v w r p q = xor_of_32 v w p q
 value_small (Srl rd x y) c v w r p q = let a = div-le_self v (2 ^ (w % 32)) in omega arith
 value_small (Sra rd x y) c v w r p q = shr_small v w p
@@ -260,8 +257,8 @@ tested i c v w y s r h = cc
 
 pub tells_small : (i : Inst) (b : Bool) → tells i b < 2 ^ 32
 unfolding tells
-tells_small (Slti rd x imm) b = flag_word b
-tells_small (Sltiu rd x imm) b = flag_word b
-tells_small (Slt rd x y) b = flag_word b
-tells_small (Sltu rd x y) b = flag_word b
+tells_small (Slti rd x imm) b = flag_small b
+tells_small (Sltiu rd x imm) b = flag_small b
+tells_small (Slt rd x y) b = flag_small b
+tells_small (Sltu rd x y) b = flag_small b
 tells_small i b = omega arith

@@ -2,7 +2,7 @@
 use Rattle.std.proofs.Common.{◌≡◌, ℕ, suc, ◌+◌, ◌-◌, ◌^◌, ◌<◌, ◌≤◌, Bool, true, false, ◌&&◌, List, [], ◌∷◌, ◌++◌, length, take, drop, get_or, refl, ap, subst, sym, ◌∙◌, arith, append_assoc, length-append}
 use Rattle.std.specs.Prelude.{Option, Some, None, nat_lt, if◌then◌else◌}
 use Rattle.std.specs.List.{All, last_or}
-use Rattle.std.proofs.lemmas.Bool.{and_parts, and_from, le-ltb}
+use Rattle.std.proofs.lemmas.Bool.{le-ltb}
 use Rattle.std.proofs.lemmas.Bool.Decides.{nat_tests}
 use Rattle.std.proofs.lemmas.List.{drop_more}
 use Rattle.std.proofs.lemmas.List.Elements.{All-push}
@@ -11,6 +11,7 @@ use Rattle.dae_base.specs.declared.Side.TheVariants.{A, E}
 use Rattle.dae_image.specs.Contents.{follows, code_length, is_line, are_lines}
 use Rattle.dae_image.specs.declared.LineMark.{LineMark}
 use Rattle.dae_image.specs.declared.header.Header.{Header}
+use Rattle.dae_image.proofs.Laws.{are_lines-push}
 use Rattle.dae_select.specs.declared.growing.PlacedWord.{PlacedWord}
 use Rattle.dae_link.specs.declared.marks.MarkRoom.{MarkRoom}
 use Rattle.dae_link.specs.declared.marks.LineMarks.{LineMarks}
@@ -18,12 +19,6 @@ use Rattle.dae_link.specs.Marked.{HasSizes, words_in, is_mark, mark_at, is_anoth
 
 abbrev the_room : ℕ → ℕ → ℕ → MarkRoom
 the_room a e n = record { words_a = a; words_e = e; files = n }
-
-one_more : (h : Header) (last : Option LineMark) (ms : List LineMark) (m : LineMark) → are_lines h last ms ≡ true → is_line h (last_or last ms) m ≡ true → are_lines h last (ms ++ m ∷ []) ≡ true
-one_more h last [] m good next = and_from (is_line h last m) true next refl
-one_more h last (x ∷ xs) m good next =
-    let parts = and_parts (is_line h last x) (are_lines h (Some x) xs) good in
-    and_from (is_line h last x) (are_lines h (Some x) (xs ++ m ∷ [])) parts.0 (one_more h (Some x) xs m parts.1 next)
 
 same_words : (room : MarkRoom) (h : Header) → HasSizes room h → (s : Side) → words_in room s ≡ code_length h s
 same_words room h has A = sym has.words_a
@@ -42,7 +37,7 @@ pub good_pushed : (room : MarkRoom) (last : Option LineMark) (ms : List LineMark
     → ((h : Header) → HasSizes room h → are_lines h None ms ≡ true) → last ≡ last_or None ms → is_mark room last m ≡ true
     → (h : Header) → HasSizes room h → are_lines h None (ms ++ m ∷ []) ≡ true
 good_pushed room last ms m good is_last next h has =
-    one_more h None ms m (good h has) (subst (λ (l : Option LineMark). is_line h l m ≡ true) is_last (sym (same_mark room h has last m) ∙ next))
+    are_lines-push h None ms m (good h has) (subst (λ (l : Option LineMark). is_line h l m ≡ true) is_last (sym (same_mark room h has last m) ∙ next))
 
 pub small_pushed : (ms : List LineMark) (m : LineMark) → All (λ (x : LineMark). x.line < 2 ^ 32) ms → m.line < 2 ^ 32 → All (λ (x : LineMark). x.line < 2 ^ 32) (ms ++ m ∷ [])
 small_pushed ms m h k = All-push (λ (x : LineMark). x.line < 2 ^ 32) ms m h k

@@ -44,7 +44,7 @@ use Rattle.dae_link_sides.proofs.Standing.{placed_long, placed_same, start_behin
 use Rattle.dae_link_sides.proofs.Sizes.{functions_length}
 use Rattle.dae_link_sides.proofs.Looked.{zip_long, layout_at, IsLayoutAt, each_home, is_near, is_few, is_first, same_frame, frame_within, right_at, reads_at, apart_at}
 
-same_side : (s : Side) → side (is_a s) ≡ s
+pub same_side : (s : Side) → side (is_a s) ≡ s
 same_side A = refl
 same_side E = refl
 

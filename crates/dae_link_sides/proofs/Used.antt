@@ -1,10 +1,9 @@
 -- The words of a side's code use the queues of its actions, and no others.
-use Rattle.std.proofs.Common.{◌≡◌, ◌≢◌, ◌↔◌, ℕ, ◌+◌, List, [], ◌∷◌, map, Some, refl, ap, sym, subst, ◌∙◌}
+use Rattle.std.proofs.Common.{◌≡◌, ◌≢◌, ◌↔◌, ℕ, ◌+◌, List, [], ◌∷◌, map, Some, ap, sym, subst, ◌∙◌}
 use Rattle.std.specs.List.{AllByRecursion}
 use Rattle.std.specs.Prelude.{option_and_then}
 use Rattle.dae_base.specs.declared.Queue.{Queue}
 use Rattle.dae_base.specs.declared.Side.{Side}
-use Rattle.dae_base.specs.declared.Side.TheVariants.{A, E}
 use Rattle.dae_encode.proofs.Laws.{decode_encoded}
 use Rattle.dae_encode.specs.Spelling.{InRange, encoded}
 use Rattle.dae_encode.specs.declared.Inst.{Inst}
@@ -23,7 +22,7 @@ use Rattle.dae_select.specs.declared.layouts.Layouts.{Layouts}
 use Rattle.dae_link_sides.specs.Placed.{functions_code, opening_code}
 use Rattle.dae_link_sides.specs.Settled.{AreUnplaced}
 use Rattle.dae_link_sides.specs.Sides.{HasUsesOf, at_places, code_at}
-use Rattle.dae_link_sides.proofs.Sided.{plan_is, variables_are, good, code_fits}
+use Rattle.dae_link_sides.proofs.Sided.{plan_is, variables_are, good, code_fits, same_side}
 
 -- ---- words
 
@@ -55,10 +54,6 @@ module _ (plan : Plan) (variables : ℕ → ℕ) (homes : (f v : ℕ) → IsHome
       ((function_uses plan variables homes k (actions_of f.body) is.0 q).0 two.0, alone_functions fs (k + 1) is.1 two.1)
 
 -- ---- a whole side
-
-same_side : (s : Side) → side (is_a s) ≡ s
-same_side A = refl
-same_side E = refl
 
 module _ (stream : Stream) (old : Layouts) (unplaced : AreUnplaced stream old) where
   abbrev new : Layouts

@@ -1,7 +1,6 @@
 -- The queue of one instruction, by its registers.
 use Rattle.std.proofs.Common.{◌≡◌, ℕ, ◌<◌, Bool, true, false, refl, ap, ◌∙◌, arith}
-use Rattle.std.specs.Prelude.{nat_le, Option, Some, None, option_and_then}
-use Rattle.std.proofs.lemmas.Bool.Decides.{nat_tests}
+use Rattle.std.specs.Prelude.{Option, Some, None, option_and_then}
 use Rattle.dae_base.specs.declared.Side.{Side}
 use Rattle.dae_base.specs.declared.Side.TheVariants.{A, E}
 use Rattle.dae_base.specs.declared.Queue.{Queue}
@@ -15,10 +14,8 @@ use Rattle.dae_encode.specs.Instructions.{effect, form_of, form}
 use Rattle.dae_encode.specs.Uses.{queue_use}
 use Rattle.dae_ir.specs.Deeds.{told_on, heard_on}
 use Rattle.dae_ir.specs.Programs.{side}
+use Rattle.dae_select_blocks.proofs.LawsOfBlocks.{low}
 use Rattle.dae_link_uses.specs.Uses.{queue_of, queue_in}
-
-low : (r : ℕ) → r < 28 → nat_le 28 r ≡ false
-low r h = grind (arith, nat_tests)
 
 -- an instruction of plain registers
 abbrev pub IsPlain : Form → Type 0

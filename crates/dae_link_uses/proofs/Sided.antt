@@ -10,6 +10,7 @@ use Rattle.dae_base.specs.declared.Width.{Width}
 use Rattle.dae_base.specs.declared.Width.TheVariants.{B1, B2, B4}
 use Rattle.dae_base.specs.declared.LoadKind.{LoadKind}
 use Rattle.dae_base.specs.declared.LoadKind.TheVariants.{I8, U8, I16, U16, I32}
+use Rattle.dae_base.proofs.Laws.{and_true}
 use Rattle.dae_encode.specs.Instructions.{effect, form_of}
 use Rattle.dae_encode.specs.declared.Form.TheVariants.{Computes, Loads, Stores}
 use Rattle.dae_encode.specs.declared.Inst.{Inst}
@@ -508,10 +509,6 @@ module _ (plan : Plan) (variables : ℕ → ℕ) (good : (f v : ℕ) → IsHome 
                 (alone_append by_a' q back rest (silent back (back_jump_plain short (length turned + length again))) (more.1 free.2)))),
           )
 
-      both_true : (b c : Bool) → (b && c) ≡ true → (b ≡ true) × (c ≡ true)
-      both_true true c e = (refl, e)
-      both_true false c e = absurd cc
-
       nothing_untouched : (code : Actions) → does_nothing code ≡ true → IsUntouched by_a' q code
       nothing_untouched Done e = tt
       nothing_untouched (Do m a k) e = absurd cc
@@ -523,7 +520,7 @@ module _ (plan : Plan) (variables : ℕ → ℕ) (good : (f v : ℕ) → IsHome 
       no_break a e same = absurd cc
 
       breaks_untouched : (code : Actions) → only_breaks code ≡ true → IsUntouched by_a' q code
-      breaks_untouched (Do m a k) e = (let two = both_true (is_break a) (does_nothing k) e in (no_break a two.0, nothing_untouched k two.1))
+      breaks_untouched (Do m a k) e = (let two = and_true (is_break a) (does_nothing k) e in (no_break a two.0, nothing_untouched k two.1))
       breaks_untouched Done e = absurd cc
       breaks_untouched (If m b p r k) e = absurd cc
       breaks_untouched (Loop m body step k) e = absurd cc
@@ -534,7 +531,7 @@ module _ (plan : Plan) (variables : ℕ → ℕ) (good : (f v : ℕ) → IsHome 
       bottom_both short m m' b p r t step k n jump turned again rest is plain one two more =
           let test = back_branch (plan.home f) b true n in
           let uses = back_uses b true n in
-          let lists = both_true (does_nothing p) (only_breaks r) (both_true (is_told b) (does_nothing p && only_breaks r) is).1 in (
+          let lists = and_true (does_nothing p) (only_breaks r) (and_true (is_told b) (does_nothing p && only_breaks r) is).1 in (
             (λ alone.
                 let a = alone_split by_a' q jump (turned ++ (again ++ (test ++ rest))) alone in
                 let c = alone_split by_a' q turned (again ++ (test ++ rest)) a.1 in
@@ -611,7 +608,7 @@ module _ (plan : Plan) (variables : ℕ → ℕ) (good : (f v : ℕ) → IsHome 
           let tail = code_of short plan variables f Settled unknown t ways' (length again' + words) 0 in
           let n : ℕ = length tail + length again' in
           either_both (has_bottom (If m' b p r t) step) (Loop m (If m' b p r t) step k) (jump_over short n ++ (tail ++ (again' ++ (back_branch (plan.home f) b true n ++ rest)))) (turned ++ (again ++ (jump_back short (length turned + length again) ++ rest)))
-          (λ e. bottom_both short m m' b p r t step k n (jump_over short n) tail again' rest (both_true (leaves_first (If m' b p r t)) (is_near (If m' b p r t) step) e).0 (over_plain short n)
+          (λ e. bottom_both short m m' b p r t step k n (jump_over short n) tail again' rest (and_true (leaves_first (If m' b p r t)) (is_near (If m' b p r t) step) e).0 (over_plain short n)
           (code_both short Settled unknown t ways' (length again' + words) 0 tt is.0.3) (code_both short Settled unknown step (step_ways (If m' b p r t) step (live k x)) words 0 tt is.1) more)
           (top_both short m (If m' b p r t) step k turned again rest (code_both short Settled unknown (If m' b p r t) ways' (length again + jump_words short) 0 tt is.0) (code_both short Settled unknown step (step_ways (If m' b p r t) step (live k x)) (jump_words short) 0 tt is.1) more)
 

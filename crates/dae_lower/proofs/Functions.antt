@@ -31,21 +31,21 @@ use Rattle.dae_lower.proofs.Doing.{everything, Same, Goes, Halts, same_from, aft
 use Rattle.dae_lower.proofs.Statements.{PrintsDo, InitialisesDo, SwitchesDo, statements_do}
 
 -- it goes elsewhere
-abbrev NotNext : {E : Type 0} → Result E → Type 0
-NotNext (At Next e w) = ⊥
-NotNext (At Leaves e w) = Unit {0}
-NotNext (At Skips e w) = Unit {0}
-NotNext (At Returns e w) = Unit {0}
-NotNext (Over end w) = Unit {0}
+abbrev pub IsLeft : {E : Type 0} → Result E → Type 0
+IsLeft (At Next e w) = ⊥
+IsLeft (At Leaves e w) = Unit {0}
+IsLeft (At Skips e w) = Unit {0}
+IsLeft (At Returns e w) = Unit {0}
+IsLeft (Over end w) = Unit {0}
 
-not_next_then : {E : Type 0} (r : Result E) (f : Run E) → NotNext r → NotNext (r ▷ f)
+not_next_then : {E : Type 0} (r : Result E) (f : Run E) → IsLeft r → IsLeft (r ▷ f)
 not_next_then (At Next e w) f h = absurd h
 not_next_then (At Leaves e w) f h = h
 not_next_then (At Skips e w) f h = h
 not_next_then (At Returns e w) f h = h
 not_next_then (Over end w) f h = h
 
-then_not_next : {E : Type 0} (r : Result E) (f : Run E) → ((e : E) (w : World) → NotNext (f e w)) → NotNext (r ▷ f)
+then_not_next : {E : Type 0} (r : Result E) (f : Run E) → ((e : E) (w : World) → IsLeft (f e w)) → IsLeft (r ▷ f)
 then_not_next (At Next e w) f h = h e w
 then_not_next (At Leaves e w) f h = tt
 then_not_next (At Skips e w) f h = tt
@@ -58,7 +58,7 @@ either_true true false c h = inr h
 either_true false b c h = inr h
 
 module _ (n : ℕ) (p : Program) (calls : Calls) where
-  last_leaves : (item : Item) → is_end item ≡ true → (e : Env) (w : World) → NotNext ((meaning p (λ v. true) calls).does item e w)
+  last_leaves : (item : Item) → is_end item ≡ true → (e : Env) (w : World) → IsLeft ((meaning p (λ v. true) calls).does item e w)
   last_leaves (Return x) h e w = tt
   last_leaves (Halt x) h e w = tt
   last_leaves (Assign v x) h e w = cc
@@ -70,10 +70,10 @@ module _ (n : ℕ) (p : Program) (calls : Calls) where
   last_leaves Continue h e w = tt
   last_leaves (Call v f xs) h e w = cc
 
-  closed_leaves : (c : Form) → is_closed c ≡ true → (e : Env) (w : World) → NotNext (exec (meaning p (λ v. true) calls) n c e w)
+  closed_leaves : (c : Form) → is_closed c ≡ true → (e : Env) (w : World) → IsLeft (exec (meaning p (λ v. true) calls) n c e w)
   closed_leaves Done h e w = cc
   closed_leaves (Do place item k) h e w = by (closed_leaves k) (either_true (is_done k) (is_end item) (is_closed k) h) where
-    by : (is_closed k ≡ true → (e : Env) (w : World) → NotNext (exec (meaning p (λ v. true) calls) n k e w)) → (is_end item ≡ true) ⊎ (is_closed k ≡ true) → NotNext ((meaning p (λ v. true) calls).does item e w ▷ exec (meaning p (λ v. true) calls) n k)
+    by : (is_closed k ≡ true → (e : Env) (w : World) → IsLeft (exec (meaning p (λ v. true) calls) n k e w)) → (is_end item ≡ true) ⊎ (is_closed k ≡ true) → IsLeft ((meaning p (λ v. true) calls).does item e w ▷ exec (meaning p (λ v. true) calls) n k)
     by go (inl g) = not_next_then _ _ (last_leaves item g e w)
     by go (inr g) = then_not_next _ _ (go g)
   closed_leaves (If place t a b k) h e w = then_not_next _ _ (closed_leaves k h)
@@ -104,7 +104,7 @@ data BackSame (t : ℕ) (old : World) : Outcome ℕ → Result Env → Type 0 wh
 
 module _ (m n : ℕ) (p : Program) (calls : Calls) (some : 0 < m) where
   -- where the code goes elsewhere by itself
-  finish_closed : (t k : ℕ) (old : World) (e : Env) (r q : Result Env) → Same m k everything t e r q → NotNext q → BackSame t old (came_back old r) q
+  finish_closed : (t k : ℕ) (old : World) (e : Env) (r q : Result Env) → Same m k everything t e r q → IsLeft q → BackSame t old (came_back old r) q
   finish_closed t k old e r q (Goes Next env other w i a b o) h = absurd h
   finish_closed t k old e r q (Goes Leaves env other w i a b o) h = Returned (env 0) env other Leaves w i (a 0 some) o
   finish_closed t k old e r q (Goes Skips env other w i a b o) h = Returned (env 0) env other Skips w i (a 0 some) o
@@ -229,7 +229,7 @@ module _ (n : ℕ) (source : tree.Program) (place : ℕ → Place) (variables : 
 
   finish_main : (m k : ℕ) (calls : Calls) → 0 < m → (pl : Place) (old : World) (e other : Env) (u : World) (r : Result Env) (core : Form) → Same m k everything 1 e r (run m n form calls core other u) → IsKept (came_back old r) (run m n form calls (closed pl (Halt (Number 0)) core) other u)
   finish_main m k calls some pl old e other u r core h = by (is_closed core) refl where
-    over : (r q : Result Env) → Same m k everything 1 e r q → NotNext q → IsKept (came_back old r) q
+    over : (r q : Result Env) → Same m k everything 1 e r q → IsLeft q → IsKept (came_back old r) q
     over r q (Goes Next env o w i a b c) d = absurd d
     over r q (Goes Leaves env o w i a b c) d = record { end = ap Halted (a 0 some); memory = refl; printed = refl; loads = refl; stores = refl; items = omega (arith, c) }
     over r q (Goes Skips env o w i a b c) d = record { end = ap Halted (a 0 some); memory = refl; printed = refl; loads = refl; stores = refl; items = omega (arith, c) }

@@ -21,3 +21,4 @@ mod Switching
 mod Whole
 mod Forms
 mod Programs
+pub mod Laws

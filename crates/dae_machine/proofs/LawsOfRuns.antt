@@ -2,7 +2,7 @@
 pub use Rattle.dae_machine.proofs.Confluence.{run-on, run-step}
 pub use Rattle.dae_machine.proofs.Deeper.{runs_deeper}
 pub use Rattle.dae_machine.proofs.Ends.{can_only_end, goes_on, meet_runs, prefix_refl, run_prints, step_counts}
-pub use Rattle.dae_machine.proofs.Opening.{memory_length, data_fit}
+pub use Rattle.dae_machine.proofs.Opening.{memory_length, data_fit, opened_counted}
 pub use Rattle.dae_machine.proofs.Diamond.{counted_step}
 pub use Rattle.dae_machine.proofs.Grants.{ready_for, ready_where}
 pub use Rattle.dae_machine.proofs.Kept.{unplain_after}

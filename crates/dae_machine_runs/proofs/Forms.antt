@@ -12,9 +12,9 @@ use Rattle.dae_image.specs.declared.Image.{Image}
 use Rattle.dae_machine.specs.declared.Pick.{Pick}
 use Rattle.dae_machine.specs.declared.Pick.TheVariants.{A as MoveA, E as MoveE, Fill, Drain}
 use Rattle.dae_machine.specs.Opened.{setup_of, opened}
-use Rattle.dae_machine.specs.Machine.{Setup, State, step, Runs, IsFinal, IsCounted}
+use Rattle.dae_machine.specs.Machine.{Setup, State, step, Runs, IsFinal}
 use Rattle.dae_machine.specs.Ends.{AwaitsMessage, HasRuns, GoesOn}
-use Rattle.dae_machine.proofs.LawsOfRuns.{runs_deeper}
+use Rattle.dae_machine.proofs.LawsOfRuns.{runs_deeper, opened_counted}
 use Rattle.dae_machine.proofs.LawsOfRuns.{can_only_end, goes_on}
 use Rattle.dae_meaning.specs.Worlds.{World}
 use Rattle.dae_meaning.specs.Results.{Result, Over, End, Halted, Trapped, Going, Astray, world_of}
@@ -136,11 +136,8 @@ module _ (ir : Ir) (tables : List (List Class)) (cap : ℕ) (image : Image) (mos
     abbrev zero_counts : Counts
     zero_counts = record { ld_taken = 0; ld_reserved = 0; al_taken = 0; al_reserved = 0; drained = 0; issued = 0 }
 
-    counted : IsCounted (opened image)
-    counted = record { ld = record { numbers = refl; stamps = tt }; al = record { numbers = refl; stamps = tt }; sa = refl }
-
     at_budget : (n : ℕ) (end : End) (u : World) → pair_outcome ir tables cap n (opened image).memory ≡ Over end u → EndsAs setup (opened image) most end u
-    at_budget n end u e = ends_as setup p of cap most At_a At_e code_a code_e positive covers ir.main w (opened image) zero_counts refl refl refl sound begins_a begins_e counted n ir.calls end u e
+    at_budget n end u e = ends_as setup p of cap most At_a At_e code_a code_e positive covers ir.main w (opened image) zero_counts refl refl refl sound begins_a begins_e (opened_counted image) n ir.calls end u e
 
     ended : (halt : Halt) (u v : World) → v.memory ≡ u.memory → v.printed ≡ u.printed → v.items ≡ u.items → OnlyEnds setup (opened image) most halt v → Ends image most halt u
     ended halt u v m o i y = record {
@@ -152,7 +149,7 @@ module _ (ir : Ir) (tables : List (List Class)) (cap : ℕ) (image : Image) (mos
       memory = y.memory ∙ m;
       printed = y.printed ∙ o;
       final = λ depths deep. final_deeper setup depths y.state y.final;
-      only = λ depths deep. can_only_end (setup_of image depths) (opened image) counted y.state y.picks (runs_deeper setup depths (opened image) y.state y.picks deep (order_run y.order)) (final_deeper setup depths y.state y.final);
+      only = λ depths deep. can_only_end (setup_of image depths) (opened image) (opened_counted image) y.state y.picks (runs_deeper setup depths (opened image) y.state y.picks deep (order_run y.order)) (final_deeper setup depths y.state y.final);
     }
 
     tells : (n : ℕ) (end : End) (u : World) → outcome ir n (opened image).memory ≡ Over end u → Tells image most end u
@@ -164,16 +161,16 @@ module _ (ir : Ir) (tables : List (List Class)) (cap : ℕ) (image : Image) (mos
     for_ever : ((n : ℕ) → (u : World) × (outcome ir n (opened image).memory ≡ Over Going u)) → (depths : Depths) → Reaches depths image.budget → GoesOn (setup_of image depths) (opened image) (λ n. (world_of (outcome ir n (opened image).memory)).printed)
     for_ever going depths deep =
         let outputs : ℕ → List ℕ = λ n. (world_of (outcome ir n (opened image).memory)).printed in
-        goes_on (setup_of image depths) (opened image) counted outputs (λ n. (
+        goes_on (setup_of image depths) (opened image) (opened_counted image) outputs (λ n. (
         let g = going n in
         let s = same_end (of ir.main) (outcome ir n (opened image).memory) (pair_outcome ir tables cap n (opened image).memory) Going g.0 tt (kept n) g.1 in
         has_deeper setup depths (opened image) outputs n (λ picks t h. runs_deeper setup depths (opened image) t picks deep h)
-        (has_run setup p of cap most At_a At_e code_a code_e positive covers ir.main w (opened image) zero_counts refl refl refl sound begins_a begins_e counted outputs n ir.calls s.world (s.printed ∙ ap (λ (r : Result Env). (world_of r).printed) (sym g.1)) s.is)))
+        (has_run setup p of cap most At_a At_e code_a code_e positive covers ir.main w (opened image) zero_counts refl refl refl sound begins_a begins_e (opened_counted image) outputs n ir.calls s.world (s.printed ∙ ap (λ (r : Result Env). (world_of r).printed) (sym g.1)) s.is)))
 
     continues : (n : ℕ) (u : World) → outcome ir n (opened image).memory ≡ Over Going u → Continues image most n u
     continues n u e =
         let s = same_end (of ir.main) (outcome ir n (opened image).memory) (pair_outcome ir tables cap n (opened image).memory) Going u tt (kept n) e in
-        let y = onward setup p of cap most At_a At_e code_a code_e positive covers ir.main w (opened image) zero_counts refl refl refl sound begins_a begins_e counted n ir.calls s.world s.is in
+        let y = onward setup p of cap most At_a At_e code_a code_e positive covers ir.main w (opened image) zero_counts refl refl refl sound begins_a begins_e (opened_counted image) n ir.calls s.world s.is in
         record { state = y.state; picks = y.picks; order = y.order; long = y.long; short = subst (λ (k : ℕ). length y.picks ≤ most * (8 * k + 26)) s.items y.short; printed = y.printed' ∙ s.printed }
 
     pub does_form : DoesForm ir image most

@@ -3,12 +3,9 @@ use Rattle.std.proofs.Common.{◌≡◌, ℕ, ◌+◌, Bool, true, false, ◌||�
 use Rattle.std.proofs.Math.Path.{fun_ext}
 use Rattle.std.specs.Prelude.{nat_eq}
 use Rattle.std.proofs.lemmas.Bool.Decides.{nat_tests}
+use Rattle.dae_base.proofs.Laws.{or_nothing}
 use Rattle.dae_ir.specs.Classes.{VariableSet}
 use Rattle.dae_select_walks.specs.Live.{with_all, only, parameters_of}
-
-or_false : (b : Bool) → b || false ≡ b
-or_false true = refl
-or_false false = refl
 
 or_swap : (a b : Bool) → a || b ≡ b || a
 or_swap true true = refl
@@ -17,7 +14,7 @@ or_swap false true = refl
 or_swap false false = refl
 
 pub with_none : (m : VariableSet) → m ≡ with_all m (λ u. false)
-with_none m = fun_ext (λ u. sym (or_false (m u)))
+with_none m = fun_ext (λ u. sym (or_nothing (m u)))
 
 pub with_one : (v : ℕ) (m : VariableSet) → with_all (only v) m ≡ with_all m (λ u. nat_eq u v)
 with_one v m = fun_ext (λ u. or_swap (nat_eq u v) (m u))
@@ -26,7 +23,7 @@ no_parameters : (u : ℕ) → parameters_of 0 u ≡ false
 no_parameters u = grind (arith, nat_tests)
 
 pub before_parameters : (m : VariableSet) → m ≡ with_all m (parameters_of 0)
-before_parameters m = fun_ext (λ u. sym (ap (λ (b : Bool). m u || b) (no_parameters u) ∙ or_false (m u)))
+before_parameters m = fun_ext (λ u. sym (ap (λ (b : Bool). m u || b) (no_parameters u) ∙ or_nothing (m u)))
 
 or_in : (a b c d : Bool) → a || c ≡ d → a || (b || c) ≡ b || d
 or_in true true c d e = refl

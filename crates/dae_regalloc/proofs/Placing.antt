@@ -3,6 +3,7 @@ use Rattle.std.proofs.Common.{◌≡◌, ℕ, ◌-◌, ◌+◌, ◌<◌, ◌≤�
 use Rattle.std.proofs.lemmas.List.{append-nil, drop_all}
 use Rattle.std.specs.Prelude.{Vec}
 use Rattle.std.specs.declared.alloc.Global.{Global}
+use Rattle.dae_base.proofs.Laws.{drop_at}
 use Rattle.dae_ir.specs.Code.{Do, If, Loop}
 use Rattle.dae_ir.specs.Classes.{VariableSet}
 use Rattle.dae_ir.specs.Streams.{Actions, actions_of, step_onto}
@@ -14,7 +15,7 @@ use Rattle.dae_ir.specs.declared.stream.Step.TheVariants as step
 use Rattle.dae_select_walks.specs.Live.{Ways, ways, live, lives, before, sets, decided, with_all, turn, body_ways, step_ways, none, nowhere, parameters_of, function_lives}
 use Rattle.dae_select_walks.proofs.LawsOfWalks.{turn_again}
 use Rattle.dae_select_live.specs.Members.{member}
-use Rattle.dae_select_live.proofs.Laws.{onto_if, onto_loop, drop_at}
+use Rattle.dae_select_live.proofs.Laws.{onto_if, onto_loop}
 use Rattle.dae_regalloc.specs.declared.spans.Spans.{Spans}
 use Rattle.dae_regalloc.specs.Seen.{AreSeen, ArePlacesOf, ArePlacesOfStep}
 

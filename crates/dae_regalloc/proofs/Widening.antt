@@ -4,6 +4,7 @@ use Rattle.std.specs.Prelude.{nat_eq, slice_get, slice_set, if◌then◌else◌}
 use Rattle.std.specs.List.{AllByRecursion}
 use Rattle.std.proofs.lemmas.Bool.Decides.{nat_tests}
 use Rattle.std.proofs.lemmas.Option.{same_Some, slice_get_within}
+use Rattle.dae_base.proofs.Laws.{or_true}
 use Rattle.dae_ir.specs.Classes.{VariableSet}
 use Rattle.dae_select_live.specs.Members.{member}
 use Rattle.dae_select_live.proofs.Laws.{member_more}
@@ -228,10 +229,6 @@ taken_either vs i u lt e = by (member (take i vs) u) (nat_eq u (get_or vs i 0)) 
     by true b t h g = inl t
     by false true t h g = inr (grind (arith, nat_tests))
     by false false t h g = absurd cc
-
-or_true : (b : Bool) → b || true ≡ true
-or_true true = refl
-or_true false = refl
 
 pub taken_kept : (vs : List ℕ) (i u : ℕ) → i < length vs → member (take i vs) u ≡ true → member (take (i + 1) vs) u ≡ true
 taken_kept vs i u lt e = member_more vs i u lt ∙ ap (λ (b : Bool). b || nat_eq u (get_or vs i 0)) e

@@ -3,6 +3,7 @@ use Rattle.std.proofs.Common.{◌≡◌, ℕ, ◌+◌, ◌-◌, ◌*◌, ◌^◌
 use Rattle.std.specs.Prelude.{Option, Some, None, Vec, nat_eq, nat_lt, if◌then◌else◌, ◌&&◌}
 use Rattle.std.specs.declared.alloc.Global.{Global}
 use Rattle.std.proofs.lemmas.Bool.Decides.{nat_tests}
+use Rattle.dae_base.proofs.Laws.{drop_at, and_false}
 use Rattle.dae_ir.specs.Code.{Done, If, Loop}
 use Rattle.dae_ir.specs.Streams.{Actions, actions_of, step_onto}
 use Rattle.dae_ir.specs.declared.stream.Mark.{Mark}
@@ -10,7 +11,7 @@ use Rattle.dae_ir.specs.declared.stream.Action.{Action}
 use Rattle.dae_ir.specs.declared.stream.Branch.{Branch}
 use Rattle.dae_ir.specs.declared.stream.Step.{Step, Act, If', Loop'}
 use Rattle.dae_ir.specs.declared.stream.Step.TheVariants as step
-use Rattle.dae_select_live.proofs.Laws.{onto_if, onto_loop, drop_at}
+use Rattle.dae_select_live.proofs.Laws.{onto_if, onto_loop}
 use Rattle.dae_select_walks.specs.Compiled.{is_told}
 use Rattle.dae_select_blocks.specs.Code.{does_nothing, is_break, only_breaks, leaves_first}
 use Rattle.dae_select_blocks.specs.Sizes.{most_words_in}
@@ -78,19 +79,15 @@ empty_does_nothing (Act m x ∷ steps) = some_step (Act m x) steps
 empty_does_nothing (If' m b s p t q ∷ steps) = some_step (If' m b s p t q) steps
 empty_does_nothing (Loop' m s p t q ∷ steps) = some_step (Loop' m s p t q) steps
 
-and_no : (b : Bool) → (b && false) ≡ false
-and_no true = refl
-and_no false = refl
-
 -- a list that only breaks has one step
 pub only_one : (steps : List Step) → nat_eq (length steps) 1 ≡ false → only_breaks (actions_of steps) ≡ false
 only_one [] e = refl
 only_one (s ∷ t ∷ steps) e = two s t (actions_of steps)
   where
     two : (s t : Step) (k : Actions) → only_breaks (step_onto s (step_onto t k)) ≡ false
-    two (Act m a) (Act m' b) k = and_no (is_break a)
-    two (Act m a) (If' m' b i p j q) k = and_no (is_break a)
-    two (Act m a) (Loop' m' i p j q) k = and_no (is_break a)
+    two (Act m a) (Act m' b) k = and_false (is_break a)
+    two (Act m a) (If' m' b i p j q) k = and_false (is_break a)
+    two (Act m a) (Loop' m' i p j q) k = and_false (is_break a)
     two (If' m b i p j q) t k = refl
     two (Loop' m i p j q) t k = refl
 only_one (s ∷ []) e = absurd cc

@@ -9,14 +9,9 @@ use Rattle.dae_select_walks.specs.Agrees.{Plan}
 use Rattle.dae_select_walks.specs.Live.{none, with_all}
 use Rattle.dae_select_walks.specs.declared.Home.{Home}
 use Rattle.dae_select_live.specs.Members.{member}
-use Rattle.dae_select_live.proofs.Laws.{member_more}
+use Rattle.dae_select_live.proofs.Laws.{member_more, drop_get}
 use Rattle.dae_select_blocks.specs.Blocks.{is_register, argument_code, arguments_code}
 use Rattle.dae_select_blocks.specs.Code.{some_below}
-
-pub drop_get : {X : Type 0} (list : List X) (i : ℕ) (other : X) → i < length list → drop i list ≡ get_or list i other ∷ drop (suc i) list
-drop_get [] i other lt = absurd (omega arith)
-drop_get (x ∷ list) zero other lt = refl
-drop_get (x ∷ list) (suc i) other lt = drop_get list i other (omega arith)
 
 -- from the place before j on
 pub drop_before : {X : Type 0} (list : List X) (j : ℕ) (other : X) → 0 < j → j ≤ length list → drop (j - 1) list ≡ get_or list (j - 1) other ∷ drop j list

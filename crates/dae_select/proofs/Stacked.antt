@@ -17,7 +17,7 @@ use Rattle.dae_select_walks.specs.declared.Standing.{Standing}
 use Rattle.dae_select_walks.specs.declared.Standing.TheVariants.{Settled}
 use Rattle.dae_select_walks.specs.Live.{Ways, ways, live, before, decided, with_all, turn, body_ways, step_ways, none, nowhere}
 use Rattle.dae_select_live.specs.Members.{member}
-use Rattle.dae_select_live.proofs.Laws.{onto_if, onto_loop, drop_at}
+use Rattle.dae_select_live.proofs.Laws.{onto_if, onto_loop}
 use Rattle.dae_select_blocks.proofs.LawsOfBlocks.{by_pairs}
 use Rattle.dae_select_blocks.specs.Blocks.{jump_over, jump_back}
 use Rattle.dae_select_blocks.specs.Code.{standing_behind, if_settled, pair_standing, block_code, branch_code, back_branch, leaves_first, is_near, has_bottom, does_nothing, past_code}
@@ -29,6 +29,7 @@ use Rattle.dae_select.proofs.InFront.{front_of_none, front_assoc, nothing_marked
 use Rattle.dae_select.proofs.Counted.{onto_words}
 use Rattle.dae_select_blocks.specs.Sizes.{most_words_in}
 use Rattle.std.proofs.lemmas.Bool.Decides.{nat_tests}
+use Rattle.dae_base.proofs.Laws.{drop_at}
 use Rattle.dae_select.specs.declared.making.Exits.{Exits}
 
 module _ (short : Bool) (plan : Plan) (variables : ℕ → ℕ) (f : ℕ) where

@@ -5,6 +5,7 @@ use Rattle.std.proofs.lemmas.List.{get_or-replicate}
 use Rattle.std.proofs.Math.ListN.{length-replicate}
 use Rattle.dae_base.specs.Words.{plus, word, loaded}
 use Rattle.dae_base.specs.declared.LoadKind.TheVariants.{I32}
+use Rattle.dae_base.proofs.Laws.{choice_small}
 use Rattle.dae_encode.specs.declared.Inst.{Inst}
 use Rattle.dae_encode.specs.declared.Inst.TheVariants.{Addi}
 use Rattle.dae_encode.specs.Processor.{Processor}
@@ -27,8 +28,8 @@ use Rattle.dae_select_blocks.proofs.Plain.{computes, stores_word}
 use Rattle.dae_select_blocks.proofs.Frames.{runs_number}
 use Rattle.dae_select_blocks.proofs.Runs.{Runs, runs_nothing, runs_quiet, code_take, code_drop}
 use Rattle.dae_select_blocks.proofs.Operands.{like_put}
-use Rattle.dae_select_blocks.proofs.Calls.{register_kept, runs_restore}
-use Rattle.dae_select_blocks.proofs.Entering.{jumps_in, among_not}
+use Rattle.dae_select_blocks.proofs.Calls.{register_kept, runs_restore, among_not}
+use Rattle.dae_select_blocks.proofs.Entering.{jumps_in}
 
 abbrev pub nothing : Contents
 nothing = record { register = λ r. 0; word = λ i. 0 }
@@ -109,17 +110,17 @@ module _ (s : Setting) (plan : Plan) (variables : ℕ → ℕ) (fine : Fits s pl
       let rs : List ℕ = registers_in (plan.home main) (variables main) (entries main) in
       let run : Runs s plan.private to (entry_code plan variables main (entries main)) c1 (Went (λ _. 0)) =
       runs_quiet s plan.private to (stores_word s plan.private to 2 1 (pos 0) 0 (omega arith) (omega arith) found (omega arith)) (
-      let last : Runs s plan.private to (restore_code rs ++ []) c2 (Went (λ _. 0)) = runs_restore s plan variables fine to 0 rs [] (λ q e. register_kept (plan.home main) (variables main) q (entries main) e) b.two (omega arith) l2.fits (λ i. either (nat_eq i 0) (4 * (0 + length (before_main first) + 2)) (b.contents.word i) (omega arith) (b.shows.holds i)) (λ c3 restored.
+      let last : Runs s plan.private to (restore_code rs ++ []) c2 (Went (λ _. 0)) = runs_restore s plan variables fine to 0 rs [] (λ q e. register_kept (plan.home main) (variables main) q (entries main) e) b.two (omega arith) l2.fits (λ i. choice_small (nat_eq i 0) (4 * (0 + length (before_main first) + 2)) (b.contents.word i) (omega arith) (b.shows.holds i)) (λ c3 restored.
       runs_nothing s plan.private to (λ k o shows. record {
         contents = c3;
         shows = shows;
         agrees = record {
           base = 0;
           variables = (λ u e. absurd (contradicts u e));
-          pointer = restored.others 2 (among_not s plan variables fine entries linked (plan.home main) (variables main) 2 (entries main) refl) ∙ b.two;
-          frame = restored.others 3 (among_not s plan variables fine entries linked (plan.home main) (variables main) 3 (entries main) refl) ∙ b.three;
-          depth = (λ e. restored.others 10 (among_not s plan variables fine entries linked (plan.home main) (variables main) 10 (entries main) refl) ∙ b.ten e);
-          addresses = (λ e. restored.others 4 (among_not s plan variables fine entries linked (plan.home main) (variables main) 4 (entries main) refl) ∙ b.four e);
+          pointer = restored.others 2 (among_not (plan.home main) (variables main) 2 (entries main) refl) ∙ b.two;
+          frame = restored.others 3 (among_not (plan.home main) (variables main) 3 (entries main) refl) ∙ b.three;
+          depth = (λ e. restored.others 10 (among_not (plan.home main) (variables main) 10 (entries main) refl) ∙ b.ten e);
+          addresses = (λ e. restored.others 4 (among_not (plan.home main) (variables main) 4 (entries main) refl) ∙ b.four e);
           waiting = (refl, (omega arith), restored.words 0 ∙ ap (λ n. 4 * n) back);
           room = (let same : plan.limit + 1 - 1 ≡ plan.limit = omega arith in rw same (omega arith));
           within = record { depth = deep; frame = fits };
@@ -132,10 +133,6 @@ module _ (s : Setting) (plan : Plan) (variables : ℕ → ℕ) (fine : Fits s pl
       least : (n k : ℕ) → 0 < n → k ≤ n * k
       least zero k h = absurd (omega arith)
       least (suc n) k h = omega arith
-
-      either : (t : Bool) (x y : ℕ) → x < 2 ^ 32 → y < 2 ^ 32 → (if t then x else y) < 2 ^ 32
-      either true x y a b = a
-      either false x y a b = b
 
       contradicts : (u : ℕ) → entries main u ≡ true → ⊥
       contradicts u e = let no' = reads u in absurd cc

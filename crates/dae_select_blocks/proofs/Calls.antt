@@ -77,6 +77,13 @@ pub register_kept : (home : ℕ → Home) (n r : ℕ) (live : VariableSet) → a
 unfolding registers_in
 register_kept home n r live h = only_registers r (filtered_among (λ r. some_below n (λ v. live v && is_register r (home v))) r home_registers h)
 
+pub among_not : (home : ℕ → Home) (n r : ℕ) (live : VariableSet) → is_home_register r ≡ false → among r (registers_in home n live) ≡ false
+among_not home n r live h = by (among r (registers_in home n live)) refl
+  where
+    by : (b : Bool) → among r (registers_in home n live) ≡ b → b ≡ false
+    by true e = (let good = register_kept home n r live e in absurd cc)
+    by false e = refl
+
 kept_apart : (q r : ℕ) → is_home_register q ≡ true → is_home_register r ≡ true → q ≢ r → kept_at q ≢ kept_at r
 kept_apart q r a b ne e = grind (arith, nat_tests)
 

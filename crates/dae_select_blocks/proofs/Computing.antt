@@ -11,6 +11,7 @@ use Rattle.dae_encode.specs.declared.Inst.{Inst}
 use Rattle.dae_encode.specs.declared.Inst.TheVariants.{Addi, Add, Sub, Slt, Sltu, Slti, Sltiu, Xori, Andi, Slli, Srli, Srai}
 use Rattle.dae_encode.specs.Instructions.{flag, shift_left, shift_right, shift_signed}
 use Rattle.dae_encode.specs.Processor.{Processor}
+use Rattle.dae_encode.proofs.Laws.{flag_small}
 use Rattle.dae_ir.specs.Classes.{VariableSet}
 use Rattle.dae_meaning.specs.Variables.{Env}
 use Rattle.dae_ir.specs.Form.{value, computed}
@@ -40,10 +41,6 @@ use Rattle.dae_select_blocks.proofs.Runs.{Runs, runs_quiet}
 use Rattle.dae_select_blocks.proofs.Agreement.{Ready, IsScratch, Like, ready_like, home_register}
 use Rattle.dae_select_blocks.proofs.Operands.{IsWork, like_put, like_itself, home_plain, runs_fetch, runs_move}
 use Rattle.dae_select_blocks.proofs.Values.{operation_is, operation_fits, DoesWith, immediate_does, exchanged_does, equal_flag, equal_left, different_flag, opposite_flag, low_byte, low_half, signed_byte, signed_half}
-
-pub flag_small : (b : Bool) → flag b < 2 ^ 32
-flag_small true = omega arith
-flag_small false = omega arith
 
 flag_differs : (b : Bool) → compared NotEqual (flag b) 0 ≡ b
 unfolding compared

@@ -6,7 +6,7 @@ use Rattle.dae_base.specs.Words.{plus, minus, word, signed, extended}
 use Rattle.dae_base.specs.declared.LoadKind.{LoadKind}
 use Rattle.dae_base.specs.declared.LoadKind.TheVariants.{I8, U8, I16, U16, I32}
 use Rattle.dae_base.specs.declared.Queue.{Queue}
-use Rattle.dae_base.proofs.Laws.{plus_small}
+use Rattle.dae_base.proofs.Laws.{plus_small, or_true}
 use Rattle.dae_encode.specs.declared.QueueUse.TheVariants.{Take as Takes}
 use Rattle.dae_encode.specs.declared.Form.TheVariants.{Computes}
 use Rattle.dae_encode.specs.declared.Inst.{Inst}
@@ -14,6 +14,7 @@ use Rattle.dae_encode.specs.declared.Inst.TheVariants.{Addi, Sub, Slt, Sltu, Slt
 use Rattle.dae_encode.specs.Instructions.{effect, on_two, flag, shift_left, shift_right, shift_signed}
 use Rattle.dae_encode.specs.Uses.{queue_use}
 use Rattle.dae_encode.specs.Processor.{Processor}
+use Rattle.dae_encode.proofs.Laws.{flag_small}
 use Rattle.dae_ir.specs.Classes.{VariableSet}
 use Rattle.dae_ir.specs.Deeds.{Deed, Went, Take}
 use Rattle.dae_ir.specs.Form.{value, computed}
@@ -45,7 +46,7 @@ use Rattle.dae_select_blocks.proofs.Runs.{Runs, runs_nothing, runs_quiet, runs_t
 use Rattle.dae_select_blocks.proofs.Agreement.{Ready, ready_like, ready_gets}
 use Rattle.dae_select_blocks.proofs.Operands.{like_put, runs_fetch, runs_keep}
 use Rattle.dae_select_blocks.proofs.Values.{operation_is, operation_fits, DoesWith, immediate_does, exchanged_does, equal_flag, different_flag, opposite_flag, low_byte, low_half, signed_byte, signed_half}
-use Rattle.dae_select_blocks.proofs.Computing.{plus_zero, is_scratch, is_work, flag_small, extended_fits, register_plain, source_plain}
+use Rattle.dae_select_blocks.proofs.Computing.{plus_zero, is_scratch, is_work, extended_fits, register_plain, source_plain}
 
 left_one : (b : Bool) → either_one b false ≡ true → b ≡ true
 left_one true e = refl
@@ -368,17 +369,9 @@ module _ (s : Setting) (plan : Plan) (variables : ℕ → ℕ) (fine : Fits s pl
       rw f (left_splits (extend_code kind t q) t 0 (λ a b. extended kind a) is (extend_splits s plan variables fine to kind t q low) (omega arith) h (λ w small. extended_fits kind w small) on)
   early_value v t (Extended kind (Number n)) is once low h reads numbers run = absurd (let bad : false ≡ true = once in cc)
   early_value v t (Binary o x y) is once low h reads numbers run =
-      early_binary v t o x y is once low h (λ u e ne. reads u (rw e refl) ne) (λ u e ne. reads u (rw e (either (in_operand x u))) ne) numbers.0 numbers.1 run
-    where
-      either : (b : Bool) → (b || true) ≡ true
-      either true = refl
-      either false = refl
+      early_binary v t o x y is once low h (λ u e ne. reads u (rw e refl) ne) (λ u e ne. reads u (rw e (or_true (in_operand x u))) ne) numbers.0 numbers.1 run
   early_value v t (Holds test) is once low h reads numbers run =
-      early_test v t test.comparison test.left test.right is once low h (λ u e ne. reads u (rw e refl) ne) (λ u e ne. reads u (rw e (either' (in_operand test.left u))) ne) numbers.0 numbers.1 run
-    where
-      either' : (b : Bool) → (b || true) ≡ true
-      either' true = refl
-      either' false = refl
+      early_test v t test.comparison test.left test.right is once low h (λ u e ne. reads u (rw e refl) ne) (λ u e ne. reads u (rw e (or_true (in_operand test.left u))) ne) numbers.0 numbers.1 run
   early_value v t (FrameAddress offset) is once low h reads numbers run = absurd (let bad : false ≡ true = once in cc)
 
 module _ (s : Setting) (plan : Plan) (variables : ℕ → ℕ) (fine : Fits s plan variables) (live live' : VariableSet) (m : Moment) (v d : ℕ) (y : Value) where

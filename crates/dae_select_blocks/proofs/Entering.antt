@@ -1,9 +1,9 @@
 -- A call's walk: from its block over the jump and the entry code to where the called function's actions begin.
-use Rattle.std.proofs.Common.{◌≡◌, ◌≢◌, ℕ, zero, suc, ◌+◌, ◌-◌, ◌*◌, ◌/◌, ◌^◌, ◌<◌, ◌≤◌, inl, inr, Bool, true, false, not, ◌&&◌, List, [], ◌++◌, Option, length, refl, sym, ap, ◌∙◌, subst, arith, append-nil}
-use Rattle.std.specs.Prelude.{nat_eq, if◌then◌else◌, pos}
+use Rattle.std.proofs.Common.{◌≡◌, ◌≢◌, ℕ, zero, suc, ◌+◌, ◌-◌, ◌*◌, ◌/◌, ◌^◌, ◌<◌, ◌≤◌, inl, inr, true, not, ◌&&◌, List, [], ◌++◌, Option, length, refl, sym, ap, ◌∙◌, subst, arith, append-nil}
+use Rattle.std.specs.Prelude.{nat_eq, pos}
 use Rattle.std.proofs.lemmas.Bool.Decides.{nat_tests}
 use Rattle.dae_base.specs.Words.{plus, word}
-use Rattle.dae_base.proofs.Laws.{plus_small}
+use Rattle.dae_base.proofs.Laws.{plus_small, choice_small}
 use Rattle.dae_encode.specs.declared.QueueUse.TheVariants.{Nothing}
 use Rattle.dae_encode.specs.declared.Inst.TheVariants.{Lui, Jalr}
 use Rattle.dae_encode.specs.Processor.{Processor}
@@ -31,7 +31,7 @@ use Rattle.dae_select_blocks.proofs.Frames.{upper_small}
 use Rattle.dae_select_blocks.proofs.Runs.{Runs, runs_nothing, runs_quiet}
 use Rattle.dae_select_blocks.proofs.Agreement.{Ready, kept_small, waiting_same}
 use Rattle.dae_select_blocks.proofs.Operands.{like_put}
-use Rattle.dae_select_blocks.proofs.Calls.{kept_low, among, kept_register, register_kept, Saved, runs_arguments, runs_save, runs_restore}
+use Rattle.dae_select_blocks.proofs.Calls.{kept_low, among, kept_register, register_kept, Saved, runs_arguments, runs_save, runs_restore, among_not}
 use Rattle.dae_select_blocks.proofs.Deeper.{runs_deeper}
 use Rattle.dae_select_blocks.proofs.Jumps.{ready}
 
@@ -106,13 +106,6 @@ module _ (s : Setting) (plan : Plan) (variables : ℕ → ℕ) (fine : Fits s pl
 
   -- ---- the jump, and the entry code
 
-  pub among_not : (home : ℕ → Home) (n r : ℕ) (live : VariableSet) → is_home_register r ≡ false → among r (registers_in home n live) ≡ false
-  among_not home n r live h = by (among r (registers_in home n live)) refl
-    where
-      by : (b : Bool) → among r (registers_in home n live) ≡ b → b ≡ false
-      by true e = (let good = register_kept home n r live e in absurd cc)
-      by false e = refl
-
   pub jumps_in : {c : Contents} {k : ℕ} {p : Processor} (target : ℕ) → k + 2 < 2 ^ 29 → target < 2 ^ 29 → CodeAt s.code k (enter_code target) → Shows plan.private c k p → Comes s 2 p (λ q. (u : ℕ) × (u < 2 ^ 32) × Shows plan.private (put 1 (4 * (k + 2)) (put 5 u c)) target q)
   jumps_in {c} {k} target small near at h =
       let u : ℕ = word (upper (4 * target)) in
@@ -122,10 +115,6 @@ module _ (s : Setting) (plan : Plan) (variables : ℕ → ℕ) (fine : Fits s pl
       let second = step s plan.private (Jalr 1 5 (lower (4 * target))) 1 5 0 0 target at.3.0 (λ pc x y. plus pc 4) (λ pc x y. plus x (word (lower (4 * target))) / 2 * 2) Nothing first.holds at.3.1 at.3.2 refl (plain_computes s.copies s.side 1 5 0 (omega arith) (omega arith) (omega arith)) (plus_small (4 * (k + 1)) 4) lands in
       let back : plus (4 * (k + 1)) 4 ≡ 4 * (k + 2) = omega arith in
       comes_more s first.goes (comes_more s second.goes (comes_here s {n = 0} (u, upper_small (4 * target), rw back at second.holds)))
-
-  either : (t : Bool) (x y : ℕ) → x < 2 ^ 32 → y < 2 ^ 32 → (if t then x else y) < 2 ^ 32
-  either true x y a b = a
-  either false x y a b = b
 
   step_down : (n k : ℕ) → 0 < n → n * k ≡ k + (n - 1) * k
   step_down zero k h = absurd (omega arith)
@@ -214,7 +203,7 @@ module _ (s : Setting) (plan : Plan) (variables : ℕ → ℕ) (fine : Fits s pl
       let good : (r : ℕ) → among r rs ≡ true → is_home_register r ≡ true = λ r e. register_kept (plan.home g) (variables g) r (entries g) e in
       let run : Runs s plan.private to (entry_code plan variables g (entries g)) c1 (Went m.env) =
       runs_quiet s plan.private to (stores_word s plan.private to 2 1 (pos 0) b (omega arith) (omega arith) found (omega arith)) (
-      let last : Runs s plan.private to (restore_code rs ++ []) c2 (Went m.env) = runs_restore s plan variables fine to b rs [] good q.two (omega arith) l2.fits (λ i. either (nat_eq i b) (4 * (k + 2)) (q.contents.word i) (omega arith) (q.shows.holds i)) (λ c3 restored.
+      let last : Runs s plan.private to (restore_code rs ++ []) c2 (Went m.env) = runs_restore s plan variables fine to b rs [] good q.two (omega arith) l2.fits (λ i. choice_small (nat_eq i b) (4 * (k + 2)) (q.contents.word i) (omega arith) (q.shows.holds i)) (λ c3 restored.
       runs_nothing s plan.private to {env = m.env} (λ word o shows. record {
         contents = c3;
         shows = shows;

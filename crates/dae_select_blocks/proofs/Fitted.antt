@@ -39,7 +39,7 @@ use Rattle.dae_select_blocks.proofs.Lengths.{before_short}
 abbrev AreRegisters : List ℕ → Type 0
 AreRegisters rs = AllByRecursion (λ (r : ℕ). r < 32) rs
 
-filtered_registers : (f : ℕ → Bool) (rs : List ℕ) → AreRegisters rs → AreRegisters (filtered f rs)
+pub filtered_registers : (f : ℕ → Bool) (rs : List ℕ) → AreRegisters rs → AreRegisters (filtered f rs)
 filtered_registers f [] h = tt
 filtered_registers f (r ∷ rs) h = by (f r) (filtered_registers f rs h.1)
   where
@@ -47,7 +47,7 @@ filtered_registers f (r ∷ rs) h = by (f r) (filtered_registers f rs h.1)
     by true more = (h.0, more)
     by false more = more
 
-all_registers : AreRegisters home_registers
+pub all_registers : AreRegisters home_registers
 all_registers = (omega arith, (omega arith, (omega arith, (omega arith, (omega arith, (omega arith, (omega arith, (omega arith, (omega arith, (omega arith, (omega arith, (omega arith, (omega arith, (omega arith, (omega arith, (omega arith, (omega arith, (omega arith, tt))))))))))))))))))
 
 live_registers : (plan : Plan) (n f : ℕ) (live : VariableSet) → AreRegisters (registers_in (plan.home f) n live)

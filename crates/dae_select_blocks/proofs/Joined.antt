@@ -1,9 +1,10 @@
 -- The blocks of calls and returns do them, where they stand.
 use Rattle.std.proofs.Common.{◌≡◌, ◌≢◌, ℕ, ◌+◌, ◌*◌, ◌^◌, ◌<◌, ◌≤◌, Bool, true, false, not, ◌&&◌, ◌||◌, List, [], ◌++◌, Option, Some, None, length, refl, ap, ◌∙◌, subst, arith, append_assoc, length-append}
+use Rattle.std.proofs.lemmas.Bool.{or_right}
 use Rattle.std.specs.Prelude.{pos}
 use Rattle.dae_base.specs.Words.{plus, word}
 use Rattle.dae_base.specs.declared.Side.TheVariants.{E}
-use Rattle.dae_base.proofs.Laws.{plus_small}
+use Rattle.dae_base.proofs.Laws.{plus_small, or_true}
 use Rattle.dae_encode.specs.declared.Inst.{Inst}
 use Rattle.dae_encode.specs.declared.Inst.TheVariants.{Addi}
 use Rattle.dae_encode.specs.declared.Halt.TheVariants.{Status}
@@ -116,7 +117,7 @@ module _ (s : Setting) (plan : Plan) (variables : ℕ → ℕ) (fine : Fits s pl
       let jump = code_take s.code (here + length prep) (enter_code (plan.entry g)) rest second in
       let third = code_drop s.code (here + length prep) (enter_code (plan.entry g)) rest second in
       let scope : (u : ℕ) → live u ≡ true → u < variables f = λ u e. t.right.scope u (rw e refl) in
-      let keeps : (u : ℕ) → (k u && not (is v u)) ≡ true → live u ≡ true = λ u e. rw e (last (in_arguments xs u)) in (
+      let keeps : (u : ℕ) → (k u && not (is v u)) ≡ true → live u ≡ true = λ u e. rw e (or_true (in_arguments xs u)) in (
         back_of here f g xs v k,
         (λ m p h within.
             let h0 = ready s plan variables fine h.1 in
@@ -138,21 +139,13 @@ module _ (s : Setting) (plan : Plan) (variables : ℕ → ℕ) (fine : Fits s pl
             let third' : CodeAt s.code (back_of here f g xs v k) rest' = rw e third in
             let brief' : length rest' ≤ 3 * most = rw e brief in
             let end' : back_of here f g xs v k + length rest' ≡ next = rw e (omega arith) in
-            let apart : (u z : ℕ) → is v z ≡ true → k u ≡ true → u ≢ z → plan.home m.function u ≢ plan.home m.function z = rw e (λ u z sets' l ne. t.right.apart u z (rw l (open' (in_arguments xs u) (is v u))) (after' (before (Call v g xs) k (ways_of x) z) (is v z) sets') ne) in
-            let scope' : (u : ℕ) → k u ≡ true → is v u ≡ false → u < variables m.function = rw e (λ u l ne. scope u (rw (l, ne) (last (in_arguments xs u)))) in
+            let apart : (u z : ℕ) → is v z ≡ true → k u ≡ true → u ≢ z → plan.home m.function u ≢ plan.home m.function z = rw e (λ u z sets' l ne. t.right.apart u z (rw l (open' (in_arguments xs u) (is v u))) (or_right (before (Call v g xs) k (ways_of x) z) (is v z) sets') ne) in
+            let scope' : (u : ℕ) → k u ≡ true → is v u ≡ false → u < variables m.function = rw e (λ u l ne. scope u (rw (l, ne) (or_true (in_arguments xs u)))) in
             comes_map s (3 * most) brief' (λ q z. (e, subst (λ (j : ℕ). Stands plan k (with_env (with_result v result m.env) m) j q) end' z))
             (resumes s plan variables fine v k (back_of here f g xs v k) result within answered scope' apart l (rw end' (omega arith)) third')),
       )
     where
-      after' : (b c : Bool) → c ≡ true → (b || c) ≡ true
-      after' true c e = refl
-      after' false c e = e
-
       open' : (b c : Bool) → ((b || (true && not c)) || c) ≡ true
       open' true c = refl
       open' false true = refl
       open' false false = refl
-
-      last : (b : Bool) → (b || true) ≡ true
-      last true = refl
-      last false = refl

@@ -14,6 +14,7 @@ use Rattle.dae_encode.specs.Instructions.{flag, effect, branch}
 use Rattle.dae_encode.specs.Spelling.{decode}
 use Rattle.dae_encode.specs.Uses.{queue_use}
 use Rattle.dae_encode.specs.Processor.{Processor}
+use Rattle.dae_encode.proofs.Laws.{flag_small}
 use Rattle.dae_ir.specs.Classes.{VariableSet}
 use Rattle.dae_meaning.specs.Variables.{Env}
 use Rattle.dae_meaning.specs.Operations.{compared}
@@ -41,7 +42,7 @@ use Rattle.dae_select_blocks.proofs.Plain.{plain_computes, plain_read, put_nowhe
 use Rattle.dae_select_blocks.proofs.Agreement.{Ready, ready_like}
 use Rattle.dae_select_blocks.proofs.Operands.{like_put}
 use Rattle.dae_select_blocks.specs.Wanted.{IsNumber}
-use Rattle.dae_select_blocks.proofs.Computing.{is_scratch, source_plain, runs_two, immediate_is, runs_compare_operands, runs_told_number, flag_small}
+use Rattle.dae_select_blocks.proofs.Computing.{is_scratch, source_plain, runs_two, immediate_is, runs_compare_operands, runs_told_number}
 use Rattle.dae_select_blocks.proofs.Uses.{pushes_flag, hears_message}
 
 -- whether a branch goes ahead, which does so where its condition holds, or where it doesn't

@@ -33,7 +33,7 @@ use Rattle.dae_select_blocks.proofs.Agreement.{Ready, IsScratch, ready_like, fra
 use Rattle.dae_select_blocks.proofs.Operands.{like_put, runs_move}
 use Rattle.dae_select_blocks.proofs.Computing.{plus_zero, is_scratch, register_plain}
 use Rattle.dae_select_blocks.proofs.Actions.{To, ends, ready_stays, kept as goes_home}
-use Rattle.dae_select_blocks.proofs.Calls.{among, kept_register, register_kept, Restored, runs_restore, base_is}
+use Rattle.dae_select_blocks.proofs.Calls.{kept_register, register_kept, Restored, runs_restore, base_is, among_not}
 use Rattle.dae_select_blocks.proofs.Deeper.{Moved, runs_back}
 use Rattle.dae_select_blocks.proofs.Jumps.{ready}
 
@@ -113,13 +113,6 @@ module _ (s : Setting) (plan : Plan) (variables : ℕ → ℕ) (fine : Fits s pl
       (leaves y w.back h wanted reads waits.5 waits.6 small at)
 
   -- ---- the rest of the call's block
-
-  among_not : (home : ℕ → Home) (n r : ℕ) (live : VariableSet) → is_home_register r ≡ false → among r (registers_in home n live) ≡ false
-  among_not home n r live h = by (among r (registers_in home n live)) refl
-    where
-      by : (b : Bool) → among r (registers_in home n live) ≡ b → b ≡ false
-      by true e = (let good = register_kept home n r live e in absurd cc)
-      by false e = refl
 
   -- the caller's frames are back, and what it kept is in its registers
   back_again : (m : Moment) (w : Waiting) (base below : ℕ) (c c1 c2 : Contents) → w.function ≡ m.function → w.env ≡ m.env → w.frame ≡ m.frame → IsWithin plan m → ((u : ℕ) → w.live u ≡ true → u < variables m.function) →

@@ -1,9 +1,9 @@
 -- A value goes into a queue by the instruction that computes it: the target of that is the register that stands for the queue.
-use Rattle.std.proofs.Common.{◌≡◌, ℕ, ◌+◌, ◌^◌, ◌<◌, Bool, true, false, ◌&&◌, ◌||◌, [], ◌∷◌, ◌++◌, Option, Some, None, refl, arith, append-nil}
+use Rattle.std.proofs.Common.{◌≡◌, ℕ, ◌+◌, ◌^◌, ◌<◌, Bool, true, false, ◌&&◌, [], ◌∷◌, ◌++◌, Option, Some, None, refl, arith, append-nil}
 use Rattle.std.specs.Prelude.{nat_lt, if◌then◌else◌}
 use Rattle.dae_base.specs.Words.{plus, word}
 use Rattle.dae_base.specs.declared.Queue.{Queue}
-use Rattle.dae_base.proofs.Laws.{plus_small}
+use Rattle.dae_base.proofs.Laws.{plus_small, or_true}
 use Rattle.dae_encode.specs.declared.QueueUse.TheVariants.{Push as Pushes}
 use Rattle.dae_encode.specs.declared.Form.TheVariants.{Computes}
 use Rattle.dae_encode.specs.declared.Inst.{Inst}
@@ -106,11 +106,7 @@ module _ (s : Setting) (plan : Plan) (variables : ℕ → ℕ) (fine : Fits s pl
       let run = runs_move s plan variables fine to {d = Push queue (value x m.env) d} q x [] h reads number (λ c1 r imm like plain same small.
       send_last (Addi q r imm) r 0 (λ x y. plus x (word imm)) (value x m.env) refl plain (omega arith) same small (ready_like s plan variables fine 5 (is_scratch plan 5 (omega arith) (omega arith)) like h) ends) in
       rw append-nil at run
-  send_value (Binary o x y) is h reads number ends = send_binary o x y h (λ u e. reads u (rw e refl)) (λ u e. reads u (rw e (either (in_operand x u)))) number.0 number.1 ends
-    where
-      either : (b : Bool) → (b || true) ≡ true
-      either true = refl
-      either false = refl
+  send_value (Binary o x y) is h reads number ends = send_binary o x y h (λ u e. reads u (rw e refl)) (λ u e. reads u (rw e (or_true (in_operand x u)))) number.0 number.1 ends
   send_value (FrameAddress offset) is h reads number ends = send_frame offset h number ends
   send_value (Extended kind x) is h reads number ends = absurd (let bad : false ≡ true = is in cc)
   send_value (Holds test) is h reads number ends = absurd (let bad : false ≡ true = is in cc)

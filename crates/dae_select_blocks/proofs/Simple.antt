@@ -2,6 +2,7 @@
 use Rattle.std.proofs.Common.{◌≡◌, ◌≢◌, ℕ, ◌+◌, ◌%◌, ◌^◌, ◌<◌, ◌≤◌, Bool, true, false, not, ◌&&◌, ◌||◌, List, [], Option, Some, None, length, refl, sym, ap, ◌∙◌, subst, arith}
 use Rattle.std.specs.Prelude.{nat_lt}
 use Rattle.std.proofs.lemmas.Bool.Decides.{nat_tests}
+use Rattle.std.proofs.lemmas.Bool.{or_right}
 use Rattle.dae_base.specs.declared.Side.TheVariants.{A, E}
 use Rattle.dae_base.specs.declared.Width.{Width}
 use Rattle.dae_encode.specs.declared.Inst.{Inst}
@@ -55,16 +56,12 @@ pub around : (home : ℕ → Home) (a : Action) (k : VariableSet) (x : Ways) →
 around home a k x goes_on apart = record {
   reads = λ u e. rw e refl;
   stays = λ u l e. (let same = goes_on u in rw (same, l, e) (either (reads a u)));
-  apart = λ u v e l ne. (let same = goes_on u in apart u v (rw (same, l) (kept (reads a u) (sets a u))) (last (before a k x v) (sets a v) e) ne);
+  apart = λ u v e l ne. (let same = goes_on u in apart u v (rw (same, l) (kept (reads a u) (sets a u))) (or_right (before a k x v) (sets a v) e) ne);
 }
   where
     either : (b : Bool) → (b || (true && true)) ≡ true
     either true = refl
     either false = refl
-
-    last : (b c : Bool) → c ≡ true → (b || c) ≡ true
-    last true c e = refl
-    last false c e = e
 
     kept : (b c : Bool) → ((b || (true && not c)) || c) ≡ true
     kept true c = refl

@@ -12,7 +12,7 @@ use Rattle.dae_encode.specs.Uses.{queue_use}
 use Rattle.dae_ir.specs.Programs.{side}
 use Rattle.dae_ir.specs.Deeds.{told_on, heard_on}
 
-low : (r : ℕ) → r < 28 → nat_le 28 r ≡ false
+pub low : (r : ℕ) → r < 28 → nat_le 28 r ≡ false
 low r h = grind (arith, nat_tests)
 
 pub takes_load : (copies : Bool) (t : ℕ) → t < 28 → queue_use copies E (Computes t 30 0) ≡ Some (Take Ld)

@@ -14,6 +14,7 @@ use Rattle.dae_ir.specs.Streams.{Actions}
 use Rattle.dae_ir.specs.Deeds.{deed, Push, Went, told_on}
 use Rattle.dae_ir.specs.declared.stream.Argument.{Argument}
 use Rattle.dae_base.specs.declared.Width.{Width}
+use Rattle.dae_base.proofs.Laws.{and_true}
 use Rattle.dae_ir.specs.declared.form.Operand.{Operand}
 use Rattle.dae_ir.specs.declared.form.Check.TheVariants.{Place}
 use Rattle.dae_ir.specs.declared.form.Operand.TheVariants.{Variable}
@@ -378,13 +379,9 @@ module _ (s : Setting) (plan : Plan) (variables : ℕ → ℕ) (fine : Fits s pl
     is_a_break Break e = refl
     is_a_break a e = absurd cc
 
-    both_true : (b c : Bool) → (b && c) ≡ true → (b ≡ true) × (c ≡ true)
-    both_true true c e = (refl, e)
-    both_true false c e = absurd cc
-
     breaks_done : (f : ℕ) (code : Actions) (x : Exits) (here : ℕ) → only_breaks code ≡ true → x.leaves.standing ≡ Settled → here ≡ x.leaves.word → Leads s plan program entries most widest f (exit x.next.word x.next.live) x.next → CodeDone s plan program entries most widest f unknown code (exit here (live code (ways_of x))) x
     breaks_done f (Do m a k) x here is settled there ends =
-        let two = both_true (is_break a) (does_nothing k) is in
+        let two = and_true (is_break a) (does_nothing k) is in
         let so = is_a_break a two.0 in
         subst (λ (a : Action). CodeDone s plan program entries most widest f unknown (Do m a k) (exit here (live (Do m a k) (ways_of x))) x) (sym so) (
           exit x.next.word (live k (ways_of x)),
@@ -401,8 +398,8 @@ module _ (s : Setting) (plan : Plan) (variables : ℕ → ℕ) (fine : Fits s pl
         CodeDone s plan program entries most widest f known (Loop mark (If m b p q t) step k) (exit here (live (Loop mark (If m b p q t) step k) (ways_of x))) x
     bottom_done f known mark m b p q t step k x leaves skips here is in_tail in_step in_rest settled wanted apart low near close put =
         let at = put.0 in let small = put.1 in let to_leave = put.2 in let to_skip = put.3 in let ends = put.4 in
-        let told = both_true (is_told b) (does_nothing p && only_breaks q) is in
-        let two = both_true (does_nothing p) (only_breaks q) told.1 in
+        let told = and_true (is_told b) (does_nothing p && only_breaks q) is in
+        let two = and_true (does_nothing p) (only_breaks q) told.1 in
         let body : Actions = If m b p q t in
         let after' : VariableSet = live k (ways_of x) in
         let begins : VariableSet = turn body step after' in
@@ -534,7 +531,7 @@ module _ (s : Setting) (plan : Plan) (variables : ℕ → ℕ) (fine : Fits s pl
         (bottom_code short (tail_of short plan variables f (If m b p q t) (body_ways (If m b p q t) step (live k (ways_of x)))) (code_of short plan variables f Settled unknown step (step_ways (If m b p q t) step (live k (ways_of x)))) (bottom_test (plan.home f) (If m b p q t)) (code_of short plan variables f Settled unknown k (ways_of x) leaves skips))
         (loop_code short (code_of short plan variables f Settled unknown (If m b p q t) (body_ways (If m b p q t) step (live k (ways_of x)))) (code_of short plan variables f Settled unknown step (step_ways (If m b p q t) step (live k (ways_of x))) (jump_words short) 0) (code_of short plan variables f Settled unknown k (ways_of x) leaves skips))
         f x leaves skips here _
-        (λ e. bottom_done f known mark m b p q t step k x leaves skips here (both_true (leaves_first (If m b p q t)) (is_near (If m b p q t) step) e).0 (λ x leaves skips here settled wanted apart at low small to_leave to_skip near close ends. code_done f Settled unknown t x leaves skips here tt tt settled wanted apart at low small to_leave to_skip near close ends) (λ x leaves skips here settled wanted apart at low small to_leave to_skip near close ends. code_done f Settled unknown step x leaves skips here tt tt settled wanted apart at low small to_leave to_skip near close ends) (λ x leaves skips here settled wanted apart at low small to_leave to_skip near close ends. code_done f Settled unknown k x leaves skips here tt tt settled wanted apart at low small to_leave to_skip near close ends) settled wanted apart low near close)
+        (λ e. bottom_done f known mark m b p q t step k x leaves skips here (and_true (leaves_first (If m b p q t)) (is_near (If m b p q t) step) e).0 (λ x leaves skips here settled wanted apart at low small to_leave to_skip near close ends. code_done f Settled unknown t x leaves skips here tt tt settled wanted apart at low small to_leave to_skip near close ends) (λ x leaves skips here settled wanted apart at low small to_leave to_skip near close ends. code_done f Settled unknown step x leaves skips here tt tt settled wanted apart at low small to_leave to_skip near close ends) (λ x leaves skips here settled wanted apart at low small to_leave to_skip near close ends. code_done f Settled unknown k x leaves skips here tt tt settled wanted apart at low small to_leave to_skip near close ends) settled wanted apart low near close)
         (λ e. top_done f known mark (If m b p q t) step k x leaves skips here (λ x leaves skips here settled wanted apart at low small to_leave to_skip near close ends. code_done f Settled unknown (If m b p q t) x leaves skips here tt tt settled wanted apart at low small to_leave to_skip near close ends) (λ x leaves skips here settled wanted apart at low small to_leave to_skip near close ends. code_done f Settled unknown step x leaves skips here tt tt settled wanted apart at low small to_leave to_skip near close ends) (λ x leaves skips here settled wanted apart at low small to_leave to_skip near close ends. code_done f Settled unknown k x leaves skips here tt tt settled wanted apart at low small to_leave to_skip near close ends) settled wanted apart low near close)
         (at, small, to_leave, to_skip, ends)
     code_done f (Early v y) known (Loop mark body step k) x leaves skips here suits numbers settled wanted apart at low small to_leave to_skip near close ends = absurd suits

@@ -1,5 +1,5 @@
 -- What is live before a step, from what is live before the lists in it.
-use Rattle.std.proofs.Common.{◌≡◌, ℕ, zero, ◌+◌, ◌-◌, ◌<◌, ◌≤◌, Bool, true, false, ◌||◌, List, ◌∷◌, length, take, drop, get_or, drop-cons, add-one, suc, refl, ap, sym, ◌∙◌, arith, []}
+use Rattle.std.proofs.Common.{◌≡◌, ℕ, zero, ◌+◌, ◌-◌, ◌<◌, ◌≤◌, Bool, true, false, ◌||◌, List, ◌∷◌, length, take, drop, get_or, add-one, suc, refl, ap, sym, ◌∙◌, arith, []}
 use Rattle.std.specs.Prelude.{Vec, nat_eq}
 use Rattle.std.specs.declared.alloc.Global.{Global}
 use Rattle.dae_ir.specs.Code.{Done, If, Loop}
@@ -12,7 +12,9 @@ use Rattle.dae_ir.specs.declared.stream.Step.{Step, If', Loop', Row_of-Step, end
 use Rattle.dae_ir.specs.declared.stream.Step.TheVariants as step
 use Rattle.dae_select_walks.specs.Live.{Ways, ways, live, before, none, with_all, decided}
 use Rattle.dae_select_live.specs.Members.{member}
+pub use Rattle.dae_select_live.proofs.Several.{drop_get}
 use mathlib.Core.Former.{Count}
+use Rattle.dae_base.proofs.Laws.{drop_at, or_along}
 
 -- ---- the lists inside a step
 
@@ -66,9 +68,6 @@ live_looped s m p q k n leaves skips next again set is e h g =
 
 -- ---- a list
 
-pub drop_at : {X : Type 0} (list : List X) (i : ℕ) (x : X) → i < length list → x ≡ get_or list i x → drop i list ≡ x ∷ drop (i + 1) list
-drop_at {X} list i x lt is = rw add-one (rw (drop-cons list i x) (ap (λ (y : X). y ∷ drop (suc i) list) (sym is)))
-
 -- so much is live before the steps from the j-th on
 abbrev pub LiveFrom : List Step → ℕ → Ways → VariableSet → Type 0
 LiveFrom steps j x set = live (actions_of (drop j steps)) x ≡ set
@@ -86,14 +85,10 @@ or_last : (b : Bool) → b || false ≡ false || b
 or_last true = refl
 or_last false = refl
 
-or_more : (a b c : Bool) → a || (b || c) ≡ (a || b) || c
-or_more true b c = refl
-or_more false b c = refl
-
 pub member_more : (vs : List ℕ) (i u : ℕ) → i < length vs → member (take (i + 1) vs) u ≡ member (take i vs) u || nat_eq u (get_or vs i 0)
 member_more vs i u lt = rw add-one (by vs i lt)
   where
     by : (vs : List ℕ) (i : ℕ) → i < length vs → member (take (suc i) vs) u ≡ member (take i vs) u || nat_eq u (get_or vs i 0)
     by [] i lt = absurd (omega arith)
     by (v ∷ vs) zero lt = or_last (nat_eq u v)
-    by (v ∷ vs) (suc i) lt = ap (λ (b : Bool). nat_eq u v || b) (by vs i (omega arith)) ∙ or_more (nat_eq u v) (member (take i vs) u) (nat_eq u (get_or vs i 0))
+    by (v ∷ vs) (suc i) lt = ap (λ (b : Bool). nat_eq u v || b) (by vs i (omega arith)) ∙ or_along (nat_eq u v) (member (take i vs) u) (nat_eq u (get_or vs i 0))

@@ -8,6 +8,7 @@ use Rattle.std.specs.Ordering.{nat_cmp}
 use Rattle.std.proofs.lemmas.Bool.Decides.{nat_tests}
 use Rattle.std.proofs.lemmas.List.Edits.{length-insert, get_or-insert_below, get_or-insert_at, get_or-insert_above, length-remove, get_or-remove_below, get_or-remove_above}
 use Rattle.std.proofs.lemmas.List.Sorted as sorted
+use Rattle.dae_base.proofs.Laws.{or_true, or_nothing}
 use Rattle.dae_ir.specs.Classes.{VariableSet}
 use Rattle.dae_select_walks.specs.Live.{with_all, only}
 use Rattle.dae_select_live.specs.Members.{member, without, AreRising, IsAt, IsGapFor}
@@ -26,10 +27,6 @@ searched vs v (Err i) rising e =
     record { found = tt; absent = record { within = h.0; smaller = h.1; greater = h.2 } }
 
 -- ---- what is there and what isn't
-
-or_true : (b : Bool) → b || true ≡ true
-or_true true = refl
-or_true false = refl
 
 pub member_at : (vs : List ℕ) (v i : ℕ) → IsAt vs v i → true ≡ member vs v
 member_at [] v i at = absurd (omega (arith, at.within))
@@ -149,9 +146,5 @@ or_first false b c = refl
 pub one_comes_in : (now new rest : List ℕ) (v : ℕ) → member new ≡ with_all (only v) (member now) → with_all (member new) (member rest) ≡ with_all (member now) (member (v ∷ rest))
 one_comes_in now new rest v e = ap (λ (set : VariableSet). with_all set (member rest)) e ∙ fun_ext (λ u. or_first (nat_eq u v) (member now u) (member rest u))
 
-or_none : (b : Bool) → b || false ≡ b
-or_none true = refl
-or_none false = refl
-
 pub nothing_left : (now : List ℕ) → with_all (member now) (member []) ≡ member now
-nothing_left now = fun_ext (λ u. or_none (member now u))
+nothing_left now = fun_ext (λ u. or_nothing (member now u))

@@ -1,18 +1,15 @@
 -- What several operands read.
-use Rattle.std.proofs.Common.{◌≡◌, ℕ, zero, suc, ◌-◌, ◌<◌, ◌≤◌, Bool, true, false, ◌||◌, List, [], ◌∷◌, length, drop, get_or, refl, ap, sym, ◌∙◌, arith}
+use Rattle.std.proofs.Common.{◌≡◌, ℕ, zero, suc, ◌-◌, ◌<◌, ◌≤◌, List, [], ◌∷◌, length, drop, get_or, refl, ap, sym, ◌∙◌, arith}
 use Rattle.std.proofs.Math.Path.{fun_ext}
+use Rattle.dae_base.proofs.Laws.{or_along}
 use Rattle.dae_ir.specs.Classes.{VariableSet}
 use Rattle.dae_ir.specs.declared.stream.Argument.{Argument}
 use Rattle.dae_select_walks.specs.Live.{with_all, in_operand, in_arguments}
 
-or_assoc : (a b c : Bool) → a || (b || c) ≡ (a || b) || c
-or_assoc true b c = refl
-or_assoc false b c = refl
-
 pub all_of_two : (c d e : VariableSet) → with_all c (with_all d e) ≡ with_all (with_all c d) e
-all_of_two c d e = fun_ext (λ u. or_assoc (c u) (d u) (e u))
+all_of_two c d e = fun_ext (λ u. or_along (c u) (d u) (e u))
 
-drop_get : {X : Type 0} (list : List X) (i : ℕ) (other : X) → i < length list → drop i list ≡ get_or list i other ∷ drop (suc i) list
+pub drop_get : {X : Type 0} (list : List X) (i : ℕ) (other : X) → i < length list → drop i list ≡ get_or list i other ∷ drop (suc i) list
 drop_get [] i other lt = absurd (omega arith)
 drop_get (x ∷ list) zero other lt = refl
 drop_get (x ∷ list) (suc i) other lt = drop_get list i other (omega arith)

@@ -20,12 +20,7 @@ use Rattle.dae_sizes.specs.From.{AreFrom}
 use Rattle.dae_sizes.specs.Small.{tokens, text, HasFew, HasLittle}
 use Rattle.dae_sizes.specs.Sources.{Source, sources_in}
 use Rattle.dae_sizes.specs.Promise.{FunctionsAreFew, FunctionsAreLittle, FormsAreFew, FormsAreLittle, StreamsAreLittle}
-
-abbrev AreAlike : {Y Z : Type 0} → (Y → Z → Type 0) → List Y → List Z → Type 0
-AreAlike T [] [] = Unit {0}
-AreAlike T [] (z ∷ zs) = ⊥
-AreAlike T (y ∷ ys) [] = ⊥
-AreAlike T (y ∷ ys) (z ∷ zs) = T y z × AreAlike T ys zs
+use Rattle.dae_sizes.proofs.From.{AreAlike}
 
 from_alike : {X Y Z : Type 0} (R : X → Y → Type 0) (T : Y → Z → Type 0) (S : X → Z → Type 0) → ((x : X) (y : Y) (z : Z) → R x y → T y z → S x z) →
     (xs : List X) (ys : List Y) (zs : List Z) → AreFrom R xs ys → AreAlike T ys zs → AreFrom S xs zs

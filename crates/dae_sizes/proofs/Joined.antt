@@ -10,6 +10,7 @@ use Rattle.dae_types_typed.specs.declared.files.FileParts.{FileParts}
 use Rattle.dae_types_typed.specs.declared.files.TypedFunction.{TypedFunction}
 use Rattle.dae_unit.specs.Meanings.{function_of, functions_in, functions_from}
 use Rattle.std.specs.List.{AllByRecursion}
+use Rattle.dae_base.proofs.Laws.{all_join}
 use Rattle.dae_types_file_plans.specs.Promise.{FilesAreChecked}
 use Rattle.dae_lower_bounds.specs.Constants.{InitialisesConstants}
 use Rattle.dae_void_laws.specs.Tested.{BodiesTestValues}
@@ -85,10 +86,6 @@ functions_are_little little cs files t =
 
 -- ---- what holds of the functions of each file
 
-all_append : {X : Type 0} (P : X → Type 0) (xs ys : List X) → AllByRecursion P xs → AllByRecursion P ys → AllByRecursion P (xs ++ ys)
-all_append P [] ys h k = k
-all_append P (x ∷ xs) ys h k = (h.0, all_append P xs ys h.1 k)
-
 all_functions_have : (P : Statements → Type 0) (k : ℕ) (fs : List TypedFunction) → AllByRecursion (λ (f : TypedFunction). P (view_statements f.body)) fs → AllByRecursion (λ (f : Function). P (view_statements f.body)) (functions_of k fs)
 all_functions_have P k [] h = tt
 all_functions_have P k (f ∷ fs) h = (h.0, all_functions_have P k fs h.1)
@@ -99,7 +96,7 @@ all_files_have P each k [] [] t = tt
 all_files_have P each k [] (f ∷ fs) t = absurd t
 all_files_have P each k (c ∷ cs) [] t = absurd t
 all_files_have P each k (c ∷ cs) (f ∷ fs) t =
-    all_append (λ (g : Function). P (view_statements g.body)) (functions_of k f.functions) (all_functions (suc k) fs)
+    all_join (λ (g : Function). P (view_statements g.body)) (functions_of k f.functions) (all_functions (suc k) fs)
     (all_functions_have P k f.functions (each c f t.0)) (all_files_have P each (suc k) cs fs t.1)
 
 all_have : (P : Statements → Type 0) → ((c : Contents) (file : FileParts) → IsTypedAs c file → AllByRecursion (λ (f : TypedFunction). P (view_statements f.body)) file.functions) →

@@ -103,7 +103,7 @@ pieces_paid c BehindLong k (b ∷ bs) = conversion_paid c b bs (number_piece k b
 
 -- ---- a format has as many arguments as it wants, or its rule is broken
 
-asked_by : (b : Bool) (p : Place) (s : Tables) (ps : List Piece) (Q : Tables × List Piece → Type 0) → (b ≡ true → Q (s, ps)) →
+pub asked_by : (b : Bool) (p : Place) (s : Tables) (ps : List Piece) (Q : Tables × List Piece → Type 0) → (b ≡ true → Q (s, ps)) →
     IfOk {T = Tables × List Piece} {E = Breach} (elim (not b) [ true ↦ Err (record { rule = rule.BadFormat; place = p }) | false ↦ Ok (s, ps) ]) Q
 asked_by true p s ps Q h = h refl
 asked_by false p s ps Q h = tt

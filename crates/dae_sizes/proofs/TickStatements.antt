@@ -1,8 +1,8 @@
 -- A typed statement has at most four units of work for each that is written: by induction over the plans of statements.
-use Rattle.std.proofs.Common.{◌≡◌, ℕ, zero, suc, ◌+◌, ◌*◌, ◌≤◌, Bool, true, false, List, ◌∷◌, ◌++◌, length, Option, Some, None, Ok, Err, if◌then◌else◌, refl, arith, length-append, []}
+use Rattle.std.proofs.Common.{◌≡◌, ℕ, zero, suc, ◌+◌, ◌*◌, ◌≤◌, Bool, true, false, List, ◌∷◌, ◌++◌, length, Option, Some, None, Ok, if◌then◌else◌, refl, arith, length-append, []}
 use Rattle.std.proofs.lemmas.Bool.Decides.{nat_tests}
 use Rattle.std.proofs.lemmas.Result.{IfOk-at_ok}
-use Rattle.std.specs.Prelude.{IfOk, slice_get, is_some, nat_eq, not}
+use Rattle.std.specs.Prelude.{IfOk, slice_get, is_some, nat_eq}
 use Rattle.dae_base.specs.declared.Place.{Place}
 use Rattle.dae_tree.specs.Trees as tree
 use Rattle.dae_tree.specs.Trees.{Expression, Expressions, Initialiser, Item, Declaration, Statement, Statements}
@@ -12,8 +12,6 @@ use Rattle.dae_program.specs.declared.statements.Piece.{Piece}
 use Rattle.dae_program.specs.declared.statements.Piece.TheVariants as piece
 use Rattle.dae_program.specs.Switches.{count_labels}
 use Rattle.dae_program.specs.Trees as program
-use Rattle.dae_types_kinds.specs.declared.rules.Breach.{Breach}
-use Rattle.dae_types_kinds.specs.declared.rules.Rule.TheVariants as rule
 use Rattle.dae_types_kinds.specs.declared.tables.Context.TheVariants as context
 use Rattle.dae_types_kinds.specs.declared.tables.Storage.{Storage}
 use Rattle.dae_types_kinds.specs.declared.tables.Storage.TheVariants as storage
@@ -34,7 +32,7 @@ use Rattle.dae_sizes.proofs.Within.{Got, Within, none, stays, weaker, fewer, lig
 use Rattle.dae_sizes.proofs.Steps.{base_within, constant_within, node_keeps}
 use Rattle.dae_sizes.proofs.Expressions.{own_and_inner, own_is, specifiers_within, declarator_within}
 use Rattle.dae_sizes.proofs.Initialisers.{unused_initialiser_within}
-use Rattle.dae_sizes.proofs.Printing.{arguments_declare}
+use Rattle.dae_sizes.proofs.Printing.{arguments_declare, asked_by}
 use Rattle.dae_sizes.proofs.Statements.{type_grown, typedef_within, local_within}
 use Rattle.dae_sizes.proofs.Constants.{held, content_constant}
 use Rattle.dae_sizes.proofs.Ticks.{value_ticks, converted_ticks}
@@ -115,12 +113,6 @@ letters_counted [] = refl
 letters_counted (piece.Byte b ∷ ps) = letters_counted ps
 letters_counted (piece.Word spelling k ∷ ps) = let h = letters_counted ps in omega (arith, h)
 letters_counted (piece.String k ∷ ps) = let h = letters_counted ps in omega (arith, h)
-
--- a format has as many conversions as arguments are given, or its rule is broken
-asked_by : (b : Bool) (p : Place) (s : Tables) (ps : List Piece) (Q : Tables × List Piece → Type 0) → (b ≡ true → Q (s, ps)) →
-    IfOk {T = Tables × List Piece} {E = Breach} (elim (not b) [ true ↦ Err (record { rule = rule.BadFormat; place = p }) | false ↦ Ok (s, ps) ]) Q
-asked_by true p s ps Q h = h refl
-asked_by false p s ps Q h = tt
 
 format_asked : (p : Place) (o : Option (List Piece)) (given : ℕ) (s : Tables) → IfOk (ask_all (AtFormat p (wanted_by o) given ∷ []) (Ok (s, pieces_or o))) (Got conversions 0 given s)
 unfolding ask_all
