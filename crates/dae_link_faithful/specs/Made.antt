@@ -126,7 +126,8 @@ stream ir tables cap by_a f = stream_of by_a (classes_of tables) (classes_of tab
 pub record IsMade (ir : Ir) (tables : List (List Class)) (cap : ℕ) (image : Image) : Type 0 where
   pub memory : image.memory ≡ ir.memory
   pub a : IsSide true (program_of ir) (stream ir tables cap true) (λ f. parameters_in (slice_get ir.functions f)) (length ir.functions) ir.main ir.frames (setup_of image image.budget) (opened image).a
-  pub e : IsSide false (program_of ir) (stream ir tables cap false) (λ f. parameters_in (slice_get ir.functions f)) (length ir.functions) ir.main ir.frames (setup_of image image.budget) (opened image).e
+  pub e : IsSide false (program_of ir) (stream ir tables cap false) (λ f. parameters_in (slice_get ir.functions f)) (length ir.functions) ir.main ir.frames
+      (setup_of image image.budget) (opened image).e
 
 -- an image that is made so of a form that is ready, with its least classes, its pair and the pair's budget, does the form
 abbrev pub MadeDoesForm : Type 0

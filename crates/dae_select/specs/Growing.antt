@@ -56,7 +56,8 @@ abbrev mutual
   marked_code short plan variables f standing known (Do m a k) x leaves skips =
       let next = standing_behind a k x in
       let rest = marked_code short plan variables f next (multiples_behind a known) k x leaves skips in
-      in_front (acting m.place (block_code plan variables f (is_placed known a) standing a next (live k x) (jump_over short (length rest.code + leaves)) (jump_over short (length rest.code + skips)))) rest
+      in_front (acting m.place (block_code plan variables f (is_placed known a) standing a next (live k x)
+      (jump_over short (length rest.code + leaves)) (jump_over short (length rest.code + skips)))) rest
   marked_code short plan variables f standing known (If m b p q k) x leaves skips =
       let rest = marked_code short plan variables f Settled unknown k x leaves skips in
       let second = marked_code short plan variables f Settled unknown q (behind (live k x) x) (length rest.code + leaves) (length rest.code + skips) in
@@ -71,7 +72,8 @@ abbrev mutual
       let words = words_behind (plan.home f) short test in
       let again = marked_code short plan variables f Settled unknown step (step_ways body step (live k x)) words 0 in
       let to = length again.code + words in
-      let turn = if is_some test then marked_tail short plan variables f body (body_ways body step (live k x)) to 0 else marked_code short plan variables f Settled unknown body (body_ways body step (live k x)) to 0 in
+      let turn = if is_some test then marked_tail short plan variables f body (body_ways body step (live k x)) to 0
+      else marked_code short plan variables f Settled unknown body (body_ways body step (live k x)) to 0 in
       turned (plan.home f) short test turn again rest
 
   -- the code behind the test that a list begins with
@@ -87,7 +89,8 @@ function_places plan variables f code =
 
 -- in front of this code stands the code of a function's actions, before which things stand so and these variables are multiples of
 -- four, and these variables are live before it. A Break's way from its end is so much longer than what stands there, and a Continue's
-pub record IsCodeOf (short : Bool) (plan : Plan) (variables : ℕ → ℕ) (f : ℕ) (standing : Standing) (known : VariableSet) (base : Grown) (leaves skips : ℕ) (x : Ways) (actions : Actions) (new : Grown) (set : List ℕ) : Type 0 where
+pub record IsCodeOf (short : Bool) (plan : Plan) (variables : ℕ → ℕ) (f : ℕ) (standing : Standing) (known : VariableSet) (base : Grown)
+    (leaves skips : ℕ) (x : Ways) (actions : Actions) (new : Grown) (set : List ℕ) : Type 0 where
   pub code : new ≡ in_front (marked_code short plan variables f standing known actions x (length base.code + leaves) (length base.code + skips)) base
   pub live : member set ≡ live actions x
 

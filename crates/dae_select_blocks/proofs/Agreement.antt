@@ -1,7 +1,8 @@
 -- What keeps the agreement with a moment: work in scratch registers, and a result that goes home.
-use Rattle.std.proofs.Common.{◌≡◌, ◌≢◌, ℕ, zero, suc, ◌+◌, ◌-◌, ◌*◌, ◌^◌, ◌<◌, ◌≤◌, Bool, true, false, List, [], ◌∷◌, refl, ap, ◌∙◌, arith}
+use Rattle.std.proofs.Common.{◌≡◌, ◌≢◌, ℕ, zero, ◌+◌, ◌-◌, ◌^◌, ◌<◌, ◌≤◌, Bool, true, false, List, [], ◌∷◌, refl, ap, ◌∙◌, arith}
 use Rattle.std.specs.Prelude.{nat_eq, if◌then◌else◌}
 use Rattle.std.proofs.lemmas.Bool.Decides.{nat_tests}
+use Rattle.dae_base.proofs.Laws.{times_least}
 use Rattle.dae_ir.specs.Classes.{VariableSet}
 use Rattle.dae_meaning.specs.Variables.{Env}
 use Rattle.dae_meaning.specs.Variables as form
@@ -137,9 +138,5 @@ module _ (s : Setting) (plan : Plan) (variables : ℕ → ℕ) (fine : Fits s pl
   pub frame_inside : {live : VariableSet} {m : Moment} {c : Contents} (h : Ready plan live m c) → h.agrees.base + plan.words m.function ≤ plan.private
   frame_inside {m = m} h =
       let a = h.agrees in let room = a.room in let deep = a.within.depth in let l = fine.largest m.function in
-      let once = product (plan.limit + 1 - depth_of m) plan.largest (omega arith) in
+      let once = times_least (plan.limit + 1 - depth_of m) plan.largest (omega arith) in
       omega arith
-    where
-      product : (n k : ℕ) → 0 < n → k ≤ n * k
-      product zero k h = absurd (omega arith)
-      product (suc n) k h = omega arith

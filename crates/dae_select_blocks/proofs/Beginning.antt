@@ -1,11 +1,11 @@
 -- The start code leads the opened processor to where main's actions begin.
-use Rattle.std.proofs.Common.{◌≡◌, ℕ, zero, suc, ◌+◌, ◌-◌, ◌*◌, ◌^◌, ◌<◌, ◌≤◌, Bool, true, false, List, [], ◌∷◌, ◌++◌, length, refl, sym, ap, ◌∙◌, subst, arith, append-nil, length-append}
+use Rattle.std.proofs.Common.{◌≡◌, ℕ, zero, ◌+◌, ◌-◌, ◌*◌, ◌^◌, ◌<◌, ◌≤◌, Bool, true, false, List, [], ◌∷◌, ◌++◌, length, refl, sym, ap, ◌∙◌, subst, arith, append-nil, length-append}
 use Rattle.std.specs.Prelude.{nat_eq, if◌then◌else◌, pos, replicate, slice_index}
 use Rattle.std.proofs.lemmas.List.{get_or-replicate}
 use Rattle.std.proofs.Math.ListN.{length-replicate}
 use Rattle.dae_base.specs.Words.{plus, word, loaded}
 use Rattle.dae_base.specs.declared.LoadKind.TheVariants.{I32}
-use Rattle.dae_base.proofs.Laws.{choice_small}
+use Rattle.dae_base.proofs.Laws.{choice_small, times_least}
 use Rattle.dae_encode.specs.declared.Inst.{Inst}
 use Rattle.dae_encode.specs.declared.Inst.TheVariants.{Addi}
 use Rattle.dae_encode.specs.Processor.{Processor}
@@ -98,7 +98,7 @@ module _ (s : Setting) (plan : Plan) (variables : ℕ → ℕ) (fine : Fits s pl
       let one = begun first fits (omega arith) (code_take s.code 0 (before_main first) (enter_code (plan.entry main)) at) in
       let jump = code_drop s.code 0 (before_main first) (enter_code (plan.entry main)) at in
       let largest = fine.largest main in let long = fine.words main in let wide = fine.private in
-      let once = least plan.limit plan.largest deep in
+      let once = times_least plan.limit plan.largest deep in
       let two = comes_then s one (λ q b. comes_then s (jumps_in s plan variables fine entries linked (plan.entry main) (omega arith) (omega arith) jump b.shows) (λ r j.
       let c1 : Contents = put 1 (4 * (0 + length (before_main first) + 2)) (put 5 j.0 b.contents) in
       let back : 0 + length (before_main first) + 2 ≡ plan.finish = omega arith in
@@ -130,10 +130,6 @@ module _ (s : Setting) (plan : Plan) (variables : ℕ → ℕ) (fine : Fits s pl
       subst (λ (n : ℕ). Comes s (length (entry_code plan variables main (entries main))) r (Stands plan (entries main) m n)) (sym start) (run.from (plan.entry main) (omega arith) entry r j.2))) in
       comes_map s (length (start_code plan main first) + length (entry_code plan variables main (entries main))) (omega arith) (λ q g. g) two
     where
-      least : (n k : ℕ) → 0 < n → k ≤ n * k
-      least zero k h = absurd (omega arith)
-      least (suc n) k h = omega arith
-
       contradicts : (u : ℕ) → entries main u ≡ true → ⊥
       contradicts u e = let no' = reads u in absurd cc
 

@@ -1,9 +1,9 @@
 -- A return's walk: to just behind the call's jump, and from there to the end of the call's block.
-use Rattle.std.proofs.Common.{◌≡◌, ◌≢◌, ℕ, zero, suc, ◌+◌, ◌-◌, ◌*◌, ◌/◌, ◌^◌, ◌<◌, ◌≤◌, Bool, true, false, not, ◌&&◌, List, [], ◌∷◌, ◌++◌, Option, Some, None, length, refl, ap, ◌∙◌, arith, append-nil, length-append}
+use Rattle.std.proofs.Common.{◌≡◌, ◌≢◌, ℕ, zero, ◌+◌, ◌-◌, ◌*◌, ◌/◌, ◌^◌, ◌<◌, ◌≤◌, Bool, true, false, not, ◌&&◌, List, [], ◌∷◌, ◌++◌, Option, Some, None, length, refl, ap, ◌∙◌, arith, append-nil, length-append}
 use Rattle.std.specs.Prelude.{nat_eq, pos}
 use Rattle.std.proofs.lemmas.Bool.Decides.{nat_tests}
 use Rattle.dae_base.specs.Words.{plus, word}
-use Rattle.dae_base.proofs.Laws.{plus_small}
+use Rattle.dae_base.proofs.Laws.{plus_small, times_least}
 use Rattle.dae_encode.specs.declared.QueueUse.TheVariants.{Nothing}
 use Rattle.dae_encode.specs.declared.Inst.{Inst}
 use Rattle.dae_encode.specs.declared.Inst.TheVariants.{Jalr, Lw, Addi}
@@ -181,7 +181,7 @@ module _ (s : Setting) (plan : Plan) (variables : ℕ → ℕ) (fine : Fits s pl
       let two : c.register 2 ≡ 4 * (below + plan.words m.function) = l.pointer ∙ ap (λ n. 4 * n) waits.1 in
       let three : c.register 3 ≡ m.frame + plan.frame m.function = l.begins ∙ waits.2 in
       let room = waits.4 in let low = l.low in let begins = waits.2 in
-      let once = least (plan.limit + 1 - (length m.waiting + 1)) plan.largest (omega arith) in
+      let once = times_least (plan.limit + 1 - (length m.waiting + 1)) plan.largest (omega arith) in
       let run : Runs s plan.private to (back_code plan m.function ++ (restore_code rs ++ result_code (plan.home m.function) v)) c (Went (with_result v result m.env)) =
       runs_back s plan to m.function below m.frame (depth_of m) (restore_code rs ++ result_code (plan.home m.function) v) l.shows.zero l.shows.fits two three (λ e. l.depth e ∙ (omega arith)) (omega arith) (omega arith) (omega arith) (λ c1 moved.
       runs_restore s plan variables fine to below rs (result_code (plan.home m.function) v) (λ q e. register_kept (plan.home m.function) (variables m.function) q kept_set e) moved.two (omega arith) moved.fits (λ i. rw (moved.words i) (l.shows.holds i)) (λ c2 restored.
@@ -189,10 +189,6 @@ module _ (s : Setting) (plan : Plan) (variables : ℕ → ℕ) (fine : Fits s pl
       finish m behind v result answered h2 apart (λ x e. restored.others 6 (among_not (plan.home m.function) (variables m.function) 6 kept_set refl) ∙ (moved.others 6 (omega arith) (omega arith) (omega arith) (omega arith) ∙ l.given x e)))) in
       run.from back small at p l.shows
     where
-      least : (n k : ℕ) → 0 < n → k ≤ n * k
-      least zero k h = absurd (omega arith)
-      least (suc n) k h = omega arith
-
       front : (a b : Bool) → (a && not b) ≡ true → a ≡ true
       front true b e = refl
       front false b e = absurd cc

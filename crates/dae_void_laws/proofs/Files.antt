@@ -4,6 +4,7 @@ use Rattle.std.proofs.lemmas.Result.{IfOk-at_ok}
 use Rattle.std.specs.List.{AllByRecursion}
 use Rattle.std.specs.Prelude.{slice_get, is_some, not}
 use Rattle.dae_base.specs.declared.Place.{Place}
+use Rattle.dae_base.proofs.Laws.{all_join}
 use Rattle.dae_tree.specs.declared.words.Keyword.{Keyword}
 use Rattle.dae_tree.specs.declared.expressions.Name.{Name}
 use Rattle.dae_tree.specs.Trees as tree
@@ -31,7 +32,7 @@ use Rattle.dae_types_file_plans.specs.Statements.{own_of, is_alone}
 use Rattle.dae_types_file_plans.specs.Files.{Product, Numbers, is_main_name, name_number, retyped, new_routine, declared_function, function_at, replaced, declared_object, object_at, role_of, declares_object, declares_function, produced, type_of_object, with_object_type, plan_data, plan_either, plan_typed, plan_item_at, plan_items, storage_of, plan_declared, defined_or, define, second_at, started, parameters_in, count_parameters, settled_locals, in_body, keep_scope, first_time, body_product, second_time, twice, surrounding, plan_body_of, plan_defined_as, plan_defined, plan_external, plan_externals, plan_file, header_shapes, printf_type, putchar_type, exit_type, abort_type, empty_tables, with_library, with_stdio, with_stdlib, start_of}
 use Rattle.dae_lower_bounds.specs.Voids.{void_statements}
 use Rattle.dae_void_laws.specs.Tested.{BodyTestsValues, BodiesTestValues}
-use Rattle.dae_void_laws.proofs.Kept.{IfThere, all_append, all_written, all_at, all_more, shape_is, Extends, IsNameIn, names_on, Returns, IsRoutineIn, Kept, Come, Leads, Any, Anything, leads_pure, leads_maps, leads_node, leads_chain, leads_before, leads_carry, leads_given, leads_if, leads_named, come_same, leads_reads, leads_sites, leads_nothing, leads_looks, leads_ends, Wider, wide, come_wider, closed_wider, kept_name}
+use Rattle.dae_void_laws.proofs.Kept.{IfThere, all_written, all_at, all_more, shape_is, Extends, IsNameIn, names_on, Returns, IsRoutineIn, Kept, Come, Leads, Any, Anything, leads_pure, leads_maps, leads_node, leads_chain, leads_before, leads_carry, leads_given, leads_if, leads_named, come_same, leads_reads, leads_sites, leads_nothing, leads_looks, leads_ends, Wider, wide, come_wider, closed_wider, kept_name}
 use Rattle.dae_void_laws.proofs.Steps.{There, there_lasts, base_leads, composite_wider, composite_returns}
 use Rattle.dae_void_laws.proofs.Plans.{specifiers_lead, declarator_leads}
 use Rattle.dae_void_laws.proofs.Statements.{Free, free_lasts, unused_leads, content_leads, typedef_leads, block_leads}
@@ -50,7 +51,7 @@ function_good p r None = tt
 function_good p r (Some f) = (tt, tt)
 
 produced_leads : {Before : List Shape → Type 0} {m : Plan (List Product)} (done : List Product) → AllByRecursion BodyTestsValues done → Leads Before Good m → Leads Before Good (produced done m)
-produced_leads done d h = leads_reads h (λ s xs k l. all_append BodyTestsValues done xs d l)
+produced_leads done d h = leads_reads h (λ s xs k l. all_join BodyTestsValues done xs d l)
 
 -- ---- tables at file scope
 
@@ -81,7 +82,7 @@ new_routine_wider n own t s =
       on = w.on;
       kept = λ k.
           (let j = kept_name (name_number n) (entity.Function (length s.routines)) s tt k in
-          record { many = j.many; void = j.void; names = j.names; kept = j.kept; routines = all_append (IsRoutineIn s.shapes) s.routines _ k.routines (tt, tt) });
+          record { many = j.many; void = j.void; names = j.names; kept = j.kept; routines = all_join (IsRoutineIn s.shapes) s.routines _ k.routines (tt, tt) });
     }
 
 function_wider : (n : Option Name) (own : Bool) (t : ℕ) (e : Option Entity) (s : Tables) → Wider s (declared_function n own t e s).0
@@ -171,7 +172,7 @@ olds_last (old ∷ olds) xs ys g h = (all_more (IsNameIn xs) (IsNameIn ys) (λ d
 reopened_leads : {Before : List Shape → Type 0} → Leads Before Anything (maps (λ s x. (reopened s, s.innermost)) (pure (tt {0})))
 reopened_leads {Before} =
     leads_maps {Between = λ xs x. Before xs} leads_nothing (λ s x k b. (let w = wide s in record {
-      kept = record { many = k.many; void = k.void; names = all_append (IsNameIn s.shapes) s.names s.kept_names k.names k.kept; kept = k.kept; routines = k.routines };
+      kept = record { many = k.many; void = k.void; names = all_join (IsNameIn s.shapes) s.names s.kept_names k.names k.kept; kept = k.kept; routines = k.routines };
       on = w.on;
       so = tt;
     }))
@@ -257,7 +258,7 @@ library_begins l t (Some name) s r h =
     let k = h.kept in
     let j = kept_name name (entity.Function (length s.routines)) s tt k in
     record {
-      kept = record { many = j.many; void = j.void; names = j.names; kept = j.kept; routines = all_append (IsRoutineIn s.shapes) s.routines _ k.routines (subst (λ (xs : List Shape). Returns xs (Some l) t) (sym h.shapes) r, tt) };
+      kept = record { many = j.many; void = j.void; names = j.names; kept = j.kept; routines = all_join (IsRoutineIn s.shapes) s.routines _ k.routines (subst (λ (xs : List Shape). Returns xs (Some l) t) (sym h.shapes) r, tt) };
       shapes = h.shapes;
     }
 

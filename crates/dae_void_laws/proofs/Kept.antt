@@ -6,6 +6,7 @@ use Rattle.std.proofs.lemmas.List.{reverse-append}
 use Rattle.std.proofs.lemmas.Option.{slice_get_within}
 use Rattle.std.specs.List.{AllByRecursion, find}
 use Rattle.std.specs.Prelude.{IfOk, cond, slice_get}
+use Rattle.dae_base.proofs.Laws.{all_join}
 use Rattle.dae_tree.specs.declared.expressions.Name.{Name}
 use Rattle.dae_types_kinds.specs.declared.rules.Breach.{Breach}
 use Rattle.dae_types_kinds.specs.declared.rules.Rule.{Rule}
@@ -27,10 +28,6 @@ use Rattle.dae_types_rules.specs.Table.{breaks, asked}
 use Rattle.dae_types_plans.specs.Steps.{looks, changes_to, ends, scoped, unused, settles_name}
 
 -- ---- lists
-
-pub all_append : {X : Type 0} (P : X → Type 0) (xs ys : List X) → AllByRecursion P xs → AllByRecursion P ys → AllByRecursion P (xs ++ ys)
-all_append P [] ys h k = k
-all_append P (x ∷ xs) ys h k = (h.0, all_append P xs ys h.1 k)
 
 all_take : {X : Type 0} (P : X → Type 0) (n : ℕ) (xs : List X) → AllByRecursion P xs → AllByRecursion P (take n xs)
 all_take P zero xs h = tt
@@ -63,7 +60,7 @@ all_at P (x ∷ xs) (suc n) h = all_at P xs n h.1
 
 all_reverse : {X : Type 0} (P : X → Type 0) (xs : List X) → AllByRecursion P xs → AllByRecursion P (reverse xs)
 all_reverse P [] h = tt
-all_reverse P (x ∷ xs) h = subst (AllByRecursion P) (sym (reverse-append (x ∷ []) xs)) (all_append P (reverse xs) (x ∷ []) (all_reverse P xs h.1) (h.0, tt))
+all_reverse P (x ∷ xs) h = subst (AllByRecursion P) (sym (reverse-append (x ∷ []) xs)) (all_join P (reverse xs) (x ∷ []) (all_reverse P xs h.1) (h.0, tt))
 
 all_found : {X : Type 0} (P : X → Type 0) (test : X → Bool) (xs : List X) → AllByRecursion P xs → IfThere P (find test xs)
 all_found P test [] h = tt
@@ -353,4 +350,4 @@ pub shape_wider : (x : Shape) (s : Tables) → Wider s (with_shape x s)
 shape_wider x s = record { on = one_more s.shapes x; kept = sane_on (one_more s.shapes x) }
 
 pub kept_name : (n : ℕ) (e : Entity) (s : Tables) → Names s.shapes e → Kept s → Kept (with_name n e s)
-kept_name n e s h k = record { many = k.many; void = k.void; names = all_append (IsNameIn s.shapes) s.names (record { name = n; entity = e } ∷ []) k.names (h, tt); kept = k.kept; routines = k.routines }
+kept_name n e s h k = record { many = k.many; void = k.void; names = all_join (IsNameIn s.shapes) s.names (record { name = n; entity = e } ∷ []) k.names (h, tt); kept = k.kept; routines = k.routines }
