@@ -8,3 +8,4 @@ mod Known
 mod Outlines
 mod Same
 mod Small
+pub mod LawsOfEntities

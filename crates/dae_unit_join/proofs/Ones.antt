@@ -19,6 +19,7 @@ use Rattle.dae_unit.specs.declared.rows.FileRow.{FileRow}
 use Rattle.dae_unit.specs.Across.{same_across, same_within_files, shape_across}
 use Rattle.dae_unit.specs.Linkage.{external_name, is_one, entity_of, rows_of}
 use Rattle.dae_unit.specs.Clashes.{clashes, first_clash, same_types, name_of}
+use Rattle.dae_unit.proofs.LawsOfEntities.{entities_same}
 use Rattle.dae_unit_join.proofs.Among.{Among}
 use Rattle.dae_unit_join.proofs.Rows.{apart}
 
@@ -27,16 +28,11 @@ names_equal None b h = absurd (false≢true h)
 names_equal (Some x) None h = absurd (false≢true h)
 names_equal (Some x) (Some y) h = ap Some (grind (arith, bytes_eq-Decides x y))
 
-pub entities_equal : (x y : Entity) → same_entity x y ≡ true → x ≡ y
-entities_equal (entity.Object m) (entity.Object n) h = let e : m ≡ n = grind (arith, nat_tests) in ap entity.Object e
-entities_equal (entity.Function m) (entity.Function n) h = let e : m ≡ n = grind (arith, nat_tests) in ap entity.Function e
-entities_equal x y h = absurd (false≢true h)
-
 pub one_cases : (files : List FileParts) (j : ℕ) (x : Entity) (k : ℕ) (y : Entity) → is_one files j x k y ≡ true → (same_name (external_name files j x) (external_name files k y) ≡ true) ⊎ ((j ≡ k) × (x ≡ y))
 unfolding is_one
 one_cases files j x k y h = elim (or_cases (same_name (external_name files j x) (external_name files k y)) (nat_eq j k && same_entity x y) h) [
   | inl e ↦ inl e
-  | inr e ↦ (let parts = and_parts (nat_eq j k) (same_entity x y) e in let same : j ≡ k = grind (arith, nat_tests, parts.0) in inr (same, entities_equal x y parts.1))
+  | inr e ↦ (let parts = and_parts (nat_eq j k) (same_entity x y) e in let same : j ≡ k = grind (arith, nat_tests, parts.0) in inr (same, entities_same x y parts.1))
 ]
 
 pub one_by_name : (files : List FileParts) (j : ℕ) (x : Entity) (k : ℕ) (y : Entity) → same_name (external_name files j x) (external_name files k y) ≡ true → is_one files j x k y ≡ true

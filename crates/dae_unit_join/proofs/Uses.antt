@@ -13,9 +13,10 @@ use Rattle.dae_unit.specs.declared.errors.Clash.TheVariants.{Types}
 use Rattle.dae_unit.specs.declared.rows.FileRow.{FileRow}
 use Rattle.dae_unit.specs.Linkage.{entity_of, refers, is_one, rows_of}
 use Rattle.dae_unit.specs.Clashes.{first_clash, first_missing, is_missing, is_library_in, gives}
+use Rattle.dae_unit.proofs.LawsOfEntities.{entities_same}
 use Rattle.dae_unit_join.proofs.Among.{Among, any_among, all_among}
 use Rattle.dae_unit_join.proofs.Rows.{row, IsRow, has_row, none_found}
-use Rattle.dae_unit_join.proofs.Ones.{entities_equal, AreRelated, related, kinds_alike}
+use Rattle.dae_unit_join.proofs.Ones.{AreRelated, related, kinds_alike}
 
 -- ---- declared
 
@@ -27,7 +28,7 @@ pub record IsDeclaredAs (f : FileParts) (e : Entity) : Type 0 where
 pub declared : (f : FileParts) (e : Entity) → is_declared f e ≡ true → IsDeclaredAs f e
 declared f e h =
     let found = any_among (λ (d : FileDeclaration). same_entity e d.entity) f.declarations h in
-    record { declaration = found.0; among = found.1; entity = sym (entities_equal e (let d = found.0 in d.entity) found.2) }
+    record { declaration = found.0; among = found.1; entity = sym (entities_same e (let d = found.0 in d.entity) found.2) }
 
 -- a row that is one with what a file declares has its type and its kind
 pub record IsOneOf (f : FileParts) (e : Entity) (g : FileParts) (y : FileRow) : Type 0 where
@@ -79,7 +80,7 @@ pub given : (files : List FileParts) (k : ℕ) (f : FileParts) (e : Entity) → 
 given files k f e none h used library =
     let found = any_among (is_use_of e) f.uses used in
     let u = found.0 in
-    let same : e ≡ u.entity = entities_equal e u.entity found.2 in
+    let same : e ≡ u.entity = entities_same e u.entity found.2 in
     let n : 0 + k ≡ k = omega arith in
     let all : find (is_missing files (rows_of files) k) f.uses ≡ None = subst (λ z. find (is_missing files (rows_of files) z) f.uses ≡ None) n (missing_from files (rows_of files) 0 files k f none h) in
     let not_missing = none_found (is_missing files (rows_of files) k) f.uses u all found.1 in
