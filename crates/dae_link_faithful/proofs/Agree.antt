@@ -12,7 +12,7 @@ use Rattle.dae_ir.specs.Streams.{Actions}
 use Rattle.dae_machine_rounds.specs.Spots.{Behind, Ends, After, Body, Turn, Spot, Waiting}
 use Rattle.dae_select_walks.specs.Walks.{Setting, Comes}
 use Rattle.dae_select_walks.specs.Live.{live, nowhere}
-use Rattle.dae_select_walks.specs.Multiples.{AreMultiples, unknown}
+use Rattle.dae_select_walks.specs.Facts.{Facts, Hold, Outs, outs, FactsGo}
 use Rattle.dae_select_walks.specs.Agrees.{Plan, Moment, Waiting as Waiting', IsWithin}
 use Rattle.dae_select_walks.specs.Compiled.{Exit, Exits, exits, with_result, IsAnswered, Lands, At as At', CodeDone, GoesBack, begins_told}
 use Rattle.dae_link_faithful.specs.Made.{IsFit, AnyBranch, IsTight, IsClosed, setting_of}
@@ -65,12 +65,14 @@ module _ (setup : Setup) (plan : Plan) (p : Program) (body : ℕ → Actions) (m
   abbrev pub GoesOn : ℕ → Exit → Moment → Processor → Type 0
   GoesOn f x m q = At' s plan p entries most widest f x m q
 
-  -- the code of a list is done where these variables are multiples of four, or none is known to be one
-  abbrev pub CodeWith : ℕ → VariableSet → Actions → Exit → Exits → Type 0
+  -- the code of a list is done where this is known
+  abbrev pub CodeWith : ℕ → Facts → Actions → Exit → Exits → Type 0
   CodeWith f known code here x = CodeDone s plan p entries most widest f known code here x
 
-  abbrev pub CodeAt : ℕ → Actions → Exit → Exits → Type 0
-  CodeAt f code here x = CodeWith f unknown code here x
+  -- and what is to be known where it goes on is so
+  pub record CodeAt (f : ℕ) (known : Facts) (code : Actions) (here : Exit) (x : Exits) (o : Outs) : Type 0 where
+    pub does : CodeWith f known code here x
+    pub goes : FactsGo plan.memory known code o
 
   -- the way back to a body
   abbrev pub BackAt : ℕ → Actions → Exit → Exit → Type 0
@@ -85,23 +87,27 @@ module _ (setup : Setup) (plan : Plan) (p : Program) (body : ℕ → Actions) (m
   FitsBehind f (Body x y k b) = FitsCode f x × FitsCode f y × FitsCode f k × FitsBehind f b
   FitsBehind f (Turn x y k b) = FitsCode f x × FitsCode f y × FitsCode f k × FitsBehind f b
 
-  pub record LoopDone (f : ℕ) (x y k : Actions) (l : Around) (z : Exits) : Type 0 where
-    pub in_body : CodeAt f x l.begin (body_exits l)
-    pub in_step : CodeAt f y l.again (step_exits l)
+  pub record LoopDone (f : ℕ) (x y k : Actions) (l : Around) (z : Exits) (o : Outs) : Type 0 where
+    pub turn : Facts
+    pub again : Facts
+    pub next : Facts
+    pub in_body : CodeAt f turn x l.begin (body_exits l) (outs again next again)
+    pub in_step : CodeAt f again y l.again (step_exits l) (outs turn next turn)
     pub back : BackAt f x l.end l.begin
-    pub rest : CodeAt f k l.next z
+    pub rest : CodeAt f next k l.next z o
 
   -- what comes behind a list is done from where the list goes on
-  abbrev pub BehindDone : ℕ → Behind → Exits → Type 0
-  BehindDone f Ends x = Unit {0}
-  BehindDone f (After k b) x = (next : Exit) × (z : Exits) × (x ≡ exits next z.leaves z.skips) × CodeAt f k next z × BehindDone f b z
-  BehindDone f (Body x y k b) e = (l : Around) × (z : Exits) × (e ≡ body_exits l) × LoopDone f x y k l z × BehindDone f b z
-  BehindDone f (Turn x y k b) e = (l : Around) × (z : Exits) × (e ≡ step_exits l) × LoopDone f x y k l z × BehindDone f b z
+  abbrev pub BehindDone : ℕ → Behind → Exits → Outs → Type 0
+  BehindDone f Ends x o = Unit {0}
+  BehindDone f (After k b) x o =
+      (next : Exit) × (z : Exits) × (x ≡ exits next z.leaves z.skips) × (known : Facts) × (out : Outs) × (o ≡ outs known out.leaves out.skips) × CodeAt f known k next z out × BehindDone f b z out
+  BehindDone f (Body x y k b) e o = (l : Around) × (z : Exits) × (e ≡ body_exits l) × (out : Outs) × (d : LoopDone f x y k l z out) × (o ≡ outs d.again d.next d.again) × BehindDone f b z out
+  BehindDone f (Turn x y k b) e o = (l : Around) × (z : Exits) × (e ≡ step_exits l) × (out : Outs) × (d : LoopDone f x y k l z out) × (o ≡ outs d.turn d.next d.turn) × BehindDone f b z out
 
-  -- a point of the function f that goes on at a place, where these variables are multiples of four
-  pub record Placed (f : ℕ) (known : VariableSet) (code : Actions) (behind : Behind) (here : Exit) (x : Exits) : Type 0 where
-    pub done : CodeWith f known code here x
-    pub next : BehindDone f behind x
+  -- a point of the function f that goes on at a place, where this is known
+  pub record Placed (f : ℕ) (known : Facts) (code : Actions) (behind : Behind) (here : Exit) (x : Exits) (o : Outs) : Type 0 where
+    pub done : CodeAt f known code here x o
+    pub next : BehindDone f behind x o
     pub fits : FitsCode f code
     pub fits_next : FitsBehind f behind
     pub tight : TightAt code behind
@@ -114,7 +120,10 @@ module _ (setup : Setup) (plan : Plan) (p : Program) (body : ℕ → Actions) (m
   pub record Waits (f : ℕ) (c : Waiting) (w : Waiting') (ws : List Waiting') : Type 0 where
     pub here : Exit
     pub exits' : Exits
-    pub placed : Placed w.function unknown c.point.code c.point.behind here exits'
+    pub known : Facts
+    pub out : Outs
+    pub placed : Placed w.function known c.point.code c.point.behind here exits' out
+    pub facts : (result : Option ℕ) → Hold known (with_result c.result result w.env)
     pub env : w.env ≡ c.env
     pub frame : w.frame ≡ c.frame
     pub top : c.top ≡ w.frame + plan.frame w.function
@@ -135,9 +144,10 @@ module _ (setup : Setup) (plan : Plan) (p : Program) (body : ℕ → Actions) (m
     pub waiting : List Waiting'
     pub here : Exit
     pub exits' : Exits
-    pub known : VariableSet
-    pub placed : Placed function known at'.point.code at'.point.behind here exits'
-    pub multiples : AreMultiples known at'.env
+    pub known : Facts
+    pub out : Outs
+    pub placed : Placed function known at'.point.code at'.point.behind here exits' out
+    pub facts : Hold known at'.env
     pub stands : GoesOn function here (moment function at'.env at'.frame waiting) q
     pub top : at'.top ≡ at'.frame + plan.frame function
     pub depth : at'.depth ≡ length waiting + 1

@@ -19,7 +19,7 @@ use Rattle.dae_machine_rounds.specs.Sides.{Implements}
 use Rattle.dae_machine_runs.specs.Promises.{Begins, DoesForm}
 use Rattle.dae_machine_runs.proofs.Laws.{does_form}
 use Rattle.dae_select_walks.specs.Live.{none, live, nowhere}
-use Rattle.dae_select_walks.specs.Multiples.{unknown}
+use Rattle.dae_select_walks.specs.Facts.{unknown, outs}
 use Rattle.dae_select_walks.specs.Agrees.{Moment, Stands}
 use Rattle.dae_select_walks.specs.Compiled.{exit, exits}
 use Rattle.dae_select_blocks.specs.Laws.{opened_with}
@@ -36,7 +36,7 @@ use Rattle.std.specs.Prelude.{slice_get, not, ◌==◌}
 use Rattle.dae_ir_pair.proofs.Laws.{budget_covers}
 use Rattle.dae_link_faithful.proofs.Walked.{just_comes}
 use Rattle.dae_link_faithful.proofs.Ways.{agrees_at}
-use Rattle.dae_link_faithful.proofs.Moved.{A, IsDone, implements}
+use Rattle.dae_link_faithful.proofs.Moved.{nothing_goes, A, IsDone, implements}
 use Rattle.dae_link_faithful.proofs.Usable.{IsUsable}
 
 module _ (by_a : Bool) (p : Program) (body : ℕ → Actions) (parameters : ℕ → ℕ) (functions main frames : ℕ) (setup : Setup) (first : Processor) (c : IsSide by_a p body parameters functions main frames setup first) (answered : ℕ → Bool) (are_whole : AreWhole functions answered body)
@@ -74,9 +74,10 @@ module _ (by_a : Bool) (p : Program) (body : ℕ → Actions) (parameters : ℕ 
         waiting = [];
         here = exit (c.plan.start main) (live (body main) nowhere);
         exits' = exits (exit d.0 none) (exit d.0 none) (exit d.0 none);
-        placed = record { done = d.1; next = tt; fits = whole.fits main there; fits_next = tt; tight = whole.tight main there; closed = whole.closed main there };
+        placed = record { done = record { does = d.1; goes = nothing_goes c.plan.memory (body main) }; next = tt; fits = whole.fits main there; fits_next = tt; tight = whole.tight main there; closed = whole.closed main there };
         known = unknown;
-        multiples = λ v e. absurd (let z : false ≡ true = e in cc);
+        out = outs unknown unknown unknown;
+        facts = record { outer = tt; inner = tt };
         stands = (refl, subst (λ (t : ℕ). Stands c.plan (live (body main) nowhere) (record { function = main; env = (λ _. 0); frame = t; waiting = [] }) (c.plan.start main) q) (sym top) g);
         top = (omega arith);
         depth = (omega arith);

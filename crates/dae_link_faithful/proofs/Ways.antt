@@ -8,7 +8,7 @@ use Rattle.dae_ir.specs.Form.{Program}
 use Rattle.dae_ir.specs.Streams.{Actions}
 use Rattle.dae_machine_rounds.specs.Spots.{Behind, Ends, After, Body, Turn, Point, point, left, skipped, Spot, Waiting}
 use Rattle.dae_select_walks.specs.Walks.{Comes}
-use Rattle.dae_select_walks.specs.Multiples.{unknown}
+use Rattle.dae_select_walks.specs.Facts.{Facts, Hold, Outs, outs, Entails}
 use Rattle.dae_select_walks.specs.Agrees.{Plan, Moment}
 use Rattle.dae_select_walks.specs.Compiled.{Exit, Exits, GoesBack, begins_told}
 use Rattle.dae_select_walks.proofs.LawsOfWalks.{comes_here, comes_more}
@@ -31,8 +31,8 @@ module _ (setup : Setup) (plan : Plan) (p : Program) (body : ℕ → Actions) (m
   abbrev pub Stands_at : Spot → Processor → Type 0
   Stands_at at' q = StandsAt setup plan p body most widest functions answered at' q
 
-  abbrev pub Placed_at : ℕ → Actions → Behind → Exit → Exits → Type 0
-  Placed_at f code b here x = Placed setup plan p body most widest functions answered f unknown code b here x
+  abbrev pub Placed_at : ℕ → Facts → Actions → Behind → Exit → Exits → Outs → Type 0
+  Placed_at f known code b here x o = Placed setup plan p body most widest functions answered f known code b here x o
 
   abbrev pub Goes_on : ℕ → Exit → Moment → Processor → Type 0
   Goes_on f x m q = GoesOn setup plan p body most widest functions answered f x m q
@@ -50,23 +50,29 @@ module _ (setup : Setup) (plan : Plan) (p : Program) (body : ℕ → Actions) (m
   agrees_at (If m c x y k) b env frame top depth calls q h = h
   agrees_at (Loop m x y k) b env frame top depth calls q h = h
 
-  -- a point, and where it goes on
-  pub record Leads_to (f : ℕ) (from : Exit) (at' : Point) : Type 0 where
+  -- a point, where it goes on, and what is known there
+  pub record Leads_to (f : ℕ) (from : Exit) (facts : Facts) (at' : Point) : Type 0 where
     pub here : Exit
     pub exits' : Exits
-    pub placed : Placed_at f at'.code at'.behind here exits'
+    pub known : Facts
+    pub out : Outs
+    pub placed : Placed_at f known at'.code at'.behind here exits' out
     pub walks : (m : Moment) (q : Processor) → Goes_on f from m q → Comes (s setup plan p body most widest functions answered) 2 q (Goes_on f here m)
+    pub entails : Entails facts known
 
-  leads_from : {f : ℕ} {from from' : Exit} {at' : Point} → from ≡ from' → Leads_to f from' at' → Leads_to f from at'
-  leads_from {f} {from} {from'} {at'} e h = subst (λ (x : Exit). Leads_to f x at') (sym e) h
+  leads_from : {f : ℕ} {from from' : Exit} {facts facts' : Facts} {at' : Point} → from ≡ from' → facts ≡ facts' → Leads_to f from' facts' at' → Leads_to f from facts at'
+  leads_from {f} {from} {from'} {facts} {facts'} {at'} e i h = subst (λ (x : Exit). Leads_to f x facts at') (sym e) (subst (λ (k : Facts). Leads_to f from' k at') (sym i) h)
 
   -- it stands there at once
-  at_once : {f : ℕ} {from : Exit} {at' : Point} (here : Exit) (x : Exits) → Placed_at f at'.code at'.behind here x → from ≡ here → Leads_to f from at'
-  at_once {f} {from} {at'} here x placed e = record {
+  at_once : {f : ℕ} {from : Exit} {facts : Facts} {at' : Point} (here : Exit) (x : Exits) (known : Facts) (o : Outs) → Placed_at f known at'.code at'.behind here x o → from ≡ here → facts ≡ known → Leads_to f from facts at'
+  at_once {f} {from} {facts} {at'} here x known o placed e i = record {
     here = here;
     exits' = x;
+    known = known;
+    out = o;
     placed = placed;
     walks = λ m q h. comes_here (s setup plan p body most widest functions answered) (subst (λ (z : Exit). Goes_on f z m q) e h);
+    entails = λ env h. subst (λ (k : Facts). Hold k env) i h;
   }
 
   back_comes : (f : ℕ) (told : Bool) (end begin : Exit) → GoesBack (s setup plan p body most widest functions answered) plan p (entries setup plan p body most widest functions answered) most widest f told end begin
@@ -75,29 +81,32 @@ module _ (setup : Setup) (plan : Plan) (p : Program) (body : ℕ → Actions) (m
   back_comes f false end begin back m q h = (let a = back m q h in comes_more (s setup plan p body most widest functions answered) a.1.goes a.1.holds)
 
   -- from behind a loop's step to where the next turn begins
-  pub back_leads : (f : ℕ) (x y k : Actions) (b : Behind) (l : Around) (z : Exits) → LoopDone setup plan p body most widest functions answered f x y k l z → BehindDone setup plan p body most widest functions answered f b z → FitsCode setup plan p body most widest functions answered f x → FitsCode setup plan p body most widest functions answered f y
-      → FitsCode setup plan p body most widest functions answered f k → FitsBehind setup plan p body most widest functions answered f b → TightAt k b → ClosedAt k b → Leads_to f l.end (point x (Body x y k b))
-  back_leads f x y k b l z d next fx fy fk fb tight closed = record {
+  pub back_leads : (f : ℕ) (x y k : Actions) (b : Behind) (l : Around) (z : Exits) (o : Outs) (d : LoopDone setup plan p body most widest functions answered f x y k l z o) → BehindDone setup plan p body most widest functions answered f b z o → FitsCode setup plan p body most widest functions answered f x → FitsCode setup plan p body most widest functions answered f y
+      → FitsCode setup plan p body most widest functions answered f k → FitsBehind setup plan p body most widest functions answered f b → TightAt k b → ClosedAt k b → Leads_to f l.end d.turn (point x (Body x y k b))
+  back_leads f x y k b l z o d next fx fy fk fb tight closed = record {
     here = l.begin;
     exits' = body_exits l;
-    placed = record { done = d.in_body; next = (l, z, refl, d, next); fits = fx; fits_next = (fx, fy, fk, fb); tight = tight; closed = closed };
+    known = d.turn;
+    out = outs d.again d.next d.again;
+    placed = record { done = d.in_body; next = (l, z, refl, o, d, refl, next); fits = fx; fits_next = (fx, fy, fk, fb); tight = tight; closed = closed };
     walks = back_comes f (begins_told x) l.end l.begin d.back;
+    entails = λ env h. h;
   }
 
-  pub left_leads : (f : ℕ) (b : Behind) (x : Exits) (c d : Actions) → (IsTight c → ⊥) → TightAt c b → ClosedAt d b → BehindDone setup plan p body most widest functions answered f b x → FitsBehind setup plan p body most widest functions answered f b → Leads_to f x.leaves (left b)
-  left_leads f Ends x c d never tight closed next fits = absurd (never tight)
-  left_leads f (After k b) x c d never tight closed next fits =
-      leads_from (ap (λ (e : Exits). e.leaves) next.2) (left_leads f b next.1 c k never tight.0 closed next.4 fits.1)
-  left_leads f (Body x' y k b) x c d never tight closed next fits =
-      at_once next.0.next next.1 (record { done = next.3.rest; next = next.4; fits = fits.2; fits_next = fits.3; tight = tight; closed = closed }) (ap (λ (e : Exits). e.leaves) next.2)
-  left_leads f (Turn x' y k b) x c d never tight closed next fits =
-      at_once next.0.next next.1 (record { done = next.3.rest; next = next.4; fits = fits.2; fits_next = fits.3; tight = tight; closed = closed }) (ap (λ (e : Exits). e.leaves) next.2)
+  pub left_leads : (f : ℕ) (b : Behind) (x : Exits) (o : Outs) (c d : Actions) → (IsTight c → ⊥) → TightAt c b → ClosedAt d b → BehindDone setup plan p body most widest functions answered f b x o → FitsBehind setup plan p body most widest functions answered f b → Leads_to f x.leaves o.leaves (left b)
+  left_leads f Ends x o c d never tight closed next fits = absurd (never tight)
+  left_leads f (After k b) x o c d never tight closed next fits =
+      leads_from (ap (λ (e : Exits). e.leaves) next.2) (ap (λ (e : Outs). e.leaves) next.5) (left_leads f b next.1 next.4 c k never tight.0 closed next.7 fits.1)
+  left_leads f (Body x' y k b) x o c d never tight closed next fits =
+      at_once next.0.next next.1 next.4.next next.3 (record { done = next.4.rest; next = next.6; fits = fits.2; fits_next = fits.3; tight = tight; closed = closed }) (ap (λ (e : Exits). e.leaves) next.2) (ap (λ (e : Outs). e.leaves) next.5)
+  left_leads f (Turn x' y k b) x o c d never tight closed next fits =
+      at_once next.0.next next.1 next.4.next next.3 (record { done = next.4.rest; next = next.6; fits = fits.2; fits_next = fits.3; tight = tight; closed = closed }) (ap (λ (e : Exits). e.leaves) next.2) (ap (λ (e : Outs). e.leaves) next.5)
 
-  pub skipped_leads : (f : ℕ) (b : Behind) (x : Exits) (c d : Actions) → (IsTight c → ⊥) → TightAt c b → ClosedAt d b → BehindDone setup plan p body most widest functions answered f b x → FitsBehind setup plan p body most widest functions answered f b → Leads_to f x.skips (skipped b)
-  skipped_leads f Ends x c d never tight closed next fits = absurd (never tight)
-  skipped_leads f (After k b) x c d never tight closed next fits =
-      leads_from (ap (λ (e : Exits). e.skips) next.2) (skipped_leads f b next.1 c k never tight.0 closed next.4 fits.1)
-  skipped_leads f (Body x' y k b) x c d never tight closed next fits =
-      at_once next.0.again (step_exits next.0) (record { done = next.3.in_step; next = (next.0, next.1, refl, next.3, next.4); fits = fits.1; fits_next = fits; tight = tight; closed = closed }) (ap (λ (e : Exits). e.skips) next.2)
-  skipped_leads f (Turn x' y k b) x c d never tight closed next fits =
-      leads_from (ap (λ (e : Exits). e.skips) next.2) (back_leads f x' y k b next.0 next.1 next.3 next.4 fits.0 fits.1 fits.2 fits.3 tight closed)
+  pub skipped_leads : (f : ℕ) (b : Behind) (x : Exits) (o : Outs) (c d : Actions) → (IsTight c → ⊥) → TightAt c b → ClosedAt d b → BehindDone setup plan p body most widest functions answered f b x o → FitsBehind setup plan p body most widest functions answered f b → Leads_to f x.skips o.skips (skipped b)
+  skipped_leads f Ends x o c d never tight closed next fits = absurd (never tight)
+  skipped_leads f (After k b) x o c d never tight closed next fits =
+      leads_from (ap (λ (e : Exits). e.skips) next.2) (ap (λ (e : Outs). e.skips) next.5) (skipped_leads f b next.1 next.4 c k never tight.0 closed next.7 fits.1)
+  skipped_leads f (Body x' y k b) x o c d never tight closed next fits =
+      at_once next.0.again (step_exits next.0) next.4.again (outs next.4.turn next.4.next next.4.turn) (record { done = next.4.in_step; next = (next.0, next.1, refl, next.3, next.4, refl, next.6); fits = fits.1; fits_next = fits; tight = tight; closed = closed }) (ap (λ (e : Exits). e.skips) next.2) (ap (λ (e : Outs). e.skips) next.5)
+  skipped_leads f (Turn x' y k b) x o c d never tight closed next fits =
+      leads_from (ap (λ (e : Exits). e.skips) next.2) (ap (λ (e : Outs). e.skips) next.5) (back_leads f x' y k b next.0 next.1 next.3 next.4 next.6 fits.0 fits.1 fits.2 fits.3 tight closed)

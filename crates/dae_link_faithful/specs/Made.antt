@@ -31,7 +31,7 @@ use Rattle.dae_select_walks.specs.Walks.{Setting}
 use Rattle.dae_select_walks.specs.Layout.{CodeAt}
 use Rattle.dae_select_walks.specs.Homes.{AreApart}
 use Rattle.dae_select_walks.specs.Live.{live, lives, nowhere}
-use Rattle.dae_select_walks.specs.Multiples.{unknown}
+use Rattle.dae_select_walks.specs.Facts.{unknown}
 use Rattle.dae_select_walks.specs.Agrees.{Plan}
 use Rattle.dae_select_blocks.specs.Blocks.{leave_code}
 use Rattle.dae_select_walks.specs.declared.Standing.TheVariants.{Settled}

@@ -11,13 +11,15 @@ use Rattle.dae_ir.specs.declared.stream.Argument.{Argument}
 use Rattle.dae_ir.specs.declared.stream.Action.{Action}
 use Rattle.dae_ir.specs.declared.stream.Action.TheVariants.{Set as Compute, Issue, Own, Receive, Address, Datum, Offer, Accept, Emit, Probe, Tell, Hear, Stop, Break, Continue, Call, Return}
 use Rattle.dae_select_walks.specs.Live.{Ways, behind, live, nowhere, step_ways, body_ways}
-use Rattle.dae_select_walks.specs.Multiples.{unknown, multiples_behind, is_placed}
+use Rattle.dae_select_walks.specs.Facts.{Facts, unknown, facts_behind, facts_in_first, facts_in_second, facts_past_if, facts_at_turn, facts_at_step, facts_past_loop, need_of}
+use Rattle.dae_select_walks.specs.declared.Need.{Need}
+use Rattle.dae_select_walks.specs.declared.Need.TheVariants.{All, Ends, Nothing}
 use Rattle.dae_select_walks.specs.Agrees.{Plan}
 use Rattle.dae_select_blocks.specs.Blocks.{arguments_code, argument_code, save_code, deeper_code, check_code, enter_code, jump_words, jump_over, jump_back}
 use Rattle.dae_select_blocks.specs.Sizes.{is_short}
 use Rattle.dae_select_walks.specs.declared.Standing.{Standing}
 use Rattle.dae_select_walks.specs.declared.Standing.TheVariants.{Settled, Early, Late}
-use Rattle.dae_select_blocks.specs.Code.{registers_in, standing_behind, placed_code, block_code, action_code, branch_code, does_nothing, past_code, call_code, back_branch, has_bottom, loop_code, bottom_code, code_of, function_code, entry_code}
+use Rattle.dae_select_blocks.specs.Code.{registers_in, standing_behind, needed_code, block_code, action_code, branch_code, does_nothing, past_code, call_code, back_branch, has_bottom, loop_code, bottom_code, code_of, function_code, entry_code}
 
 -- lists with parts that are as long are as long
 pub both_long : (xs xs' ys ys' : List Inst) → length xs ≡ length xs' → length ys ≡ length ys' → length (xs ++ ys) ≡ length (xs' ++ ys')
@@ -90,16 +92,17 @@ module _ (p : Plan) (entry start : ℕ → ℕ) (finish : ℕ) (variables : ℕ 
     action_long (Call v g xs) k l s m t = call_long v g xs _
     action_long (Return x) k l s m t = refl
 
-    settled_long : (placed : Bool) (a : Action) (k : VariableSet) (l s m t : ℕ) → length (if placed then placed_code (p.home f) a else action_code q variables f a k (jump_over short l) (jump_over short s)) ≡ length (if placed then placed_code (p.home f) a else action_code p variables f a k (jump_over short m) (jump_over short t))
-    settled_long true a k l s m t = refl
-    settled_long false a k l s m t = action_long a k l s m t
+    settled_long : (need : Need) (a : Action) (k : VariableSet) (l s m t : ℕ) → length (needed_code q variables f need a k (jump_over short l) (jump_over short s)) ≡ length (needed_code p variables f need a k (jump_over short m) (jump_over short t))
+    settled_long Nothing a k l s m t = refl
+    settled_long Ends a k l s m t = refl
+    settled_long All a k l s m t = action_long a k l s m t
 
-    block_long : (placed : Bool) (g : Standing) (a : Action) (g' : Standing) (k : VariableSet) (l s m t : ℕ) → length (block_code q variables f placed g a g' k (jump_over short l) (jump_over short s)) ≡ length (block_code p variables f placed g a g' k (jump_over short m) (jump_over short t))
-    block_long placed Settled a Settled k l s m t = settled_long placed a k l s m t
-    block_long placed Settled a (Early v x) k l s m t = refl
-    block_long placed Settled a (Late v x) k l s m t = refl
-    block_long placed (Early v x) a g' k l s m t = refl
-    block_long placed (Late v x) a g' k l s m t = refl
+    block_long : (need : Need) (g : Standing) (a : Action) (g' : Standing) (k : VariableSet) (l s m t : ℕ) → length (block_code q variables f need g a g' k (jump_over short l) (jump_over short s)) ≡ length (block_code p variables f need g a g' k (jump_over short m) (jump_over short t))
+    block_long need Settled a Settled k l s m t = settled_long need a k l s m t
+    block_long need Settled a (Early v x) k l s m t = refl
+    block_long need Settled a (Late v x) k l s m t = refl
+    block_long need (Early v x) a g' k l s m t = refl
+    block_long need (Late v x) a g' k l s m t = refl
 
     either_long : (c : Bool) (xs xs' ys ys' : List Inst) → length xs ≡ length xs' → length ys ≡ length ys' → length (if c then xs else ys) ≡ length (if c then xs' else ys')
     either_long true xs xs' ys ys' h k = h
@@ -129,51 +132,51 @@ module _ (p : Plan) (entry start : ℕ → ℕ) (finish : ℕ) (variables : ℕ 
         (both_long turned turned' (again ++ (test n ++ rest)) (again' ++ (test n' ++ rest')) e1
         (both_long again again' (test n ++ rest) (test n' ++ rest') e2 (both_long (test n) (test n') rest rest' (ap (λ (w : ℕ). length (test w)) same) more)))
 
-    code_long : (g : Standing) (known : VariableSet) (code : Actions) (x : Ways) (l s m t : ℕ) → length (code_of short q variables f g known code x l s) ≡ length (code_of short p variables f g known code x m t)
+    code_long : (g : Standing) (known : Facts) (code : Actions) (x : Ways) (l s m t : ℕ) → length (code_of short q variables f g known code x l s) ≡ length (code_of short p variables f g known code x m t)
     code_long g known Done x l s m t = refl
-    code_long g known (Do mark a k) x l s m t = both_long _ _ _ _ (block_long (is_placed known a) g a (standing_behind a k x) (live k x) _ _ _ _) (code_long (standing_behind a k x) (multiples_behind a known) k x l s m t)
+    code_long g known (Do mark a k) x l s m t = both_long _ _ _ _ (block_long (need_of p.memory known a k) g a (standing_behind a k x) (live k x) _ _ _ _) (code_long (standing_behind a k x) (facts_behind p.memory a known) k x l s m t)
     code_long g known (If mark b y n k) x l s m t =
         let none = does_nothing y in let none' = none || does_nothing n in
-        let rest = code_of short q variables f Settled unknown k x l s in let rest' = code_of short p variables f Settled unknown k x m t in
-        let second = code_of short q variables f Settled unknown n (behind (live k x) x) (length rest + l) (length rest + s) in
-        let second' = code_of short p variables f Settled unknown n (behind (live k x) x) (length rest' + m) (length rest' + t) in
-        let two : length second ≡ length second' = code_long Settled unknown n (behind (live k x) x) _ _ _ _ in
+        let rest = code_of short q variables f Settled (facts_past_if b y n known) k x l s in let rest' = code_of short p variables f Settled (facts_past_if b y n known) k x m t in
+        let second = code_of short q variables f Settled (facts_in_second b known) n (behind (live k x) x) (length rest + l) (length rest + s) in
+        let second' = code_of short p variables f Settled (facts_in_second b known) n (behind (live k x) x) (length rest' + m) (length rest' + t) in
+        let two : length second ≡ length second' = code_long Settled (facts_in_second b known) n (behind (live k x) x) _ _ _ _ in
         let past = past_code short none' (length second) in let past' = past_code short none' (length second') in
         let over : length past ≡ length past' = ap (λ (w : ℕ). length (past_code short none' w)) two in
         let far = length past + length second + length rest in let far' = length past' + length second' + length rest' in
-        let first = code_of short q variables f Settled unknown y (behind (live k x) x) (far + l) (far + s) in
-        let first' = code_of short p variables f Settled unknown y (behind (live k x) x) (far' + m) (far' + t) in
-        let one : length first ≡ length first' = code_long Settled unknown y (behind (live k x) x) _ _ _ _ in
+        let first = code_of short q variables f Settled (facts_in_first b known) y (behind (live k x) x) (far + l) (far + s) in
+        let first' = code_of short p variables f Settled (facts_in_first b known) y (behind (live k x) x) (far' + m) (far' + t) in
+        let one : length first ≡ length first' = code_long Settled (facts_in_first b known) y (behind (live k x) x) _ _ _ _ in
         let led : (if none then length second else length first + length past) ≡ (if none then length second' else length first' + length past') =
         ap (λ (w : ℕ). if none then w else length first + length past) two ∙ ap (λ (w : ℕ). if none then length second' else w + length past) one ∙ ap (λ (w : ℕ). if none then length second' else length first' + w) over in
         both_long (branch_code (p.home f) short b none (if none then length second else length first + length past)) (branch_code (p.home f) short b none (if none then length second' else length first' + length past')) _ _
         (ap (λ (w : ℕ). length (branch_code (p.home f) short b none w)) led)
-        (both_long first first' _ _ one (both_long past past' _ _ over (both_long second second' _ _ two (code_long Settled unknown k x l s m t))))
+        (both_long first first' _ _ one (both_long past past' _ _ over (both_long second second' _ _ two (code_long Settled (facts_past_if b y n known) k x l s m t))))
     code_long g known (Loop mark Done step k) x l s m t =
-        top_long (code_of short q variables f Settled unknown Done (body_ways Done step (live k x))) (code_of short p variables f Settled unknown Done (body_ways Done step (live k x)))
-        (code_of short q variables f Settled unknown step (step_ways Done step (live k x)) (jump_words short) 0) (code_of short p variables f Settled unknown step (step_ways Done step (live k x)) (jump_words short) 0)
-        (code_of short q variables f Settled unknown k x l s) (code_of short p variables f Settled unknown k x m t)
-        (code_long Settled unknown Done (body_ways Done step (live k x))) (code_long Settled unknown step (step_ways Done step (live k x)) (jump_words short) 0 (jump_words short) 0) (code_long Settled unknown k x l s m t)
+        top_long (code_of short q variables f Settled (facts_at_turn p.memory Done step known) Done (body_ways Done step (live k x))) (code_of short p variables f Settled (facts_at_turn p.memory Done step known) Done (body_ways Done step (live k x)))
+        (code_of short q variables f Settled (facts_at_step p.memory Done step known) step (step_ways Done step (live k x)) (jump_words short) 0) (code_of short p variables f Settled (facts_at_step p.memory Done step known) step (step_ways Done step (live k x)) (jump_words short) 0)
+        (code_of short q variables f Settled (facts_past_loop Done step known) k x l s) (code_of short p variables f Settled (facts_past_loop Done step known) k x m t)
+        (code_long Settled (facts_at_turn p.memory Done step known) Done (body_ways Done step (live k x))) (code_long Settled (facts_at_step p.memory Done step known) step (step_ways Done step (live k x)) (jump_words short) 0 (jump_words short) 0) (code_long Settled (facts_past_loop Done step known) k x l s m t)
     code_long g known (Loop mark (Do mark' a u) step k) x l s m t =
-        top_long (code_of short q variables f Settled unknown (Do mark' a u) (body_ways (Do mark' a u) step (live k x))) (code_of short p variables f Settled unknown (Do mark' a u) (body_ways (Do mark' a u) step (live k x)))
-        (code_of short q variables f Settled unknown step (step_ways (Do mark' a u) step (live k x)) (jump_words short) 0) (code_of short p variables f Settled unknown step (step_ways (Do mark' a u) step (live k x)) (jump_words short) 0)
-        (code_of short q variables f Settled unknown k x l s) (code_of short p variables f Settled unknown k x m t)
-        (code_long Settled unknown (Do mark' a u) (body_ways (Do mark' a u) step (live k x))) (code_long Settled unknown step (step_ways (Do mark' a u) step (live k x)) (jump_words short) 0 (jump_words short) 0) (code_long Settled unknown k x l s m t)
+        top_long (code_of short q variables f Settled (facts_at_turn p.memory (Do mark' a u) step known) (Do mark' a u) (body_ways (Do mark' a u) step (live k x))) (code_of short p variables f Settled (facts_at_turn p.memory (Do mark' a u) step known) (Do mark' a u) (body_ways (Do mark' a u) step (live k x)))
+        (code_of short q variables f Settled (facts_at_step p.memory (Do mark' a u) step known) step (step_ways (Do mark' a u) step (live k x)) (jump_words short) 0) (code_of short p variables f Settled (facts_at_step p.memory (Do mark' a u) step known) step (step_ways (Do mark' a u) step (live k x)) (jump_words short) 0)
+        (code_of short q variables f Settled (facts_past_loop (Do mark' a u) step known) k x l s) (code_of short p variables f Settled (facts_past_loop (Do mark' a u) step known) k x m t)
+        (code_long Settled (facts_at_turn p.memory (Do mark' a u) step known) (Do mark' a u) (body_ways (Do mark' a u) step (live k x))) (code_long Settled (facts_at_step p.memory (Do mark' a u) step known) step (step_ways (Do mark' a u) step (live k x)) (jump_words short) 0 (jump_words short) 0) (code_long Settled (facts_past_loop (Do mark' a u) step known) k x l s m t)
     code_long g known (Loop mark (Loop mark' y n u) step k) x l s m t =
-        top_long (code_of short q variables f Settled unknown (Loop mark' y n u) (body_ways (Loop mark' y n u) step (live k x))) (code_of short p variables f Settled unknown (Loop mark' y n u) (body_ways (Loop mark' y n u) step (live k x)))
-        (code_of short q variables f Settled unknown step (step_ways (Loop mark' y n u) step (live k x)) (jump_words short) 0) (code_of short p variables f Settled unknown step (step_ways (Loop mark' y n u) step (live k x)) (jump_words short) 0)
-        (code_of short q variables f Settled unknown k x l s) (code_of short p variables f Settled unknown k x m t)
-        (code_long Settled unknown (Loop mark' y n u) (body_ways (Loop mark' y n u) step (live k x))) (code_long Settled unknown step (step_ways (Loop mark' y n u) step (live k x)) (jump_words short) 0 (jump_words short) 0) (code_long Settled unknown k x l s m t)
+        top_long (code_of short q variables f Settled (facts_at_turn p.memory (Loop mark' y n u) step known) (Loop mark' y n u) (body_ways (Loop mark' y n u) step (live k x))) (code_of short p variables f Settled (facts_at_turn p.memory (Loop mark' y n u) step known) (Loop mark' y n u) (body_ways (Loop mark' y n u) step (live k x)))
+        (code_of short q variables f Settled (facts_at_step p.memory (Loop mark' y n u) step known) step (step_ways (Loop mark' y n u) step (live k x)) (jump_words short) 0) (code_of short p variables f Settled (facts_at_step p.memory (Loop mark' y n u) step known) step (step_ways (Loop mark' y n u) step (live k x)) (jump_words short) 0)
+        (code_of short q variables f Settled (facts_past_loop (Loop mark' y n u) step known) k x l s) (code_of short p variables f Settled (facts_past_loop (Loop mark' y n u) step known) k x m t)
+        (code_long Settled (facts_at_turn p.memory (Loop mark' y n u) step known) (Loop mark' y n u) (body_ways (Loop mark' y n u) step (live k x))) (code_long Settled (facts_at_step p.memory (Loop mark' y n u) step known) step (step_ways (Loop mark' y n u) step (live k x)) (jump_words short) 0 (jump_words short) 0) (code_long Settled (facts_past_loop (Loop mark' y n u) step known) k x l s m t)
     code_long g known (Loop mark (If mark' b y n u) step k) x l s m t =
         let ways' = body_ways (If mark' b y n u) step (live k x) in let ways'' = step_ways (If mark' b y n u) step (live k x) in
-        let more = code_long Settled unknown k x l s m t in
+        let more = code_long Settled (facts_past_loop (If mark' b y n u) step known) k x l s m t in
         either_long (has_bottom (If mark' b y n u) step) _ _ _ _
-        (bottom_long (back_branch (p.home f) b true) (code_of short q variables f Settled unknown u ways') (code_of short p variables f Settled unknown u ways') (code_of short q variables f Settled unknown step ways'') (code_of short p variables f Settled unknown step ways'')
-        (code_of short q variables f Settled unknown k x l s) (code_of short p variables f Settled unknown k x m t) (code_long Settled unknown u ways') (code_long Settled unknown step ways'') more)
-        (top_long (code_of short q variables f Settled unknown (If mark' b y n u) ways') (code_of short p variables f Settled unknown (If mark' b y n u) ways')
-        (code_of short q variables f Settled unknown step ways'' (jump_words short) 0) (code_of short p variables f Settled unknown step ways'' (jump_words short) 0)
-        (code_of short q variables f Settled unknown k x l s) (code_of short p variables f Settled unknown k x m t)
-        (code_long Settled unknown (If mark' b y n u) ways') (code_long Settled unknown step ways'' (jump_words short) 0 (jump_words short) 0) more)
+        (bottom_long (back_branch (p.home f) b true) (code_of short q variables f Settled (facts_past_if b y n (facts_at_turn p.memory (If mark' b y n u) step known)) u ways') (code_of short p variables f Settled (facts_past_if b y n (facts_at_turn p.memory (If mark' b y n u) step known)) u ways') (code_of short q variables f Settled (facts_at_step p.memory (If mark' b y n u) step known) step ways'') (code_of short p variables f Settled (facts_at_step p.memory (If mark' b y n u) step known) step ways'')
+        (code_of short q variables f Settled (facts_past_loop (If mark' b y n u) step known) k x l s) (code_of short p variables f Settled (facts_past_loop (If mark' b y n u) step known) k x m t) (code_long Settled (facts_past_if b y n (facts_at_turn p.memory (If mark' b y n u) step known)) u ways') (code_long Settled (facts_at_step p.memory (If mark' b y n u) step known) step ways'') more)
+        (top_long (code_of short q variables f Settled (facts_at_turn p.memory (If mark' b y n u) step known) (If mark' b y n u) ways') (code_of short p variables f Settled (facts_at_turn p.memory (If mark' b y n u) step known) (If mark' b y n u) ways')
+        (code_of short q variables f Settled (facts_at_step p.memory (If mark' b y n u) step known) step ways'' (jump_words short) 0) (code_of short p variables f Settled (facts_at_step p.memory (If mark' b y n u) step known) step ways'' (jump_words short) 0)
+        (code_of short q variables f Settled (facts_past_loop (If mark' b y n u) step known) k x l s) (code_of short p variables f Settled (facts_past_loop (If mark' b y n u) step known) k x m t)
+        (code_long Settled (facts_at_turn p.memory (If mark' b y n u) step known) (If mark' b y n u) ways') (code_long Settled (facts_at_step p.memory (If mark' b y n u) step known) step ways'' (jump_words short) 0 (jump_words short) 0) more)
 
   pub function_long : (code : Actions) → length (function_code q variables f code) ≡ length (function_code p variables f code)
   function_long code = both_long (entry_code p variables f (live code nowhere)) (entry_code p variables f (live code nowhere)) _ _ refl (both_long _ _ _ _ (code_long (is_short code) Settled unknown code nowhere 0 0 0 0) refl)

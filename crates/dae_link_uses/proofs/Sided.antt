@@ -1,5 +1,5 @@
 -- The code of an action uses the queue of the action and no other, and so does that of a function.
-use Rattle.std.proofs.Common.{◌≡◌, ◌≢◌, ◌↔◌, ◌⊎◌, inl, inr, ℕ, ◌+◌, ◌-◌, ◌<◌, ◌*◌, Bool, true, false, List, [], ◌∷◌, ◌++◌, length, Option, Some, None, refl, sym, ap, subst, ◌∙◌, arith, pos, negsuc}
+use Rattle.std.proofs.Common.{◌≡◌, ◌≢◌, ◌↔◌, ◌⊎◌, inl, inr, ℕ, zero, suc, ◌+◌, ◌-◌, ◌<◌, ◌*◌, Bool, true, false, List, [], ◌∷◌, ◌++◌, length, Option, Some, None, refl, sym, ap, subst, ◌∙◌, arith, pos, negsuc}
 use Rattle.std.specs.Prelude.{◌&&◌, ◌||◌, nat_lt, nat_eq, not, if◌then◌else◌, ℤ}
 use Rattle.std.specs.List.{AllByRecursion}
 use Rattle.std.proofs.lemmas.Bool.Decides.{nat_tests}
@@ -41,11 +41,12 @@ use Rattle.dae_select_walks.specs.Homes.{IsHome}
 use Rattle.dae_select_walks.specs.declared.Standing.{Standing}
 use Rattle.dae_select_walks.specs.declared.Standing.TheVariants.{Settled, Early, Late}
 use Rattle.dae_select_walks.specs.Live.{Ways, none, in_operand, live, behind, body_ways, step_ways, nowhere}
-use Rattle.dae_select_walks.specs.Multiples.{unknown, is_multiple, multiples_behind, is_placed}
+use Rattle.dae_select_walks.specs.Facts.{Facts, unknown, only_leaves, operand_bounds, is_aligned, is_good, tells_within, facts_behind, facts_in_first, facts_in_second, facts_past_if, facts_at_turn, facts_at_step, facts_past_loop, need_of}
+use Rattle.dae_select_walks.specs.declared.Need.TheVariants.{All, Ends, Nothing}
 use Rattle.dae_select_walks.specs.Agrees.{Plan}
 use Rattle.dae_select_blocks.specs.Blocks.{number_code, register_or, source, operation_code, immediate_code, exchanged_code, behind_or, combine_registers, binary_code, value_code, fetch, move_code, keep, test_code, call_number, issue_code, address_code, take_code, fail_code, over, align_code, bounds_code, room_code, check_code, hear_code, jump_over, jump_back, leave_code, jump_words, branch_inst, opposite, one_way, goes_by, goes_code, frames_room_code, lower, is_immediate, tell_number_code, against_zero, immediate_of, extend_code, compare_code, takes_number, compare_number_code, compare_registers, compare_operands, back_offset, goes_back}
 use Rattle.dae_select_walks.specs.Compiled.{is_told}
-use Rattle.dae_select_blocks.specs.Code.{is_break, only_breaks, leaves_first, is_near, has_bottom, told_by, branch_by, ahead_by, before_branch, back_branch, either_one, reads_once, with_home, early_code, late_code, standing_behind, placed_code, block_code, action_code, branch_code, code_of, entry_code, function_code, finish_code, start_code, does_nothing, past_code, written_last}
+use Rattle.dae_select_blocks.specs.Code.{leaves_first, is_near, has_bottom, told_by, branch_by, ahead_by, before_branch, back_branch, either_one, reads_once, with_home, early_code, late_code, standing_behind, placed_code, needed_code, block_code, action_code, branch_code, code_of, entry_code, function_code, finish_code, start_code, does_nothing, past_code, written_last}
 use Rattle.dae_link_uses.specs.Uses.{queue_in, action_queue, branch_queue, IsOfSide, AreOfSide, IsUntouched, LeavesAlone}
 use Rattle.dae_link_uses.proofs.Access.{IsPlain, plain, loads_for_e, loads_own, gives_address, pushes_datum, pushes_copy, pushes_message, takes_load, takes_own, takes_copy, takes_message, takes_load_left, takes_load_right, takes_copy_left, takes_copy_right, pushes_flag, sends_datum}
 use Rattle.dae_link_uses.proofs.Quiet.{immediate_form, exchanged_form, AllPlain, plain_append, number_plain, register_low, keep_plain, source_low, fetch_plain, move_is, value_plain, system_plain, stop_plain, leave_plain, call_plain, entry_plain, finish_plain, start_plain, over_plain, past_plain, back_jump_plain, branch_form, branch_plain, goes_plain, test_writes, Writes, tell_number_writes}
@@ -61,6 +62,14 @@ no_some q e = absurd (let x : None ≡ Some q = e in cc)
 record Uses (by_a : Bool) (o : Option Queue) (is : List Inst) : Type 0 where
   only : AllByRecursion (λ (i : Inst). (queue_in (side by_a) i ≡ None) ⊎ (queue_in (side by_a) i ≡ o)) is
   some : (q : Queue) → o ≡ Some q → LeavesAlone by_a q is → ⊥
+
+-- the same, but where a message is told behind it, whose queue is the very same, all may leave it alone
+record UsesBefore (by_a told : Bool) (o : Option Queue) (is : List Inst) : Type 0 where
+  only : AllByRecursion (λ (i : Inst). (queue_in (side by_a) i ≡ None) ⊎ (queue_in (side by_a) i ≡ o)) is
+  some : (q : Queue) → o ≡ Some q → (told ≡ true → Some (told_on by_a) ≡ Some q → ⊥) → LeavesAlone by_a q is → ⊥
+
+before_any : {by_a told : Bool} {o : Option Queue} {is : List Inst} → Uses by_a o is → UsesBefore by_a told o is
+before_any h = record { only = h.only; some = λ q e no alone. h.some q e alone }
 
 module _ (by_a : Bool) where
   abbrev Only : Option Queue → List Inst → Type 0
@@ -416,29 +425,34 @@ module _ (plan : Plan) (variables : ℕ → ℕ) (good : (f v : ℕ) → IsHome 
       early_uses v d y once = before_plain by_a' o (value_code (Instead v) (register_or 5 (plan.home f d)) y) (keep (plan.home f d)) (early_value v (register_or 5 (plan.home f d)) y once (home_low d)) (keep_plain (plan.home f d))
 
     -- the block of an action alone
-    placed_or_not : (short placed : Bool) (width : Width) (x : Operand) (live : VariableSet) (leaves skips : ℕ) → IsOfSide by_a' (Probe (Place width x)) →
-        Uses by_a' (Some (told_on by_a')) (if placed then placed_code (plan.home f) (Probe (Place width x)) else action_code plan variables f (Probe (Place width x)) live (jump_over short leaves) (jump_over short skips))
-    placed_or_not short true width x live leaves skips is = placed_uses width x
-    placed_or_not short false width x live leaves skips is = action_uses short (Probe (Place width x)) live leaves skips is
+    -- of the test of a place there may be nothing, where a message comes behind it
+    needed_uses : (short told good aligned : Bool) (width : Width) (x : Operand) (live : VariableSet) (leaves skips : ℕ) → IsOfSide by_a' (Probe (Place width x)) →
+        UsesBefore by_a' told (Some (told_on by_a')) (needed_code plan variables f (if told && good then Nothing else (if aligned then Ends else All)) (Probe (Place width x)) live (jump_over short leaves) (jump_over short skips))
+    needed_uses short false good true width x live leaves skips is = before_any (placed_uses width x)
+    needed_uses short false good false width x live leaves skips is = before_any (action_uses short (Probe (Place width x)) live leaves skips is)
+    needed_uses short true false true width x live leaves skips is = before_any (placed_uses width x)
+    needed_uses short true false false width x live leaves skips is = before_any (action_uses short (Probe (Place width x)) live leaves skips is)
+    needed_uses short true true aligned width x live leaves skips is = record { only = tt; some = λ q e no alone. no refl e }
 
-    alone_uses : (short : Bool) (known : VariableSet) (a : Action) (live : VariableSet) (leaves skips : ℕ) → IsOfSide by_a' a →
-        Uses by_a' (action_queue by_a' a) (if is_placed known a then placed_code (plan.home f) a else action_code plan variables f a live (jump_over short leaves) (jump_over short skips))
-    alone_uses short known (Probe (Place width x)) live leaves skips is = placed_or_not short (is_multiple known x) width x live leaves skips is
-    alone_uses short known a live leaves skips is = action_uses short a live leaves skips is
+    alone_uses : (short : Bool) (known : Facts) (a : Action) (k : Actions) (live : VariableSet) (leaves skips : ℕ) → IsOfSide by_a' a →
+        UsesBefore by_a' (tells_within 24 k) (action_queue by_a' a) (needed_code plan variables f (need_of plan.memory known a k) a live (jump_over short leaves) (jump_over short skips))
+    alone_uses short known (Probe (Place width x)) k live leaves skips is =
+        needed_uses short (tells_within 24 k) (is_good plan.memory width (operand_bounds known x)) (is_aligned width (operand_bounds known x)) width x live leaves skips is
+    alone_uses short known a k live leaves skips is = before_any (action_uses short a live leaves skips is)
 
     -- the block of an action, where things stand so before it and so behind it
-    block_uses : (short : Bool) (known : VariableSet) (standing : Standing) (m : Mark) (x : Ways) (leaves skips : ℕ) (a : Action) (k : Actions) → Suits standing (Do m a k) x → IsOfSide by_a' a →
-        Uses by_a' (action_queue by_a' a) (block_code plan variables f (is_placed known a) standing a (standing_behind a k x) (live k x) (jump_over short leaves) (jump_over short skips))
+    block_uses : (short : Bool) (known : Facts) (standing : Standing) (m : Mark) (x : Ways) (leaves skips : ℕ) (a : Action) (k : Actions) → Suits standing (Do m a k) x → IsOfSide by_a' a →
+        UsesBefore by_a' (tells_within 24 k) (action_queue by_a' a) (block_code plan variables f (need_of plan.memory known a k) standing a (standing_behind a k x) (live k x) (jump_over short leaves) (jump_over short skips))
     block_uses short known Settled m x leaves skips a k suits is =
-        by_pairs (λ (a : Action) (k : Actions) (standing : Standing). IsOfSide by_a' a → Uses by_a' (action_queue by_a' a) (block_code plan variables f (is_placed known a) Settled a standing (live k x) (jump_over short leaves) (jump_over short skips))) x
-        (λ a k is. alone_uses short known a (live k x) leaves skips is)
-        (λ t y n b k e passes dead is. no_queue by_a' [] tt)
-        (λ v n d y k e once dead is. early_uses (Some Ld) 30 (λ i t r form a b. on_e i (Some Ld) is (takes_load_left i t r form a b)) (λ i t r form a b. on_e i (Some Ld) is (takes_load_right i t r form a b)) v d y once)
-        (λ v n d y k e once dead is. early_uses (Some Cq) 28 (λ i t r form a b. on_e i (Some Cq) is (takes_copy_left i t r form a b)) (λ i t r form a b. on_e i (Some Cq) is (takes_copy_right i t r form a b)) v d y once)
+        by_pairs (λ (a : Action) (k : Actions) (standing : Standing). IsOfSide by_a' a → UsesBefore by_a' (tells_within 24 k) (action_queue by_a' a) (block_code plan variables f (need_of plan.memory known a k) Settled a standing (live k x) (jump_over short leaves) (jump_over short skips))) x
+        (λ a k is. alone_uses short known a k (live k x) leaves skips is)
+        (λ t y n b k e passes dead is. before_any (no_queue by_a' [] tt))
+        (λ v n d y k e once dead is. before_any (early_uses (Some Ld) 30 (λ i t r form a b. on_e i (Some Ld) is (takes_load_left i t r form a b)) (λ i t r form a b. on_e i (Some Ld) is (takes_load_right i t r form a b)) v d y once))
+        (λ v n d y k e once dead is. before_any (early_uses (Some Cq) 28 (λ i t r form a b. on_e i (Some Cq) is (takes_copy_left i t r form a b)) (λ i t r form a b. on_e i (Some Cq) is (takes_copy_right i t r form a b)) v d y once))
         a k is
     block_uses short known (Late t y) m x leaves skips a k suits is =
-        passed_on (λ (b : Action). IsOfSide by_a' b → Uses by_a' (action_queue by_a' b) (late_code (plan.home f) b y)) t y a suits.0 (λ d is. action_uses short (Compute d y) none 0 0 tt) (λ last is. send_value is y last) is
-    block_uses short known (Early v y) m x leaves skips a k suits is = subst (λ (b : Action). Uses by_a' (action_queue by_a' b) []) (sym suits.0) (no_queue by_a' [] tt)
+        before_any (passed_on (λ (b : Action). IsOfSide by_a' b → Uses by_a' (action_queue by_a' b) (late_code (plan.home f) b y)) t y a suits.0 (λ d is. action_uses short (Compute d y) none 0 0 tt) (λ last is. send_value is y last) is)
+    block_uses short known (Early v y) m x leaves skips a k suits is = before_any (subst (λ (b : Action). Uses by_a' (action_queue by_a' b) []) (sym suits.0) (no_queue by_a' [] tt))
 
     -- a branch on what is heard
     hears : (t short : Bool) (relation : Comparison) (n : ℕ) → Uses by_a' (Some (heard_on by_a')) (goes_by t short relation 29 0 n)
@@ -515,15 +529,12 @@ module _ (plan : Plan) (variables : ℕ → ℕ) (good : (f v : ℕ) → IsHome 
       nothing_untouched (If m b p r k) e = absurd cc
       nothing_untouched (Loop m body step k) e = absurd cc
 
-      no_break : (a : Action) → is_break a ≡ true → action_queue by_a' a ≢ Some q
-      no_break Break e same = absurd cc
-      no_break a e same = absurd cc
+      no_break : action_queue by_a' Break ≢ Some q
+      no_break same = absurd cc
 
-      breaks_untouched : (code : Actions) → only_breaks code ≡ true → IsUntouched by_a' q code
-      breaks_untouched (Do m a k) e = (let two = and_true (is_break a) (does_nothing k) e in (no_break a two.0, nothing_untouched k two.1))
-      breaks_untouched Done e = absurd cc
-      breaks_untouched (If m b p r k) e = absurd cc
-      breaks_untouched (Loop m body step k) e = absurd cc
+      breaks_untouched : (code : Actions) → only_leaves code ≡ true → IsUntouched by_a' q code
+      breaks_untouched (Do m Break Done) e = (no_break, tt)
+      breaks_untouched code e = absurd cc
 
       -- a loop whose test stands behind its step
       bottom_both : (short : Bool) (m m' : Mark) (b : Branch) (p r t step k : Actions) (n : ℕ) (jump turned again rest : List Inst) → leaves_first (If m' b p r t) ≡ true → AllPlain jump → Both t turned → Both step again → Both k rest
@@ -531,7 +542,7 @@ module _ (plan : Plan) (variables : ℕ → ℕ) (good : (f v : ℕ) → IsHome 
       bottom_both short m m' b p r t step k n jump turned again rest is plain one two more =
           let test = back_branch (plan.home f) b true n in
           let uses = back_uses b true n in
-          let lists = and_true (does_nothing p) (only_breaks r) (and_true (is_told b) (does_nothing p && only_breaks r) is).1 in (
+          let lists = and_true (does_nothing p) (only_leaves r) (and_true (is_told b) (does_nothing p && only_leaves r) is).1 in (
             (λ alone.
                 let a = alone_split by_a' q jump (turned ++ (again ++ (test ++ rest))) alone in
                 let c = alone_split by_a' q turned (again ++ (test ++ rest)) a.1 in
@@ -549,30 +560,41 @@ module _ (plan : Plan) (variables : ℕ → ℕ) (good : (f v : ℕ) → IsHome 
       either_both true code xs ys h k = h refl
       either_both false code xs ys h k = k
 
-      code_both : (short : Bool) (standing : Standing) (known : VariableSet) (code : Actions) (x : Ways) (leaves skips : ℕ) → Suits standing code x → AreOfSide by_a' code → Both code (code_of short plan variables f standing known code x leaves skips)
+      -- a message that is told soon uses its queue
+      told_touches : (n : ℕ) (code : Actions) → tells_within n code ≡ true → IsUntouched by_a' q code → Some (told_on by_a') ≡ Some q → ⊥
+      told_touches zero code e free same = absurd cc
+      told_touches (suc n) Done e free same = absurd cc
+      told_touches (suc n) (Do m (Tell x) k) e free same = free.0 same
+      told_touches (suc n) (Do m a k) e free same = told_touches n k e free.1 same
+      told_touches (suc n) (If m b p r k) e free same = absurd cc
+      told_touches (suc n) (Loop m body step k) e free same = absurd cc
+
+      code_both : (short : Bool) (standing : Standing) (known : Facts) (code : Actions) (x : Ways) (leaves skips : ℕ) → Suits standing code x → AreOfSide by_a' code → Both code (code_of short plan variables f standing known code x leaves skips)
       code_both short standing known Done x leaves skips suits is = ((λ h. tt), (λ h. tt))
       code_both short standing known (Do m a k) x leaves skips suits is =
           let standing' = standing_behind a k x in
-          let rest = code_of short plan variables f standing' (multiples_behind a known) k x leaves skips in
-          let here = block_code plan variables f (is_placed known a) standing a standing' (live k x) (jump_over short (length rest + leaves)) (jump_over short (length rest + skips)) in
+          let rest = code_of short plan variables f standing' (facts_behind plan.memory a known) k x leaves skips in
+          let here = block_code plan variables f (need_of plan.memory known a k) standing a standing' (live k x) (jump_over short (length rest + leaves)) (jump_over short (length rest + skips)) in
           let uses = block_uses short known standing m x (length rest + leaves) (length rest + skips) a k suits is.0 in
-          let more = code_both short standing' (multiples_behind a known) k x leaves skips (suits_behind a k x) is.1 in (
-            (λ alone. let two = alone_split by_a' q here rest alone in ((λ e. uses.some q e two.0), more.0 two.1)),
+          let more = code_both short standing' (facts_behind plan.memory a known) k x leaves skips (suits_behind a k x) is.1 in (
+            (λ alone.
+                let two = alone_split by_a' q here rest alone in
+                let free = more.0 two.1 in ((λ e. uses.some q e (λ told same. told_touches 24 k told free same) two.0), free)),
             (λ free. alone_append by_a' q here rest (others_alone by_a' (action_queue by_a' a) q here uses.only free.0) (more.1 free.1)),
           )
       code_both short standing known (If m b p r k) x leaves skips suits is =
           let none = does_nothing p in
-          let rest = code_of short plan variables f Settled unknown k x leaves skips in
-          let second = code_of short plan variables f Settled unknown r (behind (live k x) x) (length rest + leaves) (length rest + skips) in
+          let rest = code_of short plan variables f Settled (facts_past_if b p r known) k x leaves skips in
+          let second = code_of short plan variables f Settled (facts_in_second b known) r (behind (live k x) x) (length rest + leaves) (length rest + skips) in
           let past = past_code short (none || does_nothing r) (length second) in
           let far = length past + length second + length rest in
-          let first = code_of short plan variables f Settled unknown p (behind (live k x) x) (far + leaves) (far + skips) in
+          let first = code_of short plan variables f Settled (facts_in_first b known) p (behind (live k x) x) (far + leaves) (far + skips) in
           let n = if none then length second else length first + length past in
           let decides = branch_code (plan.home f) short b none n in
           let uses = branch_uses short b none n in
-          let one = code_both short Settled unknown p (behind (live k x) x) (far + leaves) (far + skips) tt is.1 in
-          let two = code_both short Settled unknown r (behind (live k x) x) (length rest + leaves) (length rest + skips) tt is.2 in
-          let more = code_both short Settled unknown k x leaves skips tt is.3 in (
+          let one = code_both short Settled (facts_in_first b known) p (behind (live k x) x) (far + leaves) (far + skips) tt is.1 in
+          let two = code_both short Settled (facts_in_second b known) r (behind (live k x) x) (length rest + leaves) (length rest + skips) tt is.2 in
+          let more = code_both short Settled (facts_past_if b p r known) k x leaves skips tt is.3 in (
             (λ alone.
                 let a = alone_split by_a' q decides (first ++ (past ++ (second ++ rest))) alone in
                 let b = alone_split by_a' q first (past ++ (second ++ rest)) a.1 in
@@ -586,31 +608,31 @@ module _ (plan : Plan) (variables : ℕ → ℕ) (good : (f v : ℕ) → IsHome 
                 (alone_append by_a' q second rest (two.1 free.2) (more.1 free.3))))),
           )
       code_both short standing known (Loop m Done step k) x leaves skips suits is =
-          let again = code_of short plan variables f Settled unknown step (step_ways Done step (live k x)) (jump_words short) 0 in
-          top_both short m Done step k (code_of short plan variables f Settled unknown Done (body_ways Done step (live k x)) (length again + jump_words short) 0) again (code_of short plan variables f Settled unknown k x leaves skips)
-          (code_both short Settled unknown Done (body_ways Done step (live k x)) (length again + jump_words short) 0 tt is.0) (code_both short Settled unknown step (step_ways Done step (live k x)) (jump_words short) 0 tt is.1) (code_both short Settled unknown k x leaves skips tt is.2)
+          let again = code_of short plan variables f Settled (facts_at_step plan.memory Done step known) step (step_ways Done step (live k x)) (jump_words short) 0 in
+          top_both short m Done step k (code_of short plan variables f Settled (facts_at_turn plan.memory Done step known) Done (body_ways Done step (live k x)) (length again + jump_words short) 0) again (code_of short plan variables f Settled (facts_past_loop Done step known) k x leaves skips)
+          (code_both short Settled (facts_at_turn plan.memory Done step known) Done (body_ways Done step (live k x)) (length again + jump_words short) 0 tt is.0) (code_both short Settled (facts_at_step plan.memory Done step known) step (step_ways Done step (live k x)) (jump_words short) 0 tt is.1) (code_both short Settled (facts_past_loop Done step known) k x leaves skips tt is.2)
       code_both short standing known (Loop m (Do m' a t) step k) x leaves skips suits is =
-          let again = code_of short plan variables f Settled unknown step (step_ways (Do m' a t) step (live k x)) (jump_words short) 0 in
-          top_both short m (Do m' a t) step k (code_of short plan variables f Settled unknown (Do m' a t) (body_ways (Do m' a t) step (live k x)) (length again + jump_words short) 0) again (code_of short plan variables f Settled unknown k x leaves skips)
-          (code_both short Settled unknown (Do m' a t) (body_ways (Do m' a t) step (live k x)) (length again + jump_words short) 0 tt is.0) (code_both short Settled unknown step (step_ways (Do m' a t) step (live k x)) (jump_words short) 0 tt is.1) (code_both short Settled unknown k x leaves skips tt is.2)
+          let again = code_of short plan variables f Settled (facts_at_step plan.memory (Do m' a t) step known) step (step_ways (Do m' a t) step (live k x)) (jump_words short) 0 in
+          top_both short m (Do m' a t) step k (code_of short plan variables f Settled (facts_at_turn plan.memory (Do m' a t) step known) (Do m' a t) (body_ways (Do m' a t) step (live k x)) (length again + jump_words short) 0) again (code_of short plan variables f Settled (facts_past_loop (Do m' a t) step known) k x leaves skips)
+          (code_both short Settled (facts_at_turn plan.memory (Do m' a t) step known) (Do m' a t) (body_ways (Do m' a t) step (live k x)) (length again + jump_words short) 0 tt is.0) (code_both short Settled (facts_at_step plan.memory (Do m' a t) step known) step (step_ways (Do m' a t) step (live k x)) (jump_words short) 0 tt is.1) (code_both short Settled (facts_past_loop (Do m' a t) step known) k x leaves skips tt is.2)
       code_both short standing known (Loop m (Loop m' c d t) step k) x leaves skips suits is =
-          let again = code_of short plan variables f Settled unknown step (step_ways (Loop m' c d t) step (live k x)) (jump_words short) 0 in
-          top_both short m (Loop m' c d t) step k (code_of short plan variables f Settled unknown (Loop m' c d t) (body_ways (Loop m' c d t) step (live k x)) (length again + jump_words short) 0) again (code_of short plan variables f Settled unknown k x leaves skips)
-          (code_both short Settled unknown (Loop m' c d t) (body_ways (Loop m' c d t) step (live k x)) (length again + jump_words short) 0 tt is.0) (code_both short Settled unknown step (step_ways (Loop m' c d t) step (live k x)) (jump_words short) 0 tt is.1) (code_both short Settled unknown k x leaves skips tt is.2)
+          let again = code_of short plan variables f Settled (facts_at_step plan.memory (Loop m' c d t) step known) step (step_ways (Loop m' c d t) step (live k x)) (jump_words short) 0 in
+          top_both short m (Loop m' c d t) step k (code_of short plan variables f Settled (facts_at_turn plan.memory (Loop m' c d t) step known) (Loop m' c d t) (body_ways (Loop m' c d t) step (live k x)) (length again + jump_words short) 0) again (code_of short plan variables f Settled (facts_past_loop (Loop m' c d t) step known) k x leaves skips)
+          (code_both short Settled (facts_at_turn plan.memory (Loop m' c d t) step known) (Loop m' c d t) (body_ways (Loop m' c d t) step (live k x)) (length again + jump_words short) 0 tt is.0) (code_both short Settled (facts_at_step plan.memory (Loop m' c d t) step known) step (step_ways (Loop m' c d t) step (live k x)) (jump_words short) 0 tt is.1) (code_both short Settled (facts_past_loop (Loop m' c d t) step known) k x leaves skips tt is.2)
       code_both short standing known (Loop m (If m' b p r t) step k) x leaves skips suits is =
           let ways' = body_ways (If m' b p r t) step (live k x) in
-          let rest = code_of short plan variables f Settled unknown k x leaves skips in
-          let more = code_both short Settled unknown k x leaves skips tt is.2 in
-          let again = code_of short plan variables f Settled unknown step (step_ways (If m' b p r t) step (live k x)) (jump_words short) 0 in
-          let turned = code_of short plan variables f Settled unknown (If m' b p r t) ways' (length again + jump_words short) 0 in
+          let rest = code_of short plan variables f Settled (facts_past_loop (If m' b p r t) step known) k x leaves skips in
+          let more = code_both short Settled (facts_past_loop (If m' b p r t) step known) k x leaves skips tt is.2 in
+          let again = code_of short plan variables f Settled (facts_at_step plan.memory (If m' b p r t) step known) step (step_ways (If m' b p r t) step (live k x)) (jump_words short) 0 in
+          let turned = code_of short plan variables f Settled (facts_at_turn plan.memory (If m' b p r t) step known) (If m' b p r t) ways' (length again + jump_words short) 0 in
           let words : ℕ = length (back_branch (plan.home f) b true 0) in
-          let again' = code_of short plan variables f Settled unknown step (step_ways (If m' b p r t) step (live k x)) words 0 in
-          let tail = code_of short plan variables f Settled unknown t ways' (length again' + words) 0 in
+          let again' = code_of short plan variables f Settled (facts_at_step plan.memory (If m' b p r t) step known) step (step_ways (If m' b p r t) step (live k x)) words 0 in
+          let tail = code_of short plan variables f Settled (facts_past_if b p r (facts_at_turn plan.memory (If m' b p r t) step known)) t ways' (length again' + words) 0 in
           let n : ℕ = length tail + length again' in
           either_both (has_bottom (If m' b p r t) step) (Loop m (If m' b p r t) step k) (jump_over short n ++ (tail ++ (again' ++ (back_branch (plan.home f) b true n ++ rest)))) (turned ++ (again ++ (jump_back short (length turned + length again) ++ rest)))
           (λ e. bottom_both short m m' b p r t step k n (jump_over short n) tail again' rest (and_true (leaves_first (If m' b p r t)) (is_near (If m' b p r t) step) e).0 (over_plain short n)
-          (code_both short Settled unknown t ways' (length again' + words) 0 tt is.0.3) (code_both short Settled unknown step (step_ways (If m' b p r t) step (live k x)) words 0 tt is.1) more)
-          (top_both short m (If m' b p r t) step k turned again rest (code_both short Settled unknown (If m' b p r t) ways' (length again + jump_words short) 0 tt is.0) (code_both short Settled unknown step (step_ways (If m' b p r t) step (live k x)) (jump_words short) 0 tt is.1) more)
+          (code_both short Settled (facts_past_if b p r (facts_at_turn plan.memory (If m' b p r t) step known)) t ways' (length again' + words) 0 tt is.0.3) (code_both short Settled (facts_at_step plan.memory (If m' b p r t) step known) step (step_ways (If m' b p r t) step (live k x)) words 0 tt is.1) more)
+          (top_both short m (If m' b p r t) step k turned again rest (code_both short Settled (facts_at_turn plan.memory (If m' b p r t) step known) (If m' b p r t) ways' (length again + jump_words short) 0 tt is.0) (code_both short Settled (facts_at_step plan.memory (If m' b p r t) step known) step (step_ways (If m' b p r t) step (live k x)) (jump_words short) 0 tt is.1) more)
 
       function_both : (code : Actions) → AreOfSide by_a' code → Both code (function_code plan variables f code)
       function_both code is =

@@ -1,9 +1,9 @@
 -- Words of lists of steps, as far as they are counted, and lists with none.
-use Rattle.std.proofs.Common.{◌≡◌, ℕ, ◌+◌, ◌-◌, ◌*◌, ◌^◌, ◌<◌, ◌≤◌, Bool, true, false, List, ◌∷◌, length, drop, get_or, refl, ap, sym, ◌∙◌, arith, []}
+use Rattle.std.proofs.Common.{◌≡◌, ℕ, ◌+◌, ◌-◌, ◌^◌, ◌<◌, ◌≤◌, Bool, true, false, List, ◌∷◌, length, drop, get_or, refl, ap, sym, ◌∙◌, arith, []}
 use Rattle.std.specs.Prelude.{Option, Some, None, Vec, nat_eq, nat_lt, if◌then◌else◌, ◌&&◌}
 use Rattle.std.specs.declared.alloc.Global.{Global}
 use Rattle.std.proofs.lemmas.Bool.Decides.{nat_tests}
-use Rattle.dae_base.proofs.Laws.{drop_at, and_false}
+use Rattle.dae_base.proofs.Laws.{drop_at}
 use Rattle.dae_ir.specs.Code.{Done, If, Loop}
 use Rattle.dae_ir.specs.Streams.{Actions, actions_of, step_onto}
 use Rattle.dae_ir.specs.declared.stream.Mark.{Mark}
@@ -13,10 +13,11 @@ use Rattle.dae_ir.specs.declared.stream.Step.{Step, Act, If', Loop'}
 use Rattle.dae_ir.specs.declared.stream.Step.TheVariants as step
 use Rattle.dae_select_live.proofs.Laws.{onto_if, onto_loop}
 use Rattle.dae_select_walks.specs.Compiled.{is_told}
-use Rattle.dae_select_blocks.specs.Code.{does_nothing, is_break, only_breaks, leaves_first}
+use Rattle.dae_select_walks.specs.Facts.{Facts, only_leaves, facts_past_if}
+use Rattle.dae_select_blocks.specs.Code.{does_nothing, leaves_first}
 use Rattle.dae_select_blocks.specs.Sizes.{most_words_in}
 use Rattle.dae_select.specs.Counting.{capped}
-use Rattle.dae_select.specs.Growing.{first_test}
+use Rattle.dae_select.specs.Growing.{first_test, facts_in_tail}
 use Rattle.dae_select.specs.declared.making.PlacedBranch.{PlacedBranch}
 
 -- a sum of what is counted counts as much as the sum
@@ -79,19 +80,6 @@ empty_does_nothing (Act m x ∷ steps) = some_step (Act m x) steps
 empty_does_nothing (If' m b s p t q ∷ steps) = some_step (If' m b s p t q) steps
 empty_does_nothing (Loop' m s p t q ∷ steps) = some_step (Loop' m s p t q) steps
 
--- a list that only breaks has one step
-pub only_one : (steps : List Step) → nat_eq (length steps) 1 ≡ false → only_breaks (actions_of steps) ≡ false
-only_one [] e = refl
-only_one (s ∷ t ∷ steps) e = two s t (actions_of steps)
-  where
-    two : (s t : Step) (k : Actions) → only_breaks (step_onto s (step_onto t k)) ≡ false
-    two (Act m a) (Act m' b) k = and_false (is_break a)
-    two (Act m a) (If' m' b i p j q) k = and_false (is_break a)
-    two (Act m a) (Loop' m' i p j q) k = and_false (is_break a)
-    two (If' m b i p j q) t k = refl
-    two (Loop' m i p j q) t k = refl
-only_one (s ∷ []) e = absurd cc
-
 -- ---- the test that a body begins with
 
 begins_with : (body : List Step) (s : Step) → 0 < length body → s ≡ get_or body 0 s → (k : Actions) × (actions_of body ≡ step_onto s k)
@@ -99,7 +87,7 @@ begins_with [] s some is = absurd (omega arith)
 begins_with (x ∷ xs) s some is = (actions_of xs, ap (λ (z : Step). step_onto z (actions_of xs)) (sym is))
 
 pub leaving_if : (body : List Step) (s : Step) (m : Mark) (b : Branch) (p q : Vec Step Global) → 0 < length body → s ≡ get_or body 0 s → s ≡ step.If m b p q
-    → (first_test (actions_of body) ≡ Some (record { place = m.place; branch = b })) × (leaves_first (actions_of body) ≡ (is_told b && (does_nothing (actions_of p.items) && only_breaks (actions_of q.items))))
+    → (first_test (actions_of body) ≡ Some (record { place = m.place; branch = b })) × (leaves_first (actions_of body) ≡ (is_told b && (does_nothing (actions_of p.items) && only_leaves (actions_of q.items))))
 leaving_if body s m b p q some is e =
     let begins = begins_with body s some is in
     let whole : actions_of body ≡ If m b (actions_of p.items) (actions_of q.items) begins.0 = begins.1 ∙ ap (λ (z : Step). step_onto z begins.0) e ∙ onto_if m b p q begins.0 in
@@ -112,6 +100,27 @@ pub leaving_loop : (body : List Step) (s : Step) (m : Mark) (p q : Vec Step Glob
 leaving_loop body s m p q some is e =
     let begins = begins_with body s some is in
     ap leaves_first (begins.1 ∙ ap (λ (z : Step). step_onto z begins.0) e ∙ onto_loop m p q begins.0)
+
+-- what is known behind that test, where it stands behind the step
+pub tail_done : (t : PlacedBranch) (body : List Step) (known : Facts) → length body ≡ 0 → facts_in_tail (Some t) (actions_of body) known ≡ known
+tail_done t [] known e = refl
+tail_done t (x ∷ xs) known e = absurd (omega arith)
+
+pub tail_if : (t : PlacedBranch) (body : List Step) (known : Facts) (s : Step) (m : Mark) (b : Branch) (p q : Vec Step Global) → 0 < length body → s ≡ get_or body 0 s → s ≡ step.If m b p q
+    → facts_in_tail (Some t) (actions_of body) known ≡ facts_past_if b (actions_of p.items) (actions_of q.items) known
+tail_if t body known s m b p q some is e =
+    let begins = begins_with body s some is in
+    ap (λ (c : Actions). facts_in_tail (Some t) c known) (begins.1 ∙ ap (λ (z : Step). step_onto z begins.0) e ∙ onto_if m b p q begins.0)
+
+pub tail_act : (t : PlacedBranch) (body : List Step) (known : Facts) (s : Step) (m : Mark) (a : Action) → 0 < length body → s ≡ get_or body 0 s → s ≡ step.Act m a → facts_in_tail (Some t) (actions_of body) known ≡ known
+tail_act t body known s m a some is e =
+    let begins = begins_with body s some is in
+    ap (λ (c : Actions). facts_in_tail (Some t) c known) (begins.1 ∙ ap (λ (z : Step). step_onto z begins.0) e)
+
+pub tail_loop : (t : PlacedBranch) (body : List Step) (known : Facts) (s : Step) (m : Mark) (p q : Vec Step Global) → 0 < length body → s ≡ get_or body 0 s → s ≡ step.Loop m p q → facts_in_tail (Some t) (actions_of body) known ≡ known
+tail_loop t body known s m p q some is e =
+    let begins = begins_with body s some is in
+    ap (λ (c : Actions). facts_in_tail (Some t) c known) (begins.1 ∙ ap (λ (z : Step). step_onto z begins.0) e ∙ onto_loop m p q begins.0)
 
 pub none_if : (t : Bool) (o : Option PlacedBranch) → t ≡ false → None ≡ (if t then o else None)
 none_if t o e = rw e refl

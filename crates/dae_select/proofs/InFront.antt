@@ -5,12 +5,11 @@ use Rattle.std.proofs.lemmas.List.{append-nil, map-append, reverse-append}
 use Rattle.dae_base.specs.declared.Place.{Place}
 use Rattle.dae_encode.specs.declared.Inst.{Inst}
 use Rattle.dae_ir.specs.Code.{Done, Do, If, Loop}
-use Rattle.dae_ir.specs.Classes.{VariableSet}
 use Rattle.dae_ir.specs.Streams.{Actions}
 use Rattle.dae_select_walks.specs.Agrees.{Plan}
 use Rattle.dae_select_walks.specs.declared.Standing.{Standing}
 use Rattle.dae_select_walks.specs.declared.Standing.TheVariants.{Settled}
-use Rattle.dae_select_walks.specs.Multiples.{unknown, multiples_behind, is_placed}
+use Rattle.dae_select_walks.specs.Facts.{Facts, facts_behind, facts_in_first, facts_in_second, facts_past_if, facts_at_turn, facts_at_step, facts_past_loop, need_of}
 use Rattle.dae_select_walks.specs.Live.{Ways, behind, live, step_ways, body_ways}
 use Rattle.dae_select_blocks.specs.Blocks.{jump_words, jump_over, jump_back}
 use Rattle.dae_select_blocks.specs.Sizes.{most_words_in}
@@ -68,11 +67,11 @@ reverse_map {X} {Y} f (x ∷ xs) =
 -- ---- the instructions are those of the code
 
 module _ (short : Bool) (plan : Plan) (variables : ℕ → ℕ) (f : ℕ) where
-  abbrev code : Actions → Ways → ℕ → ℕ → List Inst
-  code = code_of short plan variables f Settled unknown
+  abbrev code : Facts → Actions → Ways → ℕ → ℕ → List Inst
+  code known = code_of short plan variables f Settled known
 
-  abbrev marked : Actions → Ways → ℕ → ℕ → Grown
-  marked = marked_code short plan variables f Settled unknown
+  abbrev marked : Facts → Actions → Ways → ℕ → ℕ → Grown
+  marked known = marked_code short plan variables f Settled known
 
   -- a loop, from its parts
   abbrev loop_of : Option PlacedBranch → (ℕ → ℕ → Grown) → (ℕ → ℕ → Grown) → (ℕ → ℕ → Grown) → Grown → Grown
@@ -103,49 +102,55 @@ module _ (short : Bool) (plan : Plan) (variables : ℕ → ℕ) (f : ℕ) where
       let eg : g ≡ turn = same_body (length d + words) 0 ∙ ap (λ (c : List Inst). body' (length c + words) 0) ed in
       ap (λ (c : List Inst). whole g d c) same_rest ∙ ap (λ (c : List Inst). whole g c rest') ed ∙ ap (λ (c : List Inst). whole c again rest') eg
 
-  pub same_code : (g : Standing) (known : VariableSet) (c : Actions) (x : Ways) (l s : ℕ) → (marked_code short plan variables f g known c x l s).code ≡ code_of short plan variables f g known c x l s
+  pub same_code : (g : Standing) (known : Facts) (c : Actions) (x : Ways) (l s : ℕ) → (marked_code short plan variables f g known c x l s).code ≡ code_of short plan variables f g known c x l s
   same_code g' known Done x l s = refl
   same_code g' known (Do m a k) x l s =
       let next = standing_behind a k x in
-      ap (λ (rest : List Inst). followed short (block_code plan variables f (is_placed known a) g' a next (live k x)) rest l s) (same_code next (multiples_behind a known) k x l s)
+      ap (λ (rest : List Inst). followed short (block_code plan variables f (need_of plan.memory known a k) g' a next (live k x)) rest l s) (same_code next (facts_behind plan.memory a known) k x l s)
   same_code g' known (If m b p q k) x l s =
       let y = behind (live k x) x in let none = does_nothing p in
+      let K = facts_past_if b p q known in let Q = facts_in_second b known in let P = facts_in_first b known in
       let branch : Bool → ℕ → List Inst = branch_code (plan.home f) short b in
       let past : ℕ → List Inst = past_code short (none || does_nothing q) in
       let whole : List Inst → List Inst → List Inst → List Inst = λ g d r. either_code none branch g (past (length d)) d r in
       let far : List Inst → List Inst → ℕ = λ d r. length (past (length d)) + length d + length r in
-      let r = (marked k x l s).code in let rest = code k x l s in
-      let er : r ≡ rest = same_code Settled unknown k x l s in
-      let d = (marked q y (length r + l) (length r + s)).code in let second = code q y (length rest + l) (length rest + s) in
-      let ed : d ≡ second = same_code Settled unknown q y (length r + l) (length r + s) ∙ ap (λ (c : List Inst). code q y (length c + l) (length c + s)) er in
-      let n = far d r in let g = (marked p y (n + l) (n + s)).code in
-      let first = code p y (far second rest + l) (far second rest + s) in
-      let eg : g ≡ first = same_code Settled unknown p y (n + l) (n + s) ∙ ap (λ (c : List Inst). code p y (far c r + l) (far c r + s)) ed ∙ ap (λ (c : List Inst). code p y (far second c + l) (far second c + s)) er in
+      let r = (marked K k x l s).code in let rest = code K k x l s in
+      let er : r ≡ rest = same_code Settled K k x l s in
+      let d = (marked Q q y (length r + l) (length r + s)).code in let second = code Q q y (length rest + l) (length rest + s) in
+      let ed : d ≡ second = same_code Settled Q q y (length r + l) (length r + s) ∙ ap (λ (c : List Inst). code Q q y (length c + l) (length c + s)) er in
+      let n = far d r in let g = (marked P p y (n + l) (n + s)).code in
+      let first = code P p y (far second rest + l) (far second rest + s) in
+      let eg : g ≡ first = same_code Settled P p y (n + l) (n + s) ∙ ap (λ (c : List Inst). code P p y (far c r + l) (far c r + s)) ed ∙ ap (λ (c : List Inst). code P p y (far second c + l) (far second c + s)) er in
       ap (λ (c : List Inst). whole g d c) er ∙ ap (λ (c : List Inst). whole g c rest) ed ∙ ap (λ (c : List Inst). whole c second rest) eg
   same_code g' known (Loop m Done step k) x l s =
       let n = live k x in let y = body_ways Done step n in
-      looped_code false (record { place = m.place; branch = Hears }) (λ l s. no_code) (marked Done y) (marked step (step_ways Done step n)) (λ l s. []) (code Done y) (code step (step_ways Done step n)) (marked k x l s) (code k x l s)
-      (λ l s. refl) (λ l s. same_code Settled unknown Done y l s) (λ l s. same_code Settled unknown step (step_ways Done step n) l s) (same_code Settled unknown k x l s)
+      let T = facts_at_turn plan.memory Done step known in let S = facts_at_step plan.memory Done step known in let K = facts_past_loop Done step known in
+      looped_code false (record { place = m.place; branch = Hears }) (λ l s. no_code) (marked T Done y) (marked S step (step_ways Done step n)) (λ l s. []) (code T Done y) (code S step (step_ways Done step n)) (marked K k x l s) (code K k x l s)
+      (λ l s. refl) (λ l s. same_code Settled T Done y l s) (λ l s. same_code Settled S step (step_ways Done step n) l s) (same_code Settled K k x l s)
   same_code g' known (Loop m (Do m' a t) step k) x l s =
       let n = live k x in let y = body_ways (Do m' a t) step n in
-      looped_code false (record { place = m.place; branch = Hears }) (λ l s. no_code) (marked (Do m' a t) y) (marked step (step_ways (Do m' a t) step n)) (λ l s. []) (code (Do m' a t) y) (code step (step_ways (Do m' a t) step n)) (marked k x l s) (code k x l s)
-      (λ l s. refl) (λ l s. same_code Settled unknown (Do m' a t) y l s) (λ l s. same_code Settled unknown step (step_ways (Do m' a t) step n) l s) (same_code Settled unknown k x l s)
+      let T = facts_at_turn plan.memory (Do m' a t) step known in let S = facts_at_step plan.memory (Do m' a t) step known in let K = facts_past_loop (Do m' a t) step known in
+      looped_code false (record { place = m.place; branch = Hears }) (λ l s. no_code) (marked T (Do m' a t) y) (marked S step (step_ways (Do m' a t) step n)) (λ l s. []) (code T (Do m' a t) y) (code S step (step_ways (Do m' a t) step n)) (marked K k x l s) (code K k x l s)
+      (λ l s. refl) (λ l s. same_code Settled T (Do m' a t) y l s) (λ l s. same_code Settled S step (step_ways (Do m' a t) step n) l s) (same_code Settled K k x l s)
   same_code g' known (Loop m (Loop m' c d t) step k) x l s =
       let n = live k x in let y = body_ways (Loop m' c d t) step n in
-      looped_code false (record { place = m.place; branch = Hears }) (λ l s. no_code) (marked (Loop m' c d t) y) (marked step (step_ways (Loop m' c d t) step n)) (λ l s. []) (code (Loop m' c d t) y) (code step (step_ways (Loop m' c d t) step n)) (marked k x l s) (code k x l s)
-      (λ l s. refl) (λ l s. same_code Settled unknown (Loop m' c d t) y l s) (λ l s. same_code Settled unknown step (step_ways (Loop m' c d t) step n) l s) (same_code Settled unknown k x l s)
+      let T = facts_at_turn plan.memory (Loop m' c d t) step known in let S = facts_at_step plan.memory (Loop m' c d t) step known in let K = facts_past_loop (Loop m' c d t) step known in
+      looped_code false (record { place = m.place; branch = Hears }) (λ l s. no_code) (marked T (Loop m' c d t) y) (marked S step (step_ways (Loop m' c d t) step n)) (λ l s. []) (code T (Loop m' c d t) y) (code S step (step_ways (Loop m' c d t) step n)) (marked K k x l s) (code K k x l s)
+      (λ l s. refl) (λ l s. same_code Settled T (Loop m' c d t) y l s) (λ l s. same_code Settled S step (step_ways (Loop m' c d t) step n) l s) (same_code Settled K k x l s)
   same_code g' known (Loop m (If m' b p q t) step k) x l s =
       let n = live k x in let y = body_ways (If m' b p q t) step n in
-      looped_code (has_bottom (If m' b p q t) step) (record { place = m'.place; branch = b }) (marked t y) (marked (If m' b p q t) y) (marked step (step_ways (If m' b p q t) step n)) (code t y) (code (If m' b p q t) y) (code step (step_ways (If m' b p q t) step n)) (marked k x l s) (code k x l s)
-      (λ l s. same_code Settled unknown t y l s) (λ l s. same_code Settled unknown (If m' b p q t) y l s) (λ l s. same_code Settled unknown step (step_ways (If m' b p q t) step n) l s) (same_code Settled unknown k x l s)
+      let T = facts_at_turn plan.memory (If m' b p q t) step known in let S = facts_at_step plan.memory (If m' b p q t) step known in let K = facts_past_loop (If m' b p q t) step known in
+      let F = facts_past_if b p q T in
+      looped_code (has_bottom (If m' b p q t) step) (record { place = m'.place; branch = b }) (marked F t y) (marked T (If m' b p q t) y) (marked S step (step_ways (If m' b p q t) step n)) (code F t y) (code T (If m' b p q t) y) (code S step (step_ways (If m' b p q t) step n)) (marked K k x l s) (code K k x l s)
+      (λ l s. same_code Settled F t y l s) (λ l s. same_code Settled T (If m' b p q t) y l s) (λ l s. same_code Settled S step (step_ways (If m' b p q t) step n) l s) (same_code Settled K k x l s)
 
   -- how many words it has at most
-  pub marked_length : (c : Actions) (x : Ways) (l s : ℕ) → length (marked c x l s).code ≤ most_words_in c
-  marked_length c x l s = (let h = code_length short plan variables f Settled unknown c x l s in let e = ap length (same_code Settled unknown c x l s) in omega arith)
+  pub marked_length : (known : Facts) (c : Actions) (x : Ways) (l s : ℕ) → length (marked known c x l s).code ≤ most_words_in c
+  marked_length known c x l s = (let h = code_length short plan variables f Settled known c x l s in let e = ap length (same_code Settled known c x l s) in omega arith)
 
   -- what does nothing has no code
-  pub nothing_marked : (c : Actions) (x : Ways) (l s : ℕ) → does_nothing c ≡ true → length (marked c x l s).code ≡ 0
-  nothing_marked Done x l s is = refl
-  nothing_marked (Do m a k) x l s is = absurd cc
-  nothing_marked (If m b p q k) x l s is = absurd cc
-  nothing_marked (Loop m body step k) x l s is = absurd cc
+  pub nothing_marked : (known : Facts) (c : Actions) (x : Ways) (l s : ℕ) → does_nothing c ≡ true → length (marked known c x l s).code ≡ 0
+  nothing_marked known Done x l s is = refl
+  nothing_marked known (Do m a k) x l s is = absurd cc
+  nothing_marked known (If m b p q k) x l s is = absurd cc
+  nothing_marked known (Loop m body step k) x l s is = absurd cc

@@ -4,5 +4,4 @@ pub mod Growing
 pub mod Grown
 pub mod Counting
 pub mod Fronts
-pub mod Placed
 pub mod Makings

@@ -2,7 +2,7 @@
 
 ghost use Rattle.std.specs.Prelude.{◌≡◌, ℕ, length, IfOk, OnOk};
 ghost use Rattle.dae_select_walks.specs.Live.{live, nowhere};
-ghost use Rattle.dae_select_walks.specs.Multiples.{unknown};
+ghost use Rattle.dae_select_walks.specs.Facts.{unknown};
 ghost use Rattle.dae_select_live.specs.Members.{member};
 ghost use Rattle.dae_select_walks.specs.declared.Standing.TheVariants.{Settled as IsSettled};
 ghost use Rattle.dae_ir.specs.Streams.{actions_of};
@@ -21,6 +21,7 @@ use crate::making::{Exits, Making};
 use crate::walking::list_code;
 use dae_encode::Inst;
 use dae_ir::{Operand, Step};
+use dae_select_facts::unknown;
 use dae_select_live::LiveSet;
 use std::alloc::{AllocError, Global};
 
@@ -42,7 +43,7 @@ fn body_code(code: &mut GrowingCode, making: &Making, body: &[Step]) -> Result<L
         skips: 0,
     };
     let next = LiveSet::new(making.alloc);
-    list_code(code, making, body, next, &exits)
+    list_code(code, making, unknown(making.alloc), body, next, &exits)
 }
 
 /// The code of a function, how many of its words come before its actions, and the words at which actions begin.

@@ -18,7 +18,6 @@ mod growing;
 mod jumping;
 mod layouts;
 mod making;
-mod multiples;
 mod numbers;
 mod opening;
 mod pairing;

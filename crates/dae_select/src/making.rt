@@ -3,8 +3,9 @@
 use crate::layouts::Layouts;
 use dae_base::Place;
 use dae_ir::Branch;
+use dae_select_facts::Known;
 use dae_select_live::LiveSet;
-use dae_select_walks::{Home, Standing};
+use dae_select_walks::{Home, Need, Standing};
 use std::alloc::Global;
 
 /// What the code of a function is made from: what is settled of its side, its number, the homes of its variables, and whether
@@ -34,11 +35,12 @@ pub struct Onward<'s> {
     pub exits: &'s Exits,
 }
 
-/// How things stand around an action: whether it tests a place whose address is a multiple of four, and how things stand before
-/// it and behind it.
-#[derive(Clone, Copy)]
-pub struct Around {
-    pub placed: bool,
+/// How things stand around a step: what is needed of its block, what is known before it if it has lists, and how things stand
+/// before it and behind it.
+#[derive(Drop)]
+pub struct Around<'k> {
+    pub need: Need,
+    pub known: &'k Known,
     pub before: Standing,
     pub after: Standing,
 }

@@ -5,16 +5,18 @@ ghost use Rattle.dae_encode.specs.declared.Inst.{Inst as AnInst};
 ghost use Rattle.dae_ir.specs.Classes.{VariableSet};
 ghost use Rattle.dae_ir.specs.Streams.{Actions, actions_of, step_onto};
 ghost use Rattle.dae_select_walks.specs.Live.{ways, is};
-ghost use Rattle.dae_select_walks.specs.Multiples.{unknown};
+ghost use Rattle.dae_select_walks.specs.Facts.{facts_at_turn, facts_at_step};
+ghost use Rattle.dae_select_facts.specs.Knowns.{facts_by};
 ghost use Rattle.dae_select_live.specs.Members.{member};
 ghost use Rattle.dae_select_blocks.specs.Blocks.{take_code, own_code, jump_over};
 ghost use Rattle.dae_select_blocks.specs.Code.{action_code, block_code, call_code, branch_code};
-ghost use Rattle.dae_select_blocks.specs.Code.{does_nothing, past_code, only_breaks, leaves_first};
+ghost use Rattle.dae_select_blocks.specs.Code.{does_nothing, past_code, leaves_first};
 ghost use Rattle.dae_select_walks.specs.Compiled.{is_told};
 ghost use Rattle.dae_select.specs.Grown.{glue, acting, in_front};
 ghost use Rattle.dae_select.specs.Growing.{IsCodeOf, IsStepCode, IsTakenBy, IsTakenByStep};
-ghost use Rattle.dae_select.specs.Growing.{first_test, bottom_of, words_behind, turned, IsNearTurn};
+ghost use Rattle.dae_select.specs.Growing.{first_test, bottom_of, words_behind, turned, IsNearTurn, facts_in_tail};
 ghost use Rattle.dae_select_walks.specs.declared.Standing.TheVariants.{Settled as IsSettled};
+ghost use Rattle.dae_select.specs.declared.making.PlacedBranch.{PlacedBranch as ATest};
 ghost use Rattle.dae_select.specs.Makings.{plan_by, variables_by, IsSound};
 ghost use Rattle.dae_select_walks.specs.Homes.{home_in};
 ghost use Rattle.dae_select.specs.Tables.{AreNear};
@@ -30,14 +32,16 @@ use crate::fetching::{home_of, move_code};
 use crate::growing::GrowingCode;
 use crate::jumping::{back_branch, branch_code, jump_back, jump_over, jump_words, past_code};
 use crate::making::{Around, Exits, Fork, Making, Onward, PlacedBranch};
-use crate::multiples::{flag_at, placed_flags};
 use crate::pairing::{late_code, standing_between, taking_code};
 use dae_base::{LoadKind, Place};
 use dae_encode::Inst;
 use dae_ir::{Action, Argument, Branch, Operand, Step};
+use dae_select_facts::{
+    Known, all_before, facts_at_turn, facts_behind_turn, facts_in_list, facts_past_if, only_leaves,
+};
 use dae_select_live::{LiveSet, live_at_turn, live_before_action, live_with_branch};
-use dae_select_walks::{Home, Standing};
-use std::alloc::AllocError;
+use dae_select_walks::{Home, Need, Standing};
+use std::alloc::{AllocError, Global};
 
 /// What is at the front of a queue goes to a variable.
 fn receive_code(
@@ -133,21 +137,20 @@ fn action_code(
     }
 }
 
-/// The block of an action, around which things stand so, as `action_code` has the rest; or of a test of a place whose address is
-/// a multiple of four.
+/// The block of an action, around which things stand so, as `action_code` has the rest; or what is needed of it.
 fn block_code(
     code: &mut Vec<Inst>,
     making: &Making,
     action: &Action,
-    around: Around,
+    around: &Around,
     onward: &Onward,
     ahead: u64,
 ) -> Result<(), AllocError>
     requires sound { IsSound making.now }
-    requires taken { IsTakenBy around.after action.now }
+    requires taken { IsTakenBy around.now.after action.now }
     ensures { OnOk result (code.new.items ≡ code.old.items
         ++ block_code (plan_by making.now) (variables_by making.now) making.now.function
-        around.placed around.before action.now around.after (member onward.now.next.now)
+        around.now.need around.now.before action.now around.now.after (member onward.now.next.now)
         (jump_over making.now.short (ahead + onward.now.exits.now.leaves))
         (jump_over making.now.short (ahead + onward.now.exits.now.skips))) }
 {
@@ -158,12 +161,11 @@ fn block_code(
         (Standing::Settled, Standing::Early(target, value)) => {
             taking_code(code, making.homes, action, target, value)
         }
-        (Standing::Settled, Standing::Settled) if around.placed => {
-            placed_code(code, making.homes, action)
-        }
-        (Standing::Settled, Standing::Settled) => {
-            action_code(code, making, action, onward, ahead)
-        }
+        (Standing::Settled, Standing::Settled) => match around.need {
+            Need::All => action_code(code, making, action, onward, ahead),
+            Need::Ends => placed_code(code, making.homes, action),
+            Need::Nothing => Ok(()),
+        },
     }
 }
 
@@ -172,15 +174,15 @@ fn put_action(
     making: &Making,
     place: Place,
     action: &Action,
-    around: Around,
+    around: &Around,
     onward: &Onward,
 ) -> Result<(), AllocError>
     requires sound { IsSound making.now }
-    requires taken { IsTakenBy around.after action.now }
+    requires taken { IsTakenBy around.now.after action.now }
     ensures { OnOk result (code.new
         ≡ in_front (acting place (block_code (plan_by making.now)
-        (variables_by making.now) making.now.function around.placed around.before action.now
-        around.after (member onward.now.next.now)
+        (variables_by making.now) making.now.function around.now.need around.now.before action.now
+        around.now.after (member onward.now.next.now)
         (jump_over making.now.short (length code.old.code + onward.now.exits.now.leaves))
         (jump_over making.now.short (length code.old.code + onward.now.exits.now.skips))))
         code.old) }
@@ -248,13 +250,6 @@ fn put_branch(
     code.put_action(place, block.as_slice())
 }
 
-/// Whether a list only breaks.
-fn only_breaks(steps: &[Step]) -> bool
-    ensures { result ≡ only_breaks (actions_of steps.now) }
-{
-    steps.len() == 1 && matches!(&steps[0], Step::Act(_, Action::Break))
-}
-
 fn is_told(branch: Branch) -> bool
     ensures { result ≡ is_told branch }
 {
@@ -271,7 +266,7 @@ fn leaving_test(body: &[Step]) -> Option<PlacedBranch>
     }
     match &body[0] {
         Step::If(mark, branch, p, q) => {
-            if is_told(*branch) && does_nothing(p) && only_breaks(q) {
+            if is_told(*branch) && does_nothing(p) && only_leaves(q) {
                 Some(PlacedBranch {
                     place: mark.place,
                     branch: *branch,
@@ -434,21 +429,80 @@ fn put_loop(
     }
 }
 
+/// What is known behind the test that a loop's body begins with.
+fn facts_past_test(alloc: Global, body: &[Step], turn: Known) -> Result<Known, AllocError>
+    ensures { IfOk result (λ new. (test : ATest) → facts_by new
+        ≡ facts_in_tail (Some test) (actions_of body.now) (facts_by turn)) }
+{
+    if body.is_empty() {
+        return Ok(turn);
+    }
+    match &body[0] {
+        Step::If(_, branch, p, q) => facts_past_if(alloc, *branch, p, q, &turn),
+        Step::Act(_, _) => Ok(turn),
+        Step::Loop(_, _, _) => Ok(turn),
+    }
+}
+
+/// What is known where what stands before a loop's step begins: where a turn begins, or behind its test.
+fn facts_of_turn(
+    alloc: Global,
+    body: &[Step],
+    test: Option<PlacedBranch>,
+    turn: Known,
+) -> Result<Known, AllocError>
+    ensures { IfOk result (λ new. facts_by new
+        ≡ facts_in_tail test (actions_of body.now) (facts_by turn)) }
+{
+    match test {
+        None => Ok(turn),
+        Some(_) => facts_past_test(alloc, body, turn),
+    }
+}
+
+/// What is known of a loop: where its step begins, and what of its body stands before the step.
+#[derive(Drop)]
+struct LoopFacts {
+    at_step: Known,
+    in_tail: Known,
+}
+
+fn loop_facts(
+    making: &Making,
+    body: &[Step],
+    step: &[Step],
+    test: Option<PlacedBranch>,
+    known: &Known,
+) -> Result<LoopFacts, AllocError>
+    ensures at_step { IfOk result (λ facts. facts_by facts.at_step
+        ≡ facts_at_step making.now.layouts.now.memory (actions_of body.now)
+        (actions_of step.now) (facts_by known.now)) }
+    ensures in_tail { IfOk result (λ facts. facts_by facts.in_tail
+        ≡ facts_in_tail test (actions_of body.now) (facts_at_turn making.now.layouts.now.memory
+        (actions_of body.now) (actions_of step.now) (facts_by known.now))) }
+{
+    let memory = making.layouts.memory;
+    let at_turn = facts_at_turn(making.alloc, memory, body, step, known)?;
+    let at_step = facts_behind_turn(making.alloc, body, &at_turn)?;
+    let in_tail = facts_of_turn(making.alloc, body, test, at_turn)?;
+    Ok(LoopFacts { at_step, in_tail })
+}
+
 #[cycle(code)]
 fn step_code(
     code: &mut GrowingCode,
     making: &Making,
     step: &Step,
-    around: Around,
+    around: &Around,
     next: LiveSet,
     exits: &Exits,
 ) -> Result<LiveSet, AllocError>
     requires sound { IsSound making.now }
-    requires taken { IsTakenByStep around.after step.now }
+    requires taken { IsTakenByStep around.now.after step.now }
     ensures { IfOk result (λ set.
         IsStepCode making.now.short (plan_by making.now) (variables_by making.now)
-        making.now.function around.placed around.before around.after exits.now step.now code.old
-        next code.new set) }
+        making.now.function around.now.need (facts_by around.now.known.now)
+        around.now.before around.now.after exits.now step.now code.old next code.new set) }
 {
     match step {
         Step::Act(mark, action) => {
@@ -459,10 +513,12 @@ fn step_code(
         }
         Step::If(mark, branch, p, q) => {
             let rest = code.len();
-            let second = list_code(code, making, q, next.copy(making.alloc)?, exits)?;
+            let in_second = facts_in_list(making.alloc, *branch, false, around.known)?;
+            let second = list_code(code, making, in_second, q, next.copy(making.alloc)?, exits)?;
             let behind = code.len();
             put_past(code, making, p, q, rest)?;
-            let first = list_code(code, making, p, next, exits)?;
+            let in_first = facts_in_list(making.alloc, *branch, true, around.known)?;
+            let first = list_code(code, making, in_first, p, next, exits)?;
             let fork = Fork {
                 branch: *branch,
                 empty: does_nothing(p),
@@ -477,11 +533,14 @@ fn step_code(
             let step_exits = exits_of_step(making, &next, &turn, words)?;
             let mut again = GrowingCode::new(making.alloc);
             let set = turn.copy(making.alloc)?;
-            let step_live = list_code(&mut again, making, step, set, &step_exits)?;
+            let facts = loop_facts(making, body, step, test, around.known)?;
+            let at_step = facts.at_step;
+            let step_live = list_code(&mut again, making, at_step, step, set, &step_exits)?;
             let body_exits = exits_of_body(making, next, &step_live, again.len(), words)?;
             let mut turned = GrowingCode::new(making.alloc);
             let tail = behind_test(body, test);
-            list_code(&mut turned, making, tail, step_live, &body_exits)?;
+            let in_tail = facts.in_tail;
+            list_code(&mut turned, making, in_tail, tail, step_live, &body_exits)?;
             put_loop(code, making, test, turned, again)?;
             Ok(turn)
         }
@@ -493,6 +552,7 @@ fn step_code(
 pub fn list_code(
     code: &mut GrowingCode,
     making: &Making,
+    known: Known,
     steps: &[Step],
     next: LiveSet,
     exits: &Exits,
@@ -500,24 +560,25 @@ pub fn list_code(
     requires { IsSound making.now }
     ensures { IfOk result (λ set.
         IsCodeOf making.now.short (plan_by making.now)
-        (variables_by making.now) making.now.function IsSettled unknown code.old
+        (variables_by making.now) making.now.function IsSettled (facts_by known) code.old
         exits.now.leaves exits.now.skips (ways
         (member next) (member exits.now.leaves_live) (member exits.now.skips_live))
         (actions_of steps.now) code.new set) }
 {
-    let flags = placed_flags(making.alloc, steps)?;
+    let all = all_before(making.alloc, making.layouts.memory, known, steps)?;
     let mut set = next;
     let mut after = Standing::Settled;
     for index in (0..steps.len()).rev() {
         let step = &steps[index];
         let before = standing_between(steps, index, step, &set, after);
-        let placed = flag_at(flags.as_slice(), index);
+        let told = &all[index];
         let around = Around {
-            placed,
+            need: told.need,
+            known: &told.known,
             before,
             after,
         };
-        set = step_code(code, making, step, around, set, exits)?;
+        set = step_code(code, making, step, &around, set, exits)?;
         after = before;
     }
     Ok(set)

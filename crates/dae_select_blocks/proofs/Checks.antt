@@ -255,7 +255,7 @@ module _ (s : Setting) (plan : Plan) (variables : ℕ → ℕ) (fine : Fits s pl
         runs_one s plan variables fine t x (align_code width r ++ range_code r (size width)) h reads number (λ c1 h1 got.
         place_at width r (value x m.env) (source_plain s plan variables fine t m.function 5 x (omega arith)) (source_apart s plan variables fine t m.function 5 6 x (omega arith) (omega arith) (omega arith)) h1 got stays)
 
-    bounds_at : {c : Contents} (width : Width) (r a : ℕ) → a % 4 ≡ 0 → r < 28 → Ready plan live m c → c.register r ≡ a → Stays s plan variables fine live live' m →
+    bounds_at : {c : Contents} (width : Width) (r a : ℕ) → a % size width ≡ 0 → r < 28 → Ready plan live m c → c.register r ≡ a → Stays s plan variables fine live live' m →
         Does' s plan variables fine live live' m (bounds_code width r) c (probed true (misplaced width a plan.memory) m.env)
     unfolding misplaced
     bounds_at B1 r a four plain h got stays =
@@ -263,13 +263,13 @@ module _ (s : Setting) (plan : Plan) (variables : ℕ → ℕ) (fine : Fits s pl
         let whole : nat_eq (a % 1) 0 ≡ true = grind (arith, nat_tests) in rw whole (range_done r a 1 plain h got (range_one a fits) stays)
     bounds_at B2 r a four plain h got stays =
         let fits : a < 2 ^ 32 = (let f = h.fits r in rw got at f) in
-        let even : a % 2 ≡ 0 = omega arith in let whole : nat_eq (a % 2) 0 ≡ true = grind (arith, nat_tests) in rw whole (range_done r a 2 plain h got (range_two a fits even) stays)
+        let even : a % 2 ≡ 0 = four in let whole : nat_eq (a % 2) 0 ≡ true = grind (arith, nat_tests) in rw whole (range_done r a 2 plain h got (range_two a fits even) stays)
     bounds_at B4 r a four plain h got stays =
         let fits : a < 2 ^ 32 = (let f = h.fits r in rw got at f) in
         let whole : nat_eq (a % 4) 0 ≡ true = grind (arith, nat_tests) in rw whole (range_done r a 4 plain h got (range_four a fits four) stays)
 
-    -- the same of an address that is a multiple of four
-    pub bounds_done : {c : Contents} (width : Width) (x : Operand) → value x m.env % 4 ≡ 0 → Ready plan live m c → Reads s plan variables fine live live' m x → IsNumber x → Stays s plan variables fine live live' m →
+    -- the same of an address that is aligned
+    pub bounds_done : {c : Contents} (width : Width) (x : Operand) → value x m.env % size width ≡ 0 → Ready plan live m c → Reads s plan variables fine live live' m x → IsNumber x → Stays s plan variables fine live live' m →
         Does' s plan variables fine live live' m (placed_code (plan.home m.function) (Probe (Place width x))) c (probed true (misplaced width (value x m.env) plan.memory) m.env)
     bounds_done width x four h reads number stays =
         let t = To s plan variables fine live live' m in

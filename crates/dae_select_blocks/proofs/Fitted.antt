@@ -22,10 +22,12 @@ use Rattle.dae_select_walks.specs.Homes.{IsHome, kept_at}
 use Rattle.dae_select_walks.specs.declared.Standing.{Standing}
 use Rattle.dae_select_walks.specs.declared.Standing.TheVariants.{Settled, Early, Late}
 use Rattle.dae_select_walks.specs.Live.{Ways, none, live, behind, body_ways, step_ways, nowhere}
-use Rattle.dae_select_walks.specs.Multiples.{unknown, multiples_behind, is_placed}
+use Rattle.dae_select_walks.specs.Facts.{Facts, unknown, facts_behind, facts_in_first, facts_in_second, facts_past_if, facts_at_turn, facts_at_step, facts_past_loop, need_of}
+use Rattle.dae_select_walks.specs.declared.Need.{Need}
+use Rattle.dae_select_walks.specs.declared.Need.TheVariants.{All, Ends, Nothing}
 use Rattle.dae_select_walks.specs.Agrees.{Plan}
 use Rattle.dae_select_blocks.specs.Blocks.{lower, is_immediate, more_code, less_code, is_register, number_code, register_or, source, call_number, jump_over, jump_back, enter_code, arguments_code, waits_at, save_code, restore_code, deeper_code, back_code, leave_code, jump_words}
-use Rattle.dae_select_blocks.specs.Code.{some_below, filtered, home_registers, registers_in, call_code, action_code, branch_code, standing_behind, with_home, early_code, late_code, placed_code, block_code, code_of, entry_code, function_code, finish_code, start_code, does_nothing, past_code, tail_of, has_bottom, leaves_first, is_near, bottom_test}
+use Rattle.dae_select_blocks.specs.Code.{some_below, filtered, home_registers, registers_in, call_code, action_code, branch_code, standing_behind, with_home, early_code, late_code, needed_code, block_code, code_of, entry_code, function_code, finish_code, start_code, does_nothing, past_code, tail_of, has_bottom, leaves_first, is_near, bottom_test}
 use Rattle.dae_select_blocks.proofs.Ranges.{AllFit, fit_append, fit_either, lui_fits, jalr_fits, addi_fits, addi_small, sw_small, add_fits, number_fits, load_fits, store_fits, register_fits, fetch_fits, move_fits, keep_fits, over_fits, back_fits}
 use Rattle.dae_select_blocks.proofs.Fitting.{ecall_fits, issue_fits, address_fits, source_fits, value_fit, value_fits, take_fits, branch_fits, back_branch_fits, system_fits, stop_fits, leave_fits, result_fits, hear_fits, placed_fits, check_fits}
 use Rattle.dae_select_blocks.proofs.Pairs.{by_pairs}
@@ -156,16 +158,17 @@ module _ (plan : Plan) (variables : ℕ → ℕ) (good : (f v : ℕ) → IsHome 
     late_fits f t y (Datum z) = value_fits (variables f) (plan.home f) (good f) 30 y (omega arith)
     late_fits f t y a = tt
 
-    settled_fits : (f : ℕ) (placed : Bool) (a : Action) (live : VariableSet) (l s : ℕ) → AllFit (if placed then placed_code (plan.home f) a else action_code plan variables f a live (jump_over short l) (jump_over short s))
-    settled_fits f true a live l s = placed_fits (variables f) (plan.home f) (good f) a
-    settled_fits f false a live l s = action_fits f a live l s
+    settled_fits : (f : ℕ) (need : Need) (a : Action) (live : VariableSet) (l s : ℕ) → AllFit (needed_code plan variables f need a live (jump_over short l) (jump_over short s))
+    settled_fits f Nothing a live l s = tt
+    settled_fits f Ends a live l s = placed_fits (variables f) (plan.home f) (good f) a
+    settled_fits f All a live l s = action_fits f a live l s
 
-    block_fits : (f : ℕ) (known : VariableSet) (standing : Standing) (x : Ways) (l s : ℕ) (a : Action) (k : Actions) → AllFit (block_code plan variables f (is_placed known a) standing a (standing_behind a k x) (live k x) (jump_over short l) (jump_over short s))
+    block_fits : (f : ℕ) (known : Facts) (standing : Standing) (x : Ways) (l s : ℕ) (a : Action) (k : Actions) → AllFit (block_code plan variables f (need_of plan.memory known a k) standing a (standing_behind a k x) (live k x) (jump_over short l) (jump_over short s))
     block_fits f known (Early v y) x l s a k = tt
     block_fits f known (Late t y) x l s a k = late_fits f t y a
     block_fits f known Settled x l s a k =
-        by_pairs (λ (a : Action) (k : Actions) (standing : Standing). AllFit (block_code plan variables f (is_placed known a) Settled a standing (live k x) (jump_over short l) (jump_over short s))) x
-        (λ a k. settled_fits f (is_placed known a) a (live k x) l s) (λ t y m b k e passes dead. tt) (λ v m d y k e once dead. early_fits f 30 v d y (omega arith)) (λ v m d y k e once dead. early_fits f 28 v d y (omega arith)) a k
+        by_pairs (λ (a : Action) (k : Actions) (standing : Standing). AllFit (block_code plan variables f (need_of plan.memory known a k) Settled a standing (live k x) (jump_over short l) (jump_over short s))) x
+        (λ a k. settled_fits f (need_of plan.memory known a k) a (live k x) l s) (λ t y m b k e passes dead. tt) (λ v m d y k e once dead. early_fits f 30 v d y (omega arith)) (λ v m d y k e once dead. early_fits f 28 v d y (omega arith)) a k
 
     past_fits : (none : Bool) (n : ℕ) → AllFit (past_code short none n)
     past_fits true n = tt
@@ -178,48 +181,48 @@ module _ (plan : Plan) (variables : ℕ → ℕ) (good : (f v : ℕ) → IsHome 
     bottom_fits f (Loop m body step k) n near = tt
 
     mutual
-      pub code_fits : (f : ℕ) (standing : Standing) (known : VariableSet) (code : Actions) (x : Ways) (leaves skips : ℕ) → AllFit (code_of short plan variables f standing known code x leaves skips)
+      pub code_fits : (f : ℕ) (standing : Standing) (known : Facts) (code : Actions) (x : Ways) (leaves skips : ℕ) → AllFit (code_of short plan variables f standing known code x leaves skips)
       code_fits f standing known Done x leaves skips = tt
-      code_fits f standing known (Do m a k) x leaves skips = fit_append _ _ (block_fits f known standing x _ _ a k) (code_fits f (standing_behind a k x) (multiples_behind a known) k x leaves skips)
+      code_fits f standing known (Do m a k) x leaves skips = fit_append _ _ (block_fits f known standing x _ _ a k) (code_fits f (standing_behind a k x) (facts_behind plan.memory a known) k x leaves skips)
       code_fits f standing known (If m b p q k) x leaves skips =
           let none = does_nothing p in
-          let rest = code_of short plan variables f Settled unknown k x leaves skips in
-          let second = code_of short plan variables f Settled unknown q (behind (live k x) x) (length rest + leaves) (length rest + skips) in
+          let rest = code_of short plan variables f Settled (facts_past_if b p q known) k x leaves skips in
+          let second = code_of short plan variables f Settled (facts_in_second b known) q (behind (live k x) x) (length rest + leaves) (length rest + skips) in
           let past = past_code short (none || does_nothing q) (length second) in
           let far = length past + length second + length rest in
-          let first = code_of short plan variables f Settled unknown p (behind (live k x) x) (far + leaves) (far + skips) in
+          let first = code_of short plan variables f Settled (facts_in_first b known) p (behind (live k x) x) (far + leaves) (far + skips) in
           let n = if none then length second else length first + length past in
           fit_append (branch_code (plan.home f) short b none n) (first ++ (past ++ (second ++ rest))) (branch_fits (variables f) (plan.home f) (good f) short b none n)
-          (fit_append first (past ++ (second ++ rest)) (code_fits f Settled unknown p (behind (live k x) x) (far + leaves) (far + skips))
+          (fit_append first (past ++ (second ++ rest)) (code_fits f Settled (facts_in_first b known) p (behind (live k x) x) (far + leaves) (far + skips))
           (fit_append past (second ++ rest) (past_fits (none || does_nothing q) (length second))
-          (fit_append second rest (code_fits f Settled unknown q (behind (live k x) x) (length rest + leaves) (length rest + skips)) (code_fits f Settled unknown k x leaves skips))))
+          (fit_append second rest (code_fits f Settled (facts_in_second b known) q (behind (live k x) x) (length rest + leaves) (length rest + skips)) (code_fits f Settled (facts_past_if b p q known) k x leaves skips))))
       code_fits f standing known (Loop m body step k) x leaves skips =
           let after' = live k x in
-          let rest = code_of short plan variables f Settled unknown k x leaves skips in
-          let again = code_of short plan variables f Settled unknown step (step_ways body step after') (jump_words short) 0 in
-          let turned = code_of short plan variables f Settled unknown body (body_ways body step after') (length again + jump_words short) 0 in
+          let rest = code_of short plan variables f Settled (facts_past_loop body step known) k x leaves skips in
+          let again = code_of short plan variables f Settled (facts_at_step plan.memory body step known) step (step_ways body step after') (jump_words short) 0 in
+          let turned = code_of short plan variables f Settled (facts_at_turn plan.memory body step known) body (body_ways body step after') (length again + jump_words short) 0 in
           let back = jump_back short (length turned + length again) in
           let words = length (bottom_test (plan.home f) body 0) in
-          let again' = code_of short plan variables f Settled unknown step (step_ways body step after') words 0 in
-          let tail = tail_of short plan variables f body (body_ways body step after') (length again' + words) 0 in
+          let again' = code_of short plan variables f Settled (facts_at_step plan.memory body step known) step (step_ways body step after') words 0 in
+          let tail = tail_of short plan variables f (facts_at_turn plan.memory body step known) body (body_ways body step after') (length again' + words) 0 in
           let n = length tail + length again' in
           let test = bottom_test (plan.home f) body n in
-          let few = tail_length short plan variables f body (body_ways body step after') (length again' + words) 0 in
-          let few' = code_length short plan variables f Settled unknown step (step_ways body step after') words 0 in
+          let few = tail_length short plan variables f (facts_at_turn plan.memory body step known) body (body_ways body step after') (length again' + words) 0 in
+          let few' = code_length short plan variables f Settled (facts_at_step plan.memory body step known) step (step_ways body step after') words 0 in
           fit_either (has_bottom body step) (jump_over short n ++ (tail ++ (again' ++ (test ++ rest)))) (turned ++ (again ++ (back ++ rest)))
           (λ e. fit_append (jump_over short n) (tail ++ (again' ++ (test ++ rest))) (over_fits short n)
-          (fit_append tail (again' ++ (test ++ rest)) (tail_fits f body (body_ways body step after') (length again' + words) 0)
-          (fit_append again' (test ++ rest) (code_fits f Settled unknown step (step_ways body step after') words 0)
-          (fit_append test rest (bottom_fits f body n (near_is body step n e (omega arith))) (code_fits f Settled unknown k x leaves skips)))))
-          (λ e. fit_append turned (again ++ (back ++ rest)) (code_fits f Settled unknown body (body_ways body step after') (length again + jump_words short) 0)
-          (fit_append again (back ++ rest) (code_fits f Settled unknown step (step_ways body step after') (jump_words short) 0)
-          (fit_append back rest (back_fits short (length turned + length again)) (code_fits f Settled unknown k x leaves skips))))
+          (fit_append tail (again' ++ (test ++ rest)) (tail_fits f (facts_at_turn plan.memory body step known) body (body_ways body step after') (length again' + words) 0)
+          (fit_append again' (test ++ rest) (code_fits f Settled (facts_at_step plan.memory body step known) step (step_ways body step after') words 0)
+          (fit_append test rest (bottom_fits f body n (near_is body step n e (omega arith))) (code_fits f Settled (facts_past_loop body step known) k x leaves skips)))))
+          (λ e. fit_append turned (again ++ (back ++ rest)) (code_fits f Settled (facts_at_turn plan.memory body step known) body (body_ways body step after') (length again + jump_words short) 0)
+          (fit_append again (back ++ rest) (code_fits f Settled (facts_at_step plan.memory body step known) step (step_ways body step after') (jump_words short) 0)
+          (fit_append back rest (back_fits short (length turned + length again)) (code_fits f Settled (facts_past_loop body step known) k x leaves skips))))
 
-      pub tail_fits : (f : ℕ) (code : Actions) (x : Ways) (leaves skips : ℕ) → AllFit (tail_of short plan variables f code x leaves skips)
-      tail_fits f (If m b p q k) x leaves skips = code_fits f Settled unknown k x leaves skips
-      tail_fits f Done x leaves skips = tt
-      tail_fits f (Do m a k) x leaves skips = tt
-      tail_fits f (Loop m body step k) x leaves skips = tt
+      pub tail_fits : (f : ℕ) (known : Facts) (code : Actions) (x : Ways) (leaves skips : ℕ) → AllFit (tail_of short plan variables f known code x leaves skips)
+      tail_fits f known (If m b p q k) x leaves skips = code_fits f Settled (facts_past_if b p q known) k x leaves skips
+      tail_fits f known Done x leaves skips = tt
+      tail_fits f known (Do m a k) x leaves skips = tt
+      tail_fits f known (Loop m body step k) x leaves skips = tt
 
   pub entry_fits : (f : ℕ) (live : VariableSet) → AllFit (entry_code plan variables f live)
   entry_fits f live = (sw_small 2 1 0 (omega arith) (omega arith) (omega arith), restore_fits _ (live_registers plan (variables f) f live))

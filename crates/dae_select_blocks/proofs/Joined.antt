@@ -21,7 +21,7 @@ use Rattle.dae_select_walks.specs.Walks.{Setting, Comes}
 use Rattle.dae_select_walks.specs.Does.{Does}
 use Rattle.dae_select_walks.specs.Layout.{CodeAt}
 use Rattle.dae_select_walks.specs.Live.{in_option, in_arguments, is, before}
-use Rattle.dae_select_walks.specs.Multiples.{unknown}
+use Rattle.dae_select_walks.specs.Facts.{unknown}
 use Rattle.dae_select_walks.specs.Homes.{Contents}
 use Rattle.dae_select_walks.specs.Agrees.{Plan, Moment, Stands, AreWaiting, IsWithin}
 use Rattle.dae_select_walks.specs.Compiled.{Exits, exit, ways_of, At, MainEnds, waiting_of, called, result_of, with_env, with_result}

@@ -30,6 +30,7 @@ use Rattle.dae_select_walks.specs.Live.{Ways, with_all, in_value, sets, before, 
 use Rattle.dae_select_walks.specs.declared.Home.{Home}
 use Rattle.dae_select_walks.specs.Homes.{AreApart}
 use Rattle.dae_select_walks.specs.Layout.{CodeAt}
+use Rattle.dae_select_walks.specs.Facts.{Facts}
 use Rattle.dae_select_walks.specs.Agrees.{Plan, Moment, Stands}
 use Rattle.dae_select_walks.specs.declared.Standing.{Standing}
 use Rattle.dae_select_walks.specs.declared.Standing.TheVariants.{Settled, Early, Late}
@@ -242,13 +243,13 @@ module _ (s : Setting) (plan : Plan) (variables : ℕ → ℕ) (fine : Fits s pl
       record { contents = h.contents; shows = h.shows; agrees = record { base = a.base; variables = λ v l. a.variables v l ∙ same v l; pointer = a.pointer; frame = a.frame; depth = a.depth; addresses = a.addresses; waiting = a.waiting; room = a.room; within = record { depth = a.within.depth; frame = a.within.frame } } }
 
   -- the first action of the pair has no code
-  pub late_first : (f t : ℕ) (y : Value) (live' known : VariableSet) (x : Exits) (here : ℕ) → ActionDone s plan program entries most widest f known (Compute t y) (exit here live') (record { word = here + 0; live = live'; standing = Late t y }) x
+  pub late_first : (f t : ℕ) (y : Value) (live' : VariableSet) (known : Facts) (x : Exits) (here : ℕ) → ActionDone s plan program entries most widest f known (Compute t y) (exit here live') (record { word = here + 0; live = live'; standing = Late t y }) x
   late_first f t y live' known x here m w p h world facts =
       let same : here ≡ here + 0 = omega arith in
       comes_here s (h.0, (m.env, rw world.frame refl, subst (λ (j : ℕ). Stands plan live' m j p) same h.1))
 
   -- and that of the second does both
-  pub late_second : (f t d : ℕ) (y : Value) (live' known : VariableSet) (w : Ways) (x : Exits) (here : ℕ) → live' t ≡ false → AreNumbers y →
+  pub late_second : (f t d : ℕ) (y : Value) (live' : VariableSet) (known : Facts) (w : Ways) (x : Exits) (here : ℕ) → live' t ≡ false → AreNumbers y →
       AreApart (plan.home f) (with_all (before (Compute d (Same (Variable t))) live' w) (sets (Compute d (Same (Variable t))))) →
       CodeAt s.code here (late_code (plan.home f) (Compute d (Same (Variable t))) y) → here + length (late_code (plan.home f) (Compute d (Same (Variable t))) y) < 2 ^ 29 → length (late_code (plan.home f) (Compute d (Same (Variable t))) y) ≤ most →
       ActionDone s plan program entries most widest f known (Compute d (Same (Variable t))) (record { word = here; live = before (Compute t y) (before (Compute d (Same (Variable t))) live' w) w; standing = Late t y })
@@ -262,7 +263,7 @@ module _ (s : Setting) (plan : Plan) (variables : ℕ → ℕ) (fine : Fits s pl
       comes_map s most (omega arith) (λ q g. (g.0, stands_like m (λ u l. subst (λ (e : Env). put true d (computed y o.frame env) env u ≡ put true d (e t) e u) (sym is) (rw world.frame (late_same t d (computed y m.frame env) u env live' dead l))) g.1)) walk
 
   -- or sends it
-  pub late_sent : (f t : ℕ) (y : Value) (live' known : VariableSet) (w : Ways) (x : Exits) (here : ℕ) → s.side ≡ E → written_last y ≡ true → live' t ≡ false → AreNumbers y →
+  pub late_sent : (f t : ℕ) (y : Value) (live' : VariableSet) (known : Facts) (w : Ways) (x : Exits) (here : ℕ) → s.side ≡ E → written_last y ≡ true → live' t ≡ false → AreNumbers y →
       CodeAt s.code here (late_code (plan.home f) (Datum (Variable t)) y) → here + length (late_code (plan.home f) (Datum (Variable t)) y) < 2 ^ 29 → length (late_code (plan.home f) (Datum (Variable t)) y) ≤ most →
       ActionDone s plan program entries most widest f known (Datum (Variable t)) (record { word = here; live = before (Compute t y) (before (Datum (Variable t)) live' w) w; standing = Late t y })
       (exit (here + length (late_code (plan.home f) (Datum (Variable t)) y)) live') x
@@ -301,7 +302,7 @@ module _ (s : Setting) (plan : Plan) (variables : ℕ → ℕ) (fine : Fits s pl
         apart at small few
 
   -- the second action was done by the block of the first: now the processor holds the variables of the moment
-  pub early_second : (f d : ℕ) (y : Value) (live' known : VariableSet) (x : Exits) (here : ℕ) → ActionDone s plan program entries most widest f known (Compute d y) (record { word = here; live = live'; standing = Early d y }) (exit (here + 0) live') x
+  pub early_second : (f d : ℕ) (y : Value) (live' : VariableSet) (known : Facts) (x : Exits) (here : ℕ) → ActionDone s plan program entries most widest f known (Compute d y) (record { word = here; live = live'; standing = Early d y }) (exit (here + 0) live') x
   early_second f d y live' known x here m o p h world facts =
       let same : here ≡ here + 0 = omega arith in
       let done : Stands plan live' (with_env (put true d (computed y o.frame m.env) m.env) m) here p = rw world.frame h.1 in

@@ -5,6 +5,7 @@ use Rattle.std.proofs.lemmas.Bool.Decides.{nat_tests}
 use Rattle.std.proofs.lemmas.Bool.{or_right}
 use Rattle.dae_base.specs.declared.Side.TheVariants.{A, E}
 use Rattle.dae_base.specs.declared.Width.{Width}
+use Rattle.dae_base.specs.Words.{size}
 use Rattle.dae_encode.specs.declared.Inst.{Inst}
 use Rattle.dae_ir.specs.Classes.{VariableSet}
 use Rattle.dae_meaning.specs.Worlds.{World}
@@ -22,9 +23,9 @@ use Rattle.dae_select_walks.specs.Live.{Ways, with_all, reads, sets, in_option, 
 use Rattle.dae_select_walks.specs.Layout.{CodeAt}
 use Rattle.dae_select_walks.specs.declared.Home.{Home}
 use Rattle.dae_select_walks.specs.Homes.{Contents, AreApart}
-use Rattle.dae_select_walks.specs.Multiples.{AreMultiples, is_multiple}
+use Rattle.dae_select_walks.specs.Facts.{Facts, Hold, operand_bounds, is_aligned, is_good}
 use Rattle.dae_select_walks.specs.Agrees.{Plan, Moment, Stands, depth_of, top_of}
-use Rattle.dae_select_walks.proofs.LawsOfWalks.{does_map, is_one}
+use Rattle.dae_select_walks.proofs.LawsOfWalks.{does_map, comes_here, operand_is, aligned_is, good_is}
 use Rattle.dae_meaning.specs.Operations.{misplaced, passed}
 use Rattle.dae_select_walks.specs.Compiled.{exit, with_env, IsWorldOf, At}
 use Rattle.dae_select_blocks.specs.Code.{placed_code, action_code}
@@ -33,7 +34,7 @@ use Rattle.dae_select_blocks.specs.Fits.{Fits}
 use Rattle.dae_select_blocks.specs.Wanted.{IsWanted, IsPlanOf, IsWantedStop}
 use Rattle.dae_select_blocks.proofs.Runs.{Runs}
 use Rattle.dae_select_blocks.proofs.Agreement.{Ready}
-use Rattle.dae_select_blocks.proofs.Jumps.{ready}
+use Rattle.dae_select_blocks.proofs.Jumps.{ready, stands_less}
 use Rattle.dae_select_blocks.proofs.Actions.{To, Does', set_done, issue_done, own_done, receive_done, address_done, datum_done, offer_done, accept_done, tell_done}
 use Rattle.dae_select_blocks.proofs.Checks.{emit_done, stop_a_done, stop_e_done, zero_done, place_done, bounds_done, check_room_done, frame_done, abort_done, hear_done}
 
@@ -117,8 +118,8 @@ module _ (s : Setting) (plan : Plan) (variables : ℕ → ℕ) (fine : Fits s pl
     simple_runs (Call v g xs) leaves skips is wanted round h = elim is [ ]
     simple_runs (Return x) leaves skips is wanted round h = elim is [ ]
 
-    -- and the test of a place whose address is a multiple of four
-    pub placed_runs : {c : Contents} (width : Width) (x : Operand) → IsWanted plan s.copies entries (Probe (Place width x)) → Around (plan.home m.function) (Probe (Place width x)) live live' → value x m.env % 4 ≡ 0 → Ready plan live m c →
+    -- and the test of a place whose address is aligned
+    pub placed_runs : {c : Contents} (width : Width) (x : Operand) → IsWanted plan s.copies entries (Probe (Place width x)) → Around (plan.home m.function) (Probe (Place width x)) live live' → value x m.env % size width ≡ 0 → Ready plan live m c →
         Does' s plan variables fine live live' m (placed_code (plan.home m.function) (Probe (Place width x))) c (deed program plan.by_a (Probe (Place width x)) w m.env)
     placed_runs width x wanted round four h =
         rw world.memory (flagged (misplaced width (value x m.env) plan.memory) true wanted.0 (bounds_done s plan variables fine live live' m wanted.0 width x four h round.reads wanted.1 (λ u l. round.stays u l refl)))
@@ -142,17 +143,26 @@ module _ (s : Setting) (plan : Plan) (variables : ℕ → ℕ) (fine : Fits s pl
   abbrev placed_block : ℕ → Width → Operand → List Inst
   placed_block f width y = placed_code (plan.home f) (Probe (Place width y))
 
-  -- a test of a place whose address is a multiple of four
-  pub placed_done : (f : ℕ) (width : Width) (y : Operand) (live live' known : VariableSet) (k : ℕ) → IsWanted plan s.copies entries (Probe (Place width y)) → Around (plan.home f) (Probe (Place width y)) live live' → is_multiple known y ≡ true →
+  -- a test of a place whose address is known to be aligned
+  pub placed_done : (f : ℕ) (width : Width) (y : Operand) (live live' : VariableSet) (known : Facts) (k : ℕ) → IsWanted plan s.copies entries (Probe (Place width y)) → Around (plan.home f) (Probe (Place width y)) live live' → is_aligned width (operand_bounds known y) ≡ true →
       CodeAt s.code k (placed_block f width y) → k + length (placed_block f width y) < 2 ^ 29 → length (placed_block f width y) ≤ most →
-      (m : Moment) (w : World) (p : Processor) → At s plan program entries most widest f (exit k live) m p → IsWorldOf plan m w → AreMultiples known m.env →
+      (m : Moment) (w : World) (p : Processor) → At s plan program entries most widest f (exit k live) m p → IsWorldOf plan m w → Hold known m.env →
       Does s most (deed program plan.by_a (Probe (Place width y)) w m.env) (λ env. At s plan program entries most widest f (exit (k + length (placed_block f width y)) live') (with_env env m)) p
   placed_done f width y live live' known k wanted round one at small few m w p h world facts =
       subst (λ (g : ℕ). Around (plan.home g) (Probe (Place width y)) live live' → CodeAt s.code k (placed_block g width y) → k + length (placed_block g width y) < 2 ^ 29 → length (placed_block g width y) ≤ most →
       Does s most (deed program plan.by_a (Probe (Place width y)) w m.env) (λ env q. (m.function ≡ g) × Stands plan live' (with_env env m) (k + length (placed_block g width y)) q) p) h.0
       (λ round at small few.
-      let run = placed_runs s plan variables fine program is_plan entries live live' m w world width y wanted round (is_one known m.env y facts one) (ready s plan variables fine h.1) in
+      let run = placed_runs s plan variables fine program is_plan entries live live' m w world width y wanted round (aligned_is width (operand_bounds known y) (value y m.env) (operand_is known m.env y facts) one) (ready s plan variables fine h.1) in
       does_map s (To s plan variables fine live live' m (k + length (placed_block m.function width y))) (λ env q. (m.function ≡ m.function) × Stands plan live' (with_env env m) (k + length (placed_block m.function width y)) q)
       (length (placed_block m.function width y)) most few (λ env q t. (refl, t)) (deed program plan.by_a (Probe (Place width y)) w m.env) p
       (run.from k small at p h.1.shows))
       round at small few
+
+  -- a test of a place whose address is known to be good takes nothing
+  pub passed_done : (f : ℕ) (width : Width) (y : Operand) (live live' : VariableSet) (known : Facts) (k : ℕ) → IsWanted plan s.copies entries (Probe (Place width y)) → ((u : ℕ) → live' u ≡ true → live u ≡ true) → is_good plan.memory width (operand_bounds known y) ≡ true →
+      (m : Moment) (w : World) (p : Processor) → At s plan program entries most widest f (exit k live) m p → IsWorldOf plan m w → Hold known m.env →
+      Does s most (deed program plan.by_a (Probe (Place width y)) w m.env) (λ env. At s plan program entries most widest f (exit (k + 0) live') (with_env env m)) p
+  passed_done f width y live live' known k wanted less good m w p h world facts =
+      let passes = good_is plan.memory width (operand_bounds known y) (value y m.env) (operand_is known m.env y facts) good in
+      let here : k ≡ k + 0 = omega arith in
+      rw (world.memory, passes) (comes_here s (h.0, stands_less s plan variables fine less (subst (λ (j : ℕ). Stands plan live m j p) here h.1)))

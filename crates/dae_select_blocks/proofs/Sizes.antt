@@ -14,10 +14,12 @@ use Rattle.dae_ir.specs.declared.stream.Action.TheVariants.{Set as Compute, Issu
 use Rattle.dae_select_walks.specs.declared.Standing.{Standing}
 use Rattle.dae_select_walks.specs.declared.Standing.TheVariants.{Settled, Early, Late}
 use Rattle.dae_select_walks.specs.Live.{Ways, none, behind, live, is, step_ways, body_ways}
-use Rattle.dae_select_walks.specs.Multiples.{unknown, multiples_behind, is_placed}
+use Rattle.dae_select_walks.specs.Facts.{Facts, facts_behind, facts_in_first, facts_in_second, facts_past_if, facts_at_turn, facts_at_step, facts_past_loop, need_of}
+use Rattle.dae_select_walks.specs.declared.Need.{Need}
+use Rattle.dae_select_walks.specs.declared.Need.TheVariants.{All, Ends, Nothing}
 use Rattle.dae_select_walks.specs.Agrees.{Plan}
 use Rattle.dae_select_blocks.specs.Blocks.{arguments_code, save_code, restore_code, deeper_code, back_code, result_code, enter_code, jump_words, jump_over}
-use Rattle.dae_select_blocks.specs.Code.{registers_in, action_code, call_code, does_nothing, standing_behind, late_code, placed_code, block_code, code_of, tail_of, loop_code, bottom_code, bottom_test, has_bottom, leaves_first, is_near}
+use Rattle.dae_select_blocks.specs.Code.{registers_in, action_code, call_code, does_nothing, standing_behind, late_code, placed_code, needed_code, block_code, code_of, tail_of, loop_code, bottom_code, bottom_test, has_bottom, leaves_first, is_near}
 use Rattle.dae_select_blocks.specs.Sizes.{one_call, most_words_in}
 use Rattle.dae_select_blocks.proofs.Simple.{IsSimple}
 use Rattle.dae_select_blocks.proofs.Pairs.{by_pairs}
@@ -74,8 +76,8 @@ module _ (short : Bool) (plan : Plan) (variables : ℕ → ℕ) (f : ℕ) where
   action_length (Return x) k l s = let h = leave_short (plan.home f) x in omega arith
 
   -- a pair's block is no longer than one of its actions may be
-  abbrev BlockFits : VariableSet → Standing → Ways → ℕ → ℕ → Action → Actions → Standing → Type 0
-  BlockFits known standing x l s a k standing' = length (block_code plan variables f (is_placed known a) standing a standing' (live k x) (jump_over short l) (jump_over short s)) ≤ 14 * action_weight a + 42 * one_call a
+  abbrev BlockFits : Facts → Standing → Ways → ℕ → ℕ → Action → Actions → Standing → Type 0
+  BlockFits known standing x l s a k standing' = length (block_code plan variables f (need_of plan.memory known a k) standing a standing' (live k x) (jump_over short l) (jump_over short s)) ≤ 14 * action_weight a + 42 * one_call a
 
   late_length : (t : ℕ) (y : Value) (a : Action) → length (late_code (plan.home f) a y) ≤ 14 * action_weight a + 42 * one_call a
   late_length t y (Compute d z) = action_length (Compute d y) none 0 0
@@ -87,34 +89,35 @@ module _ (short : Bool) (plan : Plan) (variables : ℕ → ℕ) (f : ℕ) where
   placed_length (Probe (Place width x)) = let h = placed_short (plan.home f) (Probe (Place width x)) in omega arith
   placed_length a = omega arith
 
-  settled_length : (placed : Bool) (a : Action) (k : VariableSet) (l s : ℕ) → length (if placed then placed_code (plan.home f) a else action_code plan variables f a k (jump_over short l) (jump_over short s)) ≤ 14 * action_weight a + 42 * one_call a
-  settled_length true a k l s = placed_length a
-  settled_length false a k l s = action_length a k l s
+  settled_length : (need : Need) (a : Action) (k : VariableSet) (l s : ℕ) → length (needed_code plan variables f need a k (jump_over short l) (jump_over short s)) ≤ 14 * action_weight a + 42 * one_call a
+  settled_length Nothing a k l s = omega arith
+  settled_length Ends a k l s = placed_length a
+  settled_length All a k l s = action_length a k l s
 
-  block_length : (known : VariableSet) (standing : Standing) (x : Ways) (l s : ℕ) (a : Action) (k : Actions) → BlockFits known standing x l s a k (standing_behind a k x)
+  block_length : (known : Facts) (standing : Standing) (x : Ways) (l s : ℕ) (a : Action) (k : Actions) → BlockFits known standing x l s a k (standing_behind a k x)
   block_length known (Early v y) x l s a k = omega arith
   block_length known (Late t y) x l s a k = late_length t y a
   block_length known Settled x l s a k =
-      by_pairs (BlockFits known Settled x l s) x (λ a k. settled_length (is_placed known a) a (live k x) l s) (λ t y m b k e passes dead. omega arith)
+      by_pairs (BlockFits known Settled x l s) x (λ a k. settled_length (need_of plan.memory known a k) a (live k x) l s) (λ t y m b k e passes dead. omega arith)
       (λ v m d y k e once dead. (let h = early_short (plan.home f) 30 v d y in omega arith)) (λ v m d y k e once dead. (let h = early_short (plan.home f) 28 v d y in omega arith)) a k
 
   mutual
-    pub code_length : (standing : Standing) (known : VariableSet) (code : Actions) (x : Ways) (l s : ℕ) → length (code_of short plan variables f standing known code x l s) ≤ most_words_in code
+    pub code_length : (standing : Standing) (known : Facts) (code : Actions) (x : Ways) (l s : ℕ) → length (code_of short plan variables f standing known code x l s) ≤ most_words_in code
     code_length standing known Done x l s = omega arith
     code_length standing known (Do m a k) x l s =
         let h : length (code_of short plan variables f standing known (Do m a k) x l s) ≤ (14 * action_weight a + 42 * one_call a) + most_words_in k
-        = append_short _ _ _ _ (block_length known standing x _ _ a k) (code_length (standing_behind a k x) (multiples_behind a known) k x l s) in omega arith
+        = append_short _ _ _ _ (block_length known standing x _ _ a k) (code_length (standing_behind a k x) (facts_behind plan.memory a known) k x l s) in omega arith
     code_length standing known (If m b y n k) x l s =
         let h : length (code_of short plan variables f standing known (If m b y n k) x l s) ≤ 12 + (most_words_in y + (2 + (most_words_in n + most_words_in k)))
-        = append_short _ _ 12 _ (branch_short (plan.home f) short b (does_nothing y) _) (append_short _ _ _ _ (code_length Settled unknown y (behind (live k x) x) _ _)
-        (append_short _ _ 2 _ (past_short short (does_nothing y || does_nothing n) _) (append_short _ _ _ _ (code_length Settled unknown n (behind (live k x) x) _ _) (code_length Settled unknown k x l s)))) in omega arith
+        = append_short _ _ 12 _ (branch_short (plan.home f) short b (does_nothing y) _) (append_short _ _ _ _ (code_length Settled (facts_in_first b known) y (behind (live k x) x) _ _)
+        (append_short _ _ 2 _ (past_short short (does_nothing y || does_nothing n) _) (append_short _ _ _ _ (code_length Settled (facts_in_second b known) n (behind (live k x) x) _ _) (code_length Settled (facts_past_if b y n known) k x l s)))) in omega arith
     code_length standing known (Loop m body step k) x l s =
-        let top : length (loop_code short (code_of short plan variables f Settled unknown body (body_ways body step (live k x))) (code_of short plan variables f Settled unknown step (step_ways body step (live k x)) (jump_words short) 0) (code_of short plan variables f Settled unknown k x l s)) ≤ most_words_in body + (most_words_in step + (2 + most_words_in k))
-        = append_short _ _ _ _ (code_length Settled unknown body (body_ways body step (live k x)) _ _) (append_short _ _ _ _ (code_length Settled unknown step (step_ways body step (live k x)) (jump_words short) 0)
-        (append_short _ _ 2 _ (back_short short _) (code_length Settled unknown k x l s))) in
-        let bottom : (leaves_first body ≡ true → length (bottom_code short (tail_of short plan variables f body (body_ways body step (live k x))) (code_of short plan variables f Settled unknown step (step_ways body step (live k x))) (bottom_test (plan.home f) body) (code_of short plan variables f Settled unknown k x l s)) ≤ 2 + (most_words_in body + (most_words_in step + (12 + most_words_in k))))
-        = λ is. append_short _ _ 2 _ (over_short short _) (append_short _ _ _ _ (tail_length body (body_ways body step (live k x)) _ _) (append_short _ _ _ _ (code_length Settled unknown step (step_ways body step (live k x)) _ 0)
-        (append_short _ _ 12 _ (bottom_short body is _) (code_length Settled unknown k x l s)))) in
+        let top : length (loop_code short (code_of short plan variables f Settled (facts_at_turn plan.memory body step known) body (body_ways body step (live k x))) (code_of short plan variables f Settled (facts_at_step plan.memory body step known) step (step_ways body step (live k x)) (jump_words short) 0) (code_of short plan variables f Settled (facts_past_loop body step known) k x l s)) ≤ most_words_in body + (most_words_in step + (2 + most_words_in k))
+        = append_short _ _ _ _ (code_length Settled (facts_at_turn plan.memory body step known) body (body_ways body step (live k x)) _ _) (append_short _ _ _ _ (code_length Settled (facts_at_step plan.memory body step known) step (step_ways body step (live k x)) (jump_words short) 0)
+        (append_short _ _ 2 _ (back_short short _) (code_length Settled (facts_past_loop body step known) k x l s))) in
+        let bottom : (leaves_first body ≡ true → length (bottom_code short (tail_of short plan variables f (facts_at_turn plan.memory body step known) body (body_ways body step (live k x))) (code_of short plan variables f Settled (facts_at_step plan.memory body step known) step (step_ways body step (live k x))) (bottom_test (plan.home f) body) (code_of short plan variables f Settled (facts_past_loop body step known) k x l s)) ≤ 2 + (most_words_in body + (most_words_in step + (12 + most_words_in k))))
+        = λ is. append_short _ _ 2 _ (over_short short _) (append_short _ _ _ _ (tail_length (facts_at_turn plan.memory body step known) body (body_ways body step (live k x)) _ _) (append_short _ _ _ _ (code_length Settled (facts_at_step plan.memory body step known) step (step_ways body step (live k x)) _ 0)
+        (append_short _ _ 12 _ (bottom_short body is _) (code_length Settled (facts_past_loop body step known) k x l s)))) in
         either_length (has_bottom body step) _ _ _ (λ e. (let h = bottom (and_left (leaves_first body) (is_near body step) e) in omega arith)) (omega arith)
 
     bottom_short : (code : Actions) → leaves_first code ≡ true → (n : ℕ) → length (bottom_test (plan.home f) code n) ≤ 12
@@ -123,8 +126,8 @@ module _ (short : Bool) (plan : Plan) (variables : ℕ → ℕ) (f : ℕ) where
     bottom_short (Do m a k) is n = omega arith
     bottom_short (Loop m body step k) is n = omega arith
 
-    pub tail_length : (code : Actions) (x : Ways) (l s : ℕ) → length (tail_of short plan variables f code x l s) ≤ most_words_in code
-    tail_length (If m b p q k) x l s = let h = code_length Settled unknown k x l s in omega arith
-    tail_length Done x l s = omega arith
-    tail_length (Do m a k) x l s = omega arith
-    tail_length (Loop m body step k) x l s = omega arith
+    pub tail_length : (known : Facts) (code : Actions) (x : Ways) (l s : ℕ) → length (tail_of short plan variables f known code x l s) ≤ most_words_in code
+    tail_length known (If m b p q k) x l s = let h = code_length Settled (facts_past_if b p q known) k x l s in omega arith
+    tail_length known Done x l s = omega arith
+    tail_length known (Do m a k) x l s = omega arith
+    tail_length known (Loop m body step k) x l s = omega arith

@@ -27,8 +27,10 @@ use Rattle.dae_ir.specs.declared.stream.Branch.{Branch}
 use Rattle.dae_ir.specs.declared.stream.Branch.TheVariants.{Silent, Tells, Hears}
 use Rattle.dae_select_walks.specs.Walks.{Setting, Comes}
 use Rattle.dae_select_walks.specs.Does.{Does}
-use Rattle.dae_select_walks.specs.Live.{Ways, behind, reads, sets, after, before, decided, live, lives, with_all, none, turn, step_ways, body_ways}
-use Rattle.dae_select_walks.specs.Multiples.{AreMultiples, unknown, is_multiple, multiples_behind, is_placed}
+use Rattle.dae_select_walks.specs.Live.{Ways, in_operand, behind, reads, sets, after, before, decided, live, lives, with_all, none, turn, step_ways, body_ways}
+use Rattle.dae_select_walks.specs.Facts.{Facts, Hold, unknown, only_leaves, operand_bounds, is_aligned, is_good, tells_within, facts_behind, facts_in_first, facts_in_second, facts_past_if, facts_at_turn, facts_at_step, facts_past_loop, need_of}
+use Rattle.dae_select_walks.specs.declared.Need.{Need}
+use Rattle.dae_select_walks.specs.declared.Need.TheVariants.{All, Ends, Nothing}
 use Rattle.dae_select_walks.specs.Agrees.{Plan, Moment, Stands}
 use Rattle.dae_select_walks.specs.declared.Standing.{Standing}
 use Rattle.dae_select_walks.specs.declared.Standing.TheVariants.{Settled, Early, Late}
@@ -38,12 +40,12 @@ use Rattle.dae_select_walks.specs.Layout.{CodeAt}
 use Rattle.dae_meaning.specs.declared.Comparison.{Comparison}
 use Rattle.dae_meaning.specs.declared.Comparison.TheVariants.{NotEqual}
 use Rattle.dae_select_blocks.specs.Blocks.{value_code, jump_words, jump_over, jump_back, one_way, goes_code, goes_back}
-use Rattle.dae_select_blocks.specs.Code.{written_last, action_code, branch_by, ahead_by, branch_code, before_branch, back_branch, bottom_test, only_breaks, is_break, leaves_first, is_near, has_bottom, tail_of, loop_code, bottom_code, does_nothing, past_code, standing_behind, early_code, placed_code, block_code, code_of}
+use Rattle.dae_select_blocks.specs.Code.{written_last, action_code, branch_by, ahead_by, branch_code, before_branch, back_branch, bottom_test, leaves_first, is_near, has_bottom, tail_of, loop_code, bottom_code, does_nothing, past_code, standing_behind, early_code, placed_code, block_code, code_of}
 use Rattle.dae_select_blocks.specs.Fits.{Fits}
 use Rattle.dae_select_blocks.specs.Wanted.{IsWanted, IsWantedBranch, IsPlanOf, IsRight}
 use Rattle.dae_select_blocks.proofs.Runs.{code_take, code_drop}
 use Rattle.dae_select_blocks.proofs.Uses.{takes_load_left, takes_load_right, takes_copy_left, takes_copy_right}
-use Rattle.dae_select_blocks.proofs.Simple.{IsSimple, around, e_side, simple_done, placed_done}
+use Rattle.dae_select_blocks.proofs.Simple.{IsSimple, around, e_side, simple_done, placed_done, passed_done}
 use Rattle.dae_select_blocks.proofs.Pairs.{passed_on, by_pairs, entered_at, Suits, suits_behind, AreLateNumbers, late_first, late_second, late_sent, early_first, early_second}
 use Rattle.dae_select_blocks.proofs.Lengths.{back_branch_long}
 use Rattle.dae_select_blocks.proofs.Jumps.{goes_if, jump_long, back_long, hears_some, leads_over, turns_over, turns_back, stands_less, silent_done, tells_done, hears_done, AllLong, GoesFrom, ahead_long, ahead_goes, back_long_all, back_goes}
@@ -83,7 +85,7 @@ module _ (s : Setting) (plan : Plan) (variables : ℕ → ℕ) (fine : Fits s pl
     pub leaves : x.leaves.standing ≡ Settled
     pub skips : x.skips.standing ≡ Settled
 
-  abbrev pub Done' : ℕ → VariableSet → Action → VariableSet → Exits → ℕ → ℕ → ℕ → Type 0
+  abbrev pub Done' : ℕ → Facts → Action → VariableSet → Exits → ℕ → ℕ → ℕ → Type 0
   Done' f known a k x leaves skips here =
       ActionDone s plan program entries most widest f known a (exit here (before a k (ways_of x))) (exit (here + length (block_of f a k leaves skips)) k) x
 
@@ -96,8 +98,8 @@ module _ (s : Setting) (plan : Plan) (variables : ℕ → ℕ) (fine : Fits s pl
       (calls : (f g : ℕ) (v : Option ℕ) (xs : List Argument) (k : VariableSet) (x : Exits) (leaves skips here : ℕ) → Stood f (Call v g xs) k (ways_of x) leaves skips here → Done' f unknown (Call v g xs) k x leaves skips here)
       (returns : (f : ℕ) (y : Option Operand) (k : VariableSet) (x : Exits) (leaves skips here : ℕ) → Stood f (Return y) k (ways_of x) leaves skips here → Done' f unknown (Return y) k x leaves skips here)
       (lo hi : ℕ) (high : hi < 2 ^ 29) (reach : short ≡ true → hi ≤ lo + 2 ^ 17) (some : 2 ≤ most) where
-    simply : (f : ℕ) (known : VariableSet) (a : Action) (k : VariableSet) (x : Exits) (leaves skips here : ℕ) → IsSimple a → ((u : ℕ) → after a k (ways_of x) u ≡ k u) → Stood f a k (ways_of x) leaves skips here →
-        (m : Moment) (w : World) (p : Processor) → At s plan program entries most widest f (exit here (before a k (ways_of x))) m p → IsWorldOf plan m w → AreMultiples known m.env →
+    simply : (f : ℕ) (known : Facts) (a : Action) (k : VariableSet) (x : Exits) (leaves skips here : ℕ) → IsSimple a → ((u : ℕ) → after a k (ways_of x) u ≡ k u) → Stood f a k (ways_of x) leaves skips here →
+        (m : Moment) (w : World) (p : Processor) → At s plan program entries most widest f (exit here (before a k (ways_of x))) m p → IsWorldOf plan m w → Hold known m.env →
         Does s most (deed program plan.by_a a w m.env) (λ env. At s plan program entries most widest f (exit (here + length (block_of f a k leaves skips)) k) (with_env env m)) p
     simply f known a k x leaves skips here simple goes_on t m w p h world facts =
         let small = t.small in
@@ -122,7 +124,7 @@ module _ (s : Setting) (plan : Plan) (variables : ℕ → ℕ) (fine : Fits s pl
         λ m p h. comes_here s (subst (λ (j : ℕ). At s plan program entries most widest f (exit j k) m p) same h)
     passed f here n word k false empty low near at there = let long = jump_long short n in jumped f here n k (exit word k) refl low near at (omega arith) (λ u e. e)
 
-    action_done : (f : ℕ) (known : VariableSet) (a : Action) (k : VariableSet) (x : Exits) (leaves skips here : ℕ) → AreSettled x → here + length (block_of f a k leaves skips) + leaves ≡ x.leaves.word → here + length (block_of f a k leaves skips) + skips ≡ x.skips.word → lo ≤ here → x.leaves.word ≤ hi → x.skips.word ≤ hi →
+    action_done : (f : ℕ) (known : Facts) (a : Action) (k : VariableSet) (x : Exits) (leaves skips here : ℕ) → AreSettled x → here + length (block_of f a k leaves skips) + leaves ≡ x.leaves.word → here + length (block_of f a k leaves skips) + skips ≡ x.skips.word → lo ≤ here → x.leaves.word ≤ hi → x.skips.word ≤ hi →
         Stood f a k (ways_of x) leaves skips here → Done' f known a k x leaves skips here
     action_done f known Break k x leaves skips here settled to_leave to_skip low near close t =
         let long = jump_long short leaves in
@@ -151,54 +153,66 @@ module _ (s : Setting) (plan : Plan) (variables : ℕ → ℕ) (fine : Fits s pl
     -- ---- actions in their lists, alone or in pairs
 
     -- the block of an action, where things stand so before it and so behind it, does it
-    abbrev StepDone : ℕ → VariableSet → Bool → Standing → Mark → Exits → ℕ → ℕ → ℕ → Action → Actions → Standing → Type 0
-    StepDone f known placed standing mark x leaves skips here a k standing' =
+    abbrev StepDone : ℕ → Facts → Need → Standing → Mark → Exits → ℕ → ℕ → ℕ → Action → Actions → Standing → Type 0
+    StepDone f known need standing mark x leaves skips here a k standing' =
         Suits standing (Do mark a k) (ways_of x) → AreLateNumbers standing → AreSettled x → IsWanted plan s.copies entries a → Each (IsWanted plan s.copies entries) IsWantedBranch k →
         IsRight (plan.home f) (variables f) (with_all (before a (live k (ways_of x)) (ways_of x)) (sets a)) → AllByRecursion (IsRight (plan.home f) (variables f)) (lives k (ways_of x)) →
-        CodeAt s.code here (block_code plan variables f placed standing a standing' (live k (ways_of x)) (jump_over short leaves) (jump_over short skips)) → lo ≤ here →
-        here + length (block_code plan variables f placed standing a standing' (live k (ways_of x)) (jump_over short leaves) (jump_over short skips)) < 2 ^ 29 →
-        here + length (block_code plan variables f placed standing a standing' (live k (ways_of x)) (jump_over short leaves) (jump_over short skips)) + leaves ≡ x.leaves.word →
-        here + length (block_code plan variables f placed standing a standing' (live k (ways_of x)) (jump_over short leaves) (jump_over short skips)) + skips ≡ x.skips.word → x.leaves.word ≤ hi → x.skips.word ≤ hi →
+        CodeAt s.code here (block_code plan variables f need standing a standing' (live k (ways_of x)) (jump_over short leaves) (jump_over short skips)) → lo ≤ here →
+        here + length (block_code plan variables f need standing a standing' (live k (ways_of x)) (jump_over short leaves) (jump_over short skips)) < 2 ^ 29 →
+        here + length (block_code plan variables f need standing a standing' (live k (ways_of x)) (jump_over short leaves) (jump_over short skips)) + leaves ≡ x.leaves.word →
+        here + length (block_code plan variables f need standing a standing' (live k (ways_of x)) (jump_over short leaves) (jump_over short skips)) + skips ≡ x.skips.word → x.leaves.word ≤ hi → x.skips.word ≤ hi →
         ActionDone s plan program entries most widest f known a (entered_at standing (Do mark a k) (ways_of x) here)
-        (entered_at standing' k (ways_of x) (here + length (block_code plan variables f placed standing a standing' (live k (ways_of x)) (jump_over short leaves) (jump_over short skips)))) x
+        (entered_at standing' k (ways_of x) (here + length (block_code plan variables f need standing a standing' (live k (ways_of x)) (jump_over short leaves) (jump_over short skips)))) x
         × AreLateNumbers standing'
 
-    late_step : (f t : ℕ) (known : VariableSet) (placed : Bool) (y : Value) (d : ℕ) (mark : Mark) (k : Actions) (x : Exits) (leaves skips here : ℕ) → live k (ways_of x) t ≡ false → StepDone f known placed (Late t y) mark x leaves skips here (Compute d (Same (Variable t))) k Settled
-    late_step f t known placed y d mark k x leaves skips here dead suits numbers settled wanted more right rights at low small to_leave to_skip near close = (
+    late_step : (f t : ℕ) (known : Facts) (need : Need) (y : Value) (d : ℕ) (mark : Mark) (k : Actions) (x : Exits) (leaves skips here : ℕ) → live k (ways_of x) t ≡ false → StepDone f known need (Late t y) mark x leaves skips here (Compute d (Same (Variable t))) k Settled
+    late_step f t known need y d mark k x leaves skips here dead suits numbers settled wanted more right rights at low small to_leave to_skip near close = (
       late_second s plan variables fine program is_plan entries most widest f t d y (live k (ways_of x)) known (ways_of x) x here dead numbers right.apart at small (blocks f (Compute d y) (live k (ways_of x)) [] [] tt),
       tt,
     )
 
-    sent_step : (f t : ℕ) (known : VariableSet) (placed : Bool) (y : Value) (mark : Mark) (k : Actions) (x : Exits) (leaves skips here : ℕ) → live k (ways_of x) t ≡ false → written_last y ≡ true → StepDone f known placed (Late t y) mark x leaves skips here (Datum (Variable t)) k Settled
-    sent_step f t known placed y mark k x leaves skips here dead last suits numbers settled wanted more right rights at low small to_leave to_skip near close = (
+    sent_step : (f t : ℕ) (known : Facts) (need : Need) (y : Value) (mark : Mark) (k : Actions) (x : Exits) (leaves skips here : ℕ) → live k (ways_of x) t ≡ false → written_last y ≡ true → StepDone f known need (Late t y) mark x leaves skips here (Datum (Variable t)) k Settled
+    sent_step f t known need y mark k x leaves skips here dead last suits numbers settled wanted more right rights at low small to_leave to_skip near close = (
       late_sent s plan variables fine program is_plan entries most widest f t y (live k (ways_of x)) known (ways_of x) x here (e_side s plan variables fine program is_plan entries wanted.0) last dead numbers at small (sent_short f y),
       tt,
     )
 
-    early_step : (f v : ℕ) (known : VariableSet) (placed : Bool) (y : Value) (mark : Mark) (k : Actions) (x : Exits) (leaves skips here : ℕ) → StepDone f known placed (Early v y) mark x leaves skips here (Compute v y) k Settled
-    early_step f v known placed y mark k x leaves skips here suits numbers settled wanted more right rights at low small to_leave to_skip near close = (early_second s plan variables fine program is_plan entries most widest f v y (live k (ways_of x)) known x here, tt)
+    early_step : (f v : ℕ) (known : Facts) (need : Need) (y : Value) (mark : Mark) (k : Actions) (x : Exits) (leaves skips here : ℕ) → StepDone f known need (Early v y) mark x leaves skips here (Compute v y) k Settled
+    early_step f v known need y mark k x leaves skips here suits numbers settled wanted more right rights at low small to_leave to_skip near close = (early_second s plan variables fine program is_plan entries most widest f v y (live k (ways_of x)) known x here, tt)
 
     -- an action alone
-    plain_step : (f : ℕ) (known : VariableSet) (mark : Mark) (a : Action) (k : Actions) (x : Exits) (leaves skips here : ℕ) → StepDone f known false Settled mark x leaves skips here a k Settled
+    plain_step : (f : ℕ) (known : Facts) (mark : Mark) (a : Action) (k : Actions) (x : Exits) (leaves skips here : ℕ) → StepDone f known All Settled mark x leaves skips here a k Settled
     plain_step f known mark a k x leaves skips here suits numbers settled wanted more right rights at low small to_leave to_skip near close = (
       action_done f known a (live k (ways_of x)) x leaves skips here settled to_leave to_skip low near close (record { wanted = wanted; right = right; stands = at; small = small }),
       tt,
     )
 
-    placed_step : (f : ℕ) (known : VariableSet) (mark : Mark) (width : Width) (y : Operand) (k : Actions) (x : Exits) (leaves skips here : ℕ) (placed : Bool) → is_multiple known y ≡ placed → StepDone f known placed Settled mark x leaves skips here (Probe (Place width y)) k Settled
+    placed_step : (f : ℕ) (known : Facts) (mark : Mark) (width : Width) (y : Operand) (k : Actions) (x : Exits) (leaves skips here : ℕ) (aligned : Bool) → is_aligned width (operand_bounds known y) ≡ aligned → StepDone f known (if aligned then Ends else All) Settled mark x leaves skips here (Probe (Place width y)) k Settled
     placed_step f known mark width y k x leaves skips here false e = plain_step f known mark (Probe (Place width y)) k x leaves skips here
     placed_step f known mark width y k x leaves skips here true e = λ suits numbers settled wanted more right rights at low small to_leave to_skip near close. (
       placed_done s plan variables fine program is_plan entries most widest f width y (before (Probe (Place width y)) (live k (ways_of x)) (ways_of x)) (live k (ways_of x)) known here wanted (around (plan.home f) (Probe (Place width y)) (live k (ways_of x)) (ways_of x) (λ u. refl) right.apart) e at small (placed f (Probe (Place width y))),
       tt,
     )
 
-    alone_step : (f : ℕ) (known : VariableSet) (mark : Mark) (a : Action) (k : Actions) (x : Exits) (leaves skips here : ℕ) → StepDone f known (is_placed known a) Settled mark x leaves skips here a k Settled
-    alone_step f known mark (Probe (Place width y)) k x leaves skips here = placed_step f known mark width y k x leaves skips here (is_multiple known y) refl
+    passed_step : (f : ℕ) (known : Facts) (mark : Mark) (width : Width) (y : Operand) (k : Actions) (x : Exits) (leaves skips here : ℕ) (told good : Bool) → is_good plan.memory width (operand_bounds known y) ≡ good → StepDone f known (if told && good then Nothing else (if is_aligned width (operand_bounds known y) then Ends else All)) Settled mark x leaves skips here (Probe (Place width y)) k Settled
+    passed_step f known mark width y k x leaves skips here false good e = placed_step f known mark width y k x leaves skips here (is_aligned width (operand_bounds known y)) refl
+    passed_step f known mark width y k x leaves skips here true false e = placed_step f known mark width y k x leaves skips here (is_aligned width (operand_bounds known y)) refl
+    passed_step f known mark width y k x leaves skips here true true e = λ suits numbers settled wanted more right rights at low small to_leave to_skip near close. (
+      passed_done s plan variables fine program is_plan entries most widest f width y (before (Probe (Place width y)) (live k (ways_of x)) (ways_of x)) (live k (ways_of x)) known here wanted (λ u e. stays (in_operand y u) (live k (ways_of x) u) e) e,
+      tt,
+    )
+      where
+        stays : (b c : Bool) → c ≡ true → (b || (c && true)) ≡ true
+        stays true c e = refl
+        stays false c e = rw e refl
+
+    alone_step : (f : ℕ) (known : Facts) (mark : Mark) (a : Action) (k : Actions) (x : Exits) (leaves skips here : ℕ) → StepDone f known (need_of plan.memory known a k) Settled mark x leaves skips here a k Settled
+    alone_step f known mark (Probe (Place width y)) k x leaves skips here = passed_step f known mark width y k x leaves skips here (tells_within 24 k) (is_good plan.memory width (operand_bounds known y)) refl
     alone_step f known mark a k x leaves skips here = plain_step f known mark a k x leaves skips here
 
-    step_done : (f : ℕ) (known : VariableSet) (standing : Standing) (mark : Mark) (a : Action) (k : Actions) (x : Exits) (leaves skips here : ℕ) → StepDone f known (is_placed known a) standing mark x leaves skips here a k (standing_behind a k (ways_of x))
+    step_done : (f : ℕ) (known : Facts) (standing : Standing) (mark : Mark) (a : Action) (k : Actions) (x : Exits) (leaves skips here : ℕ) → StepDone f known (need_of plan.memory known a k) standing mark x leaves skips here a k (standing_behind a k (ways_of x))
     step_done f known Settled mark a k x leaves skips here =
-        by_pairs (λ (a : Action) (k : Actions) (standing : Standing). StepDone f known (is_placed known a) Settled mark x leaves skips here a k standing) (ways_of x)
+        by_pairs (λ (a : Action) (k : Actions) (standing : Standing). StepDone f known (need_of plan.memory known a k) Settled mark x leaves skips here a k standing) (ways_of x)
         (λ a k. alone_step f known mark a k x leaves skips here)
         (λ t y m b k e passes dead suits numbers settled wanted more right rights at low small to_leave to_skip near close. (
           late_first s plan variables fine program is_plan entries most widest f t y (live (Do mark (Compute t y) (Do m b k)) (ways_of x)) known x here,
@@ -220,11 +234,11 @@ module _ (s : Setting) (plan : Plan) (variables : ℕ → ℕ) (fine : Fits s pl
         ))
         a k
     step_done f known (Late t y) mark a k x leaves skips here = λ suits.
-        subst (λ (standing : Standing). StepDone f known (is_placed known a) (Late t y) mark x leaves skips here a k standing) (sym suits.1)
-        (passed_on (λ (b : Action). StepDone f known (is_placed known a) (Late t y) mark x leaves skips here b k Settled) t y a suits.0 (λ d. late_step f t known (is_placed known a) y d mark k x leaves skips here suits.2) (λ last. sent_step f t known (is_placed known a) y mark k x leaves skips here suits.2 last)) suits
+        subst (λ (standing : Standing). StepDone f known (need_of plan.memory known a k) (Late t y) mark x leaves skips here a k standing) (sym suits.1)
+        (passed_on (λ (b : Action). StepDone f known (need_of plan.memory known a k) (Late t y) mark x leaves skips here b k Settled) t y a suits.0 (λ d. late_step f t known (need_of plan.memory known a k) y d mark k x leaves skips here suits.2) (λ last. sent_step f t known (need_of plan.memory known a k) y mark k x leaves skips here suits.2 last)) suits
     step_done f known (Early v y) mark a k x leaves skips here = λ suits.
-        subst (λ (standing : Standing). StepDone f known (is_placed known a) (Early v y) mark x leaves skips here a k standing) (sym suits.1)
-        (subst (λ (b : Action). StepDone f known (is_placed known a) (Early v y) mark x leaves skips here b k Settled) (sym suits.0) (early_step f v known (is_placed known a) y mark k x leaves skips here)) suits
+        subst (λ (standing : Standing). StepDone f known (need_of plan.memory known a k) (Early v y) mark x leaves skips here a k standing) (sym suits.1)
+        (subst (λ (b : Action). StepDone f known (need_of plan.memory known a k) (Early v y) mark x leaves skips here b k Settled) (sym suits.0) (early_step f v known (need_of plan.memory known a k) y mark k x leaves skips here)) suits
 
     -- ---- branches
 
@@ -275,22 +289,22 @@ module _ (s : Setting) (plan : Plan) (variables : ℕ → ℕ) (fine : Fits s pl
     -- ---- structured code
 
     -- a list that is empty leads where code goes on
-    nothing_done : (f : ℕ) (known : VariableSet) (code : Actions) (x : Exits) (here : ℕ) → does_nothing code ≡ true → Leads s plan program entries most widest f (exit here x.next.live) x.next → CodeDone s plan program entries most widest f known code (exit here (live code (ways_of x))) x
+    nothing_done : (f : ℕ) (known : Facts) (code : Actions) (x : Exits) (here : ℕ) → does_nothing code ≡ true → Leads s plan program entries most widest f (exit here x.next.live) x.next → CodeDone s plan program entries most widest f known code (exit here (live code (ways_of x))) x
     nothing_done f known Done x here is ends = ends
     nothing_done f known (Do mark a k) x here is ends = absurd cc
     nothing_done f known (If mark b p q k) x here is ends = absurd cc
     nothing_done f known (Loop mark body step k) x here is ends = absurd cc
 
-    nothing_short : (f : ℕ) (known : VariableSet) (code : Actions) (x : Ways) (leaves skips : ℕ) → does_nothing code ≡ true → length (code_of short plan variables f Settled known code x leaves skips) ≡ 0
+    nothing_short : (f : ℕ) (known : Facts) (code : Actions) (x : Ways) (leaves skips : ℕ) → does_nothing code ≡ true → length (code_of short plan variables f Settled known code x leaves skips) ≡ 0
     nothing_short f known Done x leaves skips is = refl
     nothing_short f known (Do mark a k) x leaves skips is = absurd cc
     nothing_short f known (If mark b p q k) x leaves skips is = absurd cc
     nothing_short f known (Loop mark body step k) x leaves skips is = absurd cc
 
-    nothing_long : (f : ℕ) (p q : Actions) (x : Ways) (leaves skips n : ℕ) → does_nothing p ≡ true → length (code_of short plan variables f Settled unknown p x leaves skips) + length (past_code short (does_nothing p || does_nothing q) n) ≡ 0
-    nothing_long f p q x leaves skips n is = (let a = nothing_short f unknown p x leaves skips is in let b : length (past_code short (does_nothing p || does_nothing q) n) ≡ 0 = rw is refl in omega arith)
+    nothing_long : (f : ℕ) (known : Facts) (p q : Actions) (x : Ways) (leaves skips n : ℕ) → does_nothing p ≡ true → length (code_of short plan variables f Settled known p x leaves skips) + length (past_code short (does_nothing p || does_nothing q) n) ≡ 0
+    nothing_long f known p q x leaves skips n is = (let a = nothing_short f known p x leaves skips is in let b : length (past_code short (does_nothing p || does_nothing q) n) ≡ 0 = rw is refl in omega arith)
 
-    either_done : (f : ℕ) (known : VariableSet) (code : Actions) (x : Exits) (none : Bool) (there here : ℕ) → (none ≡ true → CodeDone s plan program entries most widest f known code (exit there (live code (ways_of x))) x) → (none ≡ false → CodeDone s plan program entries most widest f known code (exit here (live code (ways_of x))) x) → CodeDone s plan program entries most widest f known code (exit (if none then there else here) (live code (ways_of x))) x
+    either_done : (f : ℕ) (known : Facts) (code : Actions) (x : Exits) (none : Bool) (there here : ℕ) → (none ≡ true → CodeDone s plan program entries most widest f known code (exit there (live code (ways_of x))) x) → (none ≡ false → CodeDone s plan program entries most widest f known code (exit here (live code (ways_of x))) x) → CodeDone s plan program entries most widest f known code (exit (if none then there else here) (live code (ways_of x))) x
     either_done f known code x true there here h k = h refl
     either_done f known code x false there here h k = k refl
 
@@ -308,7 +322,7 @@ module _ (s : Setting) (plan : Plan) (variables : ℕ → ℕ) (fine : Fits s pl
     ahead false n first past second is = omega arith
 
     -- that the code of a list does it, wherever it stands
-    abbrev CodeIs : ℕ → VariableSet → Actions → Type 0
+    abbrev CodeIs : ℕ → Facts → Actions → Type 0
     CodeIs f known code =
         (x : Exits) (leaves skips here : ℕ) → AreSettled x → Each (IsWanted plan s.copies entries) IsWantedBranch code → AllByRecursion (IsRight (plan.home f) (variables f)) (lives code (ways_of x)) →
         CodeAt s.code here (code_of short plan variables f Settled known code (ways_of x) leaves skips) → lo ≤ here → here + length (code_of short plan variables f Settled known code (ways_of x) leaves skips) ≤ hi →
@@ -334,15 +348,15 @@ module _ (s : Setting) (plan : Plan) (variables : ℕ → ℕ) (fine : Fits s pl
     back_here f false here e = absurd cc
 
     -- a loop whose turn ends with a jump back
-    top_done : (f : ℕ) (known : VariableSet) (mark : Mark) (body step k : Actions) (x : Exits) (leaves skips here : ℕ) → CodeIs f unknown body → CodeIs f unknown step → CodeIs f unknown k → AreSettled x → Each (IsWanted plan s.copies entries) IsWantedBranch (Loop mark body step k) → AllByRecursion (IsRight (plan.home f) (variables f)) (lives (Loop mark body step k) (ways_of x)) →
-        lo ≤ here → x.leaves.word ≤ hi → x.skips.word ≤ hi → Put f (loop_code short (code_of short plan variables f Settled unknown body (body_ways body step (live k (ways_of x)))) (code_of short plan variables f Settled unknown step (step_ways body step (live k (ways_of x))) (jump_words short) 0) (code_of short plan variables f Settled unknown k (ways_of x) leaves skips)) x leaves skips here →
+    top_done : (f : ℕ) (known : Facts) (mark : Mark) (body step k : Actions) (x : Exits) (leaves skips here : ℕ) → CodeIs f (facts_at_turn plan.memory body step known) body → CodeIs f (facts_at_step plan.memory body step known) step → CodeIs f (facts_past_loop body step known) k → AreSettled x → Each (IsWanted plan s.copies entries) IsWantedBranch (Loop mark body step k) → AllByRecursion (IsRight (plan.home f) (variables f)) (lives (Loop mark body step k) (ways_of x)) →
+        lo ≤ here → x.leaves.word ≤ hi → x.skips.word ≤ hi → Put f (loop_code short (code_of short plan variables f Settled (facts_at_turn plan.memory body step known) body (body_ways body step (live k (ways_of x)))) (code_of short plan variables f Settled (facts_at_step plan.memory body step known) step (step_ways body step (live k (ways_of x))) (jump_words short) 0) (code_of short plan variables f Settled (facts_past_loop body step known) k (ways_of x) leaves skips)) x leaves skips here →
         CodeDone s plan program entries most widest f known (Loop mark body step k) (exit here (live (Loop mark body step k) (ways_of x))) x
     top_done f known mark body step k x leaves skips here in_body in_step in_rest settled wanted apart low near close put =
         let at = put.0 in let small = put.1 in let to_leave = put.2 in let to_skip = put.3 in let ends = put.4 in
         let after' : VariableSet = live k (ways_of x) in
-        let rest : List Inst = code_of short plan variables f Settled unknown k (ways_of x) leaves skips in
-        let again_code : List Inst = code_of short plan variables f Settled unknown step (step_ways body step after') (jump_words short) 0 in
-        let turn_code : List Inst = code_of short plan variables f Settled unknown body (body_ways body step after') (length again_code + jump_words short) 0 in
+        let rest : List Inst = code_of short plan variables f Settled (facts_past_loop body step known) k (ways_of x) leaves skips in
+        let again_code : List Inst = code_of short plan variables f Settled (facts_at_step plan.memory body step known) step (step_ways body step after') (jump_words short) 0 in
+        let turn_code : List Inst = code_of short plan variables f Settled (facts_at_turn plan.memory body step known) body (body_ways body step after') (length again_code + jump_words short) 0 in
         let n : ℕ = length turn_code + length again_code in
         let back : List Inst = jump_back short n in
         let l1 = length-append turn_code (again_code ++ (back ++ rest)) in
@@ -362,7 +376,7 @@ module _ (s : Setting) (plan : Plan) (variables : ℕ → ℕ) (fine : Fits s pl
           exit end (turn body step after'),
           exit next after',
           (λ m r h. comes_here s h),
-          subst (λ (v : VariableSet). CodeDone s plan program entries most widest f unknown body (exit here v) (exits (exit again (live step (step_ways body step after'))) (exit next after') (exit again (live step (step_ways body step after'))))) (turn_again body step after')
+          subst (λ (v : VariableSet). CodeDone s plan program entries most widest f (facts_at_turn plan.memory body step known) body (exit here v) (exits (exit again (live step (step_ways body step after'))) (exit next after') (exit again (live step (step_ways body step after'))))) (turn_again body step after')
               (in_body (exits (exit again (live step (step_ways body step after'))) (exit next after') (exit again (live step (step_ways body step after')))) (length again_code + jump_words short) 0 here (record { leaves = refl; skips = refl }) wanted.0 (all_left (IsRight (plan.home f) (variables f)) (lives body (body_ways body step after')) (lives step (step_ways body step after') ++ lives k (ways_of x)) apart.1) (code_take s.code here turn_code (again_code ++ (back ++ rest)) at) low (omega arith) (omega arith) (omega arith) (omega arith) (omega arith)
               (λ m r h. comes_here s h)),
           in_step (exits (exit end (turn body step after')) (exit next after') (exit end (turn body step after'))) (jump_words short) 0 again (record { leaves = refl; skips = refl }) wanted.1 (all_left (IsRight (plan.home f) (variables f)) (lives step (step_ways body step after')) (lives k (ways_of x)) lasts) (code_take s.code again again_code (back ++ rest) d1) (omega arith) (omega arith) (omega arith) (omega arith) (omega arith) (omega arith)
@@ -375,40 +389,31 @@ module _ (s : Setting) (plan : Plan) (variables : ℕ → ℕ) (fine : Fits s pl
         )
 
     -- a list that only breaks
-    is_a_break : (a : Action) → is_break a ≡ true → a ≡ Break
-    is_a_break Break e = refl
-    is_a_break a e = absurd cc
-
-    breaks_done : (f : ℕ) (code : Actions) (x : Exits) (here : ℕ) → only_breaks code ≡ true → x.leaves.standing ≡ Settled → here ≡ x.leaves.word → Leads s plan program entries most widest f (exit x.next.word x.next.live) x.next → CodeDone s plan program entries most widest f unknown code (exit here (live code (ways_of x))) x
-    breaks_done f (Do m a k) x here is settled there ends =
-        let two = and_true (is_break a) (does_nothing k) is in
-        let so = is_a_break a two.0 in
-        subst (λ (a : Action). CodeDone s plan program entries most widest f unknown (Do m a k) (exit here (live (Do m a k) (ways_of x))) x) (sym so) (
-          exit x.next.word (live k (ways_of x)),
-          (λ n p h. comes_here s (h.0, rw settled (stands_less s plan variables fine (λ u e. rw e refl) (subst (λ (j : ℕ). Stands plan (live (Do m Break k) (ways_of x)) n j p) there h.1)))),
-          nothing_done f unknown k x x.next.word two.1 ends,
-        )
-    breaks_done f Done x here is settled there ends = absurd cc
-    breaks_done f (If m b p q k) x here is settled there ends = absurd cc
-    breaks_done f (Loop m body step k) x here is settled there ends = absurd cc
+    breaks_done : (f : ℕ) (known : Facts) (code : Actions) (x : Exits) (here : ℕ) → only_leaves code ≡ true → x.leaves.standing ≡ Settled → here ≡ x.leaves.word → Leads s plan program entries most widest f (exit x.next.word x.next.live) x.next → CodeDone s plan program entries most widest f known code (exit here (live code (ways_of x))) x
+    breaks_done f known (Do m Break Done) x here is settled there ends = (
+      exit x.next.word (live Done (ways_of x)),
+      (λ n p h. comes_here s (h.0, rw settled (stands_less s plan variables fine (λ u e. rw e refl) (subst (λ (j : ℕ). Stands plan (live (Do m Break Done) (ways_of x)) n j p) there h.1)))),
+      nothing_done f known Done x x.next.word refl ends,
+    )
+    breaks_done f known code x here is settled there ends = absurd cc
 
     -- a loop whose test stands behind its step
-    bottom_done : (f : ℕ) (known : VariableSet) (mark m : Mark) (b : Branch) (p q t step k : Actions) (x : Exits) (leaves skips here : ℕ) → leaves_first (If m b p q t) ≡ true → CodeIs f unknown t → CodeIs f unknown step → CodeIs f unknown k → AreSettled x → Each (IsWanted plan s.copies entries) IsWantedBranch (Loop mark (If m b p q t) step k) → AllByRecursion (IsRight (plan.home f) (variables f)) (lives (Loop mark (If m b p q t) step k) (ways_of x)) →
-        lo ≤ here → x.leaves.word ≤ hi → x.skips.word ≤ hi → Put f (bottom_code short (tail_of short plan variables f (If m b p q t) (body_ways (If m b p q t) step (live k (ways_of x)))) (code_of short plan variables f Settled unknown step (step_ways (If m b p q t) step (live k (ways_of x)))) (bottom_test (plan.home f) (If m b p q t)) (code_of short plan variables f Settled unknown k (ways_of x) leaves skips)) x leaves skips here →
+    bottom_done : (f : ℕ) (known : Facts) (mark m : Mark) (b : Branch) (p q t step k : Actions) (x : Exits) (leaves skips here : ℕ) → leaves_first (If m b p q t) ≡ true → CodeIs f (facts_past_if b p q (facts_at_turn plan.memory (If m b p q t) step known)) t → CodeIs f (facts_at_step plan.memory (If m b p q t) step known) step → CodeIs f (facts_past_loop (If m b p q t) step known) k → AreSettled x → Each (IsWanted plan s.copies entries) IsWantedBranch (Loop mark (If m b p q t) step k) → AllByRecursion (IsRight (plan.home f) (variables f)) (lives (Loop mark (If m b p q t) step k) (ways_of x)) →
+        lo ≤ here → x.leaves.word ≤ hi → x.skips.word ≤ hi → Put f (bottom_code short (tail_of short plan variables f (facts_at_turn plan.memory (If m b p q t) step known) (If m b p q t) (body_ways (If m b p q t) step (live k (ways_of x)))) (code_of short plan variables f Settled (facts_at_step plan.memory (If m b p q t) step known) step (step_ways (If m b p q t) step (live k (ways_of x)))) (bottom_test (plan.home f) (If m b p q t)) (code_of short plan variables f Settled (facts_past_loop (If m b p q t) step known) k (ways_of x) leaves skips)) x leaves skips here →
         CodeDone s plan program entries most widest f known (Loop mark (If m b p q t) step k) (exit here (live (Loop mark (If m b p q t) step k) (ways_of x))) x
     bottom_done f known mark m b p q t step k x leaves skips here is in_tail in_step in_rest settled wanted apart low near close put =
         let at = put.0 in let small = put.1 in let to_leave = put.2 in let to_skip = put.3 in let ends = put.4 in
-        let told = and_true (is_told b) (does_nothing p && only_breaks q) is in
-        let two = and_true (does_nothing p) (only_breaks q) told.1 in
+        let told = and_true (is_told b) (does_nothing p && only_leaves q) is in
+        let two = and_true (does_nothing p) (only_leaves q) told.1 in
         let body : Actions = If m b p q t in
         let after' : VariableSet = live k (ways_of x) in
         let begins : VariableSet = turn body step after' in
         let ways' : Ways = body_ways body step after' in
         let inner : Ways = behind (live t ways') ways' in
-        let rest : List Inst = code_of short plan variables f Settled unknown k (ways_of x) leaves skips in
+        let rest : List Inst = code_of short plan variables f Settled (facts_past_loop (If m b p q t) step known) k (ways_of x) leaves skips in
         let words : ℕ = length (back_branch (plan.home f) b true 0) in
-        let again_code : List Inst = code_of short plan variables f Settled unknown step (step_ways body step after') words 0 in
-        let turn_code : List Inst = code_of short plan variables f Settled unknown t ways' (length again_code + words) 0 in
+        let again_code : List Inst = code_of short plan variables f Settled (facts_at_step plan.memory (If m b p q t) step known) step (step_ways body step after') words 0 in
+        let turn_code : List Inst = code_of short plan variables f Settled (facts_past_if b p q (facts_at_turn plan.memory (If m b p q t) step known)) t ways' (length again_code + words) 0 in
         let n : ℕ = length turn_code + length again_code in
         let jump : List Inst = jump_over short n in
         let test : List Inst = back_branch (plan.home f) b true n in
@@ -439,14 +444,14 @@ module _ (s : Setting) (plan : Plan) (variables : ℕ → ℕ) (fine : Fits s pl
           exit end begins,
           exit next after',
           jumped f here n begins (exit end begins) refl low (omega arith) (code_take s.code here jump (turn_code ++ (again_code ++ (test ++ rest))) at) (omega arith) (λ u e. e),
-          subst (λ (v : VariableSet). CodeDone s plan program entries most widest f unknown body (exit end v) inside) (turn_again body step after') (
+          subst (λ (v : VariableSet). CodeDone s plan program entries most widest f (facts_at_turn plan.memory (If m b p q t) step known) body (exit end v) inside) (turn_again body step after') (
             exit top (live p inner),
             exit next (live q inner),
             exit top (live t ways'),
             branch_done f b true (live body ways') (exit top (live p inner)) (exit next (live q inner)) end (goes_back (n + before_branch (plan.home f) b true)) 1 top (back_long_all s plan variables fine (n + before_branch (plan.home f) b true)) (omega arith) (back_goes s plan variables fine (n + before_branch (plan.home f) b true) next top (omega arith) (omega arith)) (backs f b true n) refl refl wanted.0.0 (λ u e. rw e refl) (λ u e. rw e (any (decided b u) (live q inner u))) (λ u e. rw e (last (decided b u) (live p inner u)))
                 (omega arith) (code_take s.code end test rest d2) refl refl,
-            nothing_done f unknown p behind' top two.0 (λ m r h. comes_here s h),
-            breaks_done f q behind' next two.1 refl refl (λ m r h. comes_here s h),
+            nothing_done f (facts_in_first b (facts_at_turn plan.memory (If m b p q t) step known)) p behind' top two.0 (λ m r h. comes_here s h),
+            breaks_done f (facts_in_second b (facts_at_turn plan.memory (If m b p q t) step known)) q behind' next two.1 refl refl (λ m r h. comes_here s h),
             in_tail inside (length again_code + words) 0 top (record { leaves = refl; skips = refl }) wanted.0.3 (all_right (IsRight (plan.home f) (variables f)) (lives q inner) (lives t ways') of_lists) (code_take s.code top turn_code (again_code ++ (test ++ rest)) d0) (omega arith) (omega arith) (omega arith) (omega arith) (omega arith) (omega arith) (λ m r h. comes_here s h),
           ),
           in_step (exits (exit end begins) (exit next after') (exit end begins)) words 0 again (record { leaves = refl; skips = refl }) wanted.1 (all_left (IsRight (plan.home f) (variables f)) (lives step (step_ways body step after')) (lives k (ways_of x)) lasts) (code_take s.code again again_code (test ++ rest) d1) (omega arith) (omega arith) (omega arith) (omega arith) (omega arith) (omega arith) (λ m r h. comes_here s h),
@@ -455,7 +460,7 @@ module _ (s : Setting) (plan : Plan) (variables : ℕ → ℕ) (fine : Fits s pl
               (subst (λ (j : ℕ). Leads s plan program entries most widest f (exit j x.next.live) x.next) (sym done) ends),
         )
 
-    pub code_done : (f : ℕ) (standing : Standing) (known : VariableSet) (code : Actions) (x : Exits) (leaves skips here : ℕ) → Suits standing code (ways_of x) → AreLateNumbers standing → AreSettled x → Each (IsWanted plan s.copies entries) IsWantedBranch code → AllByRecursion (IsRight (plan.home f) (variables f)) (lives code (ways_of x)) →
+    pub code_done : (f : ℕ) (standing : Standing) (known : Facts) (code : Actions) (x : Exits) (leaves skips here : ℕ) → Suits standing code (ways_of x) → AreLateNumbers standing → AreSettled x → Each (IsWanted plan s.copies entries) IsWantedBranch code → AllByRecursion (IsRight (plan.home f) (variables f)) (lives code (ways_of x)) →
         CodeAt s.code here (code_of short plan variables f standing known code (ways_of x) leaves skips) → lo ≤ here → here + length (code_of short plan variables f standing known code (ways_of x) leaves skips) ≤ hi →
         here + length (code_of short plan variables f standing known code (ways_of x) leaves skips) + leaves ≡ x.leaves.word → here + length (code_of short plan variables f standing known code (ways_of x) leaves skips) + skips ≡ x.skips.word → x.leaves.word ≤ hi → x.skips.word ≤ hi →
         Leads s plan program entries most widest f (exit (here + length (code_of short plan variables f standing known code (ways_of x) leaves skips)) x.next.live) x.next → CodeDone s plan program entries most widest f known code (entered_at standing code (ways_of x) here) x
@@ -466,24 +471,24 @@ module _ (s : Setting) (plan : Plan) (variables : ℕ → ℕ) (fine : Fits s pl
     code_done f (Late t y) known Done x leaves skips here suits numbers settled wanted apart at low small to_leave to_skip near close ends = absurd suits
     code_done f standing known (Do mark a k) x leaves skips here suits numbers settled wanted apart at low small to_leave to_skip near close ends =
         let standing' : Standing = standing_behind a k (ways_of x) in
-        let rest : List Inst = code_of short plan variables f standing' (multiples_behind a known) k (ways_of x) leaves skips in
-        let block : List Inst = block_code plan variables f (is_placed known a) standing a standing' (live k (ways_of x)) (jump_over short (length rest + leaves)) (jump_over short (length rest + skips)) in
+        let rest : List Inst = code_of short plan variables f standing' (facts_behind plan.memory a known) k (ways_of x) leaves skips in
+        let block : List Inst = block_code plan variables f (need_of plan.memory known a k) standing a standing' (live k (ways_of x)) (jump_over short (length rest + leaves)) (jump_over short (length rest + skips)) in
         let both = length-append block rest in
         let place : here + length block + length rest ≡ here + length (block ++ rest) = omega arith in
         let step = step_done f known standing mark a k x (length rest + leaves) (length rest + skips) here suits numbers settled wanted.0 wanted.1 apart.0 apart.1 (code_take s.code here block rest at) low (omega arith) (omega arith) (omega arith) near close in (
           entered_at standing' k (ways_of x) (here + length block),
           step.0,
-          code_done f standing' (multiples_behind a known) k x leaves skips (here + length block) (suits_behind a k (ways_of x)) step.1 settled wanted.1 apart.1 (code_drop s.code here block rest at) (omega arith) (omega arith) (omega arith) (omega arith) near close
+          code_done f standing' (facts_behind plan.memory a known) k x leaves skips (here + length block) (suits_behind a k (ways_of x)) step.1 settled wanted.1 apart.1 (code_drop s.code here block rest at) (omega arith) (omega arith) (omega arith) (omega arith) near close
               (subst (λ (j : ℕ). Leads s plan program entries most widest f (exit j x.next.live) x.next) (sym place) ends),
         )
     code_done f Settled known (If mark b p q k) x leaves skips here suits numbers settled wanted apart at low small to_leave to_skip near close ends =
         let ways' : Ways = behind (live k (ways_of x)) (ways_of x) in
         let none : Bool = does_nothing p in
-        let rest : List Inst = code_of short plan variables f Settled unknown k (ways_of x) leaves skips in
-        let second : List Inst = code_of short plan variables f Settled unknown q ways' (length rest + leaves) (length rest + skips) in
+        let rest : List Inst = code_of short plan variables f Settled (facts_past_if b p q known) k (ways_of x) leaves skips in
+        let second : List Inst = code_of short plan variables f Settled (facts_in_second b known) q ways' (length rest + leaves) (length rest + skips) in
         let past : List Inst = past_code short (none || does_nothing q) (length second) in
         let far : ℕ = length past + length second + length rest in
-        let first : List Inst = code_of short plan variables f Settled unknown p ways' (far + leaves) (far + skips) in
+        let first : List Inst = code_of short plan variables f Settled (facts_in_first b known) p ways' (far + leaves) (far + skips) in
         let n : ℕ = if none then length second else length first + length past in
         let test : List Inst = branch_code (plan.home f) short b none n in
         let l1 = length-append test (first ++ (past ++ (second ++ rest))) in
@@ -497,7 +502,7 @@ module _ (s : Setting) (plan : Plan) (variables : ℕ → ℕ) (fine : Fits s pl
         let d2 = code_drop s.code a1 first (past ++ (second ++ rest)) d1 in
         let d3 = code_drop s.code (a1 + length first) past (second ++ rest) d2 in
         let d4 = code_drop s.code a2 second rest d3 in
-        let empty : none ≡ true → length first + length past ≡ 0 = λ e. nothing_long f p q ways' (far + leaves) (far + skips) (length second) e in
+        let empty : none ≡ true → length first + length past ≡ 0 = λ e. nothing_long f (facts_in_first b known) p q ways' (far + leaves) (far + skips) (length second) e in
         let over = ahead none n (length first) (length past) (length second) refl in
         let done : a3 + length rest ≡ here + length (test ++ (first ++ (past ++ (second ++ rest)))) = omega arith in
         let x' : Exits = record x { next = exit a3 (live k (ways_of x)) } in
@@ -507,32 +512,32 @@ module _ (s : Setting) (plan : Plan) (variables : ℕ → ℕ) (fine : Fits s pl
           exit a3 (live k (ways_of x)),
           branch_done f b none (live (If mark b p q k) (ways_of x)) (exit (if none then a3 else a1) (live p ways')) (exit a2 (live q ways')) here (ahead_by short n) (length (goes_code short NotEqual 29 0 n)) (a1 + n) (ahead_long s plan variables fine short n) (hears_some short true n) (ahead_goes s plan variables fine short n a1 (omega arith) (λ e. (let r = reach e in omega arith))) (branches f b none n) refl refl wanted.0 (λ u e. rw e refl) (λ u e. rw e (any (decided b u) (live q ways' u))) (λ u e. rw e (last (decided b u) (live p ways' u)))
               (omega arith) (code_take s.code here test (first ++ (past ++ (second ++ rest))) at) (to_first none a1 n (length first) (length past) (length second) refl empty) (to_second none a1 n (length first) (length past) (length second) refl empty),
-          either_done f unknown p x' none a3 a1 (λ e. nothing_done f unknown p x' a3 e (λ m r h. comes_here s h))
-              (λ e. code_done f Settled unknown p x' (far + leaves) (far + skips) a1 tt tt (record { leaves = settled.leaves; skips = settled.skips }) wanted.1 (all_left (IsRight (plan.home f) (variables f)) (lives p ways') (lives q ways' ++ lives k (ways_of x)) apart.1) (code_take s.code a1 first (past ++ (second ++ rest)) d1) (omega arith) (omega arith) (omega arith) (omega arith) near close
+          either_done f (facts_in_first b known) p x' none a3 a1 (λ e. nothing_done f (facts_in_first b known) p x' a3 e (λ m r h. comes_here s h))
+              (λ e. code_done f Settled (facts_in_first b known) p x' (far + leaves) (far + skips) a1 tt tt (record { leaves = settled.leaves; skips = settled.skips }) wanted.1 (all_left (IsRight (plan.home f) (variables f)) (lives p ways') (lives q ways' ++ lives k (ways_of x)) apart.1) (code_take s.code a1 first (past ++ (second ++ rest)) d1) (omega arith) (omega arith) (omega arith) (omega arith) near close
               (let same : past_code short (none || does_nothing q) (length second) ≡ past_code short (does_nothing q) (length second) = rw e refl in
               let past_at : CodeAt s.code (a1 + length first) (past_code short (does_nothing q) (length second)) = subst (λ (is : List Inst). CodeAt s.code (a1 + length first) is) same (code_take s.code (a1 + length first) past (second ++ rest) d2) in
               let long = ap length same in
-              passed f (a1 + length first) (length second) a3 (live k (ways_of x)) (does_nothing q) (λ e'. nothing_short f unknown q ways' (length rest + leaves) (length rest + skips) e') (omega arith) (omega arith) past_at (omega arith))),
-          code_done f Settled unknown q x' (length rest + leaves) (length rest + skips) a2 tt tt (record { leaves = settled.leaves; skips = settled.skips }) wanted.2 (all_left (IsRight (plan.home f) (variables f)) (lives q ways') (lives k (ways_of x)) behind_first) (code_take s.code a2 second rest d3) (omega arith) (omega arith) (omega arith) (omega arith) near close
+              passed f (a1 + length first) (length second) a3 (live k (ways_of x)) (does_nothing q) (λ e'. nothing_short f (facts_in_second b known) q ways' (length rest + leaves) (length rest + skips) e') (omega arith) (omega arith) past_at (omega arith))),
+          code_done f Settled (facts_in_second b known) q x' (length rest + leaves) (length rest + skips) a2 tt tt (record { leaves = settled.leaves; skips = settled.skips }) wanted.2 (all_left (IsRight (plan.home f) (variables f)) (lives q ways') (lives k (ways_of x)) behind_first) (code_take s.code a2 second rest d3) (omega arith) (omega arith) (omega arith) (omega arith) near close
               (λ m r h. comes_here s h),
-          code_done f Settled unknown k x leaves skips a3 tt tt settled wanted.3 (all_right (IsRight (plan.home f) (variables f)) (lives q ways') (lives k (ways_of x)) behind_first) d4 (omega arith) (omega arith) (omega arith) (omega arith) near close
+          code_done f Settled (facts_past_if b p q known) k x leaves skips a3 tt tt settled wanted.3 (all_right (IsRight (plan.home f) (variables f)) (lives q ways') (lives k (ways_of x)) behind_first) d4 (omega arith) (omega arith) (omega arith) (omega arith) near close
               (subst (λ (j : ℕ). Leads s plan program entries most widest f (exit j x.next.live) x.next) (sym done) ends),
         )
     code_done f (Early v y) known (If mark b p q k) x leaves skips here suits numbers settled wanted apart at low small to_leave to_skip near close ends = absurd suits
     code_done f (Late t y) known (If mark b p q k) x leaves skips here suits numbers settled wanted apart at low small to_leave to_skip near close ends = absurd suits
     code_done f Settled known (Loop mark Done step k) x leaves skips here suits numbers settled wanted apart at low small to_leave to_skip near close ends =
-        top_done f known mark Done step k x leaves skips here (λ x leaves skips here settled wanted apart at low small to_leave to_skip near close ends. code_done f Settled unknown Done x leaves skips here tt tt settled wanted apart at low small to_leave to_skip near close ends) (λ x leaves skips here settled wanted apart at low small to_leave to_skip near close ends. code_done f Settled unknown step x leaves skips here tt tt settled wanted apart at low small to_leave to_skip near close ends) (λ x leaves skips here settled wanted apart at low small to_leave to_skip near close ends. code_done f Settled unknown k x leaves skips here tt tt settled wanted apart at low small to_leave to_skip near close ends) settled wanted apart low near close (at, small, to_leave, to_skip, ends)
+        top_done f known mark Done step k x leaves skips here (λ x leaves skips here settled wanted apart at low small to_leave to_skip near close ends. code_done f Settled (facts_at_turn plan.memory Done step known) Done x leaves skips here tt tt settled wanted apart at low small to_leave to_skip near close ends) (λ x leaves skips here settled wanted apart at low small to_leave to_skip near close ends. code_done f Settled (facts_at_step plan.memory Done step known) step x leaves skips here tt tt settled wanted apart at low small to_leave to_skip near close ends) (λ x leaves skips here settled wanted apart at low small to_leave to_skip near close ends. code_done f Settled (facts_past_loop Done step known) k x leaves skips here tt tt settled wanted apart at low small to_leave to_skip near close ends) settled wanted apart low near close (at, small, to_leave, to_skip, ends)
     code_done f Settled known (Loop mark (Do m a t) step k) x leaves skips here suits numbers settled wanted apart at low small to_leave to_skip near close ends =
-        top_done f known mark (Do m a t) step k x leaves skips here (λ x leaves skips here settled wanted apart at low small to_leave to_skip near close ends. code_done f Settled unknown (Do m a t) x leaves skips here tt tt settled wanted apart at low small to_leave to_skip near close ends) (λ x leaves skips here settled wanted apart at low small to_leave to_skip near close ends. code_done f Settled unknown step x leaves skips here tt tt settled wanted apart at low small to_leave to_skip near close ends) (λ x leaves skips here settled wanted apart at low small to_leave to_skip near close ends. code_done f Settled unknown k x leaves skips here tt tt settled wanted apart at low small to_leave to_skip near close ends) settled wanted apart low near close (at, small, to_leave, to_skip, ends)
+        top_done f known mark (Do m a t) step k x leaves skips here (λ x leaves skips here settled wanted apart at low small to_leave to_skip near close ends. code_done f Settled (facts_at_turn plan.memory (Do m a t) step known) (Do m a t) x leaves skips here tt tt settled wanted apart at low small to_leave to_skip near close ends) (λ x leaves skips here settled wanted apart at low small to_leave to_skip near close ends. code_done f Settled (facts_at_step plan.memory (Do m a t) step known) step x leaves skips here tt tt settled wanted apart at low small to_leave to_skip near close ends) (λ x leaves skips here settled wanted apart at low small to_leave to_skip near close ends. code_done f Settled (facts_past_loop (Do m a t) step known) k x leaves skips here tt tt settled wanted apart at low small to_leave to_skip near close ends) settled wanted apart low near close (at, small, to_leave, to_skip, ends)
     code_done f Settled known (Loop mark (Loop m body again t) step k) x leaves skips here suits numbers settled wanted apart at low small to_leave to_skip near close ends =
-        top_done f known mark (Loop m body again t) step k x leaves skips here (λ x leaves skips here settled wanted apart at low small to_leave to_skip near close ends. code_done f Settled unknown (Loop m body again t) x leaves skips here tt tt settled wanted apart at low small to_leave to_skip near close ends) (λ x leaves skips here settled wanted apart at low small to_leave to_skip near close ends. code_done f Settled unknown step x leaves skips here tt tt settled wanted apart at low small to_leave to_skip near close ends) (λ x leaves skips here settled wanted apart at low small to_leave to_skip near close ends. code_done f Settled unknown k x leaves skips here tt tt settled wanted apart at low small to_leave to_skip near close ends) settled wanted apart low near close (at, small, to_leave, to_skip, ends)
+        top_done f known mark (Loop m body again t) step k x leaves skips here (λ x leaves skips here settled wanted apart at low small to_leave to_skip near close ends. code_done f Settled (facts_at_turn plan.memory (Loop m body again t) step known) (Loop m body again t) x leaves skips here tt tt settled wanted apart at low small to_leave to_skip near close ends) (λ x leaves skips here settled wanted apart at low small to_leave to_skip near close ends. code_done f Settled (facts_at_step plan.memory (Loop m body again t) step known) step x leaves skips here tt tt settled wanted apart at low small to_leave to_skip near close ends) (λ x leaves skips here settled wanted apart at low small to_leave to_skip near close ends. code_done f Settled (facts_past_loop (Loop m body again t) step known) k x leaves skips here tt tt settled wanted apart at low small to_leave to_skip near close ends) settled wanted apart low near close (at, small, to_leave, to_skip, ends)
     code_done f Settled known (Loop mark (If m b p q t) step k) x leaves skips here suits numbers settled wanted apart at low small to_leave to_skip near close ends =
         either_put (has_bottom (If m b p q t) step)
-        (bottom_code short (tail_of short plan variables f (If m b p q t) (body_ways (If m b p q t) step (live k (ways_of x)))) (code_of short plan variables f Settled unknown step (step_ways (If m b p q t) step (live k (ways_of x)))) (bottom_test (plan.home f) (If m b p q t)) (code_of short plan variables f Settled unknown k (ways_of x) leaves skips))
-        (loop_code short (code_of short plan variables f Settled unknown (If m b p q t) (body_ways (If m b p q t) step (live k (ways_of x)))) (code_of short plan variables f Settled unknown step (step_ways (If m b p q t) step (live k (ways_of x))) (jump_words short) 0) (code_of short plan variables f Settled unknown k (ways_of x) leaves skips))
+        (bottom_code short (tail_of short plan variables f (facts_at_turn plan.memory (If m b p q t) step known) (If m b p q t) (body_ways (If m b p q t) step (live k (ways_of x)))) (code_of short plan variables f Settled (facts_at_step plan.memory (If m b p q t) step known) step (step_ways (If m b p q t) step (live k (ways_of x)))) (bottom_test (plan.home f) (If m b p q t)) (code_of short plan variables f Settled (facts_past_loop (If m b p q t) step known) k (ways_of x) leaves skips))
+        (loop_code short (code_of short plan variables f Settled (facts_at_turn plan.memory (If m b p q t) step known) (If m b p q t) (body_ways (If m b p q t) step (live k (ways_of x)))) (code_of short plan variables f Settled (facts_at_step plan.memory (If m b p q t) step known) step (step_ways (If m b p q t) step (live k (ways_of x))) (jump_words short) 0) (code_of short plan variables f Settled (facts_past_loop (If m b p q t) step known) k (ways_of x) leaves skips))
         f x leaves skips here _
-        (λ e. bottom_done f known mark m b p q t step k x leaves skips here (and_true (leaves_first (If m b p q t)) (is_near (If m b p q t) step) e).0 (λ x leaves skips here settled wanted apart at low small to_leave to_skip near close ends. code_done f Settled unknown t x leaves skips here tt tt settled wanted apart at low small to_leave to_skip near close ends) (λ x leaves skips here settled wanted apart at low small to_leave to_skip near close ends. code_done f Settled unknown step x leaves skips here tt tt settled wanted apart at low small to_leave to_skip near close ends) (λ x leaves skips here settled wanted apart at low small to_leave to_skip near close ends. code_done f Settled unknown k x leaves skips here tt tt settled wanted apart at low small to_leave to_skip near close ends) settled wanted apart low near close)
-        (λ e. top_done f known mark (If m b p q t) step k x leaves skips here (λ x leaves skips here settled wanted apart at low small to_leave to_skip near close ends. code_done f Settled unknown (If m b p q t) x leaves skips here tt tt settled wanted apart at low small to_leave to_skip near close ends) (λ x leaves skips here settled wanted apart at low small to_leave to_skip near close ends. code_done f Settled unknown step x leaves skips here tt tt settled wanted apart at low small to_leave to_skip near close ends) (λ x leaves skips here settled wanted apart at low small to_leave to_skip near close ends. code_done f Settled unknown k x leaves skips here tt tt settled wanted apart at low small to_leave to_skip near close ends) settled wanted apart low near close)
+        (λ e. bottom_done f known mark m b p q t step k x leaves skips here (and_true (leaves_first (If m b p q t)) (is_near (If m b p q t) step) e).0 (λ x leaves skips here settled wanted apart at low small to_leave to_skip near close ends. code_done f Settled (facts_past_if b p q (facts_at_turn plan.memory (If m b p q t) step known)) t x leaves skips here tt tt settled wanted apart at low small to_leave to_skip near close ends) (λ x leaves skips here settled wanted apart at low small to_leave to_skip near close ends. code_done f Settled (facts_at_step plan.memory (If m b p q t) step known) step x leaves skips here tt tt settled wanted apart at low small to_leave to_skip near close ends) (λ x leaves skips here settled wanted apart at low small to_leave to_skip near close ends. code_done f Settled (facts_past_loop (If m b p q t) step known) k x leaves skips here tt tt settled wanted apart at low small to_leave to_skip near close ends) settled wanted apart low near close)
+        (λ e. top_done f known mark (If m b p q t) step k x leaves skips here (λ x leaves skips here settled wanted apart at low small to_leave to_skip near close ends. code_done f Settled (facts_at_turn plan.memory (If m b p q t) step known) (If m b p q t) x leaves skips here tt tt settled wanted apart at low small to_leave to_skip near close ends) (λ x leaves skips here settled wanted apart at low small to_leave to_skip near close ends. code_done f Settled (facts_at_step plan.memory (If m b p q t) step known) step x leaves skips here tt tt settled wanted apart at low small to_leave to_skip near close ends) (λ x leaves skips here settled wanted apart at low small to_leave to_skip near close ends. code_done f Settled (facts_past_loop (If m b p q t) step known) k x leaves skips here tt tt settled wanted apart at low small to_leave to_skip near close ends) settled wanted apart low near close)
         (at, small, to_leave, to_skip, ends)
     code_done f (Early v y) known (Loop mark body step k) x leaves skips here suits numbers settled wanted apart at low small to_leave to_skip near close ends = absurd suits
     code_done f (Late t y) known (Loop mark body step k) x leaves skips here suits numbers settled wanted apart at low small to_leave to_skip near close ends = absurd suits

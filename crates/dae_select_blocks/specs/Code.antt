@@ -21,7 +21,9 @@ use Rattle.dae_meaning.specs.declared.Comparison.TheVariants.{NotEqual}
 use Rattle.dae_select_walks.specs.declared.Home.{Home}
 use Rattle.dae_select_walks.specs.declared.Home.TheVariants.{Register}
 use Rattle.dae_select_walks.specs.Live.{Ways, in_operand, behind, live, is, nowhere, step_ways, body_ways}
-use Rattle.dae_select_walks.specs.Multiples.{unknown, multiples_behind, is_placed}
+use Rattle.dae_select_walks.specs.Facts.{Facts, unknown, only_leaves, facts_behind, facts_in_first, facts_in_second, facts_past_if, facts_at_turn, facts_at_step, facts_past_loop, need_of}
+use Rattle.dae_select_walks.specs.declared.Need.{Need}
+use Rattle.dae_select_walks.specs.declared.Need.TheVariants.{All, Ends, Nothing}
 use Rattle.dae_select_walks.specs.Agrees.{Plan}
 use Rattle.dae_select_walks.specs.Compiled.{is_told}
 use Rattle.dae_select_walks.specs.declared.Standing.{Standing}
@@ -182,13 +184,19 @@ abbrev pub placed_code : (ℕ → Home) → Action → List Inst
 placed_code home (Probe (Place width x)) = fetch home 5 x ++ bounds_code width (source home 5 x)
 placed_code home a = []
 
--- the block of an action, where things stand so before it and so behind it; placed says whether it is such a test
-abbrev pub block_code : Plan → (ℕ → ℕ) → ℕ → Bool → Standing → Action → Standing → VariableSet → List Inst → List Inst → List Inst
-block_code plan variables f placed (Late t x) a standing live leaves skips = late_code (plan.home f) a x
-block_code plan variables f placed (Early v x) a standing live leaves skips = []
-block_code plan variables f placed Settled a (Late t x) live leaves skips = []
-block_code plan variables f placed Settled a (Early d x) live leaves skips = taking_code (plan.home f) a d x
-block_code plan variables f placed Settled a Settled live leaves skips = if placed then placed_code (plan.home f) a else action_code plan variables f a live leaves skips
+-- the block of an action alone, of which so much is needed
+abbrev pub needed_code : Plan → (ℕ → ℕ) → ℕ → Need → Action → VariableSet → List Inst → List Inst → List Inst
+needed_code plan variables f All a live leaves skips = action_code plan variables f a live leaves skips
+needed_code plan variables f Ends a live leaves skips = placed_code (plan.home f) a
+needed_code plan variables f Nothing a live leaves skips = []
+
+-- the block of an action, where things stand so before it and so behind it, and so much of it is needed
+abbrev pub block_code : Plan → (ℕ → ℕ) → ℕ → Need → Standing → Action → Standing → VariableSet → List Inst → List Inst → List Inst
+block_code plan variables f need (Late t x) a standing live leaves skips = late_code (plan.home f) a x
+block_code plan variables f need (Early v x) a standing live leaves skips = []
+block_code plan variables f need Settled a (Late t x) live leaves skips = []
+block_code plan variables f need Settled a (Early d x) live leaves skips = taking_code (plan.home f) a d x
+block_code plan variables f need Settled a Settled live leaves skips = needed_code plan variables f need a live leaves skips
 
 -- ---- structured code
 
@@ -216,19 +224,10 @@ if_code short none none' branch p q rest leaves skips =
     let far = length past + length second + length rest in
     either_code none branch (p (far + leaves) (far + skips)) past second rest
 
--- a list that only breaks
-abbrev pub is_break : Action → Bool
-is_break Break = true
-is_break a = false
-
-abbrev pub only_breaks : Actions → Bool
-only_breaks (Do m a k) = is_break a && does_nothing k
-only_breaks code = false
-
 -- a body that begins with a test that is told, of which one list is empty and the other leaves the loop: it may stand behind the
 -- step, where its access is the turn's instruction
 abbrev pub leaves_first : Actions → Bool
-leaves_first (If m b p q k) = is_told b && (does_nothing p && only_breaks q)
+leaves_first (If m b p q k) = is_told b && (does_nothing p && only_leaves q)
 leaves_first code = false
 
 -- a branch reaches back over such a loop in any case
@@ -257,31 +256,31 @@ loop_code short body step rest =
     let turn = body (length step + jump_words short) 0 in
     turn ++ (step ++ (jump_back short (length turn + length step) ++ rest))
 
--- short says whether jumps are to be; so things stand before the list, and these variables are multiples of four there. Before a branch
--- or a loop things are settled, and in it and behind it no multiples are known
+-- short says whether jumps are to be; so things stand before the list, and this is known there. Before a branch or a loop things are
+-- settled
 abbrev mutual
-  pub code_of : Bool → Plan → (ℕ → ℕ) → ℕ → Standing → VariableSet → Actions → Ways → ℕ → ℕ → List Inst
+  pub code_of : Bool → Plan → (ℕ → ℕ) → ℕ → Standing → Facts → Actions → Ways → ℕ → ℕ → List Inst
   code_of short plan variables f standing known Done x leaves skips = []
   code_of short plan variables f standing known (Do m a k) x leaves skips =
-      followed short (block_code plan variables f (is_placed known a) standing a (standing_behind a k x) (live k x))
-      (code_of short plan variables f (standing_behind a k x) (multiples_behind a known) k x leaves skips) leaves skips
+      followed short (block_code plan variables f (need_of plan.memory known a k) standing a (standing_behind a k x) (live k x))
+      (code_of short plan variables f (standing_behind a k x) (facts_behind plan.memory a known) k x leaves skips) leaves skips
   code_of short plan variables f standing known (If m b p q k) x leaves skips =
       if_code short (does_nothing p) (does_nothing q) (branch_code (plan.home f) short b)
-      (code_of short plan variables f Settled unknown p (behind (live k x) x)) (code_of short plan variables f Settled unknown q (behind (live k x) x))
-      (code_of short plan variables f Settled unknown k x leaves skips) leaves skips
+      (code_of short plan variables f Settled (facts_in_first b known) p (behind (live k x) x)) (code_of short plan variables f Settled (facts_in_second b known) q (behind (live k x) x))
+      (code_of short plan variables f Settled (facts_past_if b p q known) k x leaves skips) leaves skips
   code_of short plan variables f standing known (Loop m body step k) x leaves skips =
-      if has_bottom body step then bottom_code short (tail_of short plan variables f body (body_ways body step (live k x)))
-      (code_of short plan variables f Settled unknown step (step_ways body step (live k x)))
+      if has_bottom body step then bottom_code short (tail_of short plan variables f (facts_at_turn plan.memory body step known) body (body_ways body step (live k x)))
+      (code_of short plan variables f Settled (facts_at_step plan.memory body step known) step (step_ways body step (live k x)))
       (bottom_test (plan.home f) body)
-      (code_of short plan variables f Settled unknown k x leaves skips)
-      else loop_code short (code_of short plan variables f Settled unknown body (body_ways body step (live k x)))
-      (code_of short plan variables f Settled unknown step (step_ways body step (live k x)) (jump_words short) 0)
-      (code_of short plan variables f Settled unknown k x leaves skips)
+      (code_of short plan variables f Settled (facts_past_loop body step known) k x leaves skips)
+      else loop_code short (code_of short plan variables f Settled (facts_at_turn plan.memory body step known) body (body_ways body step (live k x)))
+      (code_of short plan variables f Settled (facts_at_step plan.memory body step known) step (step_ways body step (live k x)) (jump_words short) 0)
+      (code_of short plan variables f Settled (facts_past_loop body step known) k x leaves skips)
 
   -- the code behind the test that a list begins with
-  pub tail_of : Bool → Plan → (ℕ → ℕ) → ℕ → Actions → Ways → ℕ → ℕ → List Inst
-  tail_of short plan variables f (If m b p q k) x leaves skips = code_of short plan variables f Settled unknown k x leaves skips
-  tail_of short plan variables f code x leaves skips = []
+  pub tail_of : Bool → Plan → (ℕ → ℕ) → ℕ → Facts → Actions → Ways → ℕ → ℕ → List Inst
+  tail_of short plan variables f known (If m b p q k) x leaves skips = code_of short plan variables f Settled (facts_past_if b p q known) k x leaves skips
+  tail_of short plan variables f known code x leaves skips = []
 
 -- ---- functions
 

@@ -4,5 +4,7 @@ mod Steps
 mod Lives
 mod Paths
 mod SetBefore
-mod Multiples
+mod Facts
 pub mod LawsOfWalks
+mod Going
+mod Tested

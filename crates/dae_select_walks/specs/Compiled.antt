@@ -21,7 +21,7 @@ use Rattle.dae_select_walks.specs.declared.Standing.TheVariants.{Settled, Early,
 use Rattle.dae_select_walks.specs.Walks.{Setting, Comes, Nears, Acts}
 use Rattle.dae_select_walks.specs.Does.{Does, event}
 use Rattle.dae_select_walks.specs.Live.{Ways, ways, behind, live, is, turn, step_ways}
-use Rattle.dae_select_walks.specs.Multiples.{AreMultiples, unknown, multiples_behind}
+use Rattle.dae_select_walks.specs.Facts.{Facts, Hold, facts_behind, facts_in_first, facts_in_second, facts_past_if, facts_at_turn, facts_at_step, facts_past_loop}
 use Rattle.dae_select_walks.specs.Homes.{Contents}
 use Rattle.dae_select_walks.specs.Agrees.{Plan, Moment, Waiting, depth_of, top_of, IsWithin, AreWaiting, Shows, Stands}
 
@@ -145,8 +145,8 @@ module _ (s : Setting) (plan : Plan) (program : Program) (entries : ℕ → Vari
   GoesBack f false here there = Turns f here there
 
   -- from each processor that agrees with a moment before the action there is a walk to one that agrees with it after, where
-  -- these variables are multiples of four before it
-  abbrev pub ActionDone : ℕ → VariableSet → Action → Exit → Exit → Exits → Type 0
+  -- this is known before it
+  abbrev pub ActionDone : ℕ → Facts → Action → Exit → Exit → Exits → Type 0
   ActionDone f known Break here next x = Leads f here x.leaves
   ActionDone f known Continue here next x = Turns f here x.skips
   ActionDone f known (Call v g xs) here next x =
@@ -160,7 +160,7 @@ module _ (s : Setting) (plan : Plan) (program : Program) (entries : ℕ → Vari
       → ((m.waiting ≡ []) → MainEnds plan.by_a y m.env (λ quit. Does s most (Halts quit) (λ env q. ⊥) p))
       × ((w : Waiting) (ws : List Waiting) → m.waiting ≡ w ∷ ws → Comes s most p (Lands plan w ws (result_of y m.env)))
   ActionDone f known a here next x =
-      (m : Moment) (w : World) (p : Processor) → At f here m p → IsWorldOf plan m w → AreMultiples known m.env
+      (m : Moment) (w : World) (p : Processor) → At f here m p → IsWorldOf plan m w → Hold known m.env
       → Does s most (deed program plan.by_a a w m.env) (λ env. At f next (with_env env m)) p
 
   -- the same of a branch: it goes to the first list where its test holds, or where it hears a number other than 0
@@ -177,18 +177,19 @@ module _ (s : Setting) (plan : Plan) (program : Program) (entries : ℕ → Vari
       (m : Moment) (p : Processor) → At f here m p
       → Nears s most p (λ l q. (x : ℕ) → x < 2 ^ 32 → (put : ℕ) × Acts s q (event (Takes (heard_on plan.by_a)) put x []) (λ r. Comes s l r (Chosen f first second (not (nat_eq x 0)) m)))
 
-  -- the code does a list of actions of the function f, from one place up to where it goes on, where these variables are
-  -- multiples of four at that place
-  abbrev pub CodeDone : ℕ → VariableSet → Actions → Exit → Exits → Type 0
+  -- the code does a list of actions of the function f, from one place up to where it goes on, where this is known
+  -- at that place
+  abbrev pub CodeDone : ℕ → Facts → Actions → Exit → Exits → Type 0
   CodeDone f known Done here x = Leads f here x.next
-  CodeDone f known (Do mark a k) here x = (next : Exit) × ActionDone f known a here next x × CodeDone f (multiples_behind a known) k next x
+  CodeDone f known (Do mark a k) here x = (next : Exit) × ActionDone f known a here next x × CodeDone f (facts_behind plan.memory a known) k next x
   CodeDone f known (If mark b p q k) here x =
       (first : Exit) × (second : Exit) × (next : Exit)
       × BranchDone f b here first second
-      × CodeDone f unknown p first (record x { next = next }) × CodeDone f unknown q second (record x { next = next }) × CodeDone f unknown k next x
+      × CodeDone f (facts_in_first b known) p first (record x { next = next }) × CodeDone f (facts_in_second b known) q second (record x { next = next })
+      × CodeDone f (facts_past_if b p q known) k next x
   CodeDone f known (Loop mark body step k) here x =
       (begin : Exit) × (again : Exit) × (end : Exit) × (next : Exit)
       × Leads f here begin
-      × CodeDone f unknown body begin (exits again next again) × CodeDone f unknown step again (exits end next end)
+      × CodeDone f (facts_at_turn plan.memory body step known) body begin (exits again next again) × CodeDone f (facts_at_step plan.memory body step known) step again (exits end next end)
       × GoesBack f (begins_told body) end begin
-      × CodeDone f unknown k next x
+      × CodeDone f (facts_past_loop body step known) k next x

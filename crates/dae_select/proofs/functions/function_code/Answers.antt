@@ -6,7 +6,7 @@ use Rattle.dae_ir.specs.declared.form.Operand.TheVariants.{Number}
 use Rattle.std.specs.Prelude.{Some}
 use Rattle.dae_select_walks.specs.declared.Home.{Home}
 use Rattle.dae_select_walks.specs.Live.{live, nowhere}
-use Rattle.dae_select_walks.specs.Multiples.{unknown}
+use Rattle.dae_select_walks.specs.Facts.{unknown}
 use Rattle.dae_select_live.specs.Members.{member}
 use Rattle.dae_select_blocks.specs.Blocks.{leave_code}
 use Rattle.dae_select_blocks.specs.Code.{code_of, entry_code}

@@ -1,0 +1,4 @@
+mod Setting
+mod Lists
+mod Turning
+pub mod LawsOfFacts

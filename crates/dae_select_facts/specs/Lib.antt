@@ -1,0 +1,3 @@
+pub mod Knowns
+pub mod Along
+pub mod Turns

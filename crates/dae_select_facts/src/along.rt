@@ -1,0 +1,115 @@
+// What is known along a list of steps, and how much of their blocks is needed.
+
+ghost use Rattle.std.specs.Prelude.{◌≡◌, IfOk};
+ghost use Rattle.dae_ir.specs.Streams.{actions_of};
+ghost use Rattle.dae_select_walks.specs.Facts.{tells_within};
+ghost use Rattle.dae_select_facts.specs.Knowns.{facts_by};
+ghost use Rattle.dae_select_facts.specs.Along.{facts_after, need_of_step, IsBefore, AreBefore};
+
+use crate::bounds::need_within;
+use crate::known::{Known, facts_behind, operand_bounds, unknown};
+use crate::through::{facts_past_if, facts_past_loop};
+use dae_ir::{Action, Check, Step};
+use dae_select_walks::{Fact, Need};
+use std::alloc::{AllocError, Global};
+
+/// What is known behind a step.
+fn facts_after(alloc: Global, memory: u32, known: Known, step: &Step) -> Result<Known, AllocError>
+    ensures { IfOk result (λ new. facts_by new ≡ facts_after memory step.now (facts_by known)) }
+{
+    match step {
+        Step::Act(_, action) => facts_behind(alloc, memory, known, action),
+        Step::If(_, branch, p, q) => facts_past_if(alloc, *branch, p, q, &known),
+        Step::Loop(_, body, step) => facts_past_loop(alloc, body, step, &known),
+    }
+}
+
+fn copy_facts(alloc: Global, facts: &[Fact]) -> Result<Vec<Fact>, AllocError>
+    ensures { IfOk result (λ new. new.items ≡ facts.now) }
+{
+    let mut new = Vec::new(alloc);
+    new.extend_from_slice(facts)?;
+    Ok(new)
+}
+
+fn copy_known(alloc: Global, known: &Known) -> Result<Known, AllocError>
+    ensures { IfOk result (λ new. facts_by new ≡ facts_by known.now) }
+{
+    Ok(Known {
+        outer: copy_facts(alloc, known.outer.as_slice())?,
+        inner: copy_facts(alloc, known.inner.as_slice())?,
+    })
+}
+
+/// Whether one of the next actions tells a message.
+pub fn tells_within(count: u32, steps: &[Step]) -> bool
+    ensures { result ≡ tells_within count (actions_of steps.now) }
+{
+    if count == 0 || steps.is_empty() {
+        return false;
+    }
+    match &steps[0] {
+        Step::Act(_, Action::Tell(_)) => true,
+        Step::Act(_, _) => tells_within(count - 1, &steps[1..]),
+        Step::If(_, _, _, _) | Step::Loop(_, _, _) => false,
+    }
+}
+
+/// What is needed of the block of a step, behind which these come.
+pub fn need_of(memory: u32, known: &Known, step: &Step, rest: &[Step]) -> Need
+    ensures { result
+        ≡ need_of_step memory (facts_by known.now) step.now (actions_of rest.now) }
+{
+    match step {
+        Step::Act(_, Action::Probe(Check::Place(width, operand))) => {
+            let bounds = operand_bounds(known, *operand);
+            need_within(memory, tells_within(24, rest), *width, bounds)
+        }
+        Step::Act(_, _) | Step::If(_, _, _, _) | Step::Loop(_, _, _) => Need::All,
+    }
+}
+
+/// What is needed of a step's block, and what is known before it where it has lists.
+#[derive(Drop)]
+pub struct Before {
+    pub need: Need,
+    pub known: Known,
+}
+
+fn told_before(
+    alloc: Global,
+    memory: u32,
+    known: &Known,
+    step: &Step,
+    rest: &[Step],
+) -> Result<Before, AllocError>
+    ensures { IfOk result (λ b. IsBefore memory (facts_by known.now) step.now
+        (actions_of rest.now) b.need (facts_by b.known)) }
+{
+    let need = need_of(memory, known, step, rest);
+    let known = match step {
+        Step::Act(_, _) => unknown(alloc),
+        Step::If(_, _, _, _) => copy_known(alloc, known)?,
+        Step::Loop(_, _, _) => copy_known(alloc, known)?,
+    };
+    Ok(Before { need, known })
+}
+
+/// The same of each step of a list.
+pub fn all_before(
+    alloc: Global,
+    memory: u32,
+    known: Known,
+    steps: &[Step],
+) -> Result<Vec<Before>, AllocError>
+    ensures { IfOk result (λ all. AreBefore memory (facts_by known) steps.now all.items) }
+{
+    let mut all = Vec::new(alloc);
+    let mut known = known;
+    for index in 0..steps.len() {
+        let step = &steps[index];
+        all.push(told_before(alloc, memory, &known, step, &steps[index + 1..])?)?;
+        known = facts_after(alloc, memory, known, step)?;
+    }
+    Ok(all)
+}

@@ -1,0 +1,351 @@
+-- Behind an action holds what its definition says is known there, and an address in good bounds passes its test.
+use Rattle.std.proofs.Common.{◌≡◌, ℕ, zero, suc, ◌+◌, ◌-◌, ◌*◌, ◌/◌, ◌%◌, ◌^◌, ◌≤◌, ◌<◌, Bool, true, false, not, ◌&&◌, ◌||◌, List, [], ◌∷◌, ◌++◌, Option, Some, None, length, refl, ap, ◌∙◌, subst, arith, mul_assoc, mul_comm}
+use Rattle.std.specs.Prelude.{nat_eq, nat_lt, nat_le, take, if◌then◌else◌}
+use Rattle.std.proofs.lemmas.Bool.Decides.{nat_tests}
+use Rattle.std.proofs.lemmas.Bool.{and_parts}
+use Rattle.std.proofs.Math.Nat.{mul-le-mul_left}
+use Rattle.dae_base.specs.declared.Width.{Width}
+use Rattle.dae_base.specs.declared.Width.TheVariants.{B1, B2, B4}
+use Rattle.dae_base.specs.Words.{plus, minus, times, size}
+use Rattle.dae_ir.specs.Classes.{VariableSet}
+use Rattle.dae_ir.specs.Form.{Program, value, computed, fault}
+use Rattle.dae_ir.specs.Deeds.{Went, Halts, probed, trapped, deed}
+use Rattle.dae_ir.specs.declared.form.Operand.{Operand}
+use Rattle.dae_ir.specs.declared.form.Operand.TheVariants.{Variable, Number}
+use Rattle.dae_ir.specs.declared.form.Value.{Value}
+use Rattle.dae_ir.specs.declared.form.Value.TheVariants.{Same, Extended, Binary, Holds, FrameAddress}
+use Rattle.dae_ir.specs.declared.form.Check.TheVariants.{Place, Zero, Room, Frame, Abort}
+use Rattle.dae_ir.specs.declared.stream.Action.{Action}
+use Rattle.dae_ir.specs.declared.stream.Action.TheVariants.{Set as Compute, Issue, Own, Receive, Address, Datum, Offer, Accept, Emit, Probe, Tell, Hear, Stop, Break, Continue, Call, Return}
+use Rattle.dae_meaning.specs.Worlds.{World}
+use Rattle.dae_meaning.specs.Operations.{combined, misplaced}
+use Rattle.dae_meaning.specs.Variables.{Env, put}
+use Rattle.dae_meaning.specs.declared.Operator.{Operator}
+use Rattle.dae_meaning.specs.declared.Operator.TheVariants.{Add, Subtract, Multiply, DivideSigned, DivideUnsigned, RemainderSigned, RemainderUnsigned, And, Or, Xor, ShiftLeft, ShiftRightSigned, ShiftRightUnsigned}
+use Rattle.dae_select_walks.specs.declared.Bounds.{Bounds}
+use Rattle.dae_select_walks.specs.declared.Fact.{Fact}
+use Rattle.dae_ir.specs.declared.stream.Argument.{Argument}
+use Rattle.dae_select_walks.specs.Compiled.{with_result}
+use Rattle.dae_select_walks.specs.Facts.{LiesIn, is_bounded, aligned_to, any, alignment, lesser, greater, added, subtracted, multiplied, combined_bounds, AllLie, bounds_among, less, Facts, Hold, bounds_in, operand_bounds, value_bounds, says_nothing, fact_of, just, with_bounds, refined, is_aligned, is_good, passed_bounds, facts_behind, LeavesOnly}
+
+-- ---- what divides a word
+
+pub of_wider : (w x : Width) (n : ℕ) → nat_le (size w) (size x) ≡ true → n % size x ≡ 0 → n % size w ≡ 0
+of_wider B1 x n e i = omega arith
+of_wider B2 B1 n e i = absurd cc
+of_wider B2 B2 n e i = i
+of_wider B2 B4 n e i = omega arith
+of_wider B4 B1 n e i = absurd cc
+of_wider B4 B2 n e i = absurd cc
+of_wider B4 B4 n e i = i
+
+alignment_is : (n : ℕ) → n % size (alignment n) ≡ 0
+alignment_is n = by (nat_eq (n % 4) 0) (nat_eq (n % 2) 0) (λ e. grind (arith, nat_tests)) (λ e. grind (arith, nat_tests))
+  where
+    by : (c d : Bool) → (c ≡ true → n % 4 ≡ 0) → (d ≡ true → n % 2 ≡ 0) → n % size (if c then B4 else (if d then B2 else B1)) ≡ 0
+    by true d h k = h refl
+    by false true h k = k refl
+    by false false h k = omega arith
+
+sum_aligned : (x y : Width) (a b : ℕ) → a % size x ≡ 0 → b % size y ≡ 0 → plus a b % size (lesser x y) ≡ 0
+sum_aligned B1 y a b i j = omega arith
+sum_aligned B2 B1 a b i j = omega arith
+sum_aligned B2 B2 a b i j = omega (arith, i, j)
+sum_aligned B2 B4 a b i j = omega (arith, i, j)
+sum_aligned B4 B1 a b i j = omega arith
+sum_aligned B4 B2 a b i j = omega (arith, i, j)
+sum_aligned B4 B4 a b i j = omega (arith, i, j)
+
+difference_aligned : (x y : Width) (a b : ℕ) → a % size x ≡ 0 → b % size y ≡ 0 → minus a b % size (lesser x y) ≡ 0
+difference_aligned B1 y a b i j = omega arith
+difference_aligned B2 B1 a b i j = omega arith
+difference_aligned B2 B2 a b i j = omega (arith, i, j)
+difference_aligned B2 B4 a b i j = omega (arith, i, j)
+difference_aligned B4 B1 a b i j = omega arith
+difference_aligned B4 B2 a b i j = omega (arith, i, j)
+difference_aligned B4 B4 a b i j = omega (arith, i, j)
+
+-- a product is a multiple of what its left factor is
+left_aligned : (w : Width) (a b : ℕ) → a % size w ≡ 0 → times a b % size w ≡ 0
+left_aligned B1 a b i = omega arith
+left_aligned B2 a b i =
+    let two : a ≡ 2 * (a / 2) = omega arith in
+    let product : a * b ≡ 2 * ((a / 2) * b) = ap (λ (n : ℕ). n * b) two ∙ mul_assoc 2 (a / 2) b in
+    omega (arith, product)
+left_aligned B4 a b i =
+    let four : a ≡ 4 * (a / 4) = omega arith in
+    let product : a * b ≡ 4 * ((a / 4) * b) = ap (λ (n : ℕ). n * b) four ∙ mul_assoc 4 (a / 4) b in
+    omega (arith, product)
+
+right_aligned : (w : Width) (a b : ℕ) → b % size w ≡ 0 → times a b % size w ≡ 0
+right_aligned w a b i = subst (λ (n : ℕ). n % 2 ^ 32 % size w ≡ 0) (mul_comm b a) (left_aligned w b a i)
+
+product_aligned : (x y : Width) (a b : ℕ) → a % size x ≡ 0 → b % size y ≡ 0 → times a b % size (greater x y) ≡ 0
+product_aligned B1 y a b i j = right_aligned y a b j
+product_aligned B2 B1 a b i j = left_aligned B2 a b i
+product_aligned B2 B2 a b i j = left_aligned B2 a b i
+product_aligned B2 B4 a b i j = right_aligned B4 a b j
+product_aligned B4 y a b i j = left_aligned B4 a b i
+
+-- both of two widths divide
+both_aligned : (x y : Width) (n : ℕ) → n % size x ≡ 0 → n % size y ≡ 0 → n % size (greater x y) ≡ 0
+both_aligned B1 y n i j = j
+both_aligned B2 B1 n i j = i
+both_aligned B2 B2 n i j = i
+both_aligned B2 B4 n i j = j
+both_aligned B4 y n i j = i
+
+-- ---- bounds
+
+aligned_only : (w : Width) (n : ℕ) → n % size w ≡ 0 → LiesIn (aligned_to w) n
+aligned_only w n i = record { low = omega arith; high = λ e. absurd (let z : nat_lt (2 ^ 32 - 1) (2 ^ 32 - 1) ≡ true = e in cc); aligned = i }
+
+pub any_word : (n : ℕ) → LiesIn any n
+any_word n = aligned_only B1 n (omega arith)
+
+either : (c : Bool) (a b : Bounds) (n : ℕ) → (c ≡ true → LiesIn a n) → (c ≡ false → LiesIn b n) → LiesIn (if c then a else b) n
+either true a b n h k = h refl
+either false a b n h k = k refl
+
+added_is : (a b : Bounds) (x y : ℕ) → LiesIn a x → LiesIn b y → LiesIn (added a b) (plus x y)
+added_is a b x y h k =
+    let i = sum_aligned a.aligned b.aligned x y h.aligned k.aligned in
+    either (nat_lt (a.high + b.high) (2 ^ 32 - 1) && nat_le (a.low + b.low) (a.high + b.high)) (record { low = a.low + b.low; high = a.high + b.high; aligned = lesser a.aligned b.aligned }) (aligned_to (lesser a.aligned b.aligned)) (plus x y)
+    (λ e.
+    let both = and_parts (nat_lt (a.high + b.high) (2 ^ 32 - 1)) (nat_le (a.low + b.low) (a.high + b.high)) e in
+    let few : a.high + b.high < 2 ^ 32 - 1 = (let t = both.0 in grind (arith, nat_tests)) in
+    let one : is_bounded a ≡ true = grind (arith, nat_tests) in
+    let two : is_bounded b ≡ true = grind (arith, nat_tests) in
+    let x1 = h.high one in let y1 = k.high two in let x0 = h.low in let y0 = k.low in
+    record { low = omega arith; high = λ z. omega arith; aligned = i })
+    (λ e. aligned_only (lesser a.aligned b.aligned) (plus x y) i)
+
+subtracted_is : (a b : Bounds) (x y : ℕ) → LiesIn a x → LiesIn b y → LiesIn (subtracted a b) (minus x y)
+subtracted_is a b x y h k =
+    let i = difference_aligned a.aligned b.aligned x y h.aligned k.aligned in
+    either (is_bounded a && nat_le b.high a.low) (record { low = a.low - b.high; high = a.high - b.low; aligned = lesser a.aligned b.aligned }) (aligned_to (lesser a.aligned b.aligned)) (minus x y)
+    (λ e.
+    let both = and_parts (is_bounded a) (nat_le b.high a.low) e in
+    let bounded : a.high < 2 ^ 32 - 1 = (let t = both.0 in grind (arith, nat_tests)) in
+    let over : b.high ≤ a.low = (let t = both.1 in grind (arith, nat_tests)) in
+    let x1 = h.high both.0 in let x0 = h.low in
+    let two : is_bounded b ≡ true = (let less : b.high < 2 ^ 32 - 1 = omega arith in grind (arith, nat_tests)) in
+    let y1 = k.high two in let y0 = k.low in
+    record { low = omega arith; high = λ z. omega arith; aligned = i })
+    (λ e. aligned_only (lesser a.aligned b.aligned) (minus x y) i)
+
+-- products keep the order
+less_product : (a b x y : ℕ) → a ≤ x → b ≤ y → a * b ≤ x * y
+less_product a b x y h k =
+    let one = mul-le-mul_left a k in
+    let two = mul-le-mul_left y h in
+    let t1 = mul_comm y a in
+    let t2 = mul_comm y x in
+    omega arith
+
+multiplied_is : (a b : Bounds) (x y : ℕ) → LiesIn a x → LiesIn b y → LiesIn (multiplied a b) (times x y)
+multiplied_is a b x y h k =
+    let i = product_aligned a.aligned b.aligned x y h.aligned k.aligned in
+    either ((is_bounded a && is_bounded b) && (nat_lt (a.high * b.high) (2 ^ 32 - 1) && nat_le (a.low * b.low) (a.high * b.high))) (record { low = a.low * b.low; high = a.high * b.high; aligned = greater a.aligned b.aligned }) (aligned_to (greater a.aligned b.aligned)) (times x y)
+    (λ e.
+    let both = and_parts (is_bounded a && is_bounded b) (nat_lt (a.high * b.high) (2 ^ 32 - 1) && nat_le (a.low * b.low) (a.high * b.high)) e in
+    let two = and_parts (is_bounded a) (is_bounded b) both.0 in
+    let few : a.high * b.high < 2 ^ 32 - 1 = (let t = (and_parts (nat_lt (a.high * b.high) (2 ^ 32 - 1)) (nat_le (a.low * b.low) (a.high * b.high)) both.1).0 in grind (arith, nat_tests)) in
+    let most = less_product x y a.high b.high (h.high two.0) (k.high two.1) in
+    let least = less_product a.low b.low x y h.low k.low in
+    record { low = omega arith; high = λ z. omega arith; aligned = i })
+    (λ e. aligned_only (greater a.aligned b.aligned) (times x y) i)
+
+combined_is : (o : Operator) (a b : Bounds) (x y : ℕ) → LiesIn a x → LiesIn b y → LiesIn (combined_bounds o a b) (combined o x y)
+unfolding combined
+combined_is Add a b x y h k = added_is a b x y h k
+combined_is Subtract a b x y h k = subtracted_is a b x y h k
+combined_is Multiply a b x y h k = multiplied_is a b x y h k
+combined_is DivideSigned a b x y h k = any_word _
+combined_is DivideUnsigned a b x y h k = any_word _
+combined_is RemainderSigned a b x y h k = any_word _
+combined_is RemainderUnsigned a b x y h k = any_word _
+combined_is And a b x y h k = any_word _
+combined_is Or a b x y h k = any_word _
+combined_is Xor a b x y h k = any_word _
+combined_is ShiftLeft a b x y h k = any_word _
+combined_is ShiftRightSigned a b x y h k = any_word _
+combined_is ShiftRightUnsigned a b x y h k = any_word _
+
+-- ---- facts
+
+among_is : (facts : List Fact) (env : Env) (v : ℕ) (otherwise : Bounds) → AllLie facts env → LiesIn otherwise (env v) → LiesIn (bounds_among facts v otherwise) (env v)
+among_is [] env v otherwise h k = k
+among_is (fact ∷ facts) env v otherwise h k = by (nat_eq fact.variable v) (λ e. grind (arith, nat_tests)) (among_is facts env v otherwise h.1 k)
+  where
+    by : (c : Bool) → (c ≡ true → fact.variable ≡ v) → LiesIn (bounds_among facts v otherwise) (env v) → LiesIn (if c then fact.bounds else bounds_among facts v otherwise) (env v)
+    by true same k = subst (λ (u : ℕ). LiesIn fact.bounds (env u)) (same refl) h.0
+    by false same k = k
+
+pub known_is : (facts : Facts) (env : Env) (v : ℕ) → Hold facts env → LiesIn (bounds_in facts v) (env v)
+known_is facts env v h = among_is facts.inner env v (bounds_among facts.outer v any) h.inner (among_is facts.outer env v any h.outer (any_word (env v)))
+
+pub operand_is : (facts : Facts) (env : Env) (x : Operand) → Hold facts env → LiesIn (operand_bounds facts x) (value x env)
+operand_is facts env (Variable v) h = known_is facts env v h
+operand_is facts env (Number n) h = record { low = omega arith; high = λ e. omega arith; aligned = alignment_is n }
+
+value_is : (facts : Facts) (frame : ℕ) (env : Env) (x : Value) → Hold facts env → LiesIn (value_bounds facts x) (computed x frame env)
+value_is facts frame env (Same x) h = operand_is facts env x h
+value_is facts frame env (Extended kind x) h = any_word _
+value_is facts frame env (Binary o x y) h = combined_is o (operand_bounds facts x) (operand_bounds facts y) (value x env) (value y env) (operand_is facts env x h) (operand_is facts env y h)
+value_is facts frame env (Holds test) h = any_word _
+value_is facts frame env (FrameAddress offset) h = any_word _
+
+pub lie_both : (xs ys : List Fact) (env : Env) → AllLie xs env → AllLie ys env → AllLie (xs ++ ys) env
+lie_both [] ys env h k = k
+lie_both (x ∷ xs) ys env h k = (h.0, lie_both xs ys env h.1 k)
+
+lie_take : (n : ℕ) (facts : List Fact) (env : Env) → AllLie facts env → AllLie (take n facts) env
+lie_take zero facts env h = tt
+lie_take (suc n) [] env h = tt
+lie_take (suc n) (fact ∷ facts) env h = (h.0, lie_take n facts env h.1)
+
+lie_fact : (v : ℕ) (b : Bounds) (env : Env) → LiesIn b (env v) → AllLie (fact_of v b) env
+lie_fact v b env h = by (says_nothing b)
+  where
+    by : (c : Bool) → AllLie (if c then [] else record { variable = v; bounds = b } ∷ []) env
+    by true = tt
+    by false = (h, tt)
+
+-- what is known of the others
+lie_others : (v y : ℕ) (facts : List Fact) (env : Env) → AllLie facts env → AllLie (less (just v) facts) (put true v y env)
+lie_others v y [] env h = tt
+lie_others v y (fact ∷ facts) env h = by (nat_eq fact.variable v) refl (lie_others v y facts env h.1)
+  where
+    by : (c : Bool) → nat_eq fact.variable v ≡ c → AllLie (less (just v) facts) (put true v y env) → AllLie (if c then less (just v) facts else fact ∷ less (just v) facts) (put true v y env)
+    by true e k = k
+    by false e k = (rw e h.0, k)
+
+pub lie_less : (set : VariableSet) (facts : List Fact) (env : Env) → AllLie facts env → AllLie (less set facts) env
+lie_less set [] env h = tt
+lie_less set (fact ∷ facts) env h = by (set fact.variable) (lie_less set facts env h.1)
+  where
+    by : (c : Bool) → AllLie (less set facts) env → AllLie (if c then less set facts else fact ∷ less set facts) env
+    by true k = k
+    by false k = (h.0, k)
+
+-- a variable gets a word
+hold_put : (v y : ℕ) (b : Bounds) (facts : Facts) (env : Env) → Hold facts env → LiesIn b y → Hold (with_bounds v b facts) (put true v y env)
+hold_put v y b facts env h i =
+    let same : nat_eq v v ≡ true = grind (arith, nat_tests) in
+    record {
+      outer = lie_others v y facts.outer env h.outer;
+      inner = lie_take 32 (fact_of v b ++ less (just v) facts.inner) (put true v y env)
+          (lie_both (fact_of v b) (less (just v) facts.inner) (put true v y env) (lie_fact v b (put true v y env) (rw same i)) (lie_others v y facts.inner env h.inner));
+    }
+
+-- more is known of a variable
+hold_refined : (v : ℕ) (b : Bounds) (facts : Facts) (env : Env) → Hold facts env → LiesIn b (env v) → Hold (refined v b facts) env
+hold_refined v b facts env h i =
+    record { outer = h.outer; inner = lie_take 32 (fact_of v b ++ less (just v) facts.inner) env (lie_both (fact_of v b) (less (just v) facts.inner) env (lie_fact v b env i) (lie_less (just v) facts.inner env h.inner)) }
+
+-- of a variable nothing is known any more
+hold_unknown : (v : ℕ) (facts : Facts) (env : Env) → Hold facts env → Hold (with_bounds v any facts) env
+hold_unknown v facts env h = record {
+  outer = lie_less (just v) facts.outer env h.outer;
+  inner = lie_take 32 (fact_of v any ++ less (just v) facts.inner) env (lie_both (fact_of v any) (less (just v) facts.inner) env (lie_fact v any env (any_word (env v))) (lie_less (just v) facts.inner env h.inner));
+}
+
+-- behind a call, with its result
+pub returned_facts : (memory : ℕ) (v result : Option ℕ) (f : ℕ) (xs : List Argument) (facts : Facts) (env : Env) → Hold facts env → Hold (facts_behind memory (Call v f xs) facts) (with_result v result env)
+returned_facts memory None result f xs facts env h = h
+returned_facts memory (Some v) None f xs facts env h = hold_unknown v facts env h
+returned_facts memory (Some v) (Some x) f xs facts env h = hold_put v x any facts env h (any_word x)
+
+-- ---- tests of places
+
+pub aligned_is : (width : Width) (b : Bounds) (n : ℕ) → LiesIn b n → is_aligned width b ≡ true → n % size width ≡ 0
+aligned_is width b n h e = of_wider width b.aligned n e h.aligned
+
+pub good_is : (memory : ℕ) (width : Width) (b : Bounds) (n : ℕ) → LiesIn b n → is_good memory width b ≡ true → misplaced width n memory ≡ None
+unfolding misplaced
+good_is memory width b n h e =
+    let one = and_parts (is_aligned width b) (nat_le 16 b.low && (is_bounded b && nat_le (b.high + size width) memory)) e in
+    let two = and_parts (nat_le 16 b.low) (is_bounded b && nat_le (b.high + size width) memory) one.1 in
+    let three = and_parts (is_bounded b) (nat_le (b.high + size width) memory) two.1 in
+    let i = aligned_is width b n h one.0 in
+    let low : 16 ≤ b.low = (let t = two.0 in grind (arith, nat_tests)) in
+    let top : b.high + size width ≤ memory = (let t = three.1 in grind (arith, nat_tests)) in
+    let n0 = h.low in
+    let n1 = h.high three.0 in
+    let a : nat_eq (n % size width) 0 ≡ true = rw i refl in
+    let c : nat_lt n 16 ≡ false = (let k : 16 ≤ n = omega arith in grind (arith, nat_tests)) in
+    let d : nat_lt memory (n + size width) ≡ false = (let k : n + size width ≤ memory = omega arith in grind (arith, nat_tests)) in
+    rw (a, c, d) refl
+
+tested : (c d : Bool) (o o' : Option ℕ) → ((o ≡ None) → ⊥) → ((o' ≡ None) → ⊥) → (if not c then o else (if d then o' else None)) ≡ None → (c ≡ true) × (d ≡ false)
+tested true true o o' h k e = absurd (k e)
+tested true false o o' h k e = (refl, refl)
+tested false d o o' h k e = absurd (h e)
+
+neither : (c d : Bool) → (c || d) ≡ false → (c ≡ false) × (d ≡ false)
+neither true d e = absurd cc
+neither false d e = (refl, e)
+
+passed_is : (memory : ℕ) (width : Width) (b : Bounds) (n : ℕ) → LiesIn b n → misplaced width n memory ≡ None → LiesIn (passed_bounds memory width b) n
+unfolding misplaced
+passed_is memory width b n h e =
+    let two = tested (nat_eq (n % size width) 0) (nat_lt n 16 || nat_lt memory (n + size width)) (Some 3) (Some 2) (λ z. absurd cc) (λ z. absurd cc) e in
+    let range = neither (nat_lt n 16) (nat_lt memory (n + size width)) two.1 in
+    let i : n % size width ≡ 0 = (let t = two.0 in grind (arith, nat_tests)) in
+    let low : 16 ≤ n = (let t = range.0 in grind (arith, nat_tests)) in
+    let top : n + size width ≤ memory = (let t = range.1 in grind (arith, nat_tests)) in
+    let n0 = h.low in
+    let under : n ≤ memory - size width = omega arith in
+    record {
+      low = least (nat_lt b.low 16) n0 low;
+      high = most (nat_lt b.high (memory - size width)) under;
+      aligned = both_aligned width b.aligned n i h.aligned;
+    }
+  where
+    least : (c : Bool) → b.low ≤ n → 16 ≤ n → (if c then 16 else b.low) ≤ n
+    least true n0 k = k
+    least false n0 k = n0
+
+    most : (c : Bool) → n ≤ memory - size width → nat_lt (if c then b.high else memory - size width) (2 ^ 32 - 1) ≡ true → n ≤ (if c then b.high else memory - size width)
+    most true k small = h.high small
+    most false k small = k
+
+-- ---- actions
+
+probed_holds : (by_a : Bool) (facts : Facts) (env : Env) (o : Option ℕ) → Hold facts env → LeavesOnly (Hold facts) (probed by_a o env)
+probed_holds by_a facts env None h = h
+probed_holds by_a facts env (Some code) h = tt
+
+pub deed_facts : (p : Program) (by_a : Bool) (a : Action) (w : World) (env : Env) (facts : Facts) (memory : ℕ) → length w.memory ≡ memory → Hold facts env → LeavesOnly (Hold (facts_behind memory a facts)) (deed p by_a a w env)
+deed_facts p by_a (Compute v x) w env facts memory size h = hold_put v (computed x w.frame env) (value_bounds facts x) facts env h (value_is facts w.frame env x h)
+deed_facts p by_a (Issue kind x) w env facts memory size h = h
+deed_facts p by_a (Own v kind x) w env facts memory size h = λ y. hold_put v y any facts env h (any_word y)
+deed_facts p by_a (Receive v) w env facts memory size h = λ y. hold_put v y any facts env h (any_word y)
+deed_facts p by_a (Address width x) w env facts memory size h = h
+deed_facts p by_a (Datum x) w env facts memory size h = h
+deed_facts p by_a (Offer v) w env facts memory size h = h
+deed_facts p by_a (Accept v) w env facts memory size h = λ y. hold_put v y any facts env h (any_word y)
+deed_facts p by_a (Emit spelling x) w env facts memory size h = h
+deed_facts p by_a (Probe (Place width (Variable v))) w env facts memory size h = by (misplaced width (env v) (length w.memory)) refl
+  where
+    by : (o : Option ℕ) → misplaced width (env v) (length w.memory) ≡ o → LeavesOnly (Hold (refined v (passed_bounds memory width (bounds_in facts v)) facts)) (probed by_a o env)
+    by None e = hold_refined v (passed_bounds memory width (bounds_in facts v)) facts env h (passed_is memory width (bounds_in facts v) (env v) (known_is facts env v h) (subst (λ (l : ℕ). misplaced width (env v) l ≡ None) size e))
+    by (Some code) e = tt
+deed_facts p by_a (Probe (Place width (Number n))) w env facts memory size h = probed_holds by_a facts env (fault p (Place width (Number n)) w env) h
+deed_facts p by_a (Probe (Zero x)) w env facts memory size h = probed_holds by_a facts env (fault p (Zero x) w env) h
+deed_facts p by_a (Probe (Room f)) w env facts memory size h = probed_holds by_a facts env (fault p (Room f) w env) h
+deed_facts p by_a (Probe Frame) w env facts memory size h = probed_holds by_a facts env (fault p Frame w env) h
+deed_facts p by_a (Probe Abort) w env facts memory size h = probed_holds by_a facts env (fault p Abort w env) h
+deed_facts p by_a (Tell x) w env facts memory size h = h
+deed_facts p by_a Hear w env facts memory size h = λ y. by y (nat_eq y 0)
+  where
+    by : (y : ℕ) (b : Bool) → LeavesOnly (Hold facts) (if b then Went env else Halts (trapped by_a y))
+    by y true = h
+    by y false = tt
+deed_facts p by_a (Stop x) w env facts memory size h = tt
+deed_facts p by_a Break w env facts memory size h = h
+deed_facts p by_a Continue w env facts memory size h = h
+deed_facts p by_a (Call None f xs) w env facts memory size h = h
+deed_facts p by_a (Call (Some v) f xs) w env facts memory size h = hold_unknown v facts env h
+deed_facts p by_a (Return x) w env facts memory size h = h

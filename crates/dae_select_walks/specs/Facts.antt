@@ -1,0 +1,370 @@
+-- What is known of the words that variables hold, as far as the actions before them in a list tell: a test of a place needs no
+-- code where the address is known to pass it, and none of its alignment where that is known.
+use Rattle.std.specs.Prelude.{◌≡◌, ℕ, suc, ◌+◌, ◌-◌, ◌*◌, ◌%◌, ◌^◌, ◌≤◌, nat_eq, nat_lt, nat_le, Bool, true, false, not, ◌&&◌, ◌||◌, if◌then◌else◌, List, [], ◌∷◌, ◌++◌, take, Option, Some, None}
+use Rattle.dae_base.specs.declared.Width.{Width}
+use Rattle.dae_base.specs.declared.Width.TheVariants.{B1, B2, B4}
+use Rattle.dae_base.specs.Words.{size}
+use Rattle.dae_ir.specs.declared.form.Operand.{Operand}
+use Rattle.dae_ir.specs.declared.form.Operand.TheVariants.{Variable, Number}
+use Rattle.dae_ir.specs.declared.form.Value.{Value}
+use Rattle.dae_ir.specs.declared.form.Value.TheVariants.{Same, Binary}
+use Rattle.dae_ir.specs.declared.form.Check.TheVariants.{Place}
+use Rattle.dae_ir.specs.declared.stream.Action.{Action}
+use Rattle.dae_ir.specs.declared.stream.Action.TheVariants.{Set as Compute, Own, Receive, Accept, Probe, Tell, Break, Continue, Return, Call}
+use Rattle.dae_ir.specs.Deeds.{Deed, Went, Take, Push, Reserve, Send, Say, Halts}
+use Rattle.dae_ir.specs.Classes.{VariableSet}
+use Rattle.dae_ir.specs.Code.{Done, Do, If, Loop}
+use Rattle.dae_ir.specs.Streams.{Actions}
+use Rattle.dae_ir.specs.declared.form.Test.{Test}
+use Rattle.dae_ir.specs.declared.stream.Branch.{Branch}
+use Rattle.dae_ir.specs.declared.stream.Branch.TheVariants.{Silent, Tells, Hears}
+use Rattle.dae_meaning.specs.declared.Comparison.{Comparison}
+use Rattle.dae_meaning.specs.declared.Comparison.TheVariants.{LessSigned, LessUnsigned, AtLeastSigned, AtLeastUnsigned}
+use Rattle.dae_select_walks.specs.Live.{sets}
+use Rattle.dae_meaning.specs.Variables.{Env}
+use Rattle.dae_meaning.specs.declared.Operator.{Operator}
+use Rattle.dae_meaning.specs.declared.Operator.TheVariants.{Add, Subtract, Multiply}
+use Rattle.dae_select_walks.specs.declared.Bounds.{Bounds}
+use Rattle.dae_select_walks.specs.declared.Fact.{Fact}
+use Rattle.dae_select_walks.specs.declared.Need.{Need}
+use Rattle.dae_select_walks.specs.declared.Need.TheVariants.{All, Ends, Nothing}
+
+-- ---- bounds of a word
+
+-- a greatest word that is the greatest of all says nothing
+abbrev pub is_bounded : Bounds → Bool
+is_bounded b = nat_lt b.high (2 ^ 32 - 1)
+
+pub record LiesIn (b : Bounds) (n : ℕ) : Type 0 where
+  pub low : b.low ≤ n
+  pub high : is_bounded b ≡ true → n ≤ b.high
+  pub aligned : n % size b.aligned ≡ 0
+
+-- the bounds of which only a width is known that divides
+abbrev pub aligned_to : Width → Bounds
+aligned_to width = record { low = 0; high = 2 ^ 32 - 1; aligned = width }
+
+abbrev pub any : Bounds
+any = aligned_to B1
+
+abbrev pub alignment : ℕ → Width
+alignment n = if nat_eq (n % 4) 0 then B4 else (if nat_eq (n % 2) 0 then B2 else B1)
+
+abbrev pub single : ℕ → Bounds
+single n = record { low = n; high = n; aligned = alignment n }
+
+abbrev pub lesser : Width → Width → Width
+lesser B1 y = B1
+lesser B2 B1 = B1
+lesser B2 y = B2
+lesser B4 y = y
+
+abbrev pub greater : Width → Width → Width
+greater B1 y = y
+greater B2 B4 = B4
+greater B2 y = B2
+greater B4 y = B4
+
+-- of a sum, a difference and a product: where none of them can leave the words, and else only the alignment
+abbrev pub added : Bounds → Bounds → Bounds
+added a b =
+    if nat_lt (a.high + b.high) (2 ^ 32 - 1) && nat_le (a.low + b.low) (a.high + b.high) then record { low = a.low + b.low; high = a.high + b.high; aligned = lesser a.aligned b.aligned }
+    else aligned_to (lesser a.aligned b.aligned)
+
+abbrev pub subtracted : Bounds → Bounds → Bounds
+subtracted a b =
+    if is_bounded a && nat_le b.high a.low then record { low = a.low - b.high; high = a.high - b.low; aligned = lesser a.aligned b.aligned }
+    else aligned_to (lesser a.aligned b.aligned)
+
+abbrev pub multiplied : Bounds → Bounds → Bounds
+multiplied a b =
+    if (is_bounded a && is_bounded b) && (nat_lt (a.high * b.high) (2 ^ 32 - 1) && nat_le (a.low * b.low) (a.high * b.high))
+    then record { low = a.low * b.low; high = a.high * b.high; aligned = greater a.aligned b.aligned }
+    else aligned_to (greater a.aligned b.aligned)
+
+abbrev pub combined_bounds : Operator → Bounds → Bounds → Bounds
+combined_bounds Add a b = added a b
+combined_bounds Subtract a b = subtracted a b
+combined_bounds Multiply a b = multiplied a b
+combined_bounds operator a b = any
+
+-- ---- facts
+
+-- each variable's word lies in its bounds
+abbrev pub AllLie : List Fact → Env → Type 0
+AllLie [] env = Unit {0}
+AllLie (fact ∷ facts) env = LiesIn fact.bounds (env fact.variable) × AllLie facts env
+
+-- the bounds of a variable: the first that are told, and else any
+abbrev pub bounds_among : List Fact → ℕ → Bounds → Bounds
+bounds_among [] v otherwise = otherwise
+bounds_among (fact ∷ facts) v otherwise = if nat_eq fact.variable v then fact.bounds else bounds_among facts v otherwise
+
+-- those of variables that aren't in a set
+abbrev pub less : VariableSet → List Fact → List Fact
+less set [] = []
+less set (fact ∷ facts) = if set fact.variable then less set facts else fact ∷ less set facts
+
+-- what is known at a place of a list: what was known where the list begins, of variables that the list hasn't set, and what the latest
+-- actions of the list tell
+pub record Facts : Type 0 where
+  pub outer : List Fact
+  pub inner : List Fact
+
+abbrev pub unknown : Facts
+unknown = record { outer = []; inner = [] }
+
+pub record Hold (facts : Facts) (env : Env) : Type 0 where
+  pub outer : AllLie facts.outer env
+  pub inner : AllLie facts.inner env
+
+abbrev pub bounds_in : Facts → ℕ → Bounds
+bounds_in facts v = bounds_among facts.inner v (bounds_among facts.outer v any)
+
+abbrev pub operand_bounds : Facts → Operand → Bounds
+operand_bounds facts (Variable v) = bounds_in facts v
+operand_bounds facts (Number n) = single n
+
+abbrev pub value_bounds : Facts → Value → Bounds
+value_bounds facts (Same x) = operand_bounds facts x
+value_bounds facts (Binary operator x y) = combined_bounds operator (operand_bounds facts x) (operand_bounds facts y)
+value_bounds facts value = any
+
+-- bounds that say nothing are no fact
+abbrev pub says_nothing : Bounds → Bool
+says_nothing b = nat_eq b.low 0 && (not (is_bounded b) && nat_eq (size b.aligned) 1)
+
+abbrev pub fact_of : ℕ → Bounds → List Fact
+fact_of v b = if says_nothing b then [] else record { variable = v; bounds = b } ∷ []
+
+abbrev pub just : ℕ → VariableSet
+just v u = nat_eq u v
+
+-- of what a list tells the latest few are kept, so that the time for a list doesn't grow with it
+abbrev pub latest : ℕ → Bounds → List Fact → List Fact
+latest v b facts = take 32 (fact_of v b ++ less (just v) facts)
+
+-- a variable gets a word in these bounds
+abbrev pub with_bounds : ℕ → Bounds → Facts → Facts
+with_bounds v b facts = record { outer = less (just v) facts.outer; inner = latest v b facts.inner }
+
+-- of a variable more is known
+abbrev pub refined : ℕ → Bounds → Facts → Facts
+refined v b facts = record facts { inner = latest v b facts.inner }
+
+-- ---- tests of places
+
+abbrev pub is_aligned : Width → Bounds → Bool
+is_aligned width b = nat_le (size width) (size b.aligned)
+
+-- each word of these bounds is a good address for an access of this width, where common memory has so many addresses
+abbrev pub is_good : ℕ → Width → Bounds → Bool
+is_good memory width b = is_aligned width b && (nat_le 16 b.low && (is_bounded b && nat_le (b.high + size width) memory))
+
+-- a message is told soon behind a test, as it is to the test's group in the other stream: so a test that has no code leaves no queue
+-- unused that its stream uses
+abbrev pub tells_within : ℕ → Actions → Bool
+tells_within (suc n) (Do m (Tell x) k) = true
+tells_within (suc n) (Do m a k) = tells_within n k
+tells_within n code = false
+
+-- what is needed of the block of an action, behind which these come
+abbrev pub needed : ℕ → Bool → Width → Bounds → Need
+needed memory told width b = if told && is_good memory width b then Nothing else (if is_aligned width b then Ends else All)
+
+abbrev pub need_of : ℕ → Facts → Action → Actions → Need
+need_of memory facts (Probe (Place width x)) k = needed memory (tells_within 24 k) width (operand_bounds facts x)
+need_of memory facts a k = All
+
+-- an address that has passed the test
+abbrev pub passed_bounds : ℕ → Width → Bounds → Bounds
+passed_bounds memory width b =
+    record { low = if nat_lt b.low 16 then 16 else b.low; high = if nat_lt b.high (memory - size width) then b.high else memory - size width; aligned = greater width b.aligned }
+
+-- ---- behind an action
+
+-- what is known behind an action, where this is known before it. What a call leaves isn't looked at
+abbrev pub facts_behind : ℕ → Action → Facts → Facts
+facts_behind memory (Compute v x) facts = with_bounds v (value_bounds facts x) facts
+facts_behind memory (Own v kind x) facts = with_bounds v any facts
+facts_behind memory (Receive v) facts = with_bounds v any facts
+facts_behind memory (Accept v) facts = with_bounds v any facts
+facts_behind memory (Probe (Place width (Variable v))) facts = refined v (passed_bounds memory width (bounds_in facts v)) facts
+facts_behind memory (Call None f xs) facts = facts
+facts_behind memory (Call (Some v) f xs) facts = with_bounds v any facts
+facts_behind memory a facts = facts
+
+-- ---- in lists and behind them
+
+-- the variables that code sets
+abbrev pub is_set : Actions → VariableSet
+is_set Done v = false
+is_set (Do m a k) v = sets a v || is_set k v
+is_set (If m b p q k) v = is_set p v || (is_set q v || is_set k v)
+is_set (Loop m body step k) v = is_set body v || (is_set step v || is_set k v)
+
+abbrev pub in_either : VariableSet → VariableSet → VariableSet
+in_either one other v = one v || other v
+
+-- all that is known, where a list begins
+abbrev pub at_begin : List Fact → Facts
+at_begin facts = record { outer = facts; inner = [] }
+
+abbrev pub all_of : Facts → List Fact
+all_of facts = facts.inner ++ facts.outer
+
+-- what code leaves of it
+abbrev pub kept : VariableSet → Facts → Facts
+kept set facts = record { outer = less set facts.outer; inner = less set facts.inner }
+
+-- a variable is at most this
+abbrev pub at_most : Operand → Bounds → ℕ → List Fact
+at_most (Variable v) b n = record { variable = v; bounds = record b { high = if nat_lt b.high n then b.high else n } } ∷ []
+at_most (Number m) b n = []
+
+-- what a comparison tells, where it holds or not: of the lesser operand, by the bounds of both. Signed words are compared as numbers below 2 ^ 31
+abbrev pub compared_facts : Comparison → Bool → Operand → Operand → Bounds → Bounds → List Fact
+compared_facts LessUnsigned true x y a b = if is_bounded b && nat_lt 0 b.high then at_most x a (b.high - 1) else []
+compared_facts AtLeastUnsigned false x y a b = if is_bounded b && nat_lt 0 b.high then at_most x a (b.high - 1) else []
+compared_facts LessSigned true x y a b = if (nat_lt a.high (2 ^ 31) && nat_lt b.high (2 ^ 31)) && nat_lt 0 b.high then at_most x a (b.high - 1) else []
+compared_facts AtLeastSigned false x y a b = if (nat_lt a.high (2 ^ 31) && nat_lt b.high (2 ^ 31)) && nat_lt 0 b.high then at_most x a (b.high - 1) else []
+compared_facts LessUnsigned false x y a b = if is_bounded a then at_most y b a.high else []
+compared_facts AtLeastUnsigned true x y a b = if is_bounded a then at_most y b a.high else []
+compared_facts LessSigned false x y a b = if nat_lt a.high (2 ^ 31) && nat_lt b.high (2 ^ 31) then at_most y b a.high else []
+compared_facts AtLeastSigned true x y a b = if nat_lt a.high (2 ^ 31) && nat_lt b.high (2 ^ 31) then at_most y b a.high else []
+compared_facts comparison way x y a b = []
+
+abbrev pub test_facts : Test → Bool → Facts → List Fact
+test_facts t way facts = compared_facts t.comparison way t.left t.right (operand_bounds facts t.left) (operand_bounds facts t.right)
+
+-- what a branch tells where it goes this way
+abbrev pub branch_facts : Branch → Bool → Facts → List Fact
+branch_facts (Silent t) way facts = test_facts t way facts
+branch_facts (Tells t) way facts = test_facts t way facts
+branch_facts Hears way facts = []
+
+-- where the one list of an If begins, and the other
+abbrev pub facts_in_first : Branch → Facts → Facts
+facts_in_first b facts = at_begin (branch_facts b true facts ++ all_of facts)
+
+abbrev pub facts_in_second : Branch → Facts → Facts
+facts_in_second b facts = at_begin (branch_facts b false facts ++ all_of facts)
+
+abbrev pub only_leaves : Actions → Bool
+only_leaves (Do m Break Done) = true
+only_leaves code = false
+
+-- behind an If: where its second list only leaves the loop, what its test tells holds on
+abbrev pub facts_past_if : Branch → Actions → Actions → Facts → Facts
+facts_past_if b p q facts =
+    if only_leaves q then kept (is_set p) (record facts { outer = branch_facts b true facts ++ facts.outer })
+    else kept (in_either (is_set p) (is_set q)) facts
+
+-- where a loop's step begins, if this is known where a turn begins
+abbrev pub facts_behind_turn : Actions → Facts → Facts
+facts_behind_turn (If m b p q t) facts =
+    if only_leaves q then at_begin (less (is_set t) (facts_past_if b p q facts).outer) else at_begin (less (is_set (If m b p q t)) facts.outer)
+facts_behind_turn body facts = at_begin (less (is_set body) facts.outer)
+
+abbrev pub counter_in : Operand → List ℕ
+counter_in (Variable v) = v ∷ []
+counter_in (Number n) = []
+
+-- a variable that a loop's test compares, which its step sets: it may only grow. What divides it isn't guessed
+abbrev pub counter_of : Test → List ℕ
+counter_of t = counter_in t.left ++ counter_in t.right
+
+abbrev pub grows : ℕ → Bounds → List Fact
+grows v b = if nat_lt b.high (2 ^ 31) then record { variable = v; bounds = record { low = b.low; high = 2 ^ 31 - 1; aligned = B1 } } ∷ [] else []
+
+abbrev pub counters : List ℕ → Actions → Actions → Facts → List Fact
+counters [] body step facts = []
+counters (v ∷ vs) body step facts = if is_set step v && not (is_set body v) then grows v (bounds_in facts v) else counters vs body step facts
+
+abbrev pub guessed : Actions → Actions → Facts → List Fact
+guessed (If m (Tells t) p q k) step facts = counters (counter_of t) (If m (Tells t) p q k) step facts
+guessed (If m (Silent t) p q k) step facts = counters (counter_of t) (If m (Silent t) p q k) step facts
+guessed body step facts = []
+
+-- what is known behind a list of actions alone, which goes on behind it
+abbrev pub behind_straight : ℕ → Actions → Facts → Option Facts
+behind_straight memory Done facts = Some facts
+behind_straight memory (Do m Break k) facts = None
+behind_straight memory (Do m Continue k) facts = None
+behind_straight memory (Do m (Return y) k) facts = None
+behind_straight memory (Do m a k) facts = behind_straight memory k (facts_behind memory a facts)
+behind_straight memory code facts = None
+
+-- each word in the one bounds is in the others
+abbrev pub is_inside : Bounds → Bounds → Bool
+is_inside a b = nat_le b.low a.low && ((not (is_bounded b) || (is_bounded a && nat_le a.high b.high)) && is_aligned b.aligned a)
+
+abbrev pub says : Facts → List Fact → Bool
+says facts [] = true
+says facts (fact ∷ rest) = is_inside (bounds_in facts fact.variable) fact.bounds && says facts rest
+
+abbrev pub say : Option Facts → List Fact → Bool
+say None rest = false
+say (Some facts) rest = says facts rest
+
+-- a guess that holds before the loop and, where it holds before a turn, behind the step
+abbrev pub holds_on : ℕ → Actions → Actions → Facts → List Fact → List Fact → Bool
+holds_on memory body step facts others guess =
+    says facts guess && say (behind_straight memory step (facts_behind_turn body (at_begin (guess ++ others)))) guess
+
+abbrev pub checked_guess : Bool → List Fact → List Fact
+checked_guess true guess = guess
+checked_guess false guess = []
+
+-- where a loop begins a turn: what the loop doesn't set, and what is found inductive
+abbrev pub facts_at_turn : ℕ → Actions → Actions → Facts → Facts
+facts_at_turn memory body step facts =
+    let others = less (in_either (is_set body) (is_set step)) (all_of facts) in
+    let guess = guessed body step facts in
+    at_begin (checked_guess (holds_on memory body step facts others guess) guess ++ others)
+
+abbrev pub facts_at_step : ℕ → Actions → Actions → Facts → Facts
+facts_at_step memory body step facts = facts_behind_turn body (facts_at_turn memory body step facts)
+
+abbrev pub facts_past_loop : Actions → Actions → Facts → Facts
+facts_past_loop body step facts = kept (in_either (is_set body) (is_set step)) facts
+
+-- ---- what is known at a place is what is known where the code goes on
+
+-- what is to be known behind code, where a Break goes and a Continue
+pub record Outs : Type 0 where
+  pub next : Facts
+  pub leaves : Facts
+  pub skips : Facts
+
+abbrev pub outs : Facts → Facts → Facts → Outs
+outs next leaves skips = record { next = next; leaves = leaves; skips = skips }
+
+abbrev pub Entails : Facts → Facts → Type 0
+Entails a b = (env : Env) → Hold a env → Hold b env
+
+abbrev pub FactsGo : ℕ → Facts → Actions → Outs → Type 0
+FactsGo memory known Done o = Entails known o.next
+FactsGo memory known (Do m Break k) o = Entails known o.leaves
+FactsGo memory known (Do m Continue k) o = Entails known o.skips
+FactsGo memory known (Do m (Return y) k) o = Unit {0}
+FactsGo memory known (Do m a k) o = FactsGo memory (facts_behind memory a known) k o
+FactsGo memory known (If m b p q k) o =
+    FactsGo memory (facts_in_first b known) p (record o { next = facts_past_if b p q known })
+    × FactsGo memory (facts_in_second b known) q (record o { next = facts_past_if b p q known })
+    × FactsGo memory (facts_past_if b p q known) k o
+FactsGo memory known (Loop m body step k) o =
+    Entails known (facts_at_turn memory body step known)
+    × FactsGo memory (facts_at_turn memory body step known) body (outs (facts_at_step memory body step known) (facts_past_loop body step known) (facts_at_step memory body step known))
+    × FactsGo memory (facts_at_step memory body step known) step (outs (facts_at_turn memory body step known) (facts_past_loop body step known) (facts_at_turn memory body step known))
+    × FactsGo memory (facts_past_loop body step known) k o
+
+-- whatever words a deed takes, what it leaves the variables at is so
+abbrev pub LeavesOnly : (Env → Type 0) → Deed → Type 0
+LeavesOnly P (Went env) = P env
+LeavesOnly P (Take queue go) = (x : ℕ) → LeavesOnly P (go x)
+LeavesOnly P (Push queue x rest) = LeavesOnly P rest
+LeavesOnly P (Reserve queue kind a rest) = LeavesOnly P rest
+LeavesOnly P (Send width a rest) = LeavesOnly P rest
+LeavesOnly P (Say text rest) = LeavesOnly P rest
+LeavesOnly P (Halts quit) = Unit {0}
