@@ -1,8 +1,10 @@
 -- Plans of parts of a tree in memory, and of parts of which some are done.
-use Rattle.std.specs.Prelude.{ℕ, List, [], Option, Some, None, Bool, false, length}
+use Rattle.std.specs.Prelude.{◌≡◌, Box, Vec, ℕ, List, [], Option, Some, None, Bool, false, length}
+use Rattle.std.specs.declared.alloc.Global.{Global}
 use Rattle.dae_base.specs.declared.Place.{Place}
 use Rattle.dae_tree.specs.declared.expressions.Name.{Name}
 use Rattle.dae_tree.specs.declared.expressions.Expression.{Expression}
+use Rattle.dae_tree.specs.declared.expressions.Expression.TheVariants as code
 use Rattle.dae_tree.specs.declared.expressions.TypeName.{TypeName}
 use Rattle.dae_tree.specs.declared.expressions.Specifier.{Specifier}
 use Rattle.dae_tree.specs.declared.expressions.Member.{Member}
@@ -10,6 +12,8 @@ use Rattle.dae_tree.specs.declared.expressions.Enumerator.{Enumerator}
 use Rattle.dae_tree.specs.declared.expressions.Parameter.{Parameter}
 use Rattle.dae_tree.specs.declared.operators.BinaryOperator.{BinaryOperator}
 use Rattle.dae_tree.specs.declared.operators.AssignmentOperator.{AssignmentOperator}
+use Rattle.dae_tree.specs.declared.operators.MemberOperator.{MemberOperator}
+use Rattle.dae_tree.specs.declared.operators.PostfixOperator.{PostfixOperator}
 use Rattle.dae_tree.specs.Depth.{place_of}
 use Rattle.dae_tree.specs.Views.{view, views, views_specifiers, views_members, views_enumerators, view_declarator, views_parameters}
 use Rattle.dae_program.specs.Trees as program
@@ -20,11 +24,39 @@ use Rattle.dae_types_kinds.specs.Values.{Typed, number}
 use Rattle.dae_types_kinds.specs.Types.{int_id, layout, no_parameters_id}
 use Rattle.dae_types_rules.specs.Plan.{Plan, pure, both}
 use Rattle.dae_types_rules.specs.Sites.{AtCalled}
-use Rattle.dae_types_plans.specs.Steps.{at, assignment_at, base_at, binary_at, call_by, cast_at, conditional_at, enumeration_body, function, routine_in, scoped, structure_body}
-use Rattle.dae_types_plans.specs.Expressions.{plan_arguments, plan_enumerators, plan_members, plan_parameters, plan_specifiers, plan_type, plan_value}
+use Rattle.dae_types_plans.specs.Steps.{access_at, at, assignment_at, base_at, binary_at, call_by, cast_at, conditional_at, enumeration_body, function, postfix_at, routine_in, scoped, structure_body}
+use Rattle.dae_types_plans.specs.Expressions.{plan, plan_arguments, plan_enumerators, plan_members, plan_parameters, plan_specifiers, plan_type, plan_value}
 use Rattle.dae_types_folding.specs.declared.value.Value.{Value}
 use Rattle.dae_types_folding.specs.Views.{view_value}
 use Rattle.dae_types_values.specs.Results.{one}
+
+-- ---- kinds of expressions in memory
+
+abbrev pub IsIndex : Expression → Type 0
+IsIndex e = (a : Box Expression Global) × (p : Place) × (b : Box Expression Global) × (e ≡ code.Index a p b)
+
+abbrev pub IsCall : Expression → Type 0
+IsCall e = (f : Box Expression Global) × (p : Place) × (xs : Vec Expression Global) × (e ≡ code.Call f p xs)
+
+abbrev pub IsBinary : Expression → Type 0
+IsBinary e = (a : Box Expression Global) × (p : Place) × (o : BinaryOperator) × (b : Box Expression Global) × (e ≡ code.Binary a p o b)
+
+abbrev pub IsConditional : Expression → Type 0
+IsConditional e = (a : Box Expression Global) × (p : Place) × (b : Box Expression Global) × (c : Box Expression Global) × (e ≡ code.Conditional a p b c)
+
+abbrev pub IsAssignment : Expression → Type 0
+IsAssignment e = (a : Box Expression Global) × (p : Place) × (o : AssignmentOperator) × (b : Box Expression Global) × (e ≡ code.Assignment a p o b)
+
+abbrev pub IsComma : Expression → Type 0
+IsComma e = (a : Box Expression Global) × (b : Box Expression Global) × (e ≡ code.Comma a b)
+
+-- ---- expressions with one operand
+
+abbrev pub plan_member : Expression → MemberOperator → Name → Plan Typed
+plan_member a o n = access_at (place_of (view a)) o n (plan (view a))
+
+abbrev pub plan_postfix : Expression → PostfixOperator → Plan Typed
+plan_postfix a o = postfix_at (place_of (view a)) o (plan (view a))
 
 -- ---- expressions, behind values that are done
 

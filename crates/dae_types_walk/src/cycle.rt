@@ -2,11 +2,13 @@
 
 ghost use Rattle.std.specs.Prelude.{◌≡◌};
 ghost use Rattle.dae_tree.specs.Trees.{Prefix, SizeofExpression};
+ghost use Rattle.dae_tree.specs.declared.operators.MemberOperator.TheVariants as signs;
+ghost use Rattle.dae_tree.specs.declared.operators.PostfixOperator.TheVariants as postfix;
 ghost use Rattle.dae_tree.specs.Views.{view, view_declarator, view_specifier, views_declarators, views_enumerators};
 ghost use Rattle.dae_types_plans.specs.Expressions.{plan, plan_component_list, plan_declarator, plan_enumerators, plan_specifier, plan_value};
 ghost use Rattle.dae_types_tables.specs.Seen.{Follows, FollowsBy};
 ghost use Rattle.dae_types_values.specs.Results.{GivesValue, one, views as views_of_arguments};
-ghost use Rattle.dae_types_walk.specs.Plans.{plan_all, plan_alone, plan_assignment, plan_base, plan_behind, plan_binary, plan_call, plan_cast, plan_conditional, plan_enumeration, plan_function, plan_layout, plan_no_call, plan_structure, plan_type_name, plan_types, view_pair};
+ghost use Rattle.dae_types_walk.specs.Plans.{IsAssignment, IsBinary, IsCall, IsComma, IsConditional, IsIndex, plan_all, plan_alone, plan_assignment, plan_base, plan_behind, plan_binary, plan_call, plan_cast, plan_conditional, plan_enumeration, plan_function, plan_layout, plan_member, plan_no_call, plan_postfix, plan_structure, plan_type_name, plan_types, view_pair};
 
 use crate::parts::{
     called_function, constant_value, declared_place, element_count, is_last, name_in,
@@ -22,9 +24,9 @@ use dae_types_kinds::{CheckError, Context, INT_ID, Layout, NO_PARAMETERS_ID, Nam
 use dae_types_tables::{Checker, broken};
 use std::alloc::Global;
 
-/// The typed tree of an expression, as an object where it is one.
+/// The typed tree of an expression, as an object where it is one. Each kind has a function of its
+/// own, so that a level of a nest takes no more of the stack than its kind needs.
 #[cycle(tree)]
-#[tactic(auto, using(crate::proofs::Steps::binary_follows, crate::proofs::Steps::binary_stops, crate::proofs::Steps::assignment_follows, crate::proofs::Steps::assignment_stops))]
 pub fn expression(alloc: Global, checker: &mut Checker, e: &Expression) -> Result<Value, CheckError>
     ensures { GivesValue checker.new result (plan (view e.now)) checker.old }
 {
@@ -33,34 +35,12 @@ pub fn expression(alloc: Global, checker: &mut Checker, e: &Expression) -> Resul
         Expression::Constant(_, constant) => Ok(dae_types_values::constant_number(*constant)),
         Expression::Literal(_, number) => dae_types_values::literal(checker, *number),
         Expression::Parenthesised(_, a) => expression(alloc, checker, a),
-        Expression::Index(a, _, b) => {
-            let x = operand(alloc, checker, a)?;
-            let (x, y) = pair(alloc, checker, x, b)?;
-            dae_types_operations::index(alloc, checker, a.place(), b.place(), x, y)
-        }
-        Expression::Call(callee, _, list) => match called_function(checker, callee) {
-            Some((name, function)) => { call(alloc, checker, callee.place(), name, function, list) }
-            None => {
-                let x = operand(alloc, checker, callee)?;
-                no_call(alloc, checker, callee.place(), x, list)
-            }
-        },
-        Expression::Member(a, _, MemberOperator::Dot, name) => {
-            let x = expression(alloc, checker, a)?;
-            dae_types_operations::member(alloc, checker, a.place(), MemberOperator::Dot, *name, x)
-        }
-        Expression::Member(a, _, MemberOperator::Arrow, name) => {
-            let x = operand(alloc, checker, a)?;
-            dae_types_operations::member(alloc, checker, a.place(), MemberOperator::Arrow, *name, x)
-        }
-        Expression::Postfix(a, _, PostfixOperator::Increment) => {
-            let x = expression(alloc, checker, a)?;
-            dae_types_operations::postfix(alloc, checker, a.place(), PostfixOperator::Increment, x)
-        }
-        Expression::Postfix(a, _, PostfixOperator::Decrement) => {
-            let x = expression(alloc, checker, a)?;
-            dae_types_operations::postfix(alloc, checker, a.place(), PostfixOperator::Decrement, x)
-        }
+        Expression::Index(_, _, _) => subscript(alloc, checker, e),
+        Expression::Call(_, _, _) => call_or_refuse(alloc, checker, e),
+        Expression::Member(a, _, MemberOperator::Dot, name) => dot(alloc, checker, a, *name),
+        Expression::Member(a, _, MemberOperator::Arrow, name) => arrow(alloc, checker, a, *name),
+        Expression::Postfix(a, _, PostfixOperator::Increment) => increment(alloc, checker, a),
+        Expression::Postfix(a, _, PostfixOperator::Decrement) => decrement(alloc, checker, a),
         Expression::Prefix(place, operator, a) => prefix(alloc, checker, *place, *operator, a),
         Expression::SizeofExpression(place, a) => sizeof(alloc, checker, *place, a),
         Expression::SizeofType(place, _, name) => {
@@ -71,25 +51,165 @@ pub fn expression(alloc: Global, checker: &mut Checker, e: &Expression) -> Resul
             let type_id = type_name(alloc, checker, name, *place)?;
             cast(alloc, checker, *place, type_id, a)
         }
+        Expression::Binary(_, _, _, _) => operation(alloc, checker, e),
+        Expression::Conditional(_, _, _, _) => choice(alloc, checker, e),
+        Expression::Assignment(_, _, _, _) => assign_to(alloc, checker, e),
+        Expression::Comma(_, _) => comma(alloc, checker, e),
+    }
+}
+
+/// A subscript, which is an operator between two values.
+#[cycle(tree)]
+#[inline(never)]
+fn subscript(alloc: Global, checker: &mut Checker, e: &Expression) -> Result<Value, CheckError>
+    requires { IsIndex e.now }
+    ensures { GivesValue checker.new result (plan (view e.now)) checker.old }
+{
+    match e {
+        Expression::Index(a, _, b) => {
+            let x = operand(alloc, checker, a)?;
+            let (x, y) = pair(alloc, checker, x, b)?;
+            dae_types_operations::index(alloc, checker, a.place(), b.place(), x, y)
+        }
+        _ => unreachable!(),
+    }
+}
+
+/// A call of a function by its name; a call of anything else is refused, behind its arguments.
+#[cycle(tree)]
+#[inline(never)]
+fn call_or_refuse(alloc: Global, checker: &mut Checker, e: &Expression) -> Result<Value, CheckError>
+    requires { IsCall e.now }
+    ensures { GivesValue checker.new result (plan (view e.now)) checker.old }
+{
+    match e {
+        Expression::Call(callee, _, list) => match called_function(checker, callee) {
+            Some((name, function)) => { call(alloc, checker, callee.place(), name, function, list) }
+            None => {
+                let x = operand(alloc, checker, callee)?;
+                no_call(alloc, checker, callee.place(), x, list)
+            }
+        },
+        _ => unreachable!(),
+    }
+}
+
+/// A member of a structure.
+#[cycle(tree)]
+#[inline(never)]
+fn dot(
+    alloc: Global,
+    checker: &mut Checker,
+    a: &Expression,
+    name: Name,
+) -> Result<Value, CheckError>
+    ensures { GivesValue checker.new result (plan_member a.now signs.Dot name) checker.old }
+{
+    let x = expression(alloc, checker, a)?;
+    dae_types_operations::member(alloc, checker, a.place(), MemberOperator::Dot, name, x)
+}
+
+/// A member of the structure that a pointer points to.
+#[cycle(tree)]
+#[inline(never)]
+fn arrow(
+    alloc: Global,
+    checker: &mut Checker,
+    a: &Expression,
+    name: Name,
+) -> Result<Value, CheckError>
+    ensures { GivesValue checker.new result (plan_member a.now signs.Arrow name) checker.old }
+{
+    let x = operand(alloc, checker, a)?;
+    dae_types_operations::member(alloc, checker, a.place(), MemberOperator::Arrow, name, x)
+}
+
+/// `++` behind an object.
+#[cycle(tree)]
+#[inline(never)]
+fn increment(alloc: Global, checker: &mut Checker, a: &Expression) -> Result<Value, CheckError>
+    ensures { GivesValue checker.new result (plan_postfix a.now postfix.Increment) checker.old }
+{
+    let x = expression(alloc, checker, a)?;
+    dae_types_operations::postfix(alloc, checker, a.place(), PostfixOperator::Increment, x)
+}
+
+/// `--` behind an object.
+#[cycle(tree)]
+#[inline(never)]
+fn decrement(alloc: Global, checker: &mut Checker, a: &Expression) -> Result<Value, CheckError>
+    ensures { GivesValue checker.new result (plan_postfix a.now postfix.Decrement) checker.old }
+{
+    let x = expression(alloc, checker, a)?;
+    dae_types_operations::postfix(alloc, checker, a.place(), PostfixOperator::Decrement, x)
+}
+
+/// An operator between two expressions.
+#[cycle(tree)]
+#[inline(never)]
+#[tactic(auto, using(crate::proofs::Steps::binary_follows, crate::proofs::Steps::binary_stops))]
+fn operation(alloc: Global, checker: &mut Checker, e: &Expression) -> Result<Value, CheckError>
+    requires { IsBinary e.now }
+    ensures { GivesValue checker.new result (plan (view e.now)) checker.old }
+{
+    match e {
         Expression::Binary(a, _, operator, b) => {
             let x = operand(alloc, checker, a)?;
             binary(alloc, checker, a.place(), *operator, x, b)
         }
+        _ => unreachable!(),
+    }
+}
+
+/// `?:` between three expressions.
+#[cycle(tree)]
+#[inline(never)]
+fn choice(alloc: Global, checker: &mut Checker, e: &Expression) -> Result<Value, CheckError>
+    requires { IsConditional e.now }
+    ensures { GivesValue checker.new result (plan (view e.now)) checker.old }
+{
+    match e {
         Expression::Conditional(a, _, b, c) => {
             let x = operand(alloc, checker, a)?;
             let x = dae_types_values::scalar(checker, a.place(), x)?;
             let (x, y) = pair(alloc, checker, x, b)?;
             conditional(alloc, checker, a.place(), x, y, c)
         }
+        _ => unreachable!(),
+    }
+}
+
+/// An assignment between two expressions.
+#[cycle(tree)]
+#[inline(never)]
+#[tactic(auto, using(crate::proofs::Steps::assignment_follows, crate::proofs::Steps::assignment_stops))]
+fn assign_to(alloc: Global, checker: &mut Checker, e: &Expression) -> Result<Value, CheckError>
+    requires { IsAssignment e.now }
+    ensures { GivesValue checker.new result (plan (view e.now)) checker.old }
+{
+    match e {
         Expression::Assignment(a, _, operator, b) => {
             let x = expression(alloc, checker, a)?;
             assignment(alloc, checker, a.place(), *operator, x, b)
         }
+        _ => unreachable!(),
+    }
+}
+
+/// A comma between two expressions.
+#[cycle(tree)]
+#[inline(never)]
+fn comma(alloc: Global, checker: &mut Checker, e: &Expression) -> Result<Value, CheckError>
+    requires { IsComma e.now }
+    ensures { GivesValue checker.new result (plan (view e.now)) checker.old }
+{
+    match e {
         Expression::Comma(a, b) => {
             let x = operand(alloc, checker, a)?;
             let (x, y) = pair(alloc, checker, x, b)?;
             dae_types_operations::comma(alloc, checker, x, y)
         }
+        _ => unreachable!(),
     }
 }
 

@@ -22,15 +22,15 @@ pub call-returns : goal.call-returns
 call-returns t c =
     call_done c.call.result c.args.place c.args.name c.args.function c.args.list.now (tables c.args.checker.now) (tables c.begin_call.new.checker) (tables c.arguments.new.checker) (views c.in_ok-arguments.arguments) c.in_ok-begin_call.ensures c.in_ok-arguments.ensures c.call.ensures
 
-pub expression-returns-in-Some : goal.expression-returns-in-Some
-expression-returns-in-Some t c =
+pub call_or_refuse-returns-in-Some : goal.call_or_refuse-returns-in-Some
+call_or_refuse-returns-in-Some t c =
     let w = c.in-Call in
-    call_found _ _ _ w.callee w.field-1 w.list c.deref-in-Some-2.result.now c.deref-in-Call.result.now c.deref-in-Some.result.now c.place-in-Some.result (c.in-Some.name, c.in-Some.function) (tables c.args.checker.now) w.is c.deref-in-Some-2.ensures.value c.deref-in-Call.ensures c.deref-in-Some.ensures c.place-in-Some.ensures (search rules) c.call.ensures
+    call_found _ _ _ w.callee w.field-1 w.list c.deref-in-Some-2.result.now c.deref.result.now c.deref-in-Some.result.now c.place.result (c.in-Some.name, c.in-Some.function) (tables c.args.checker.now) w.is c.deref-in-Some-2.ensures.value c.deref.ensures c.deref-in-Some.ensures c.place.ensures (search rules) c.call.ensures
 
-pub expression-returns-in_ok-x-in-None : goal.expression-returns-in_ok-x-in-None
-expression-returns-in_ok-x-in-None t c =
+pub call_or_refuse-returns-in_ok-x-in-None : goal.call_or_refuse-returns-in_ok-x-in-None
+call_or_refuse-returns-in_ok-x-in-None t c =
     let w = c.in-Call in
-    call_missed _ _ _ w.callee w.field-1 w.list c.deref-in-None-3.result.now c.deref-in-Call.result.now (tables c.args.checker.now) w.is c.deref-in-None-3.ensures.value c.deref-in-Call.ensures (search rules)
+    call_missed _ _ _ w.callee w.field-1 w.list c.deref-in-None-3.result.now c.deref.result.now (tables c.args.checker.now) w.is c.deref-in-None-3.ensures.value c.deref.ensures (search rules)
     (called_then _ _ w.callee.value c.deref-in-None.result.now c.deref-in-None-2.result.now c.place-in-None.result c.deref-in-None-3.result.now _ _ c.deref-in-None.ensures c.deref-in-None-2.ensures c.place-in-None.ensures c.in_ok-x-in-None.ensures c.no_call.ensures)
 
 pub expression-returns-in_ok-type_id-in-SizeofType : goal.expression-returns-in_ok-type_id-in-SizeofType
