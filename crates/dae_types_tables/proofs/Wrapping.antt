@@ -1,92 +1,125 @@
--- One layer more round a composite, and composites of what is no layer.
-use Rattle.std.proofs.Common.{arith, ◌≡◌, ◌<◌, ◌-◌, ℕ, zero, suc, List, [], ◌∷◌, ◌++◌, Option, Some, None, Result, Ok, Err, refl, ap, sym, ◌∙◌}
+-- What a layer wants makes the composite that it stands for, and less is left behind it.
+use Rattle.std.proofs.Common.{arith, ◌≡◌, ◌<◌, ◌+◌, ℕ, zero, suc, List, [], ◌∷◌, ◌++◌, Option, Some, None, Result, Ok, Err, refl, ap, sym, ◌∙◌}
 use Rattle.std.specs.Option.{option_or}
 use Rattle.dae_types_kinds.specs.declared.rules.Breach.{Breach}
 use Rattle.dae_types_kinds.specs.declared.types.Shape.{Shape}
 use Rattle.dae_types_kinds.specs.declared.types.Shape.TheVariants as shape
 use Rattle.dae_types_kinds.specs.Tables.{Tables}
-use Rattle.dae_types_kinds.specs.Types.{composite_shape, composite_within, either_count, made, shape_of}
+use Rattle.dae_types_kinds.specs.Types.{composite_shape, composite_within, either_count, made, make_array, shape_of}
+use Rattle.dae_types_tables.specs.declared.sameness.Pair.{Pair}
 use Rattle.dae_types_tables.specs.declared.sameness.Layer.{Layer}
 use Rattle.dae_types_tables.specs.declared.sameness.Layer.TheVariants as layer
-use Rattle.dae_types_tables.specs.Layers.{make_layer, wrapped}
+use Rattle.dae_types_tables.specs.declared.sameness.Want.{Want}
+use Rattle.dae_types_tables.specs.declared.sameness.Want.TheVariants as want
+use Rattle.dae_types_tables.specs.Layers.{composite_of, make_layer, want_of, want_of_pair, want_of_shapes, wrapped}
 
 pub wrap_inside : (ls : List Layer) (l : Layer) (x : Tables × ℕ) → wrapped (ls ++ l ∷ []) x ≡ wrapped ls (make_layer l x)
 wrap_inside [] l x = refl
 wrap_inside (m ∷ ls) l x = ap (make_layer m) (wrap_inside ls l x)
 
--- ---- what a call leaves and gives, where it doesn't fail
+-- ---- what is made is the layer
 
-abbrev Yields : Tables × ℕ → Tables × ℕ → Type 0
-Yields x y = (let answer : Result (Tables × ℕ) Breach = Ok x in answer ≡ Ok y)
-
-abbrev or_answer : Tables × ℕ → Result (Tables × ℕ) Breach → Tables × ℕ
-or_answer x (Ok y) = y
-or_answer x (Err e) = x
-
-is_answer : (x y : Tables × ℕ) → Yields x y → x ≡ y
-is_answer x y h = ap (or_answer x) h
-
-pub one_layer : (ls : List Layer) (l : Layer) (x y answer : Tables × ℕ) → Yields (make_layer l x) y → wrapped (ls ++ l ∷ []) x ≡ answer → wrapped ls y ≡ answer
-one_layer ls l x y answer made before =
-    ap (wrapped ls) (sym (is_answer (make_layer l x) y made)) ∙ sym (wrap_inside ls l x) ∙ before
-
--- ---- a composite by the shapes of two types, with layers round it
-
-by_shapes : (k : ℕ) (s : Tables) (m n : ℕ) (x y : Shape) → 0 < k → x ≡ shape_of s m → y ≡ shape_of s n → composite_shape (composite_within (k - 1)) s m x y ≡ composite_within k s m n
-by_shapes zero s m n x y h p q = absurd (omega (arith, h))
-by_shapes (suc k) s m n x y h p q =
-    let e : suc k - 1 ≡ k = omega arith in
-    rw (e, p, q) refl
-
-pub wrapped_by_shapes : (k : ℕ) (s : Tables) (ls : List Layer) (m n : ℕ) (x y : Shape) (inner answer : Tables × ℕ) → 0 < k → x ≡ shape_of s m → y ≡ shape_of s n → composite_shape (composite_within (k - 1)) s m x y ≡ inner → wrapped ls (composite_within k s m n) ≡ answer → wrapped ls inner ≡ answer
-wrapped_by_shapes k s ls m n x y inner answer h p q is before =
-    ap (wrapped ls) (sym is ∙ by_shapes k s m n x y h p q) ∙ before
-
-pub pointer_inside : (k : ℕ) (s : Tables) (ls : List Layer) (m n one other : ℕ) (answer : Tables × ℕ) → 0 < k → shape.Pointer one ≡ shape_of s m → shape.Pointer other ≡ shape_of s n → wrapped ls (composite_within k s m n) ≡ answer → wrapped (ls ++ layer.Pointer ∷ []) (composite_within (k - 1) s one other) ≡ answer
-pointer_inside k s ls m n one other answer h p q before =
-    wrap_inside ls layer.Pointer (composite_within (k - 1) s one other)
-    ∙ wrapped_by_shapes k s ls m n (shape.Pointer one) (shape.Pointer other) _ answer h p q refl before
+abbrev made_by : Want → Tables → Tables × ℕ
+made_by (want.Parts l p) s = make_layer l (composite_of p s)
+made_by (want.Shape x) s = made x s
+made_by (want.Type n) s = (s, n)
 
 either_is_first : (count size : Option ℕ) → option_or count size ≡ either_count count size
 either_is_first None size = refl
 either_is_first (Some count) size = refl
 
-pub array_inside : (k : ℕ) (s : Tables) (ls : List Layer) (m n one other : ℕ) (count size both : Option ℕ) (answer : Tables × ℕ) → 0 < k → shape.Array one count ≡ shape_of s m → shape.Array other size ≡ shape_of s n → both ≡ option_or count size → wrapped ls (composite_within k s m n) ≡ answer → wrapped (ls ++ layer.Array both ∷ []) (composite_within (k - 1) s one other) ≡ answer
-array_inside k s ls m n one other count size both answer h p q is before =
-    rw (is ∙ either_is_first count size) (wrap_inside ls (layer.Array (either_count count size)) (composite_within (k - 1) s one other)
-    ∙ wrapped_by_shapes k s ls m n (shape.Array one count) (shape.Array other size) _ answer h p q refl before)
+shapes_make : (k : ℕ) (s : Tables) (m : ℕ) (x y : Shape) → made_by (want_of_shapes k m x y) s ≡ composite_shape (composite_within k) s m x y
+shapes_make k s m (shape.Pointer a) (shape.Pointer b) = refl
+shapes_make k s m (shape.Array a c) (shape.Array b d) = ap (λ (count : Option ℕ). make_array count (composite_within k s a b)) (either_is_first c d)
+shapes_make k s m (shape.Function r ps) (shape.Function t qs) = refl
+shapes_make k s m (shape.Parameter ps a) (shape.Parameter qs b) = refl
+shapes_make k s m x y = refl
 
--- ---- two parts, the second in the tables that the first one leaves
+pair_makes : (k : ℕ) (s : Tables) (m n : ℕ) → made_by (want_of_pair k s m n) s ≡ composite_within k s m n
+pair_makes zero s m n = refl
+pair_makes (suc k) s m n = shapes_make k s m (shape_of s m) (shape_of s n)
 
-pub function_by_parts : (f : Tables → ℕ → ℕ → Tables × ℕ) (s : Tables) (m one first other second : ℕ) (a b c : Tables × ℕ) → Yields (f s one other) a → Yields (f a.0 first second) b → Yields (made (shape.Function a.1 b.1) b.0) c → composite_shape f s m (shape.Function one first) (shape.Function other second) ≡ c
-function_by_parts f s m one first other second a b c p q r =
-    rw (is_answer (f s one other) a p, is_answer (f a.0 first second) b q) (is_answer _ c r)
+want_makes : (s : Tables) (last : ℕ) (l : Layer) → made_by (want_of s last l) s ≡ make_layer l (s, last)
+want_makes s last (layer.Composite p) = pair_makes p.depth s p.left p.right
+want_makes s last layer.Pointer = refl
+want_makes s last (layer.Array count) = refl
+want_makes s last (layer.FunctionWith p) = refl
+want_makes s last (layer.Function r) = refl
+want_makes s last (layer.ParameterWith p) = refl
+want_makes s last (layer.Parameter ps) = refl
 
-pub parameter_by_parts : (f : Tables → ℕ → ℕ → Tables × ℕ) (s : Tables) (m one first other second : ℕ) (a b c : Tables × ℕ) → Yields (f s first second) a → Yields (f a.0 one other) b → Yields (made (shape.Parameter a.1 b.1) b.0) c → composite_shape f s m (shape.Parameter first one) (shape.Parameter second other) ≡ c
-parameter_by_parts f s m one first other second a b c p q r =
-    rw (is_answer (f s first second) a p, is_answer (f a.0 one other) b q) (is_answer _ c r)
+-- what was to be made before, behind what the last of the layers wants
+wanted : (ls : List Layer) (l : Layer) (s : Tables) (last : ℕ) (w : Want) (answer : Tables × ℕ) → w ≡ want_of s last l → wrapped (ls ++ l ∷ []) (s, last) ≡ answer → wrapped ls (made_by w s) ≡ answer
+wanted ls l s last w answer is before =
+    ap (λ (v : Want). wrapped ls (made_by v s)) is ∙ ap (wrapped ls) (want_makes s last l) ∙ sym (wrap_inside ls l (s, last)) ∙ before
 
--- ---- shapes that have no parts in common
+pub parts_wanted : (ls : List Layer) (l outer : Layer) (first : Pair) (s : Tables) (last : ℕ) (answer : Tables × ℕ) → want.Parts outer first ≡ want_of s last l → wrapped (ls ++ l ∷ []) (s, last) ≡ answer → wrapped ((ls ++ outer ∷ []) ++ layer.Composite first ∷ []) (s, last) ≡ answer
+parts_wanted ls l outer first s last answer is before =
+    wrap_inside (ls ++ outer ∷ []) (layer.Composite first) (s, last) ∙ wrap_inside ls outer (composite_of first s) ∙ wanted ls l s last (want.Parts outer first) answer is before
 
-pub pointer_alone : (f : Tables → ℕ → ℕ → Tables × ℕ) (s : Tables) (m one : ℕ) (y : Shape) → ((n : ℕ) → y ≡ shape.Pointer n → ⊥) → composite_shape f s m (shape.Pointer one) y ≡ (s, m)
-pointer_alone f s m one (shape.Pointer n) h = absurd (h n refl)
-pointer_alone f s m one y h = refl
+abbrev or_answer : Tables × ℕ → Result (Tables × ℕ) Breach → Tables × ℕ
+or_answer x (Ok y) = y
+or_answer x (Err e) = x
 
-pub array_alone : (f : Tables → ℕ → ℕ → Tables × ℕ) (s : Tables) (m one : ℕ) (count : Option ℕ) (y : Shape) → ((n : ℕ) (size : Option ℕ) → y ≡ shape.Array n size → ⊥) → composite_shape f s m (shape.Array one count) y ≡ (s, m)
-array_alone f s m one count (shape.Array n size) h = absurd (h n size refl)
-array_alone f s m one count y h = refl
+pub shape_wanted : (ls : List Layer) (l : Layer) (x : Shape) (s : Tables) (last : ℕ) (y answer : Tables × ℕ) → want.Shape x ≡ want_of s last l → (let new : Result (Tables × ℕ) Breach = Ok (made x s) in new ≡ Ok y) → wrapped (ls ++ l ∷ []) (s, last) ≡ answer → wrapped ls y ≡ answer
+shape_wanted ls l x s last y answer is made before =
+    ap (λ (r : Result (Tables × ℕ) Breach). wrapped ls (or_answer y r)) (sym made) ∙ wanted ls l s last (want.Shape x) answer is before
 
-pub function_alone : (f : Tables → ℕ → ℕ → Tables × ℕ) (s : Tables) (m one first : ℕ) (y : Shape) → ((n ps : ℕ) → y ≡ shape.Function n ps → ⊥) → composite_shape f s m (shape.Function one first) y ≡ (s, m)
-function_alone f s m one first (shape.Function n ps) h = absurd (h n ps refl)
-function_alone f s m one first y h = refl
+pub type_wanted : (ls : List Layer) (l : Layer) (id : ℕ) (s : Tables) (last : ℕ) (answer : Tables × ℕ) → want.Type id ≡ want_of s last l → wrapped (ls ++ l ∷ []) (s, last) ≡ answer → wrapped ls (s, id) ≡ answer
+type_wanted ls l id s last answer is before = wanted ls l s last (want.Type id) answer is before
 
-pub parameter_alone : (f : Tables → ℕ → ℕ → Tables × ℕ) (s : Tables) (m first one : ℕ) (y : Shape) → ((ps n : ℕ) → y ≡ shape.Parameter ps n → ⊥) → composite_shape f s m (shape.Parameter first one) y ≡ (s, m)
-parameter_alone f s m first one (shape.Parameter ps n) h = absurd (h ps n refl)
-parameter_alone f s m first one y h = refl
+-- ---- how many layers it takes at most
 
-pub no_parts : (f : Tables → ℕ → ℕ → Tables × ℕ) (s : Tables) (m : ℕ) (x y : Shape) → ((n : ℕ) → x ≡ shape.Pointer n → ⊥) → ((n : ℕ) (size : Option ℕ) → x ≡ shape.Array n size → ⊥) → ((n ps : ℕ) → x ≡ shape.Function n ps → ⊥) → ((ps n : ℕ) → x ≡ shape.Parameter ps n → ⊥) → composite_shape f s m x y ≡ (s, m)
-no_parts f s m (shape.Pointer n) y p a g l = absurd (p n refl)
-no_parts f s m (shape.Array n size) y p a g l = absurd (a n size refl)
-no_parts f s m (shape.Function n ps) y p a g l = absurd (g n ps refl)
-no_parts f s m (shape.Parameter ps n) y p a g l = absurd (l ps n refl)
-no_parts f s m x y p a g l = refl
+abbrev cost : ℕ → ℕ
+cost zero = 1
+cost (suc k) = 3 + cost k + cost k
+
+abbrev layer_weight : Layer → ℕ
+layer_weight (layer.Composite p) = cost p.depth
+layer_weight (layer.FunctionWith p) = 2 + cost p.depth
+layer_weight (layer.ParameterWith p) = 2 + cost p.depth
+layer_weight l = 1
+
+abbrev pub weight : List Layer → ℕ
+weight [] = 0
+weight (l ∷ ls) = layer_weight l + weight ls
+
+weight_with : (ls : List Layer) (l : Layer) → weight (ls ++ l ∷ []) ≡ weight ls + layer_weight l
+weight_with [] l = omega arith
+weight_with (m ∷ ls) l = omega (arith, weight_with ls l)
+
+abbrev want_weight : Want → ℕ
+want_weight (want.Parts l p) = layer_weight l + cost p.depth
+want_weight (want.Shape x) = 0
+want_weight (want.Type n) = 0
+
+shapes_lighter : (k m : ℕ) (x y : Shape) → want_weight (want_of_shapes k m x y) < 3 + cost k + cost k
+shapes_lighter k m (shape.Pointer a) (shape.Pointer b) = omega arith
+shapes_lighter k m (shape.Array a c) (shape.Array b d) = omega arith
+shapes_lighter k m (shape.Function r ps) (shape.Function t qs) = omega arith
+shapes_lighter k m (shape.Parameter ps a) (shape.Parameter qs b) = omega arith
+shapes_lighter k m x y = omega arith
+
+pair_lighter : (k : ℕ) (s : Tables) (m n : ℕ) → want_weight (want_of_pair k s m n) < cost k
+pair_lighter zero s m n = omega arith
+pair_lighter (suc k) s m n = shapes_lighter k m (shape_of s m) (shape_of s n)
+
+lighter : (s : Tables) (last : ℕ) (l : Layer) → want_weight (want_of s last l) < layer_weight l
+lighter s last (layer.Composite p) = pair_lighter p.depth s p.left p.right
+lighter s last layer.Pointer = omega arith
+lighter s last (layer.Array count) = omega arith
+lighter s last (layer.FunctionWith p) = omega arith
+lighter s last (layer.Function r) = omega arith
+lighter s last (layer.ParameterWith p) = omega arith
+lighter s last (layer.Parameter ps) = omega arith
+
+want_lighter : (ls : List Layer) (l : Layer) (s : Tables) (last : ℕ) (w : Want) → w ≡ want_of s last l → weight ls + want_weight w < weight (ls ++ l ∷ [])
+want_lighter ls l s last w is =
+    rw (is, weight_with ls l) (omega (arith, lighter s last l))
+
+pub parts_lighter : (ls : List Layer) (l outer : Layer) (first : Pair) (s : Tables) (last : ℕ) → want.Parts outer first ≡ want_of s last l → weight ((ls ++ outer ∷ []) ++ layer.Composite first ∷ []) < weight (ls ++ l ∷ [])
+parts_lighter ls l outer first s last is =
+    omega (arith, want_lighter ls l s last (want.Parts outer first) is, weight_with (ls ++ outer ∷ []) (layer.Composite first), weight_with ls outer)
+
+pub one_lighter : (ls : List Layer) (l : Layer) (s : Tables) (last : ℕ) → weight ls < weight (ls ++ l ∷ [])
+one_lighter ls l s last = omega (arith, lighter s last l, weight_with ls l)

@@ -1,19 +1,62 @@
 // The same type within one file, and the composite of two same types (C90 6.1.2.6).
 
 ghost use Rattle.std.specs.Prelude.{◌≡◌, Ok};
-ghost use Rattle.dae_types_kinds.specs.Types.{same, same_within, counts_agree, composite, composite_within};
+ghost use Rattle.dae_types_kinds.specs.Types.{same, same_within, counts_agree, composite};
 ghost use Rattle.dae_types_rules.specs.Plan.{Gives};
-ghost use Rattle.dae_types_tables.specs.Layers.{layer_shape, wrapped};
+ghost use Rattle.dae_types_tables.specs.Layers.{want_of, want_of_pair};
+ghost use Rattle.dae_types_tables.specs.Questions.{question_of};
 ghost use Rattle.dae_types_tables.specs.Seen.{tables, LeavesAnd};
 
 use crate::Checker;
 use dae_types_kinds::{CheckError, Shape};
 
-/// What stands round a type: a pointer to it, or an array of it.
+/// Two types of at most so many shapes within one another.
+#[derive(Clone, Copy)]
+struct Pair {
+    depth: usize,
+    left: usize,
+    right: usize,
+}
+
+/// What is still to be made of a composite, round the type that was made last.
 #[derive(Clone, Copy)]
 enum Layer {
+    /// The composite of two types; what was made last is not needed.
+    Composite(Pair),
+    /// A pointer to what was made last.
     Pointer,
+    /// An array of what was made last.
     Array(Option<u32>),
+    /// A function that gives what was made last, with the composite of these parameters.
+    FunctionWith(Pair),
+    /// A function that gives this type, with the parameters that were made last.
+    Function(usize),
+    /// The parameters that were made last, and behind them one of the composite of these types.
+    ParameterWith(Pair),
+    /// These parameters, and behind them one of the type that was made last.
+    Parameter(usize),
+}
+
+/// What a layer wants made.
+#[derive(Clone, Copy)]
+enum Want {
+    /// First the composite of two types, and then this layer round it.
+    Parts(Layer, Pair),
+    /// A new type of this shape.
+    Shape(Shape),
+    /// This type.
+    Type(usize),
+}
+
+/// When two types are the same, by their shapes.
+#[derive(Clone, Copy)]
+enum Question {
+    /// They are, or they aren't.
+    Settled(bool),
+    /// Where these two types are the same.
+    One(usize, usize),
+    /// Where the first two types are the same, and the last two are.
+    Both(usize, usize, usize, usize),
 }
 
 impl Checker {
@@ -25,110 +68,138 @@ impl Checker {
         self.same_within(self.shapes.len(), left, right)
     }
 
-    /// Whether two types of at most so many shapes within one another are the same.
-    fn same_within(&self, depth: usize, left: usize, right: usize) -> bool
+    /// Whether two types of at most so many shapes within one another are the same. Pointers, arrays
+    /// and the parameters before the last are gone through in turn, so that the stack grows with how
+    /// deep lists of parameters stand in one another, and not with how many parameters there are.
+    fn same_within(&self, depth: usize, mut left: usize, mut right: usize) -> bool
         ensures { result ≡ same_within depth (tables self.now) left right }
     {
-        if depth == 0 {
-            return false;
+        let mut inner = depth;
+        while inner > 0 {
+            inner -= 1;
+            match question_of(self.shape_of(left), self.shape_of(right)) {
+                Question::Settled(same) => return same,
+                Question::One(one, other) => {
+                    left = one;
+                    right = other;
+                }
+                Question::Both(one, other, first, second) => {
+                    if !self.same_within(inner, first, second) {
+                        return false;
+                    }
+                    left = one;
+                    right = other;
+                }
+            }
         }
-        let inner = depth - 1;
-        match (self.shape_of(left), self.shape_of(right)) {
-            (Shape::Void, Shape::Void) => true,
-            (Shape::Char, Shape::Char) => true,
-            (Shape::SignedChar, Shape::SignedChar) => true,
-            (Shape::UnsignedChar, Shape::UnsignedChar) => true,
-            (Shape::Short, Shape::Short) => true,
-            (Shape::UnsignedShort, Shape::UnsignedShort) => true,
-            (Shape::Int, Shape::Int) => true,
-            (Shape::Unsigned, Shape::Unsigned) => true,
-            (Shape::NoParameters, Shape::NoParameters) => true,
-            (Shape::Struct(one), Shape::Struct(other)) => one == other,
-            (Shape::Pointer(one), Shape::Pointer(other)) => self.same_within(inner, one, other),
-            (Shape::Array(one, count), Shape::Array(other, size)) => {
-                do_counts_agree(count, size) && self.same_within(inner, one, other)
-            }
-            (Shape::Function(one, first), Shape::Function(other, second)) => {
-                self.same_within(inner, one, other) && self.same_within(inner, first, second)
-            }
-            (Shape::Parameter(first, one), Shape::Parameter(second, other)) => {
-                self.same_within(inner, first, second) && self.same_within(inner, one, other)
-            }
-            _ => false,
-        }
+        false
     }
 
-    /// The composite of two same types: each array has the size that one of them has.
+    /// The composite of two same types: each array has the size that one of them has. A list of
+    /// what is still to be made stands in for calls within calls, so that the stack is the same for
+    /// all types.
     #[tactic(auto, unfolding(dae_types_kinds::specs::Types::composite))]
     pub fn composite(&mut self, left: usize, right: usize) -> Result<usize, CheckError>
         ensures { LeavesAnd self.new result (composite (tables self.old) left right) }
     {
         let depth = self.shapes.len();
-        self.composite_within(depth, left, right)
-    }
-
-    /// The composite of two same types of at most so many shapes within one another. Pointers and arrays are gone through
-    /// from the outermost to the innermost and back, so that only functions and lists of parameters call again.
-    fn composite_within(
-        &mut self,
-        depth: usize,
-        mut left: usize,
-        mut right: usize,
-    ) -> Result<usize, CheckError>
-        ensures { LeavesAnd self.new result (composite_within depth (tables self.old) left right) }
-    {
         let mut layers = Vec::new(*self.shapes.allocator());
-        let mut inner = depth;
-        while inner > 0 {
-            inner -= 1;
-            match (self.shape_of(left), self.shape_of(right)) {
-                (Shape::Pointer(one), Shape::Pointer(other)) => {
-                    layers.push(Layer::Pointer)?;
-                    left = one;
-                    right = other;
+        layers.push(Layer::Composite(Pair { depth, left, right }))?;
+        let mut last = left;
+        while let Some(layer) = layers.pop() {
+            match self.want_of(layer, last) {
+                Want::Parts(outer, first) => {
+                    layers.push(outer)?;
+                    layers.push(Layer::Composite(first))?;
                 }
-                (Shape::Array(one, count), Shape::Array(other, size)) => {
-                    layers.push(Layer::Array(count.or(size)))?;
-                    left = one;
-                    right = other;
-                }
-                (Shape::Function(one, first), Shape::Function(other, second)) => {
-                    let result = self.composite_within(inner, one, other)?;
-                    let parameters = self.composite_within(inner, first, second)?;
-                    let id = self.make(Shape::Function(result, parameters))?;
-                    return self.wrap(layers, id);
-                }
-                (Shape::Parameter(first, one), Shape::Parameter(second, other)) => {
-                    let before = self.composite_within(inner, first, second)?;
-                    let last = self.composite_within(inner, one, other)?;
-                    let id = self.make(Shape::Parameter(before, last))?;
-                    return self.wrap(layers, id);
-                }
-                _ => return self.wrap(layers, left),
+                Want::Shape(shape) => last = self.make(shape)?,
+                Want::Type(id) => last = id,
             }
         }
-        self.wrap(layers, left)
+        Ok(last)
     }
 
-    /// Makes pointers and arrays round a type, the innermost first, and gives the outermost.
-    fn wrap(&mut self, mut layers: Vec<Layer>, id: usize) -> Result<usize, CheckError>
-        ensures { LeavesAnd self.new result (wrapped layers.items (tables self.old, id)) }
+    /// What a layer round the type that was made last wants.
+    fn want_of(&self, layer: Layer, last: usize) -> Want
+        ensures { result ≡ want_of (tables self.now) last layer }
     {
-        let mut within = id;
-        while let Some(layer) = layers.pop() {
-            within = self.make(layer_shape(layer, within))?;
+        match layer {
+            Layer::Composite(pair) => self.want_of_pair(pair.depth, pair.left, pair.right),
+            Layer::Pointer => Want::Shape(Shape::Pointer(last)),
+            Layer::Array(count) => Want::Shape(Shape::Array(last, count)),
+            Layer::FunctionWith(parameters) => Want::Parts(Layer::Function(last), parameters),
+            Layer::Function(result) => Want::Shape(Shape::Function(result, last)),
+            Layer::ParameterWith(one) => Want::Parts(Layer::Parameter(last), one),
+            Layer::Parameter(before) => Want::Shape(Shape::Parameter(before, last)),
         }
-        Ok(within)
+    }
+
+    /// What the composite of two types of at most so many shapes within one another wants.
+    fn want_of_pair(&self, depth: usize, left: usize, right: usize) -> Want
+        ensures { result ≡ want_of_pair depth (tables self.now) left right }
+    {
+        if depth == 0 {
+            return Want::Type(left);
+        }
+        let depth = depth - 1;
+        match (self.shape_of(left), self.shape_of(right)) {
+            (Shape::Pointer(left), Shape::Pointer(right)) => {
+                Want::Parts(Layer::Pointer, Pair { depth, left, right })
+            }
+            (Shape::Array(left, count), Shape::Array(right, size)) => {
+                Want::Parts(Layer::Array(count.or(size)), Pair { depth, left, right })
+            }
+            (Shape::Function(one, left), Shape::Function(other, right)) => {
+                let result = Pair {
+                    depth,
+                    left: one,
+                    right: other,
+                };
+                Want::Parts(Layer::FunctionWith(Pair { depth, left, right }), result)
+            }
+            (Shape::Parameter(one, left), Shape::Parameter(other, right)) => {
+                let before = Pair {
+                    depth,
+                    left: one,
+                    right: other,
+                };
+                Want::Parts(Layer::ParameterWith(Pair { depth, left, right }), before)
+            }
+            _ => Want::Type(left),
+        }
     }
 }
 
-/// The shape of a pointer to a type, or of an array of it.
-fn layer_shape(layer: Layer, id: usize) -> Shape
-    ensures { result ≡ layer_shape layer id }
+/// When types of two shapes are the same.
+fn question_of(shape: Shape, other: Shape) -> Question
+    ensures { result ≡ question_of shape other }
 {
-    match layer {
-        Layer::Pointer => Shape::Pointer(id),
-        Layer::Array(count) => Shape::Array(id, count),
+    match (shape, other) {
+        (Shape::Void, Shape::Void) => Question::Settled(true),
+        (Shape::Char, Shape::Char) => Question::Settled(true),
+        (Shape::SignedChar, Shape::SignedChar) => Question::Settled(true),
+        (Shape::UnsignedChar, Shape::UnsignedChar) => Question::Settled(true),
+        (Shape::Short, Shape::Short) => Question::Settled(true),
+        (Shape::UnsignedShort, Shape::UnsignedShort) => Question::Settled(true),
+        (Shape::Int, Shape::Int) => Question::Settled(true),
+        (Shape::Unsigned, Shape::Unsigned) => Question::Settled(true),
+        (Shape::NoParameters, Shape::NoParameters) => Question::Settled(true),
+        (Shape::Struct(one), Shape::Struct(other)) => Question::Settled(one == other),
+        (Shape::Pointer(one), Shape::Pointer(other)) => Question::One(one, other),
+        (Shape::Array(one, count), Shape::Array(other, size)) => {
+            if do_counts_agree(count, size) {
+                Question::One(one, other)
+            } else {
+                Question::Settled(false)
+            }
+        }
+        (Shape::Function(one, first), Shape::Function(other, second)) => {
+            Question::Both(one, other, first, second)
+        }
+        (Shape::Parameter(first, one), Shape::Parameter(second, other)) => {
+            Question::Both(first, second, one, other)
+        }
+        _ => Question::Settled(false),
     }
 }
 
