@@ -4,8 +4,8 @@
 Calls PROGRAM at the edges, where stress.py goes by chance; with --every only at each N-th of them. The kinds (all without a word):
 
     nests       some 330 kinds of nesting, each as deep as it is accepted, and once deeper: that is refused `too-deep`
-    types       six kinds of types that are made of one another by tags and names, or of parameters, as deep as the tokens of a job or
-                the largest object let them be; two of these are compared across two files
+    types       eight kinds of types that are made of one another by tags and names, or of parameters, as deep as the tokens of a job or
+                the largest object let them be; four of these are compared across two files, where two differ
     limits      a text, a file, a job or a word at each limit, with the note that is due, and one beyond, which is refused by its name
     images      each prefix of three images, and each with one byte changed in three ways, by exec and dis: a prefix is no image
     traces      each prefix of three traces, and each with one byte changed in three ways, by check
@@ -68,12 +68,22 @@ def types():
         "parameters": 2 * f"int f({','.join(['int'] * 16_000)});",
     }
     names = ",".join(f"v{it}" for it in range(8_000))
+    within = lambda base: chain(f"struct s0{{{base} x;}};", lambda it: f"struct s{it}{{struct s{it - 1} x;}};", 1_800)
+    each = "".join(f"extern struct s{it} v{it};" for it in range(1_800))
     shared = {
-        "structures in two files": chain("struct s0{int x;};", lambda it: f"struct s{it}{{struct s{it - 1} x;}};", 1_800) + f"extern struct s1799 {names};",
+        "structures in two files": within("int") + f"extern struct s1799 {names};",
         # of the greatest size, and of 67,108,864 parts
         "twice the same structure in two files": chain("struct s0{char x;};", lambda it: f"struct s{it}{{struct s{it - 1} x;struct s{it - 1} y;}};", 27) + "extern struct s26 v;",
     }
-    return [(name, [text + MAIN]) for name, text in texts.items()] + [(name, [text, text + MAIN]) for name, text in shared.items()]
+    apart = {
+        "structures that differ at their bottom": f"extern struct s1799 {names};",
+        "structures of which each differs at its bottom": each,
+    }
+    return (
+        [(name, [text + MAIN]) for name, text in texts.items()]
+        + [(name, [text, text + MAIN]) for name, text in shared.items()]
+        + [(name, [within("int") + text, within("unsigned") + text + MAIN]) for name, text in apart.items()]
+    )
 
 
 def texts_at(count):

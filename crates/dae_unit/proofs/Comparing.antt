@@ -1,10 +1,11 @@
 -- What is the same within so many levels is so within more, what is noted of couples is so, and comparing comes to an end.
-use Rattle.std.proofs.Common.{◌≡◌, ℕ, zero, suc, ◌+◌, ◌*◌, ◌-◌, ◌≤◌, ◌<◌, Bool, true, false, ◌&&◌, ◌||◌, cond, List, [], ◌∷◌, ◌++◌, length, max, Option, Some, None, is_some, refl, sym, ap, subst, ◌∙◌, slice_get, arith}
+use Rattle.std.proofs.Common.{◌≡◌, ℕ, zero, suc, ◌+◌, ◌*◌, ◌-◌, ◌≤◌, ◌<◌, Bool, true, false, ◌&&◌, ◌||◌, cond, List, [], ◌∷◌, ◌++◌, length, max, Option, Some, None, is_some, refl, sym, ap, subst, ◌∙◌, slice_get, arith, append_assoc}
 use Rattle.std.proofs.Math.Nat.{mul-le-mul_right}
 use Rattle.std.proofs.lemmas.Bool.{false≢true, and_parts, and_from}
 use Rattle.std.proofs.lemmas.Bool.Decides.{nat_tests}
 use Rattle.std.proofs.lemmas.List.Folds.{list_all-append}
 use Rattle.std.specs.Bool.{beq}
+use Rattle.std.specs.List.{AllByRecursion}
 use Rattle.std.specs.Map.{lookup}
 use Rattle.std.specs.Prelude.{nat_eq}
 use Rattle.std.specs.Str.{bytes_eq}
@@ -20,7 +21,9 @@ use Rattle.dae_unit.specs.declared.couples.Goal.{Goal}
 use Rattle.dae_unit.specs.declared.couples.Task.{Task}
 use Rattle.dae_unit.specs.declared.couples.Task.TheVariants.{Compare, Note}
 use Rattle.dae_unit.specs.Across.{same_tag, tag_of, same_members, same_bodies, same_structure, shape_across, same_within_files}
-use Rattle.dae_unit.specs.Couples.{shape_in, agree_within, all_agree, same_couple, AreKnown, depth_of, goals_at, holds, all_hold, cost, weight}
+use Rattle.dae_unit.specs.declared.couples.Verdict.{Verdict}
+use Rattle.dae_unit.specs.declared.couples.Verdict.TheVariants.{Same, Other}
+use Rattle.dae_unit.specs.Couples.{shape_in, agree_within, all_agree, AreOther, Needs, IsSo, same_couple, AreKnown, levels_of, depth_of, goals_at, holds, all_hold, cost, weight}
 
 -- ---- tests
 
@@ -36,7 +39,7 @@ pub plain_last : (a p s : Bool) → p ≡ s → (p && a) ≡ (a && s)
 plain_last true p s h = and_unit p ∙ h
 plain_last false p s h = and_false p
 
-pub known_moved : (f g : FileParts) (old new : List (Couple × ℕ)) → old ≡ new → AreKnown f g old → AreKnown f g new
+pub known_moved : (f g : FileParts) (old new : List (Couple × Verdict)) → old ≡ new → AreKnown f g old → AreKnown f g new
 known_moved f g old new h all = subst (λ z. AreKnown f g z) h all
 
 -- ---- more levels
@@ -105,34 +108,40 @@ couples_same c d h =
     let right : c.right ≡ d.right = grind (arith, nat_tests, e.1) in
     λ i. record { structures = structures i; behind = behind i; left = left i; right = right i }
 
-known_further : (known : List (Couple × ℕ)) (k j : ℕ) (cs : List Couple) → depth_of known k cs ≡ Some j → k ≤ j
+known_further : (known : List (Couple × Verdict)) (k j : ℕ) (cs : List Couple) → depth_of known k cs ≡ Some j → k ≤ j
 known_further known k j [] h = let e : k ≡ j = cc in omega arith
-known_further known k j (c ∷ cs) h = by (lookup (same_couple c) known) (λ i e. known_further known (max k i) j cs e) h
+known_further known k j (c ∷ cs) h = by (levels_of (lookup (same_couple c) known)) (λ i e. known_further known (max k i) j cs e) h
   where
     by : (o : Option ℕ) → ((i : ℕ) → depth_of known (max k i) cs ≡ Some j → max k i ≤ j) → (elim o [ None ↦ None | Some i ↦ depth_of known (max k i) cs ]) ≡ Some j → k ≤ j
     by None rest e = absurd cc
     by (Some i) rest e = let most = rest i e in omega arith
 
-pub known_agree : (f g : FileParts) (known : List (Couple × ℕ)) → AreKnown f g known → (k j : ℕ) (cs : List Couple) → depth_of known k cs ≡ Some j → all_agree j f g cs ≡ true
+levels_known : (o : Option Verdict) (k : ℕ) → levels_of o ≡ Some k → o ≡ Some (Same k)
+levels_known None k h = absurd cc
+levels_known (Some Other) k h = absurd cc
+levels_known (Some (Same j)) k h = let e : j ≡ k = cc in ap (λ i. Some (Same i)) e
+
+pub known_agree : (f g : FileParts) (known : List (Couple × Verdict)) → AreKnown f g known → (k j : ℕ) (cs : List Couple) → depth_of known k cs ≡ Some j → all_agree j f g cs ≡ true
 known_agree f g known all k j [] h = refl
-known_agree f g known all k j (c ∷ cs) h = by (lookup (same_couple c) known) refl (λ i e. known_agree f g known all (max k i) j cs e) h
+known_agree f g known all k j (c ∷ cs) h = by (levels_of (lookup (same_couple c) known)) refl (λ i e. known_agree f g known all (max k i) j cs e) h
   where
-    by : (o : Option ℕ) → lookup (same_couple c) known ≡ o → ((i : ℕ) → depth_of known (max k i) cs ≡ Some j → all_agree j f g cs ≡ true) → (elim o [ None ↦ None | Some i ↦ depth_of known (max k i) cs ]) ≡ Some j → (agree_within j f g c && all_agree j f g cs) ≡ true
+    by : (o : Option ℕ) → levels_of (lookup (same_couple c) known) ≡ o → ((i : ℕ) → depth_of known (max k i) cs ≡ Some j → all_agree j f g cs ≡ true) → (elim o [ None ↦ None | Some i ↦ depth_of known (max k i) cs ]) ≡ Some j → (agree_within j f g c && all_agree j f g cs) ≡ true
     by None is rest e = absurd cc
     by (Some i) is rest e =
         let least = known_further known (max k i) j cs e in
-        and_from (agree_within j f g c) (all_agree j f g cs) (agrees_further i j f g c (omega arith) (all c i is)) (rest i e)
+        let found = levels_known (lookup (same_couple c) known) i is in
+        and_from (agree_within j f g c) (all_agree j f g cs) (agrees_further i j f g c (omega arith) (all c (Same i) found)) (rest i e)
 
-pub noted : (f g : FileParts) (old new : List (Couple × ℕ)) (c : Couple) (k : ℕ) → agree_within k f g c ≡ true
-    → ((q : Couple) → lookup (same_couple q) new ≡ cond (same_couple c q) (Some k) (lookup (same_couple q) old)) → AreKnown f g old → AreKnown f g new
-noted f g old new c k holds put all q j found = by (same_couple c q) refl (sym (put q) ∙ found)
+pub noted : (f g : FileParts) (old new : List (Couple × Verdict)) (c : Couple) (v : Verdict) → IsSo f g c v
+    → ((q : Couple) → lookup (same_couple q) new ≡ cond (same_couple c q) (Some v) (lookup (same_couple q) old)) → AreKnown f g old → AreKnown f g new
+noted f g old new c v is_so put all q w found = by (same_couple c q) refl (sym (put q) ∙ found)
   where
-    by : (b : Bool) → same_couple c q ≡ b → cond b (Some k) (lookup (same_couple q) old) ≡ Some j → agree_within j f g q ≡ true
+    by : (b : Bool) → same_couple c q ≡ b → cond b (Some v) (lookup (same_couple q) old) ≡ Some w → IsSo f g q w
     by true is e =
         let one = couples_same c q is in
-        let level : k ≡ j = cc in
-        subst (λ z. agree_within j f g z ≡ true) one (subst (λ i. agree_within i f g c ≡ true) level holds)
-    by false is e = all q j e
+        let told : v ≡ w = cc in
+        subst (λ z. IsSo f g z w) one (subst (λ z. IsSo f g c z) told is_so)
+    by false is e = all q w e
 
 -- ---- tasks
 
@@ -166,9 +175,13 @@ parts_weigh n k c old cs few =
 
 -- ---- a couple is compared
 
+-- a couple that differs isn't the same within any levels
+pub never_holds : (f g : FileParts) (c : Couple) (d : ℕ) → AreOther f g c → (whole : Bool) → false ≡ (whole && agree_within d f g c)
+never_holds f g c d other whole = sym (ap (λ z. whole && z) (other d) ∙ and_false whole)
+
 -- it is known to be the same
-pub known_holds : (f g : FileParts) (known : List (Couple × ℕ)) → AreKnown f g known → (c : Couple) (k d : ℕ) → lookup (same_couple c) known ≡ Some k → k ≤ d → (whole : Bool) → whole ≡ (whole && agree_within d f g c)
-known_holds f g known all c k d at le whole = sym (ap (λ z. whole && z) (agrees_further k d f g c le (all c k at)) ∙ and_unit whole)
+pub known_holds : (f g : FileParts) (known : List (Couple × Verdict)) → AreKnown f g known → (c : Couple) (k d : ℕ) → lookup (same_couple c) known ≡ Some (Same k) → k ≤ d → (whole : Bool) → whole ≡ (whole && agree_within d f g c)
+known_holds f g known all c k d at le whole = sym (ap (λ z. whole && z) (agrees_further k d f g c le (all c (Same k) at)) ∙ and_unit whole)
 
 module _ (f g : FileParts) (c : Couple) (start cs : List Couple) (none : start ≡ []) (b : Bool) (same : (k : ℕ) → (b && all_agree k f g cs) ≡ (all_agree k f g start && agree_within (suc k) f g c)) where
   parts_tell : (d : ℕ) → (d ≡ 0 → ⊥) → (b && all_agree (d - 1) f g cs) ≡ agree_within d f g c
@@ -177,10 +190,29 @@ module _ (f g : FileParts) (c : Couple) (start cs : List Couple) (none : start �
       let e : suc k - 1 ≡ k = omega arith in
       rw e (same k ∙ ap (λ z. all_agree k f g z && agree_within (suc k) f g c) none)
 
+  next_level : (k : ℕ) → agree_within (suc k) f g c ≡ (b && all_agree k f g cs)
+  next_level k = sym (ap (λ z. all_agree k f g z && agree_within (suc k) f g c) none) ∙ sym (same k)
+
   -- it differs whatever its parts are
-  pub parts_differ : b ≡ false → (d : ℕ) → (d ≡ 0 → ⊥) → (whole : Bool) → false ≡ (whole && agree_within d f g c)
-  parts_differ fails d h whole =
-      sym (ap (λ z. whole && z) (sym (parts_tell d h) ∙ ap (λ z. z && all_agree (d - 1) f g cs) fails) ∙ and_false whole)
+  pub parts_differ : b ≡ false → AreOther f g c
+  parts_differ fails zero = refl
+  parts_differ fails (suc k) = next_level k ∙ ap (λ z. z && all_agree k f g cs) fails
+
+  -- it differs where a part does
+  pub parts_needed : (before parts : List Couple) → cs ≡ before ++ parts → AllByRecursion (λ p. Needs f g c p) parts
+  parts_needed before [] is = tt
+  parts_needed before (p ∷ parts) is = (λ other k. by other k, parts_needed (before ++ p ∷ []) parts (is ∙ sym (append_assoc before (p ∷ []) parts)))
+    where
+      by : AreOther f g p → (k : ℕ) → agree_within k f g c ≡ false
+      by other zero = refl
+      by other (suc k) =
+          let among : all_agree k f g cs ≡ false =
+          ap (all_agree k f g) is
+          ∙ list_all-append (agree_within k f g) before (p ∷ parts)
+          ∙ ap (λ z. all_agree k f g before && (z && all_agree k f g parts)) (other k)
+          ∙ and_false (all_agree k f g before)
+          in
+          next_level k ∙ ap (λ z. b && z) among ∙ and_false b
 
   -- it is the same if its parts are
   pub parts_decide : b ≡ true → (d : ℕ) → (d ≡ 0 → ⊥) → (old new : List Task) → new ≡ (old ++ Note c ∷ []) ++ goals_at (d - 1) cs → all_hold f g new ≡ (all_hold f g old && agree_within d f g c)
@@ -209,6 +241,10 @@ comparing_lessens n ys xs new x goal h is less =
     let all = last_weighs n xs ys x h in
     let one = ap (λ z. weight n (z ∷ [])) is in
     omega arith
+
+pub noting_holds : (f g : FileParts) (ys xs : List Task) (x : Task) (c : Couple) (whole : Bool) → ys ≡ xs ++ x ∷ [] → x ≡ Note c → all_hold f g ys ≡ whole → all_hold f g xs ≡ whole
+noting_holds f g ys xs x c whole h is e =
+    sym (ap (all_hold f g) (h ∙ ap (λ z. xs ++ z ∷ []) is) ∙ list_all-append (holds f g) xs (Note c ∷ []) ∙ and_unit (all_hold f g xs)) ∙ e
 
 pub noting_lessens : (n : ℕ) (ys xs : List Task) (x : Task) (c : Couple) → ys ≡ xs ++ x ∷ [] → x ≡ Note c → weight n xs < weight n ys
 noting_lessens n ys xs x c h is =

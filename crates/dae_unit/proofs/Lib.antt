@@ -1,6 +1,7 @@
 pub mod Behind
 mod Comparing
 pub mod Counted
+mod Enclosing
 mod Examples
 mod Finding
 mod Kept

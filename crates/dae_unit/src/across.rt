@@ -1,15 +1,16 @@
 // The same type in two files.
 
+ghost use Rattle.std.specs.List.{AllByRecursion};
 ghost use Rattle.std.specs.Prelude.{◌≡◌, ◌&&◌, ℕ, suc, ◌+◌, ◌<◌, ◌≤◌, ◌∷◌, ◌++◌, [], IfOk, MatchOption, OnOk, length, filter, option_copied, slice_get, is_some, false};
 ghost use Rattle.dae_types_kinds.specs.Types.{counts_agree, layout_of, shape_of};
 ghost use Rattle.dae_types_typed.specs.Sound.{bytes_of, is_member_of, members_of, tables_of};
 ghost use Rattle.dae_unit.specs.Across.{same_tag, tag_of, same_members, same_structure, same_plain, shape_across, same_within_files, same_across};
-ghost use Rattle.dae_unit.specs.Couples.{AreKnown, agree_within, all_agree, all_hold, cost, depth_of, goals_at, shape_in, weight};
+ghost use Rattle.dae_unit.specs.Couples.{AreEnclosed, AreKnown, IsFound, IsNotedOther, agree_within, all_agree, all_hold, cost, depth_of, goals_at, goes_on, shape_in, weight};
+ghost use Rattle.dae_unit.specs.declared.couples.Task.TheVariants.{Compare};
 
-use crate::couples::{Couple, Goal, Task};
+use crate::couples::{Compared, Couple, Goal, Task, Verdict, Verdicts};
 use dae_types_kinds::{Component, Shape};
 use dae_types_typed::FileParts;
-use indexmap::IndexMap;
 use std::alloc::{AllocError, Global};
 
 fn counts_agree(left: Option<u32>, right: Option<u32>) -> bool
@@ -291,45 +292,56 @@ fn compare(
     alloc: Global,
     f: &FileParts,
     g: &FileParts,
-    known: &IndexMap<Couple, usize>,
+    known: &Verdicts,
     tasks: &mut Vec<Task>,
     goal: Goal,
-) -> Result<bool, AllocError>
+) -> Result<Compared, AllocError>
     requires { AreKnown f.now g.now known.now.entries }
     ensures same { IfOk result
-        (λ agree. (agree && all_hold f.now g.now tasks.new.items)
+        (λ came. (goes_on came && all_hold f.now g.now tasks.new.items)
         ≡ (all_hold f.now g.now tasks.old.items
         && agree_within goal.depth f.now g.now goal.couple)) }
+    ensures found { IfOk result (λ came. IsFound f.now g.now goal.couple came) }
+    ensures kept { IfOk result
+        (λ came. goes_on came ≡ false → tasks.new.items ≡ tasks.old.items) }
+    ensures enclosed { OnOk result
+        (AreEnclosed f.now g.now (tasks.old.items ++ Compare goal ∷ [])
+        → AreEnclosed f.now g.now tasks.new.items) }
     ensures less { OnOk result
         (let most = length f.now.components + 2 in
         weight most tasks.new.items < weight most tasks.old.items + cost most goal.depth) }
 {
-    if let Some(enough) = known.get(&goal.couple) {
-        if *enough <= goal.depth {
-            return Ok(true);
+    if let Some(verdict) = known.get(&goal.couple) {
+        match *verdict {
+            Verdict::Other => return Ok(Compared::Differs),
+            Verdict::Same(enough) => {
+                if enough <= goal.depth {
+                    return Ok(Compared::Further);
+                }
+            }
         }
     }
     if goal.depth == 0 {
-        return Ok(false);
+        return Ok(Compared::TooDeep);
     }
     let mut parts = Vec::new(alloc);
     if !push_parts(f, g, goal.couple, &mut parts)? {
-        return Ok(false);
+        return Ok(Compared::Differs);
     }
     tasks.push(Task::Note(goal.couple))?;
     push_goals(tasks, parts.as_slice(), goal.depth - 1)?;
-    Ok(true)
+    Ok(Compared::Further)
 }
 
 /// The least number of levels within which each of these couples is known to be the same, where each is.
-fn depth_of(known: &IndexMap<Couple, usize>, couples: &[Couple]) -> Option<usize>
+fn depth_of(known: &Verdicts, couples: &[Couple]) -> Option<usize>
     ensures { result ≡ depth_of known.now.entries 0 couples.now }
 {
     let mut depth = 0;
     for couple in couples {
         match known.get(couple) {
-            Some(enough) => depth = depth.max(*enough),
-            None => return None,
+            Some(Verdict::Same(enough)) => depth = depth.max(*enough),
+            _ => return None,
         }
     }
     Some(depth)
@@ -340,7 +352,7 @@ fn note(
     alloc: Global,
     f: &FileParts,
     g: &FileParts,
-    known: &mut IndexMap<Couple, usize>,
+    known: &mut Verdicts,
     couple: Couple,
 ) -> Result<(), AllocError>
     requires { AreKnown f.now g.now known.old.entries }
@@ -352,7 +364,24 @@ fn note(
     }
     if let Some(depth) = depth_of(known, parts.as_slice()) {
         if depth < usize::MAX {
-            known.insert(couple, depth + 1)?;
+            known.insert(couple, Verdict::Same(depth + 1))?;
+        }
+    }
+    Ok(())
+}
+
+/// Notes that the types of the couples that were to be noted differ.
+fn note_differing(known: &mut Verdicts, tasks: &[Task]) -> Result<(), AllocError>
+    ensures { OnOk result
+        ((f g : FileParts) → AreKnown f g known.old.entries
+        → AllByRecursion (IsNotedOther f g) tasks.now → AreKnown f g known.new.entries) }
+{
+    for task in tasks {
+        match *task {
+            Task::Note(couple) => {
+                known.insert(couple, Verdict::Other)?;
+            }
+            Task::Compare(_) => {}
         }
     }
     Ok(())
@@ -365,7 +394,7 @@ pub fn same_across(
     alloc: Global,
     f: &FileParts,
     g: &FileParts,
-    known: &mut IndexMap<Couple, usize>,
+    known: &mut Verdicts,
     types: (usize, usize),
 ) -> Result<bool, AllocError>
     requires { AreKnown f.now g.now known.old.entries }
@@ -385,11 +414,15 @@ pub fn same_across(
     }))?;
     while let Some(task) = tasks.pop() {
         match task {
-            Task::Compare(goal) => {
-                if !compare(alloc, f, g, known, &mut tasks, goal)? {
+            Task::Compare(goal) => match compare(alloc, f, g, known, &mut tasks, goal)? {
+                Compared::Further => {}
+                Compared::Differs => {
+                    tasks.push(Task::Note(goal.couple))?;
+                    note_differing(known, tasks.as_slice())?;
                     return Ok(false);
                 }
-            }
+                Compared::TooDeep => return Ok(false),
+            },
             Task::Note(couple) => note(alloc, f, g, known, couple)?,
         }
     }

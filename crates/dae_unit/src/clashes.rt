@@ -15,7 +15,7 @@ ghost use Rattle.dae_unit.specs.declared.rows.FileRow.{FileRow};
 ghost use Rattle.dae_unit.specs.declared.errors.Clash.TheVariants.{Definitions, Types};
 
 use crate::across::same_across;
-use crate::couples::{Couple, KnownTypes};
+use crate::couples::{KnownTypes, Verdicts};
 use crate::errors::Clash;
 use crate::givers::{givers_of, is_given};
 use crate::identities::Identity;
@@ -51,7 +51,7 @@ pub fn type_in(parts: &FileParts, entity: Entity) -> usize
 }
 
 /// Takes what is known of the types of two files.
-fn take_known(alloc: Global, known: &mut KnownTypes, two: (usize, usize)) -> IndexMap<Couple, usize>
+fn take_known(alloc: Global, known: &mut KnownTypes, two: (usize, usize)) -> Verdicts
     ensures taken { result.entries ≡ entries_or_none (lookup (same_two two) known.old.entries) }
     ensures kept { (q : ℕ × ℕ)
         → lookup (same_two q) known.new.entries

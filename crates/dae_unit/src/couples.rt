@@ -1,4 +1,4 @@
-// Couples of a type of one file and a type of another.
+// Couples of a type of one file and a type of another, and what is known of them.
 
 use indexmap::IndexMap;
 
@@ -26,5 +26,24 @@ pub enum Task {
     Note(Couple),
 }
 
-/// For two files, by their numbers, couples of types that are the same, each with levels within which they are.
-pub type KnownTypes = IndexMap<(usize, usize), IndexMap<Couple, usize>>;
+/// What comes of a couple that is to be compared: what it is made of is compared further, if there is anything to compare; its
+/// types differ, however many levels are looked at; or there are no levels left.
+#[derive(Clone, Copy)]
+pub enum Compared {
+    Further,
+    Differs,
+    TooDeep,
+}
+
+/// What is known of a couple: its types are the same, as so many levels tell, or others.
+#[derive(Clone, Copy)]
+pub enum Verdict {
+    Same(usize),
+    Other,
+}
+
+/// What is known of couples.
+pub type Verdicts = IndexMap<Couple, Verdict>;
+
+/// What is known of the types of two files, by the files' numbers.
+pub type KnownTypes = IndexMap<(usize, usize), Verdicts>;
