@@ -423,15 +423,15 @@ module _ (h : Holders) (n : ℕ) (K C : Known) (r : Renaming) (l : ℕ) (held : 
     -- ---- the load's own variable is set first
 
     module _ (u : ℕ) (mine : h l ≡ Some u) where
-      abbrev C1 : Known
-      C1 = set C u None
+      abbrev cleared : Known
+      cleared = set C u None
 
       abbrev z : Base
       z = Variable u 1
 
-      kept1 : (xs : List Held) → AllTied h n K C r l xs → AllTied h n K C1 r l xs
-      kept1 [] a = tt
-      kept1 (y ∷ ys) a = (
+      kept_cleared : (xs : List Held) → AllTied h n K C r l xs → AllTied h n K cleared r l xs
+      kept_cleared [] a = tt
+      kept_cleared (y ∷ ys) a = (
         let i = a.0 in
             record {
               at = i.at;
@@ -439,7 +439,7 @@ module _ (h : Holders) (n : ℕ) (K C : Known) (r : Renaming) (l : ℕ) (held : 
               met = i.met;
               same = λ w e. rw (other w y.number e i.met) (i.same w e);
             },
-        kept1 ys a.1,
+        kept_cleared ys a.1,
       ) where
         other : (w i : ℕ) → h i ≡ Some w → i < l → nat_eq w u ≡ false
         other w i e met = by (nat_eq w u) refl where
@@ -447,8 +447,8 @@ module _ (h : Holders) (n : ℕ) (K C : Known) (r : Renaming) (l : ℕ) (held : 
           by true p = absurd (let q = apart i l u (subst (λ (c : ℕ). h i ≡ Some c) (eqb-true w u p) e) mine in omega (arith, q, met))
           by false p = refl
 
-      tied1 : Tied h n K C1 r l (suc l) held
-      tied1 = record {
+      tied_cleared : Tied h n K cleared r l (suc l) held
+      tied_cleared = record {
         value = λ w few. rw (below_other w u n few (own l u mine)) (tied.value w few);
         times = λ w few. rw (below_other w u n few (own l u mine)) (tied.times w few);
         fresh = λ i w e late. rw (other w i e late) (tied.fresh i w e (omega (arith, late)));
@@ -457,7 +457,7 @@ module _ (h : Holders) (n : ℕ) (K C : Known) (r : Renaming) (l : ℕ) (held : 
         injects = tied.injects;
         image = tied.image;
         old = tied.old;
-        kept = kept1 held tied.kept;
+        kept = kept_cleared held tied.kept;
       } where
         other : (w i : ℕ) → h i ≡ Some w → suc l ≤ i → nat_eq w u ≡ false
         other w i e late = by (nat_eq w u) refl where
@@ -474,17 +474,17 @@ module _ (h : Holders) (n : ℕ) (K C : Known) (r : Renaming) (l : ℕ) (held : 
       z_image : IsImage h n (timed K.times v) (suc l) z
       z_image = inr (l, omega arith, mine)
 
-      u_value : C1.value u ≡ record { base = z; offset = 0 }
+      u_value : cleared.value u ≡ record { base = z; offset = 0 }
       u_value = rw (eq_refl u, tied.fresh l u mine (omega arith)) refl
 
       z_here : extended r (next_base K v) z (next_base K v) ≡ z
       z_here = rw (same_base_refl (next_base K v)) refl
 
-      z_given : C1.value u ≡ renamed (extended r (next_base K v) z) (renewed K v)
+      z_given : cleared.value u ≡ renamed (extended r (next_base K v) z) (renewed K v)
       z_given = u_value ∙ ap (λ (b : Base). record { base = b; offset = 0 }) (sym z_here)
 
-      split : Next h n K (set K v None) (set C1 v (Some (C1.value u))) r (suc l) (suc l) held
-      split = set_tied h n K C1 r l (suc l) held tied1 own v small None (Some (C1.value u)) z (suc l) (omega arith) z_apart z_image z_given next_old
+      split : Next h n K (set K v None) (set cleared v (Some (cleared.value u))) r (suc l) (suc l) held
+      split = set_tied h n K cleared r l (suc l) held tied_cleared own v small None (Some (cleared.value u)) z (suc l) (omega arith) z_apart z_image z_given next_old
 
     set_here : (X : Known) (w : ℕ) (y : Option SymAddr) → (set X w y).value w ≡ given X w y
     set_here X w y = rw (eq_refl w) refl
@@ -498,8 +498,8 @@ module _ (h : Holders) (n : ℕ) (K C : Known) (r : Renaming) (l : ℕ) (held : 
         let t = s.tied in
         let same : u ≡ u' = some_is u u' (sym it ∙ e) in
         subst (λ (w : ℕ). (walked C v None (Some u)).value w ≡ renamed s.renaming (renewed K v)) same
-        (set_there (C1 u it) v u (Some ((C1 u it).value u)) (own_other v u n small (own l u it))
-        ∙ sym (set_here (C1 u it) v (Some ((C1 u it).value u)))
+        (set_there (cleared u it) v u (Some ((cleared u it).value u)) (own_other v u n small (own l u it))
+        ∙ sym (set_here (cleared u it) v (Some ((cleared u it).value u)))
         ∙ t.value v small
         ∙ ap (λ (a : SymAddr). renamed s.renaming a) (set_here K v None))
 

@@ -8,11 +8,8 @@ use Rattle.dae_image.specs.declared.Image.{Image}
 use Rattle.dae_ir.specs.Programs.{outcome, end_of}
 use Rattle.dae_ir.specs.Scope.{IsScoped}
 use Rattle.dae_ir.specs.declared.form.Ir.{Ir}
-use Rattle.dae_machine.specs.declared.Pick.{Pick}
-use Rattle.dae_machine.specs.Machine.{Setup, State, Runs}
 use Rattle.dae_machine.specs.Opened.{setup_of, opened}
 use Rattle.dae_machine.proofs.LawsOfRuns.{runs_deeper}
-use Rattle.dae_machine_rounds.specs.Order.{InOrder}
 use Rattle.dae_machine_runs.specs.Promises.{DoesForm}
 use Rattle.dae_meaning.specs.Results.{Result, Over, Going, Halted, Astray, world_of}
 use Rattle.dae_meaning.specs.Alike.{Alike, BothAt, BothOver, FirstStrays, IsFront}
@@ -28,6 +25,7 @@ use Rattle.dae_program.specs.declared.program.Program.{Program}
 use Rattle.dae_lower.specs.Keeping.{IsKept, FormKeeps, place_in}
 use Rattle.dae_lower_formed.specs.Formed.{IsLowered, FormsScoped}
 use Rattle.dae_compile_promise.specs.Promises.{IsLaterForm}
+use Rattle.dae_compile_promise.proofs.Laws.{OrdersRun}
 use Rattle.dae_compile_laws.specs.Going.{turns_of, PrintsInTime, GoesOnInTime, FormsGoOnInTime, ImagesGoOnInTime}
 use Rattle.dae_lower_formed.proofs.Laws.{memory_most, same_outcome}
 
@@ -40,10 +38,6 @@ front_below r q (Fewer w t f) = f
 going_below : (r q : Outcome ℕ) → IsBelow r q → program_end q ≡ Going → program_end r ≡ Going
 going_below r q (Same t) h = h
 going_below r q (Fewer w t f) h = refl
-
--- a run in canonical order is a run
-abbrev OrdersRun : Type 0
-OrdersRun = (setup : Setup) (s t : State) (ps : List Pick) → InOrder setup s ps t → Runs setup s ps t
 
 -- ---- where a form goes on, a later one goes on too, has printed as much, and has one item more for each load at most
 

@@ -59,7 +59,7 @@ main_body functions (x ∷ xs) h zero m =
 main_body functions (x ∷ xs) h (suc f) m = main_body functions xs h.1 f m
 
 -- a run in canonical order is a run
-abbrev OrdersRun : Type 0
+abbrev pub OrdersRun : Type 0
 OrdersRun = (setup : Setup) (s t : State) (ps : List Pick) → InOrder setup s ps t → Runs setup s ps t
 
 module _ (p : Program) (depth : ℕ) (old ir : Ir) (image : Image) (lowered : IsLowered p old) (later : IsLaterForm old ir) (calls : ir.calls ≡ suc depth) (content : image.content ≡ p.content) (done : DoesForm ir image 14) (scoped : IsScoped ir) (same : LaterFormsDoPrograms) (fair : NeverStrays) (as_run : OrdersRun) where

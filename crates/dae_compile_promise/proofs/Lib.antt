@@ -1,3 +1,4 @@
 mod Main
 mod Chain
 mod Later
+pub mod Laws

@@ -7,7 +7,8 @@ use Rattle.dae_types_kinds.specs.Tables.{Tables}
 use Rattle.dae_types_rules.specs.Sites.{Site}
 use Rattle.dae_types_rules.specs.Plan.{Plan, pure, node, maps, chain, ask_all, check_of}
 use Rattle.dae_types_plans.specs.Steps.{settles_name}
-use Rattle.dae_sizes.proofs.Within.{Grown, Got, Within, bind, all_asked}
+use Rattle.dae_void_laws.proofs.Laws.{bind, all_asked}
+use Rattle.dae_sizes.proofs.Within.{Grown, Got, Within}
 
 -- the tables have these literals, and After holds of them and of the value
 pub record Come {A : Type 0} (ls : List (List ℕ)) (After : Tables → A → Type 0) (x : Tables × A) : Type 0 where
@@ -33,7 +34,7 @@ module _ {ls : List (List ℕ)} where
   leads_node {A} {B} {Before} {Between} {After} {f} {g} {m} h step = record {
     leads = λ s e b.
         bind (check_of m s) (λ x. ask_all (f x.0 x.1) (Ok (g x.0 x.1))) (Come ls Between) (Come ls After) (h.leads s e b)
-        (λ x q. all_asked (f x.0 x.1) (Ok (g x.0 x.1)) (Come ls After) (step x.0 x.1 q.literals q.so));
+        (λ x q. all_asked (f x.0 x.1) (Ok (g x.0 x.1)) (Come ls After) (λ u. step x.0 x.1 q.literals q.so));
   }
 
   pub leads_chain : {A B : Type 0} {Before : Tables → Type 0} {Between : Tables → A → Type 0} {After : Tables → B → Type 0} {d : A} {m : Plan A} {l : A → Plan B} →

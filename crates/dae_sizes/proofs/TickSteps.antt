@@ -25,7 +25,8 @@ use Rattle.dae_types_rules.specs.Sites.{AtBranches}
 use Rattle.dae_types_rules.specs.Plan.{ask_all, check_of, both}
 use Rattle.dae_types_kinds.specs.Values.{conditional_as, starred, valued_by, negated, complemented, inverted, combined_as, subscripted, member_by, converted, comma}
 use Rattle.dae_sizes.specs.Written.{evaluated_of, ticks}
-use Rattle.dae_sizes.proofs.Within.{Grown, Got, Within, none, added, same, grows, grown_more, fewer, weaker, unmeasured, bind, node_stays, node_reads, maps_reads, asks_within, both_within, chain_within, nothing_within, looks_within}
+use Rattle.dae_void_laws.proofs.Laws.{bind}
+use Rattle.dae_sizes.proofs.Within.{Grown, Got, Within, none, added, same, grows, grown_more, fewer, weaker, unmeasured, node_stays, node_reads, maps_reads, asks_within, both_within, chain_within, nothing_within, looks_within}
 use Rattle.dae_sizes.proofs.Weighing.{Joins, joined_grown}
 use Rattle.dae_sizes.proofs.Steps.{unless_within, node_keeps, marked_name_grown, with_call_grown}
 use Rattle.dae_sizes.proofs.Ticks.{room_least, value_ticks, place_ticks, placed, list_ticks, ticks-append, valued_ticks, converted_ticks, valued_got, named_got, combined_ticks, subscripted_ticks, starred_ticks, negated_ticks, complemented_ticks, inverted_ticks, dot_ticks, arrow_ticks, assigned_ticks, updated_ticks, stepped_ticks, conditional_got, called_ticks}

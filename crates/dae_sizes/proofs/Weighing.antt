@@ -27,6 +27,7 @@ use Rattle.dae_types_kinds.specs.declared.tables.Storage.TheVariants as storage
 use Rattle.dae_types_kinds.specs.Tables.{Tables, with_shape, with_use, set_local, written_at}
 use Rattle.dae_types_kinds.specs.Types.{same as same_type, shape_of, is_void, is_integer, layout_at, composite, composite_shape, composite_within, int_id}
 use Rattle.dae_types_kinds.specs.Values.{Typed, plain, is_null, common, number, valued_by, local_type, stored_in, named, load_kind, read_by, valued, changes, changed, known_as, converted_by, converted, further, scaled, sum_of, difference_of, Deed, Operates, Compares, deed, Combination, Words, PointerFirst, PointerSecond, Distance, Pointers, combination, known_by, tree_by, address_tree, is_unsigned_for, type_for, operated, indexed, indexed_behind, indexed_back, distance, combined_as, subscripted, starred, marked, negated, complemented, inverted, known_not, member_value, member_in, member_by, known_further, target_of, assigned, updated_by, updated, stepped, joined_pointers, joined_shape, joined, conditional_by, conditional_as, either_category, known_if, known_branch, listed, first_of_list, call_tree, called, is_difference, library_of}
+use Rattle.dae_void_laws.proofs.Laws.{either_has}
 use Rattle.dae_sizes.specs.Weights.{if_checked, weight, weight_of_target, weight_of_all}
 use Rattle.dae_sizes.proofs.Within.{Grown, Got, same, stays, grows, grown_more}
 
@@ -100,27 +101,23 @@ abbrev pub Joins : Tables → Option (Tables × ℕ) → Type 0
 Joins s None = Unit {0}
 Joins s (Some t) = Grown 0 s t.0
 
-joins_if : (b : Bool) (s : Tables) (x y : Option (Tables × ℕ)) → Joins s x → Joins s y → Joins s (if b then x else y)
-joins_if true s x y h k = h
-joins_if false s x y h k = k
-
 joined_pointers_grown : (s : Tables) (y z m n : ℕ) → Joins s (joined_pointers s y z m n)
 joined_pointers_grown s y z m n =
     let second = if is_void (shape_of s n) then Some (s, z) else None in
     let first = if is_void (shape_of s m) then Some (s, y) else second in
-    joins_if (same_type s y z) s (Some (composite s y z)) first (composite_grown s y z)
-    (joins_if (is_void (shape_of s m)) s (Some (s, y)) second (stays 0) (joins_if (is_void (shape_of s n)) s (Some (s, z)) None (stays 0) tt))
+    either_has (Joins s) (same_type s y z) (Some (composite s y z)) first (composite_grown s y z)
+    (either_has (Joins s) (is_void (shape_of s m)) (Some (s, y)) second (stays 0) (either_has (Joins s) (is_void (shape_of s n)) (Some (s, z)) None (stays 0) tt))
 
 joined_shape_grown : (s : Tables) (y z : Typed) (t u : Shape) → Joins s (joined_shape s y z t u)
 joined_shape_grown s y z shape.Void shape.Void = stays 0
-joined_shape_grown s y z (shape.Struct m) (shape.Struct n) = joins_if (nat_eq m n) s (Some (s, y.type_id)) None (stays 0) tt
+joined_shape_grown s y z (shape.Struct m) (shape.Struct n) = either_has (Joins s) (nat_eq m n) (Some (s, y.type_id)) None (stays 0) tt
 joined_shape_grown s y z (shape.Pointer m) (shape.Pointer n) =
     let both = joined_pointers s y.type_id z.type_id m n in
     let second = if is_null s y then Some (s, z.type_id) else both in
-    joins_if (is_null s z) s (Some (s, y.type_id)) second (stays 0) (joins_if (is_null s y) s (Some (s, z.type_id)) both (stays 0) (joined_pointers_grown s y.type_id z.type_id m n))
-joined_shape_grown s y z (shape.Pointer m) u = joins_if (is_null s z) s (Some (s, y.type_id)) None (stays 0) tt
-joined_shape_grown s y z t (shape.Pointer n) = joins_if (is_null s y) s (Some (s, z.type_id)) None (stays 0) tt
-joined_shape_grown s y z t u = joins_if (is_integer t && is_integer u) s (Some (s, common t u)) None (stays 0) tt
+    either_has (Joins s) (is_null s z) (Some (s, y.type_id)) second (stays 0) (either_has (Joins s) (is_null s y) (Some (s, z.type_id)) both (stays 0) (joined_pointers_grown s y.type_id z.type_id m n))
+joined_shape_grown s y z (shape.Pointer m) u = either_has (Joins s) (is_null s z) (Some (s, y.type_id)) None (stays 0) tt
+joined_shape_grown s y z t (shape.Pointer n) = either_has (Joins s) (is_null s y) (Some (s, z.type_id)) None (stays 0) tt
+joined_shape_grown s y z t u = either_has (Joins s) (is_integer t && is_integer u) (Some (s, common t u)) None (stays 0) tt
 
 pub joined_grown : (s : Tables) (y z : Typed) → Joins s (joined s y z)
 unfolding joined

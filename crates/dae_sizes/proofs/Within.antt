@@ -1,13 +1,12 @@
 -- What holds of whatever a plan gives: where no rule is broken, tables keep their literals and storages and have few more locals, and what
 -- comes measures little. There is one lemma for each constructor of plans.
-use Rattle.std.proofs.Common.{◌≡◌, ℕ, ◌+◌, ◌≤◌, Bool, true, false, List, [], ◌∷◌, length, Option, Some, None, Result, Ok, Err, refl, ◌∙◌, arith}
+use Rattle.std.proofs.Common.{◌≡◌, ℕ, ◌+◌, ◌≤◌, List, length, Option, Some, None, Result, Ok, Err, refl, ◌∙◌, arith}
 use Rattle.std.specs.Prelude.{IfOk}
-use Rattle.dae_types_kinds.specs.declared.rules.Rule.{Rule}
 use Rattle.dae_types_kinds.specs.declared.rules.Breach.{Breach}
 use Rattle.dae_types_kinds.specs.Tables.{Tables, closed, opened, with_uses}
-use Rattle.dae_types_rules.specs.Sites.{Site, place}
-use Rattle.dae_types_rules.specs.Table.{breaks, asked}
-use Rattle.dae_types_rules.specs.Plan.{Plan, pure, both, node, maps, chain, ◌>>=◌, ask_in, ask_all, check_of}
+use Rattle.dae_types_rules.specs.Sites.{Site}
+use Rattle.dae_types_rules.specs.Plan.{Plan, pure, both, node, maps, chain, ◌>>=◌, ask_all, check_of}
+use Rattle.dae_void_laws.proofs.Laws.{bind, all_asked}
 use Rattle.dae_types_plans.specs.Steps.{looks, changes_to, ends, scoped, unused, settles_name}
 use Rattle.dae_tree.specs.declared.expressions.Name.{Name}
 
@@ -48,23 +47,6 @@ grown_more l g = record { literals = g.literals; locals = omega (arith, l, g.loc
 
 -- ---- the words of plans
 
-pub bind : {A B : Type 0} (r : Result A Breach) (f : A → Result B Breach) (P : A → Type 0) (Q : B → Type 0) → IfOk r P → ((x : A) → P x → IfOk (f x) Q) → IfOk (r >>= f) Q
-bind (Ok x) f P Q h k = k x h
-bind (Err e) f P Q h k = tt
-
-told : {A : Type 0} (b : Bool) (x : Rule) (s : Site) (r : Result A Breach) (Q : A → Type 0) → IfOk r Q → IfOk {T = A} (elim b [ true ↦ Err (record { rule = x; place = place s }) | false ↦ r ]) Q
-told true x s r Q h = tt
-told false x s r Q h = h
-
-one_asked : {A : Type 0} (rs : List Rule) (s : Site) (r : Result A Breach) (Q : A → Type 0) → IfOk r Q → IfOk (ask_in rs s r) Q
-one_asked [] s r Q h = h
-one_asked (x ∷ rs) s r Q h = told (breaks x s) x s (ask_in rs s r) Q (one_asked rs s r Q h)
-
-pub all_asked : {A : Type 0} (ss : List Site) (r : Result A Breach) (Q : A → Type 0) → IfOk r Q → IfOk (ask_all ss r) Q
-unfolding ask_all
-all_asked [] r Q h = h
-all_asked (s ∷ ss) r Q h = one_asked (asked s) s (ask_all ss r) Q (all_asked ss r Q h)
-
 pub weaker : {A : Type 0} {ls : List (List ℕ)} {μ : A → ℕ} {n w k v : ℕ} {m : Plan A} → n ≤ k → w ≤ v → Within ls μ n w m → Within ls μ k v m
 weaker {A} {ls} {μ} {n} {w} {k} {v} {m} l g h = record { comes = λ s e. by s (check_of m s) (h.comes s e) } where
   by : (s : Tables) (r : Result (Tables × A) Breach) → IfOk r (Got μ n w s) → IfOk r (Got μ k v s)
@@ -93,7 +75,7 @@ pure_within x l = record { comes = λ s e. record { grown = stays 0; small = l }
 -- the step after a part
 pub node_within : {A B : Type 0} {ls : List (List ℕ)} {μ : A → ℕ} {ν : B → ℕ} {n k w v : ℕ} {f : Tables → A → List Site} {g : Tables → A → Tables × B} {m : Plan A} →
     Within ls μ n w m → ((s : Tables) (x : A) → s.literals ≡ ls → μ x ≤ w → Got ν k v s (g s x)) → Within ls ν (n + k) v (node f g m)
-node_within {A} {B} {ls} {μ} {ν} {n} {k} {w} {v} {f} {g} {m} h step = record { comes = λ s e. bind (check_of m s) (λ x. ask_all (f x.0 x.1) (Ok (g x.0 x.1))) (Got μ n w s) (Got ν (n + k) v s) (h.comes s e) (λ x q. all_asked (f x.0 x.1) (Ok (g x.0 x.1)) (Got ν (n + k) v s) (by s e x q)) } where
+node_within {A} {B} {ls} {μ} {ν} {n} {k} {w} {v} {f} {g} {m} h step = record { comes = λ s e. bind (check_of m s) (λ x. ask_all (f x.0 x.1) (Ok (g x.0 x.1))) (Got μ n w s) (Got ν (n + k) v s) (h.comes s e) (λ x q. all_asked (f x.0 x.1) (Ok (g x.0 x.1)) (Got ν (n + k) v s) (λ u. by s e x q)) } where
   by : (s : Tables) → s.literals ≡ ls → (x : Tables × A) → Got μ n w s x → Got ν (n + k) v s (g x.0 x.1)
   by s e x q =
       let z = step x.0 x.1 (q.grown.literals ∙ e) q.small in

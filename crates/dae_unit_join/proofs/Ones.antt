@@ -64,15 +64,16 @@ name_at files k f e h = let go : Option FileParts → Option (List ℕ) = λ o. 
 abbrev pub AreRelated : (f g : FileParts) (x y : Entity) → Type 0
 AreRelated f g x y = ((f ≡ g) × (x ≡ y)) ⊎ ((same_across f g (type_in f x) (type_in g y) ≡ true) ⊎ (same_across g f (type_in g y) (type_in f x) ≡ true))
 
+-- where not both fail, and the first does, the second holds
+pub then_second : (b c : Bool) → b ≡ false → (not b && not c) ≡ false → c ≡ true
+then_second true c e h = absurd cc
+then_second false true e h = refl
+then_second false false e h = absurd cc
+
 no_clash : (files : List FileParts) (x y : FileRow) (f g : FileParts) → slice_get files x.file ≡ Some f → slice_get files y.file ≡ Some g → same_name (name_of files x) (name_of files y) ≡ true → x.file ≢ y.file → clashes files Types x y ≡ false → same_across f g (type_in f (entity_of x)) (type_in g (entity_of y)) ≡ true
 unfolding clashes
 no_clash files x y f g p q name other h = by (slice_get files x.file) (slice_get files y.file) p q (same_name (name_of files x) (name_of files y)) name h
   where
-    last : (b c : Bool) → b ≡ false → (not b && not c) ≡ false → c ≡ true
-    last true c e h = absurd cc
-    last false true e h = refl
-    last false false e h = absurd cc
-
     by : (o u : Option FileParts) → o ≡ Some f → u ≡ Some g → (b : Bool) → b ≡ true → (b && (not (nat_eq x.file y.file) && not (same_types o u (entity_of x) (entity_of y)))) ≡ false → same_across f g (type_in f (entity_of x)) (type_in g (entity_of y)) ≡ true
     by None u p q b e h = absurd cc
     by (Some a) None p q b e h = absurd cc
@@ -81,7 +82,7 @@ no_clash files x y f g p q name other h = by (slice_get files x.file) (slice_get
         let first : a ≡ f = cc in
         let second : b ≡ g = cc in
         let apart' : nat_eq x.file y.file ≡ false = grind (arith, nat_tests, other) in
-        let found : same_across a b (type_in a (entity_of x)) (type_in b (entity_of y)) ≡ true = last (nat_eq x.file y.file) (same_across a b (type_in a (entity_of x)) (type_in b (entity_of y))) apart' h in
+        let found : same_across a b (type_in a (entity_of x)) (type_in b (entity_of y)) ≡ true = then_second (nat_eq x.file y.file) (same_across a b (type_in a (entity_of x)) (type_in b (entity_of y))) apart' h in
         subst (λ z. same_across z g (type_in z (entity_of x)) (type_in g (entity_of y)) ≡ true) first (subst (λ z. same_across a z (type_in a (entity_of x)) (type_in z (entity_of y)) ≡ true) second found)
 
 pub related : (files : List FileParts) → first_clash files Types (rows_of files) ≡ None → (x y : FileRow) (f g : FileParts) → slice_get files x.file ≡ Some f → slice_get files y.file ≡ Some g → IsSound f → Among x (rows_of files) → Among y (rows_of files) → is_one files x.file (entity_of x) y.file (entity_of y) ≡ true → AreRelated f g (entity_of x) (entity_of y)

@@ -1,5 +1,5 @@
 -- What a file uses is declared in it, and some declaration gives it room or a body.
-use Rattle.std.proofs.Common.{◌≡◌, ℕ, zero, suc, ◌+◌, Bool, true, false, ◌&&◌, List, [], ◌∷◌, Option, Some, None, refl, sym, ap, subst, ◌∙◌, arith}
+use Rattle.std.proofs.Common.{◌≡◌, ℕ, zero, suc, ◌+◌, true, false, List, [], ◌∷◌, Option, Some, None, refl, sym, ap, subst, ◌∙◌, arith}
 use Rattle.std.proofs.lemmas.Bool.{and_parts, not-true}
 use Rattle.std.specs.Prelude.{slice_get, find, not}
 use Rattle.std.specs.List.{list_any}
@@ -16,7 +16,7 @@ use Rattle.dae_unit.specs.Clashes.{first_clash, first_missing, is_missing, is_li
 use Rattle.dae_unit.proofs.LawsOfEntities.{entities_same}
 use Rattle.dae_unit_join.proofs.Among.{Among, any_among, all_among}
 use Rattle.dae_unit_join.proofs.Rows.{row, IsRow, has_row, none_found}
-use Rattle.dae_unit_join.proofs.Ones.{AreRelated, related, kinds_alike}
+use Rattle.dae_unit_join.proofs.Ones.{AreRelated, related, kinds_alike, then_second}
 
 -- ---- declared
 
@@ -58,12 +58,8 @@ missing_from files rows k (g ∷ gs) i f none h = by (find (is_missing files row
 
 is_given : (files : List FileParts) (rows : List FileRow) (k : ℕ) (u : Use) (f : FileParts) → slice_get files k ≡ Some f → is_library_in (Some f) u.entity ≡ false → is_missing files rows k u ≡ false → list_any (gives files k u.entity) rows ≡ true
 unfolding is_missing
-is_given files rows k u f h library none = by (is_library_in (slice_get files k) u.entity) (list_any (gives files k u.entity) rows) (ap (λ o. is_library_in o u.entity) h ∙ library) none
-  where
-    by : (b c : Bool) → b ≡ false → (not b && not c) ≡ false → c ≡ true
-    by true c e h = absurd cc
-    by false true e h = refl
-    by false false e h = absurd cc
+is_given files rows k u f h library none =
+    then_second (is_library_in (slice_get files k) u.entity) (list_any (gives files k u.entity) rows) (ap (λ o. is_library_in o u.entity) h ∙ library) none
 
 -- a declaration that gives what a file uses
 pub record IsGiven (files : List FileParts) (k : ℕ) (e : Entity) : Type 0 where

@@ -5,7 +5,7 @@ use Rattle.std.proofs.Common.{◌≡◌, ℕ, zero, suc, ◌≤◌, ◌<◌, Boo
 use Rattle.std.proofs.lemmas.List.{reverse-append}
 use Rattle.std.proofs.lemmas.Option.{slice_get_within}
 use Rattle.std.specs.List.{AllByRecursion, find}
-use Rattle.std.specs.Prelude.{IfOk, cond, slice_get}
+use Rattle.std.specs.Prelude.{IfOk, cond, slice_get, if◌then◌else◌}
 use Rattle.dae_base.proofs.Laws.{all_join}
 use Rattle.dae_tree.specs.declared.expressions.Name.{Name}
 use Rattle.dae_types_kinds.specs.declared.rules.Breach.{Breach}
@@ -29,15 +29,11 @@ use Rattle.dae_types_plans.specs.Steps.{looks, changes_to, ends, scoped, unused,
 
 -- ---- lists
 
-all_take : {X : Type 0} (P : X → Type 0) (n : ℕ) (xs : List X) → AllByRecursion P xs → AllByRecursion P (take n xs)
-all_take P zero xs h = tt
-all_take P (suc n) [] h = tt
-all_take P (suc n) (x ∷ xs) h = (h.0, all_take P n xs h.1)
-
-all_drop : {X : Type 0} (P : X → Type 0) (n : ℕ) (xs : List X) → AllByRecursion P xs → AllByRecursion P (drop n xs)
-all_drop P zero xs h = h
-all_drop P (suc n) [] h = tt
-all_drop P (suc n) (x ∷ xs) h = all_drop P n xs h.1
+-- both what is taken and what is left
+all_parted : {X : Type 0} (P : X → Type 0) (n : ℕ) (xs : List X) → AllByRecursion P xs → AllByRecursion P (take n xs) × AllByRecursion P (drop n xs)
+all_parted P zero xs h = (tt, h)
+all_parted P (suc n) [] h = (tt, tt)
+all_parted P (suc n) (x ∷ xs) h = let rest = all_parted P n xs h.1 in ((h.0, rest.0), rest.1)
 
 pub all_written : {X : Type 0} (P : X → Type 0) (n : ℕ) (x : X) (xs : List X) → P x → AllByRecursion P xs → AllByRecursion P (written_at n x xs)
 all_written P n x [] p h = tt
@@ -47,6 +43,11 @@ all_written P (suc n) x (y ∷ ys) p h = (h.0, all_written P n x ys p h.1)
 pub all_more : {X : Type 0} (P Q : X → Type 0) → ((x : X) → P x → Q x) → (xs : List X) → AllByRecursion P xs → AllByRecursion Q xs
 all_more P Q k [] h = tt
 all_more P Q k (x ∷ xs) h = (k x h.0, all_more P Q k xs h.1)
+
+-- what two answers of a test both have
+pub either_has : {X : Type 0} (P : X → Type 0) (b : Bool) (x y : X) → P x → P y → P (if b then x else y)
+either_has P true x y h k = h
+either_has P false x y h k = k
 
 -- what an element that is there has
 abbrev pub IfThere : {X : Type 0} → (X → Type 0) → Option X → Type 0
@@ -178,7 +179,7 @@ abbrev pub AreUnbroken : List Site → Type 0
 AreUnbroken [] = Unit {0}
 AreUnbroken (s ∷ ss) = IsUnbroken s (asked s) × AreUnbroken ss
 
-bind : {A B : Type 0} (r : Result A Breach) (f : A → Result B Breach) (P : A → Type 0) (Q : B → Type 0) → IfOk r P → ((x : A) → P x → IfOk (f x) Q) → IfOk (r >>= f) Q
+pub bind : {A B : Type 0} (r : Result A Breach) (f : A → Result B Breach) (P : A → Type 0) (Q : B → Type 0) → IfOk r P → ((x : A) → P x → IfOk (f x) Q) → IfOk (r >>= f) Q
 bind (Ok x) f P Q h k = k x h
 bind (Err e) f P Q h k = tt
 
@@ -190,7 +191,7 @@ one_asked : {A : Type 0} (rs : List Rule) (s : Site) (r : Result A Breach) (Q : 
 one_asked [] s r Q h = h tt
 one_asked (x ∷ rs) s r Q h = told (breaks x s) x s (ask_in rs s r) Q (λ e. one_asked rs s r Q (λ u. h (e, u)))
 
-all_asked : {A : Type 0} (ss : List Site) (r : Result A Breach) (Q : A → Type 0) → (AreUnbroken ss → IfOk r Q) → IfOk (ask_all ss r) Q
+pub all_asked : {A : Type 0} (ss : List Site) (r : Result A Breach) (Q : A → Type 0) → (AreUnbroken ss → IfOk r Q) → IfOk (ask_all ss r) Q
 unfolding ask_all
 all_asked [] r Q h = h tt
 all_asked (s ∷ ss) r Q h = one_asked (asked s) s (ask_all ss r) Q (λ u. all_asked ss r Q (λ v. h (u, v)))
@@ -331,7 +332,9 @@ leads_ends f lasts h k = leads_reads (leads_both lasts k (leads_changes f h)) (�
 pub closed_wider : (outer : Innermost) (s : Tables) → Wider s (closed outer s)
 closed_wider outer s = record {
   on = extends_same s.shapes;
-  kept = λ k. record { many = k.many; void = k.void; names = all_take (IsNameIn s.shapes) s.innermost.names s.names k.names; kept = all_drop (IsNameIn s.shapes) s.innermost.names s.names k.names; routines = k.routines };
+  kept = λ k.
+      let names = all_parted (IsNameIn s.shapes) s.innermost.names s.names k.names in
+      record { many = k.many; void = k.void; names = names.0; kept = names.1; routines = k.routines };
 }
 
 pub leads_scoped : {A : Type 0} {Before : List Shape → Type 0} {After : List Shape → A → Type 0} {m : Plan A} → Lasts After → Leads Before After m → Leads Before After (scoped m)

@@ -4,3 +4,4 @@ mod Steps
 mod Plans
 mod Statements
 mod Files
+pub mod Laws

@@ -30,7 +30,7 @@ use Rattle.dae_types_file_plans.specs.Statements.{behind_all, appended, with_typ
 use Rattle.dae_lower_bounds.specs.Voids.{void_in, void_in_target, void_in_all, void_in_some, void_test, void_some, void_statements, void_arms}
 use Rattle.dae_void_laws.proofs.Kept.{Extends, Kept, Leads, Any, Anything, leads_pure, leads_maps, leads_node, leads_chain, leads_both, leads_before, leads_carry, leads_if, leads_given, leads_pardons, leads_named, come_same, leads_reads, leads_sites, leads_nothing, leads_looks, leads_scoped, Wider, wide, come_wider, shape_wider, kept_name}
 use Rattle.dae_void_laws.proofs.Values.{Clean, Honest, converted_in, void_in_list, void-append}
-use Rattle.dae_void_laws.proofs.Steps.{There, NamedThere, there_lasts, base_leads, constant_leads, integer_leads, condition_leads, local_wider}
+use Rattle.dae_void_laws.proofs.Steps.{There, NamedThere, Passed, there_lasts, base_leads, constant_leads, integer_leads, condition_leads, local_wider}
 use Rattle.dae_void_laws.proofs.Plans.{tested_lasts, specifiers_lead, declarator_leads, plan_leads, value_of_leads}
 
 -- ---- initialisers: what they give is of no account
@@ -260,13 +260,10 @@ return_leads : (p : Place) (c : Surrounding) (e : Option Expression) → Leads A
 return_leads p c None = leads_pure _ (λ xs l b. nothing_void p c.is_main)
 return_leads p c (Some e) = leads_sites (value_of_leads e) (λ s x k l u. returned_void p c.is_main (as_result p s c.result x) (result_in p s c.result x l.inside))
 
-abbrev Listed : List Shape → List program.Expression → Type 0
-Listed xs es = void_in_list es ≤ 0
-
-printed_leads : (texts : List Bool) (i : ℕ) (done : List program.Expression) (es : Expressions) → void_in_list done ≤ 0 → Leads Any Listed (plan_printed texts i done es)
+printed_leads : (texts : List Bool) (i : ℕ) (done : List program.Expression) (es : Expressions) → void_in_list done ≤ 0 → Leads Any Passed (plan_printed texts i done es)
 printed_leads texts i done tree.no_expressions d = leads_pure done (λ xs l b. d)
 printed_leads texts i done (tree.expression_then e es) d =
-    leads_chain {Between = Listed} (leads_sites (value_of_leads e) (λ s x k l u. let a = l.inside in let h = void-append done (x.tree ∷ []) in omega (arith, d, a, h)))
+    leads_chain {Between = Passed} (leads_sites (value_of_leads e) (λ s x k l u. let a = l.inside in let h = void-append done (x.tree ∷ []) in omega (arith, d, a, h)))
     (λ more. leads_if (λ l. printed_leads texts (suc i) more es l))
 
 printf_leads : (p : Place) (es : Expressions) → Leads Any Free (plan_printf p es)

@@ -40,7 +40,7 @@ use Rattle.dae_types_kinds.specs.Values.{Typed, named, read_by, valued, known_an
 use Rattle.dae_types_rules.specs.Plan.{Plan, OfName, OfTag, OfMember}
 use Rattle.dae_types_plans.specs.Steps.{arithmetic_id, base_of, base_at, word_at, type_named, type_name_at, tag_in, tag_at, mentioned, new_structure, begins, begins_at, with_member, settles_member, member_at, ends_at, structure_body, enumeration_tag, enumeration_at, enumerator_at, enumeration_body, constant_at, pointer, unsized, count_at, sized, function, with_named_local, with_parameter, adjusted, parameter_at, type_of, value_at, name_at, scalar_at, integer_at, condition_at, marked_entity, marked_name, address_at, star_at, step_at, promoted_of, prefix_at, postfix_at, operands_at, scalars_at, and_at, or_at, binary_at, index_at, member_of, access_at, sizeof_at, cast_at, assignment_at, conditional_at, comma_at, passed, parameter_type, argument_at, with_call, call_at, call_by, routine_in, call_of}
 use Rattle.dae_lower_bounds.specs.Voids.{is_void_test, void_in}
-use Rattle.dae_void_laws.proofs.Kept.{IfThere, all_latest, shape_is, shape_last, last_there, Extends, Names, IsNameIn, Kept, Come, Leads, Any, Anything, leads_pure, leads_maps, leads_node, leads_chain, leads_both, leads_if, leads_settles, leads_unless, leads_pardons, leads_named, come_same, leads_reads, leads_sites, leads_nothing, leads_looks, Wider, wide, wider, come_wider, shape_wider, kept_name}
+use Rattle.dae_void_laws.proofs.Kept.{IfThere, either_has, all_latest, shape_is, shape_last, last_there, Extends, Names, IsNameIn, Kept, Come, Leads, Any, Anything, leads_pure, leads_maps, leads_node, leads_chain, leads_both, leads_if, leads_settles, leads_unless, leads_pardons, leads_named, come_same, leads_reads, leads_sites, leads_nothing, leads_looks, Wider, wide, wider, come_wider, shape_wider, kept_name}
 use Rattle.dae_void_laws.proofs.Values.{Clean, IsNothing, Honest, Tested, honest, honest_lasts, scalar_clean, integer_clean, converted_in, cast_honest, stored_clean, starred_honest, address_of_clean, negated_clean, complemented_clean, inverted_clean, valued_clean, combined_honest, subscripted_honest, member_honest, assigned_clean, updated_clean, stepped_clean, conditional_clean, and_clean, or_clean, comma_clean, void_in_list, void-append, called_honest}
 
 -- ---- numbers of types that are there
@@ -120,27 +120,23 @@ abbrev Joins : Tables → Option (Tables × ℕ) → Type 0
 Joins s None = Unit {0}
 Joins s (Some t) = Wider s t.0
 
-joins_if : (b : Bool) (s : Tables) (x y : Option (Tables × ℕ)) → Joins s x → Joins s y → Joins s (if b then x else y)
-joins_if true s x y h k = h
-joins_if false s x y h k = k
-
 joined_pointers_wider : (s : Tables) (y z m n : ℕ) → Joins s (joined_pointers s y z m n)
 joined_pointers_wider s y z m n =
     let second = if is_void (shape_of s n) then Some (s, z) else None in
     let first = if is_void (shape_of s m) then Some (s, y) else second in
-    joins_if (same_type s y z) s (Some (composite s y z)) first (composite_wider s y z)
-    (joins_if (is_void (shape_of s m)) s (Some (s, y)) second (wide s) (joins_if (is_void (shape_of s n)) s (Some (s, z)) None (wide s) tt))
+    either_has (Joins s) (same_type s y z) (Some (composite s y z)) first (composite_wider s y z)
+    (either_has (Joins s) (is_void (shape_of s m)) (Some (s, y)) second (wide s) (either_has (Joins s) (is_void (shape_of s n)) (Some (s, z)) None (wide s) tt))
 
 joined_shape_wider : (s : Tables) (y z : Typed) (t u : Shape) → Joins s (joined_shape s y z t u)
 joined_shape_wider s y z shape.Void shape.Void = wide s
-joined_shape_wider s y z (shape.Struct m) (shape.Struct n) = joins_if (nat_eq m n) s (Some (s, y.type_id)) None (wide s) tt
+joined_shape_wider s y z (shape.Struct m) (shape.Struct n) = either_has (Joins s) (nat_eq m n) (Some (s, y.type_id)) None (wide s) tt
 joined_shape_wider s y z (shape.Pointer m) (shape.Pointer n) =
     let both = joined_pointers s y.type_id z.type_id m n in
     let second = if is_null s y then Some (s, z.type_id) else both in
-    joins_if (is_null s z) s (Some (s, y.type_id)) second (wide s) (joins_if (is_null s y) s (Some (s, z.type_id)) both (wide s) (joined_pointers_wider s y.type_id z.type_id m n))
-joined_shape_wider s y z (shape.Pointer m) u = joins_if (is_null s z) s (Some (s, y.type_id)) None (wide s) tt
-joined_shape_wider s y z t (shape.Pointer n) = joins_if (is_null s y) s (Some (s, z.type_id)) None (wide s) tt
-joined_shape_wider s y z t u = joins_if (is_integer t && is_integer u) s (Some (s, common t u)) None (wide s) tt
+    either_has (Joins s) (is_null s z) (Some (s, y.type_id)) second (wide s) (either_has (Joins s) (is_null s y) (Some (s, z.type_id)) both (wide s) (joined_pointers_wider s y.type_id z.type_id m n))
+joined_shape_wider s y z (shape.Pointer m) u = either_has (Joins s) (is_null s z) (Some (s, y.type_id)) None (wide s) tt
+joined_shape_wider s y z t (shape.Pointer n) = either_has (Joins s) (is_null s y) (Some (s, z.type_id)) None (wide s) tt
+joined_shape_wider s y z t u = either_has (Joins s) (is_integer t && is_integer u) (Some (s, common t u)) None (wide s) tt
 
 joined_wider : (s : Tables) (y z : Typed) → Joins s (joined s y z)
 unfolding joined
@@ -442,7 +438,7 @@ module _ {Before : List Shape → Type 0} where
 
 -- ---- calls
 
--- the list of what is passed
+-- the list of what is passed, or printed
 abbrev pub Passed : List Shape → List program.Expression → Type 0
 Passed xs es = void_in_list es ≤ 0
 
