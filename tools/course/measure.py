@@ -9,7 +9,7 @@ it puts what it measured into the pages. A table stands between a line that asks
     <!-- waits LOAD PROGRAMS -->                a row for each program: ticks, for which queues A waits, one processor alone
     <!-- depths PROGRAM LOAD DEPTHS .. -->      a row for each choice of depths (`ld=64,ab=64`, or `-` for 8 each): ticks, A's waits
     <!-- pairs LOADS PAIR[:DEPTHS] .. -->       a row for each pair of examples/pairs: its ticks for each latency; PROGRAM.c is a program
-    <!-- said WORDS .. -->                      what `./dae WORDS ..` prints and notes; NAME.img is the image of a pair or a program
+    <!-- said WORDS .. -->                      what `./dae WORDS ..` prints and notes; NAME.img is the image of a program or a pair
 
 Lists have commas. The programs are those of examples/course; counted are the ticks of what stands behind their line `measured from
 here`, which is a program less the same program without that part. A pair is counted whole. Depths are 8 where nothing else is said,
@@ -79,8 +79,8 @@ class Lab:
         return image
 
     def image(self, name):
-        """The image of a pair or of a whole program of that name."""
-        return self.pair(name) if os.path.exists(f"{TOP}/examples/pairs/{name}.s") else self.images(name)[0]
+        """The image of a whole program of that name, or else of a pair."""
+        return self.images(name)[0] if os.path.exists(f"{TOP}/examples/course/{name}.c") else self.pair(name)
 
     @cache
     def timed(self, program, load, depths):
