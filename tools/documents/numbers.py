@@ -15,7 +15,7 @@ what it holds (without any all are tried, the quick ones first):
     listings    docs/MEASURES.md, the images whose listings come back (tools/listing/back.py): half a minute
     machine     docs/MEASURES.md, steps a second beside C's simulator (tools/speed/compare.py), up to a factor of two, and the
                 processor's instructions a step (tools/speed/instructions.py): some minutes
-    shapes      docs/MEASURES.md, no source takes longer to compile than by `gcc -O0` (tools/speed/shapes.py): some minutes
+    shapes      docs/MEASURES.md, which shapes of sources take longer to compile than by `gcc -O0` (tools/speed/shapes.py): some minutes
     stack       docs/MEASURES.md, the stack that nested sources need (tools/stack/least.py): a minute
     edges       docs/MEASURES.md, the calls at the edges by kind and status (tools/hostile/edges.py): some minutes
     refusals    docs/MEASURES.md, the allocations of a call, each of which is refused (tools/allocations/refuse.py): some minutes
@@ -82,7 +82,7 @@ def claims(program):
     yield "MEASURES", r"execute ([\d.]+) times what `gcc -O0` does on the examples, ([\d.]+) times", means(measures, "Executed instructions", -3)
     yield "MEASURES", r"on the kernels, and ([\d.]+) and ([\d.]+) times what `-O1` does", means(measures, "Executed instructions", -2)
     yield "MEASURES", r"A alone ([\d.]+) and ([\d.]+) times", means(measures, "Executed instructions", -1)
-    yield "MEASURES", r"Below `-O0` are (.+?);", [" and ".join(beyond(measures, lambda it: it < 1))]
+    yield "MEASURES", r"Below `-O0` are (.+?);", [", ".join(beyond(measures, lambda it: it < 1))]
     yield "MEASURES", r"above 1.5 of it are (.+?)\. ", [", ".join(beyond(measures, lambda it: it > 1.5))]
     yield "MEASURES", r"words of code are ([\d.]+) and ([\d.]+) times those of `-O0`", means(measures, "Words of code", -2)
     yield "MEASURES", r"takes 64, the two are ([\d.]+) and ([\d.]+) times as fast", means(measures, "Ticks", -2)
@@ -169,6 +169,15 @@ def machine(program):
         yield is_good, f"MEASURES: depth {one.split(' ')[0]}" + ("" if is_good else f": {one}, and the page has {other}")
 
 
+def shapes(program):
+    """The shapes that take longer to compile than by gcc: the page names each of them."""
+    section = page("docs/MEASURES.md").split("## Time to compile")[1].split("\n## ")[0]
+    for row in ROW.findall(run(sys.executable, "tools/speed/shapes.py", program).stdout)[2:]:
+        name, _, _, _, ratio = row.split(" | ")
+        is_good = ratio != "-" and (float(ratio) <= 1 or f"`{name}`" in section)
+        yield is_good, f"MEASURES: {name}" + ("" if is_good else f": {ratio} times")
+
+
 def edges(program):
     """The calls of each kind by status, and how many kinds of nesting and limits there are, as the page says."""
     done = run(sys.executable, "tools/hostile/edges.py", program)
@@ -205,7 +214,7 @@ KINDS = {
     "code": code,
     "listings": listings,
     "machine": lambda program: [*machine(program), *held_by("tools/speed/instructions.py", "PROGRAM")(program)],
-    "shapes": held_by("tools/speed/shapes.py", "PROGRAM"),
+    "shapes": shapes,
     "stack": held_by("tools/stack/least.py", "PROGRAM"),
     "edges": edges,
     "refusals": refusals,

@@ -172,7 +172,8 @@ SHAPES = {
     "loops nested 150": lambda t: source(filled(deep_loops, 7000), t),
     "loops nested 150, locals": lambda t: source(deep_loops_and_locals, t),
     "chains of 90 &&": lambda t: source(filled(chain), t),
-    "macros": lambda t: source(filled(lambda k: f"c = M{k % 200}; ", 2900), t, head=macros()),
+    # what a macro stands for has seven tokens, and these count
+    "macros": lambda t: source(filled(lambda k: f"c = M{k % 200}; ", 2900), 2 * t // 5, head=macros()),
     "printf": lambda t: source(filled(lambda k: 'printf("%d %x %s\\n", a, c, "t"); '), t),
     "structures": lambda t: source(structure, t),
     "recursion": lambda t: source(pair, t),
