@@ -11,22 +11,20 @@ use dae_types_kinds::CheckError;
 use dae_types_products::{Product, functions_in, places_of_bodies, sort};
 use dae_types_tables::{Checker, file_tables};
 use dae_types_typed::FileParts;
-use std::alloc::Global;
 
 /// The parts of a typed file: what the tables hold at its end, and what it comes to, with its names.
 #[tactic(auto, using(crate::proofs::Reading::functions_read, crate::proofs::Reading::places_read))]
 pub fn assemble(
-    alloc: Global,
     checker: Checker,
     products: Vec<Product>,
     names: &[Items<u8>],
 ) -> Result<FileParts, CheckError>
     ensures { IfOk result (λ parts. Reads parts (tables checker) (as_products products) names.now) }
 {
-    let sorted = sort(alloc, products)?;
-    let places = places_of_bodies(alloc, &sorted.declarations)?;
-    let functions = functions_in(alloc, &checker, names, &places, sorted.bodies)?;
-    let names = copy_all(alloc, names)?;
+    let sorted = sort(checker.alloc, products)?;
+    let places = places_of_bodies(checker.alloc, &sorted.declarations)?;
+    let functions = functions_in(&checker, names, &places, sorted.bodies)?;
+    let names = copy_all(checker.alloc, names)?;
     let rest = file_tables(checker);
     Ok(FileParts {
         shapes: Items::from_vec(rest.shapes),

@@ -38,8 +38,8 @@ fn check_parts(alloc: Global, file: &File) -> Result<FileParts, CheckError>
 {
     let mut checker = begin(alloc, file)?;
     files_are_checked();
-    let products = file_products(alloc, &mut checker, file.externals())?;
-    match assemble(alloc, checker, products, file.names()) {
+    let products = file_products(&mut checker, file.externals())?;
+    match assemble(checker, products, file.names()) {
         Ok(parts) => Ok(parts),
         Err(error) => Err(want_in(error)),
     }

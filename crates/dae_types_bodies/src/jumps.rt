@@ -19,15 +19,10 @@ use dae_types_values::{convert, fits, scalar, value};
 use std::alloc::Global;
 
 /// The tree of a condition: a value that is a scalar.
-pub fn test(
-    alloc: Global,
-    checker: &mut Checker,
-    place: Place,
-    x: Value,
-) -> Result<Expression, CheckError>
+pub fn test(checker: &mut Checker, place: Place, x: Value) -> Result<Expression, CheckError>
     ensures { FollowsBy view checker.new result (test_at place (one x)) checker.old }
 {
-    let x = value(alloc, checker, place, x)?;
+    let x = value(checker, place, x)?;
     let x = scalar(checker, place, x)?;
     Ok(x.tree)
 }
@@ -54,7 +49,6 @@ fn returned(
 
 /// A value as the result of a function, unless its type is faulty.
 fn as_result(
-    alloc: Global,
     checker: &Checker,
     place: Place,
     wanted: Option<usize>,
@@ -63,7 +57,7 @@ fn as_result(
     ensures { MakesTree result (as_result place (tables checker.now) wanted (view_value x)) }
 {
     match wanted {
-        Some(type_id) => Ok(convert(alloc, checker, place, x, type_id)?.tree),
+        Some(type_id) => Ok(convert(checker, place, x, type_id)?.tree),
         None => Ok(x.tree),
     }
 }
@@ -71,7 +65,6 @@ fn as_result(
 /// `return` with a value.
 #[tactic(auto, unfolding(dae_types_rules::specs::Plan::ask_all))]
 pub fn return_value(
-    alloc: Global,
     checker: &Checker,
     place: Place,
     around: Surrounding,
@@ -87,8 +80,8 @@ pub fn return_value(
             return Err(broken(Rule::StructureValue, place));
         }
     }
-    let e = as_result(alloc, checker, place, around.result, x)?;
-    returned(alloc, place, around.is_main, e)
+    let e = as_result(checker, place, around.result, x)?;
+    returned(checker.alloc, place, around.is_main, e)
 }
 
 /// `return` without a value; in main it ends the program with 0.
@@ -114,7 +107,6 @@ pub fn return_nothing(
 #[inline(never)]
 #[tactic(auto, unfolding(dae_types_rules::specs::Plan::ask_all))]
 pub fn break_out(
-    alloc: Global,
     checker: &Checker,
     place: Place,
     around: Surrounding,
@@ -124,14 +116,13 @@ pub fn break_out(
     if !(around.inside_loop || around.inside_switch) {
         return Err(broken(Rule::LoopOutside, place));
     }
-    alone(alloc, Statement::Break(place))
+    alone(checker.alloc, Statement::Break(place))
 }
 
 /// `continue`, which ends a turn of a loop.
 #[inline(never)]
 #[tactic(auto, unfolding(dae_types_rules::specs::Plan::ask_all))]
 pub fn go_on(
-    alloc: Global,
     checker: &Checker,
     place: Place,
     around: Surrounding,
@@ -141,5 +132,5 @@ pub fn go_on(
     if !around.inside_loop {
         return Err(broken(Rule::LoopOutside, place));
     }
-    alone(alloc, Statement::Continue(place))
+    alone(checker.alloc, Statement::Continue(place))
 }

@@ -55,7 +55,6 @@ fn storage_target(
 
 /// The assignment of a value to a local scalar.
 fn assigned_to(
-    alloc: Global,
     checker: &Checker,
     place: Place,
     number: usize,
@@ -64,14 +63,13 @@ fn assigned_to(
     ensures { MakesTree result (assigned_to place (tables checker.now) number (view value)) }
 {
     let kind = load_kind(checker.shape_of(type_of_local(checker, number)));
-    let target = storage_target(alloc, checker.storage(number), place)?;
-    let value = Box::new(alloc, value)?;
+    let target = storage_target(checker.alloc, checker.storage(number), place)?;
+    let value = Box::new(checker.alloc, value)?;
     Ok(Expression::Assign(place, kind, target, value))
 }
 
 /// Sets a local scalar.
 fn set_to(
-    alloc: Global,
     checker: &Checker,
     place: Place,
     number: usize,
@@ -79,8 +77,8 @@ fn set_to(
 ) -> Result<Vec<Statement>, CheckError>
     ensures { MakesStatements result (set_to place (tables checker.now) number (view value)) }
 {
-    let tree = assigned_to(alloc, checker, place, number, value)?;
-    let mut statements = Vec::new(alloc);
+    let tree = assigned_to(checker, place, number, value)?;
+    let mut statements = Vec::new(checker.alloc);
     statements.push(Statement::Evaluate(place, tree))?;
     Ok(statements)
 }
@@ -97,7 +95,6 @@ fn names_stored(storage: Option<Storage>, e: &Expression) -> bool
 
 /// Gives a local scalar the value of its own initialiser; where that reads it, it is 0 before.
 fn set_by_own(
-    alloc: Global,
     checker: &Checker,
     place: Place,
     number: usize,
@@ -108,17 +105,16 @@ fn set_by_own(
         place (tables checker.now) number (view value)) }
 {
     if !names_stored(checker.storage(number), &value) {
-        return set_to(alloc, checker, place, number, value);
+        return set_to(checker, place, number, value);
     }
-    let zero = set_to(alloc, checker, place, number, Expression::Number(0))?;
-    let rest = set_to(alloc, checker, place, number, value)?;
+    let zero = set_to(checker, place, number, Expression::Number(0))?;
+    let rest = set_to(checker, place, number, value)?;
     append(zero, rest)
 }
 
 /// Gives a local scalar a value; the first place is that of its name, the second that of the value.
 #[tactic(auto, unfolding(dae_types_rules::specs::Plan::ask_all))]
 pub fn initialise_scalar(
-    alloc: Global,
     checker: &Checker,
     place: Place,
     of_value: Place,
@@ -135,13 +131,12 @@ pub fn initialise_scalar(
     if is_structure(checker.shape_of(x.type_id)) {
         return Err(broken(Rule::StructureValue, of_value));
     }
-    let x = convert(alloc, checker, of_value, x, type_id)?;
-    set_by_own(alloc, checker, place, number, x.tree)
+    let x = convert(checker, of_value, x, type_id)?;
+    set_by_own(checker, place, number, x.tree)
 }
 
 /// Begins a local object without an initialiser: a scalar is 0, an aggregate holds anything.
 pub fn begin_local(
-    alloc: Global,
     checker: &Checker,
     place: Place,
     number: usize,
@@ -149,9 +144,9 @@ pub fn begin_local(
     ensures { GivesStatements checker.now result (begin_local place number) checker.now }
 {
     if is_scalar(checker.shape_of(type_of_local(checker, number))) {
-        set_to(alloc, checker, place, number, Expression::Number(0))
+        set_to(checker, place, number, Expression::Number(0))
     } else {
-        Ok(Vec::new(alloc))
+        Ok(Vec::new(checker.alloc))
     }
 }
 
@@ -184,7 +179,6 @@ fn is_taken(local: Option<Local>) -> bool
 
 /// Sets a local aggregate, which gets its type from what it holds: zeros, and then the items.
 pub fn initialise_aggregate(
-    alloc: Global,
     checker: &mut Checker,
     place: Place,
     number: usize,
@@ -196,7 +190,7 @@ pub fn initialise_aggregate(
     let offset = offset_of_local(checker, number);
     let size = checker.layout_at(content.type_id).size;
     let taken = is_taken(checker.local(number));
-    let mut statements = Vec::new(alloc);
+    let mut statements = Vec::new(checker.alloc);
     statements.push(Statement::Initialise(place, offset, size, content.items))?;
     let type_id = content.type_id;
     checker.set_local(number, Local { type_id, taken });

@@ -127,7 +127,6 @@ fn label(alloc: Global, arming: Arming, label: Option<u32>) -> Result<Arming, Ch
 #[inline(never)]
 #[tactic(auto, unfolding(dae_types_rules::specs::Plan::ask_all))]
 pub fn add_case(
-    alloc: Global,
     checker: &Checker,
     place: Place,
     arming: Arming,
@@ -139,23 +138,18 @@ pub fn add_case(
     if is_seen(Some(word), &arming.seen) {
         return Err(broken(Rule::CaseDuplicate, place));
     }
-    label(alloc, arming, Some(word))
+    label(checker.alloc, arming, Some(word))
 }
 
 /// `default`
 #[inline(never)]
 #[tactic(auto, unfolding(dae_types_rules::specs::Plan::ask_all))]
-pub fn add_default(
-    alloc: Global,
-    checker: &Checker,
-    place: Place,
-    arming: Arming,
-) -> Result<Arming, CheckError>
+pub fn add_default(checker: &Checker, place: Place, arming: Arming) -> Result<Arming, CheckError>
     ensures { FollowsBy view_arming checker.now result
         (default_at place (view_arming arming)) checker.now }
 {
     if is_seen(None, &arming.seen) {
         return Err(broken(Rule::DefaultTwice, place));
     }
-    label(alloc, arming, None)
+    label(checker.alloc, arming, None)
 }

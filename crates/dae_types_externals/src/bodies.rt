@@ -19,7 +19,6 @@ use dae_types_products::{Body, Product};
 use dae_types_statements::block;
 use dae_types_tables::{Checker, broken, copy_kept, set_kept, storages};
 use dae_types_walk::place_of_specifiers;
-use std::alloc::Global;
 
 /// Asks that each parameter of a definition has a name (C90 6.7.1). The place is that of the declared name.
 #[tactic(auto, unfolding(dae_types_rules::specs::Plan::ask_all))]
@@ -50,7 +49,6 @@ fn surrounding(checker: &Checker, is_main: bool, type_id: usize) -> Surrounding
 
 /// The statements of a body, in the scope of its parameters.
 fn body_statements(
-    alloc: Global,
     checker: &mut Checker,
     around: Surrounding,
     body: &Block,
@@ -59,14 +57,13 @@ fn body_statements(
         (in_body (plan_statements_of around body.now)) checker.old }
 {
     let outer = checker.reopen()?;
-    let statements = block(alloc, checker, around, &body.declarations, &body.statements)?;
+    let statements = block(checker, around, &body.declarations, &body.statements)?;
     checker.close(outer)?;
     Ok(statements)
 }
 
 /// Goes through a body for the first time, to see whose address is taken.
 fn look_at_body(
-    alloc: Global,
     checker: &mut Checker,
     parameters: usize,
     around: Surrounding,
@@ -76,13 +73,12 @@ fn look_at_body(
         (first_time parameters (plan_statements_of around body.now)) checker.old }
 {
     let outer = checker.reopen()?;
-    block(alloc, checker, around, &body.declarations, &body.statements)?;
+    block(checker, around, &body.declarations, &body.statements)?;
     checker.close(outer)
 }
 
 /// A function with its body, by its number.
 fn body_product(
-    alloc: Global,
     checker: &Checker,
     function: usize,
     statements: Vec<Statement>,
@@ -90,11 +86,11 @@ fn body_product(
     ensures { MakesProducts result
         (body_product function (tables checker.now) (as_statements statements)) }
 {
-    let mut locals = Vec::new(alloc);
+    let mut locals = Vec::new(checker.alloc);
     locals.extend_from_slice(checker.locals())?;
-    let mut kept = Vec::new(alloc);
+    let mut kept = Vec::new(checker.alloc);
     kept.extend_from_slice(storages(checker))?;
-    let mut products = Vec::new(alloc);
+    let mut products = Vec::new(checker.alloc);
     products.push(Product::Body(Body {
         routine: function,
         locals,
@@ -106,7 +102,6 @@ fn body_product(
 
 /// Goes through a body for the second time, with each parameter and local object in its place.
 fn write_body(
-    alloc: Global,
     checker: &mut Checker,
     function: Option<usize>,
     around: Surrounding,
@@ -115,16 +110,15 @@ fn write_body(
     ensures { GivesProducts checker.new result
         (second_time function (plan_statements_of around body.now)) checker.old }
 {
-    let statements = body_statements(alloc, checker, around, body)?;
+    let statements = body_statements(checker, around, body)?;
     match function {
-        Some(function) => body_product(alloc, checker, function, statements),
-        None => Ok(Vec::new(alloc)),
+        Some(function) => body_product(checker, function, statements),
+        None => Ok(Vec::new(checker.alloc)),
     }
 }
 
 /// Goes through a body twice. Uses are noted the second time.
 fn body_twice(
-    alloc: Global,
     checker: &mut Checker,
     parameters: usize,
     function: Option<usize>,
@@ -136,17 +130,16 @@ fn body_twice(
 {
     let kept = copy_kept(checker)?;
     let uses = checker.copy_uses()?;
-    look_at_body(alloc, checker, parameters, around, body)?;
+    look_at_body(checker, parameters, around, body)?;
     set_kept(checker, kept);
     checker.set_uses(uses);
-    settle_locals(alloc, checker, parameters)?;
-    write_body(alloc, checker, function, around, body)
+    settle_locals(checker, parameters)?;
+    write_body(checker, function, around, body)
 }
 
 /// The body of a function of a type, by its number.
 #[tactic(auto, using(crate::proofs::Parameters::parameters_counted))]
 pub fn function_body(
-    alloc: Global,
     checker: &mut Checker,
     place: Place,
     name: Option<Name>,
@@ -161,5 +154,5 @@ pub fn function_body(
 {
     check_names(checker, place, parameters)?;
     let around = surrounding(checker, is_main_name(checker, name), type_id);
-    body_twice(alloc, checker, parameters.len(), function, around, body)
+    body_twice(checker, parameters.len(), function, around, body)
 }

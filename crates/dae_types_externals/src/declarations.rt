@@ -22,19 +22,13 @@ use dae_types_products::{Product, append, declares_function, declares_object};
 use dae_types_sites::base_type;
 use dae_types_tables::{Checker, is_function};
 use dae_types_walk::{declarator, declared_place, place_of_specifiers, specifiers};
-use std::alloc::Global;
 
 /// The type that specifiers name at file scope. The flag says that they declare nothing else.
-pub fn base(
-    alloc: Global,
-    checker: &mut Checker,
-    alone: bool,
-    list: &[Specifier],
-) -> Result<usize, CheckError>
+pub fn base(checker: &mut Checker, alone: bool, list: &[Specifier]) -> Result<usize, CheckError>
     ensures { Follows checker.new result
         (plan_file_base alone (views_specifiers list.now)) checker.old }
 {
-    let whole = specifiers(alloc, checker, Context::File, alone, list)?;
+    let whole = specifiers(checker, Context::File, alone, list)?;
     Ok(base_type(Seen::of_specifiers(list), whole))
 }
 
@@ -68,7 +62,6 @@ fn role_of(given: bool, placing: bool) -> Role
 
 /// What an object of the file holds, by its number, with its type; the place is that of its name.
 fn object_data(
-    alloc: Global,
     checker: &mut Checker,
     place: Place,
     initialiser: &Initialiser,
@@ -78,16 +71,15 @@ fn object_data(
         (plan_object_data place (view_initialiser initialiser.now) object) checker.old }
 {
     let type_id = type_of_object(checker, object);
-    let content = content(alloc, checker, place, 0, type_id, initialiser)?;
+    let content = content(checker, place, 0, type_id, initialiser)?;
     set_object_type(checker, object, content.type_id);
-    let mut products = Vec::new(alloc);
+    let mut products = Vec::new(checker.alloc);
     products.push(Product::Data(object, content.items))?;
     Ok(products)
 }
 
 /// What an object of the file holds, if it is initialised; the initialiser of what is no object is looked through.
 pub fn data(
-    alloc: Global,
     checker: &mut Checker,
     place: Place,
     given: &Option<(Place, Initialiser)>,
@@ -98,19 +90,18 @@ pub fn data(
 {
     match given {
         Some((_, initialiser)) => match object {
-            Some(object) => object_data(alloc, checker, place, initialiser, object),
+            Some(object) => object_data(checker, place, initialiser, object),
             None => {
-                look_through(alloc, checker, initialiser)?;
-                Ok(Vec::new(alloc))
+                look_through(checker, initialiser)?;
+                Ok(Vec::new(checker.alloc))
             }
         },
-        None => Ok(Vec::new(alloc)),
+        None => Ok(Vec::new(checker.alloc)),
     }
 }
 
 /// A declaration of a function, which has no initialiser.
 fn function_item(
-    alloc: Global,
     checker: &mut Checker,
     place: Place,
     word: Option<Keyword>,
@@ -123,12 +114,11 @@ fn function_item(
     let given = item.initialiser.is_some();
     let name = item.declarator.name();
     let function = declare_function(checker, place, is_static(word), given, name, type_id)?;
-    declares_function(alloc, place, Role::Reference, function)
+    declares_function(checker.alloc, place, Role::Reference, function)
 }
 
 /// A declaration of an object, perhaps with what it holds.
 fn object_item(
-    alloc: Global,
     checker: &mut Checker,
     place: Place,
     word: Option<Keyword>,
@@ -142,14 +132,13 @@ fn object_item(
     let name = item.declarator.name();
     let object = declare_object(checker, place, word, given, name, type_id)?;
     let role = role_of(given, !is_extern(word));
-    let declared = declares_object(alloc, place, role, object)?;
-    let data = data(alloc, checker, place, &item.initialiser, object)?;
+    let declared = declares_object(checker.alloc, place, role, object)?;
+    let data = data(checker, place, &item.initialiser, object)?;
     append(declared, data)
 }
 
 /// A declaration of a function or an object, by its type.
 fn typed_item(
-    alloc: Global,
     checker: &mut Checker,
     place: Place,
     word: Option<Keyword>,
@@ -160,16 +149,15 @@ fn typed_item(
         (plan_typed place word (view_item item.now) (Some type_id)) checker.old }
 {
     if is_function(checker.shape_of(type_id)) {
-        function_item(alloc, checker, place, word, item, type_id)
+        function_item(checker, place, word, item, type_id)
     } else {
-        object_item(alloc, checker, place, word, item, type_id)
+        object_item(checker, place, word, item, type_id)
     }
 }
 
 /// The type that a declarator gives to its name.
 #[tactic(auto, using(crate::proofs::Steps::settled_gives, crate::proofs::Steps::settled_fails))]
 fn declared_type(
-    alloc: Global,
     checker: &mut Checker,
     place: Place,
     base: usize,
@@ -178,13 +166,12 @@ fn declared_type(
     ensures { FollowsBy (λ t. Some t) checker.new result
         (plan_type_of place base (view_declarator part.now)) checker.old }
 {
-    let declared = declarator(alloc, checker, place, false, base, part)?;
+    let declared = declarator(checker, place, false, base, part)?;
     Ok(declared.type_id)
 }
 
 /// Gives a type a name.
 fn name_type(
-    alloc: Global,
     checker: &mut Checker,
     place: Place,
     word: Option<Keyword>,
@@ -194,16 +181,15 @@ fn name_type(
     ensures { GivesProducts checker.new result
         (plan_item_at true place word base (view_item item.now)) checker.old }
 {
-    let declared = declarator(alloc, checker, place, false, base, &item.declarator)?;
+    let declared = declarator(checker, place, false, base, &item.declarator)?;
     let given = item.initialiser.is_some();
     let name = item.declarator.name();
     declare_type(checker, place, false, given, name, declared)?;
-    Ok(Vec::new(alloc))
+    Ok(Vec::new(checker.alloc))
 }
 
 /// Declares an item, whose name stands at this place.
 fn item(
-    alloc: Global,
     checker: &mut Checker,
     is_typedef: bool,
     place: Place,
@@ -215,15 +201,14 @@ fn item(
         (plan_item_at is_typedef place word base (view_item item.now)) checker.old }
 {
     if is_typedef {
-        return name_type(alloc, checker, place, word, base, item);
+        return name_type(checker, place, word, base, item);
     }
-    let type_id = declared_type(alloc, checker, place, base, &item.declarator)?;
-    typed_item(alloc, checker, place, word, item, type_id)
+    let type_id = declared_type(checker, place, base, &item.declarator)?;
+    typed_item(checker, place, word, item, type_id)
 }
 
 /// Adds what the items of a declaration come to. The place is that of its first token.
 fn add_items(
-    alloc: Global,
     checker: &mut Checker,
     is_typedef: bool,
     place: Place,
@@ -238,7 +223,7 @@ fn add_items(
 {
     for one in items {
         let at = declared_place(&one.declarator, place);
-        let more = item(alloc, checker, is_typedef, at, word, base, one)?;
+        let more = item(checker, is_typedef, at, word, base, one)?;
         done = append(done, more)?;
     }
     Ok(done)
@@ -246,7 +231,6 @@ fn add_items(
 
 /// Adds what a declaration comes to.
 pub fn add_declaration(
-    alloc: Global,
     checker: &mut Checker,
     done: Vec<Product>,
     declaration: &Declaration,
@@ -256,17 +240,8 @@ pub fn add_declaration(
 {
     let list = declaration.specifiers.as_slice();
     let items = declaration.items.as_slice();
-    let base = base(alloc, checker, is_alone(items), list)?;
+    let base = base(checker, is_alone(items), list)?;
     let place = place_of_specifiers(list, declaration.end);
     let word = storage_class(list);
-    add_items(
-        alloc,
-        checker,
-        has_typedef(list),
-        place,
-        word,
-        base,
-        done,
-        items,
-    )
+    add_items(checker, has_typedef(list), place, word, base, done, items)
 }

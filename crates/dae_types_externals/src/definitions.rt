@@ -20,16 +20,16 @@ use dae_types_locals::has_typedef;
 use dae_types_products::{Product, append, declares_function};
 use dae_types_tables::{Checker, Kept, set_kept};
 use dae_types_walk::{declarator, declared_place, place_of_specifiers};
-use std::alloc::Global;
 
 /// Begins a definition: nothing local is there, and no scope is kept.
-fn start(alloc: Global, checker: &mut Checker)
+fn start(checker: &mut Checker)
     ensures { tables checker.new ≡ started (tables checker.old) }
 {
     checker.cut_locals(0);
-    checker.set_storages(Vec::new(alloc));
-    let names = Vec::new(alloc);
-    let tags = Vec::new(alloc);
+    let storages = Vec::new(checker.alloc);
+    checker.set_storages(storages);
+    let names = Vec::new(checker.alloc);
+    let tags = Vec::new(checker.alloc);
     set_kept(checker, Kept { names, tags });
 }
 
@@ -72,7 +72,6 @@ fn parameters_in(part: &Declarator) -> &[Parameter]
 /// The type of a definition. The place is that of its name.
 #[tactic(auto, using(crate::proofs::Steps::definition_gives, crate::proofs::Steps::definition_fails))]
 fn type_of_definition(
-    alloc: Global,
     checker: &mut Checker,
     place: Place,
     list: &[Specifier],
@@ -83,7 +82,7 @@ fn type_of_definition(
         (plan_type_of_definition place (views_specifiers list.now) base
         (view_declarator part.now)) checker.old }
 {
-    let declared = declarator(alloc, checker, place, false, base, part)?;
+    let declared = declarator(checker, place, false, base, part)?;
     definition_type(checker, place, has_typedef(list), is_direct(part), declared)
 }
 
@@ -103,7 +102,6 @@ fn enter_definition(
 
 /// What a definition comes to, by its type.
 fn definition(
-    alloc: Global,
     checker: &mut Checker,
     place: Place,
     word: Option<Keyword>,
@@ -117,16 +115,13 @@ fn definition(
         (views_parameters parameters.now) body.now type_id) checker.old }
 {
     let function = enter_definition(checker, place, word, name, type_id)?;
-    let declared = declares_function(alloc, place, Role::Definition, function)?;
-    let body = function_body(
-        alloc, checker, place, name, parameters, body, type_id, function,
-    )?;
+    let declared = declares_function(checker.alloc, place, Role::Definition, function)?;
+    let body = function_body(checker, place, name, parameters, body, type_id, function)?;
     append(declared, body)
 }
 
 /// What a definition comes to, by its declarator and its type.
 fn definition_by(
-    alloc: Global,
     checker: &mut Checker,
     place: Place,
     word: Option<Keyword>,
@@ -139,12 +134,11 @@ fn definition_by(
 {
     let parameters = parameters_in(part);
     let name = part.name();
-    definition(alloc, checker, place, word, name, parameters, body, type_id)
+    definition(checker, place, word, name, parameters, body, type_id)
 }
 
 /// What a definition comes to.
 fn whole_definition(
-    alloc: Global,
     checker: &mut Checker,
     list: &[Specifier],
     part: &Declarator,
@@ -154,23 +148,14 @@ fn whole_definition(
         (plan_begun (views_specifiers list.now) (view_declarator part.now) body.now) checker.old }
 {
     let place = declared_place(part, place_of_specifiers(list, body.place));
-    start(alloc, checker);
-    let base = base(alloc, checker, false, list)?;
-    let type_id = type_of_definition(alloc, checker, place, list, base, part)?;
-    definition_by(
-        alloc,
-        checker,
-        place,
-        storage_class(list),
-        part,
-        body,
-        type_id,
-    )
+    start(checker);
+    let base = base(checker, false, list)?;
+    let type_id = type_of_definition(checker, place, list, base, part)?;
+    definition_by(checker, place, storage_class(list), part, body, type_id)
 }
 
 /// Adds what a definition comes to.
 pub fn add_definition(
-    alloc: Global,
     checker: &mut Checker,
     done: Vec<Product>,
     list: &[Specifier],
@@ -182,6 +167,6 @@ pub fn add_definition(
         (view_declarator part.now) body.now.place (view_declarations body.now.declarations.items)
         (views_statements body.now.statements.items)) checker.old }
 {
-    let more = whole_definition(alloc, checker, list, part, body)?;
+    let more = whole_definition(checker, list, part, body)?;
     append(done, more)
 }

@@ -13,11 +13,9 @@ use dae_tree::External;
 use dae_types_kinds::{CheckError, Rule};
 use dae_types_products::Product;
 use dae_types_tables::{Checker, broken, objects};
-use std::alloc::Global;
 
 /// Adds what a declaration or definition comes to.
 fn add_external(
-    alloc: Global,
     checker: &mut Checker,
     done: Vec<Product>,
     external: &External,
@@ -26,25 +24,21 @@ fn add_external(
         (plan_external (as_products done) (view_external external.now)) checker.old }
 {
     match external {
-        External::Declaration(declaration) => { add_declaration(alloc, checker, done, declaration) }
+        External::Declaration(declaration) => { add_declaration(checker, done, declaration) }
         External::Definition(specifiers, declarator, block) => {
-            add_definition(alloc, checker, done, specifiers, declarator, block)
+            add_definition(checker, done, specifiers, declarator, block)
         }
     }
 }
 
 /// What declarations and definitions come to.
-fn externals(
-    alloc: Global,
-    checker: &mut Checker,
-    list: &[External],
-) -> Result<Vec<Product>, CheckError>
+fn externals(checker: &mut Checker, list: &[External]) -> Result<Vec<Product>, CheckError>
     ensures { GivesProducts checker.new result
         (plan_externals [] (view_externals list.now)) checker.old }
 {
-    let mut done = Vec::new(alloc);
+    let mut done = Vec::new(checker.alloc);
     for external in list {
-        done = add_external(alloc, checker, done, external)?;
+        done = add_external(checker, done, external)?;
     }
     Ok(done)
 }
@@ -66,14 +60,10 @@ fn check_end(checker: &Checker) -> Result<(), CheckError>
 
 /// What a file comes to, in the order of the text.
 #[tactic(auto, using(crate::proofs::Steps::file_follows, crate::proofs::Steps::file_stops, crate::proofs::Steps::file_ends))]
-pub fn file_products(
-    alloc: Global,
-    checker: &mut Checker,
-    list: &[External],
-) -> Result<Vec<Product>, CheckError>
+pub fn file_products(checker: &mut Checker, list: &[External]) -> Result<Vec<Product>, CheckError>
     ensures { GivesProducts checker.new result (plan_file (view_externals list.now)) checker.old }
 {
-    let products = externals(alloc, checker, list)?;
+    let products = externals(checker, list)?;
     check_end(checker)?;
     Ok(products)
 }

@@ -12,7 +12,6 @@ use dae_program::Setting;
 use dae_types_folding::Value;
 use dae_types_kinds::{CheckError, Rule};
 use dae_types_tables::{Checker, broken, is_structure};
-use std::alloc::Global;
 
 /// What is filled so far: what is left, the next part at the end; the items; how many elements an array got that has its size
 /// from them; and whether no more is said of what is too many.
@@ -51,7 +50,6 @@ pub fn has_literal(literal: Option<u32>) -> bool
 /// Where an item with this value lands; it may be a literal, by its number.
 #[tactic(auto, unfolding(dae_types_rules::specs::Plan::ask_all))]
 pub fn land(
-    alloc: Global,
     checker: &Checker,
     place: Place,
     literal: Option<u32>,
@@ -67,7 +65,7 @@ pub fn land(
         }
         return Ok(Landing {
             filling: Filling {
-                rest: Vec::new(alloc),
+                rest: Vec::new(checker.alloc),
                 items: filling.items,
                 count: filling.count,
                 over: true,
@@ -78,7 +76,7 @@ pub fn land(
     let structure = is_structure(checker.shape_of(x.type_id));
     let depth = checker.count_shapes();
     let literal = has_literal(literal);
-    let slot = descend(alloc, checker, literal, structure, depth, slot)?;
+    let slot = descend(checker, literal, structure, depth, slot)?;
     let destination = Destination {
         offset: slot.offset,
         type_id: slot.type_id,

@@ -90,7 +90,6 @@ fn only(
 /// Begins a list in braces.
 #[tactic(auto, unfolding(dae_types_rules::specs::Plan::ask_all))]
 pub fn open_list(
-    alloc: Global,
     checker: &Checker,
     place: Place,
     filling: Filling,
@@ -105,12 +104,12 @@ pub fn open_list(
         }
         return Ok(Opening {
             inside: Filling {
-                rest: Vec::new(alloc),
+                rest: Vec::new(checker.alloc),
                 items: filling.items,
                 count: filling.count,
                 over: true,
             },
-            behind: Vec::new(alloc),
+            behind: Vec::new(checker.alloc),
         });
     };
     let shape = checker.shape_of(slot.type_id);
@@ -126,7 +125,7 @@ pub fn open_list(
         parts_of(slot.offset, slot.type_id, shape)
     };
     Ok(Opening {
-        inside: only(alloc, part, whole, filling.items, filling.count)?,
+        inside: only(checker.alloc, part, whole, filling.items, filling.count)?,
         behind: slot.rest,
     })
 }

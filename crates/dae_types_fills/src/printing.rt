@@ -19,7 +19,6 @@ use dae_tree::Expression as Tree;
 use dae_types_folding::{Value, pointee};
 use dae_types_kinds::{CheckError, Rule};
 use dae_types_tables::{Checker, broken, is_character, is_integer};
-use std::alloc::Global;
 
 /// The literal that an expression is, by its number.
 #[tactic(auto, using(dae_tree::proofs::Laws::view_call, dae_tree::proofs::Laws::view_sizeof_type, dae_tree::proofs::Laws::view_cast))]
@@ -47,15 +46,11 @@ pub fn literal_in(e: &Tree) -> Option<u32>
 }
 
 /// The pieces of a format that is a literal of this number; none where it is no literal or has none.
-fn format_of(
-    alloc: Global,
-    checker: &Checker,
-    literal: Option<u32>,
-) -> Result<Option<Vec<Piece>>, CheckError>
+fn format_of(checker: &Checker, literal: Option<u32>) -> Result<Option<Vec<Piece>>, CheckError>
     ensures { Gives (seen (λ v. v.items)) result (Ok (format_of (tables checker.now) literal)) }
 {
     match literal {
-        Some(number) => format_pieces(alloc, checker.literal(number as usize)),
+        Some(number) => format_pieces(checker.alloc, checker.literal(number as usize)),
         None => Ok(None),
     }
 }
@@ -63,7 +58,6 @@ fn format_of(
 /// The pieces of a format, which is a literal of this number or no literal, with so many arguments behind it.
 #[tactic(auto, unfolding(dae_types_rules::specs::Plan::ask_all))]
 pub fn read_format(
-    alloc: Global,
     checker: &Checker,
     place: Place,
     literal: Option<u32>,
@@ -72,10 +66,10 @@ pub fn read_format(
     ensures { FollowsBy (λ v. v.items) checker.now result
         (format_at place literal given) checker.now }
 {
-    let Some(pieces) = format_of(alloc, checker, literal)? else {
+    let Some(pieces) = format_of(checker, literal)? else {
         return Err(broken(Rule::BadFormat, place));
     };
-    let wanted = kinds_of_arguments(alloc, &pieces)?.len();
+    let wanted = kinds_of_arguments(checker.alloc, &pieces)?.len();
     if wanted != given {
         return Err(broken(Rule::BadFormat, place));
     }

@@ -219,7 +219,6 @@ fn is_for(checker: &Checker, literal: bool, structure: bool, shape: Shape) -> bo
 
 /// Down to the object that an item is for: a scalar, an array of characters for a literal, or a structure for a structure.
 pub fn descend(
-    alloc: Global,
     checker: &Checker,
     literal: bool,
     structure: bool,
@@ -235,19 +234,14 @@ pub fn descend(
         if is_for(checker, literal, structure, shape) {
             return Ok(slot);
         }
-        slot = first_part(alloc, checker, slot, shape)?;
+        slot = first_part(checker, slot, shape)?;
         left -= 1;
     }
     Ok(slot)
 }
 
 /// The first object of an aggregate of this shape, or what is next behind it, or itself where nothing is.
-fn first_part(
-    alloc: Global,
-    checker: &Checker,
-    slot: Slot,
-    shape: Shape,
-) -> Result<Slot, CheckError>
+fn first_part(checker: &Checker, slot: Slot, shape: Shape) -> Result<Slot, CheckError>
     ensures { Gives view_slot result
         (Ok (or_slot (view_slot slot) (next_slot (tables checker.now)
         (parts_of slot.offset slot.type_id shape ∷ view_stack slot.rest.items)))) }
@@ -255,17 +249,17 @@ fn first_part(
     let part = parts_of(slot.offset, slot.type_id, shape);
     match start_of(checker, part)? {
         Some(start) => before_rest(start, slot.rest),
-        None => behind(alloc, checker, slot),
+        None => behind(checker, slot),
     }
 }
 
 /// What is next behind an object of which nothing is to be filled, or that object where nothing is.
-fn behind(alloc: Global, checker: &Checker, slot: Slot) -> Result<Slot, CheckError>
+fn behind(checker: &Checker, slot: Slot) -> Result<Slot, CheckError>
     ensures { Gives view_slot result
         (Ok (or_slot (view_slot slot)
         (next_slot (tables checker.now) (view_stack slot.rest.items)))) }
 {
-    let rest = copy_stack(alloc, &slot.rest)?;
+    let rest = copy_stack(checker.alloc, &slot.rest)?;
     match next_slot(checker, rest)? {
         Some(next) => Ok(next),
         None => Ok(slot),

@@ -9,7 +9,6 @@ ghost use Rattle.dae_types_linkage.specs.Rooms.{kept_in};
 
 use dae_types_kinds::{CheckError, Local, Storage};
 use dae_types_tables::{Checker, is_scalar, round_up};
-use std::alloc::Global;
 
 /// Offsets in a frame stop here, far above what a memory has.
 const MOST_FRAME: u32 = 1 << 31;
@@ -24,29 +23,21 @@ pub struct Room {
 
 /// Settles where parameters and local objects are kept, of which the first so many are parameters, and leaves the parameters
 /// alone in their table.
-pub fn settle_locals(
-    alloc: Global,
-    checker: &mut Checker,
-    parameters: usize,
-) -> Result<(), CheckError>
+pub fn settle_locals(checker: &mut Checker, parameters: usize) -> Result<(), CheckError>
     ensures { Leaves checker.new result (settled_locals parameters (tables checker.old)) }
 {
-    let storages = storages_of(alloc, checker, parameters)?;
+    let storages = storages_of(checker, parameters)?;
     checker.cut_locals(parameters);
     checker.set_storages(storages);
     Ok(())
 }
 
 /// Where each parameter and local object is kept. Variable 0 holds what the function returns, the next ones its parameters.
-fn storages_of(
-    alloc: Global,
-    checker: &Checker,
-    parameters: usize,
-) -> Result<Vec<Storage>, CheckError>
+fn storages_of(checker: &Checker, parameters: usize) -> Result<Vec<Storage>, CheckError>
     ensures { Gives (λ v. v.items) result
         (Ok (kept_from (tables checker.now) 1 0 parameters (tables checker.now).locals)) }
 {
-    let mut storages = Vec::new(alloc);
+    let mut storages = Vec::new(checker.alloc);
     let mut room = Room {
         variable: 1,
         offset: 0,

@@ -20,7 +20,6 @@ use dae_types_linkage::{declare_local, declare_type};
 use dae_types_sites::base_type;
 use dae_types_tables::Checker;
 use dae_types_walk::{declarator, declared_place, place_of_specifiers, specifiers};
-use std::alloc::Global;
 
 /// Whether a word is `typedef`.
 fn is_typedef_word(word: Keyword) -> bool
@@ -61,7 +60,6 @@ pub fn has_typedef(list: &[Specifier]) -> bool
 
 /// Gives a type a name, which stands at this place.
 fn name_type(
-    alloc: Global,
     checker: &mut Checker,
     place: Place,
     base: usize,
@@ -70,7 +68,7 @@ fn name_type(
     ensures { GivesStatements checker.new result
         (plan_item_at true place base (view_item item.now)) checker.old }
 {
-    let declared = declarator(alloc, checker, place, false, base, &item.declarator)?;
+    let declared = declarator(checker, place, false, base, &item.declarator)?;
     let given = item.initialiser.is_some();
     declare_type(
         checker,
@@ -80,12 +78,11 @@ fn name_type(
         item.declarator.name(),
         declared,
     )?;
-    Ok(Vec::new(alloc))
+    Ok(Vec::new(checker.alloc))
 }
 
 /// Declares a local object, whose name stands at this place, and begins it.
 fn declare(
-    alloc: Global,
     checker: &mut Checker,
     place: Place,
     base: usize,
@@ -94,15 +91,14 @@ fn declare(
     ensures { GivesStatements checker.new result
         (plan_item_at false place base (view_item item.now)) checker.old }
 {
-    let declared = declarator(alloc, checker, place, false, base, &item.declarator)?;
+    let declared = declarator(checker, place, false, base, &item.declarator)?;
     let given = item.initialiser.is_some();
     let number = declare_local(checker, place, given, item.declarator.name(), declared)?;
-    begin(alloc, checker, place, &item.initialiser, number)
+    begin(checker, place, &item.initialiser, number)
 }
 
 /// Declares one name over a type.
 fn declare_item(
-    alloc: Global,
     checker: &mut Checker,
     is_typedef: bool,
     place: Place,
@@ -113,15 +109,14 @@ fn declare_item(
         (plan_item_at is_typedef place base (view_item item.now)) checker.old }
 {
     if is_typedef {
-        name_type(alloc, checker, place, base, item)
+        name_type(checker, place, base, item)
     } else {
-        declare(alloc, checker, place, base, item)
+        declare(checker, place, base, item)
     }
 }
 
 /// Declares names over a type, behind statements that are done.
 fn declare_items(
-    alloc: Global,
     checker: &mut Checker,
     place: Place,
     is_typedef: bool,
@@ -134,7 +129,7 @@ fn declare_items(
 {
     for one in list {
         let at = declared_place(&one.declarator, place);
-        let statements = declare_item(alloc, checker, is_typedef, at, base, one)?;
+        let statements = declare_item(checker, is_typedef, at, base, one)?;
         done = append(done, statements)?;
     }
     Ok(done)
@@ -149,21 +144,15 @@ fn is_alone(list: &[Item]) -> bool
 }
 
 /// The type that the specifiers of a declaration name. The flag says that they stand alone.
-fn base(
-    alloc: Global,
-    checker: &mut Checker,
-    alone: bool,
-    list: &[Specifier],
-) -> Result<usize, CheckError>
+fn base(checker: &mut Checker, alone: bool, list: &[Specifier]) -> Result<usize, CheckError>
     ensures { Follows checker.new result (plan_declared alone list.now) checker.old }
 {
-    let named = specifiers(alloc, checker, Context::Block, alone, list)?;
+    let named = specifiers(checker, Context::Block, alone, list)?;
     Ok(base_type(Seen::of_specifiers(list), named))
 }
 
 /// Goes through a declaration of a block, behind statements that are done.
 fn declaration(
-    alloc: Global,
     checker: &mut Checker,
     done: Vec<Statement>,
     one: &Declaration,
@@ -171,25 +160,24 @@ fn declaration(
     ensures { GivesStatements checker.new result
         (plan_declaration (as_statements done) (view_declaration one.now)) checker.old }
 {
-    let base = base(alloc, checker, is_alone(&one.items), &one.specifiers)?;
+    let base = base(checker, is_alone(&one.items), &one.specifiers)?;
     let place = place_of_specifiers(&one.specifiers, one.end);
     let is_typedef = has_typedef(&one.specifiers);
-    declare_items(alloc, checker, place, is_typedef, base, done, &one.items)
+    declare_items(checker, place, is_typedef, base, done, &one.items)
 }
 
 /// Goes through the declarations of a block, in their order: gives the statements that begin its objects. An error is a rule
 /// that is broken, or want of memory.
 pub fn declarations(
-    alloc: Global,
     checker: &mut Checker,
     list: &[Declaration],
 ) -> Result<Vec<Statement>, CheckError>
     ensures { GivesStatements checker.new result
         (plan_declarations Done (view_declarations list.now)) checker.old }
 {
-    let mut done = Vec::new(alloc);
+    let mut done = Vec::new(checker.alloc);
     for one in list {
-        done = declaration(alloc, checker, done, one)?;
+        done = declaration(checker, done, one)?;
     }
     Ok(done)
 }

@@ -23,25 +23,19 @@ use std::alloc::Global;
 
 /// Goes through an initialiser of what is still to be filled.
 #[cycle(fill)]
-fn fill(
-    alloc: Global,
-    checker: &mut Checker,
-    filling: Filling,
-    one: &Initialiser,
-) -> Result<Filling, CheckError>
+fn fill(checker: &mut Checker, filling: Filling, one: &Initialiser) -> Result<Filling, CheckError>
     ensures { FollowsBy view_filling checker.new result
         (plan_initialiser (view_filling filling) (view_initialiser one.now)) checker.old }
 {
     match one {
-        Initialiser::Value(e) => fill_value(alloc, checker, filling, e),
-        Initialiser::List(place, inner, _) => fill_list(alloc, checker, *place, filling, inner),
+        Initialiser::Value(e) => fill_value(checker, filling, e),
+        Initialiser::List(place, inner, _) => fill_list(checker, *place, filling, inner),
     }
 }
 
 /// Goes through a list in braces, which fills the next object alone.
 #[cycle(fill)]
 fn fill_list(
-    alloc: Global,
     checker: &mut Checker,
     place: Place,
     filling: Filling,
@@ -51,16 +45,15 @@ fn fill_list(
         (plan_list place (view_filling filling) (views_initialisers inner.now)) checker.old }
 {
     let over = filling.over;
-    let opening = open_list(alloc, checker, place, filling, inner)?;
+    let opening = open_list(checker, place, filling, inner)?;
     let behind = opening.behind;
-    let inside = fill_all(alloc, checker, opening.inside, inner)?;
+    let inside = fill_all(checker, opening.inside, inner)?;
     Ok(close_list(over, behind, inside))
 }
 
 /// Goes through initialisers in their order.
 #[cycle(fill)]
 fn fill_all(
-    alloc: Global,
     checker: &mut Checker,
     mut filling: Filling,
     all: &[Initialiser],
@@ -69,14 +62,13 @@ fn fill_all(
         (plan_initialisers (view_filling filling) (views_initialisers all.now)) checker.old }
 {
     for one in all {
-        filling = fill(alloc, checker, filling, one)?;
+        filling = fill(checker, filling, one)?;
     }
     Ok(filling)
 }
 
 /// Goes through an expression as an item: its value says where it lands.
 fn fill_value(
-    alloc: Global,
     checker: &mut Checker,
     filling: Filling,
     e: &Expression,
@@ -84,8 +76,8 @@ fn fill_value(
     ensures { FollowsBy view_filling checker.new result
         (plan_initialiser (view_filling filling) (Value (view e.now))) checker.old }
 {
-    let x = operand(alloc, checker, e)?;
-    let landing = land(alloc, checker, e.place(), literal_in(e), filling, &x)?;
+    let x = operand(checker, e)?;
+    let landing = land(checker, e.place(), literal_in(e), filling, &x)?;
     fill_item(checker, e.place(), literal_in(e), &x, landing)
 }
 
@@ -106,7 +98,6 @@ fn begin_object(alloc: Global, offset: u32, type_id: usize) -> Result<Filling, C
 /// Goes through an expression as the initialiser of an object of a type at an offset. The flag says that it is a value for a whole
 /// aggregate, which it can't be.
 fn fill_by_value(
-    alloc: Global,
     checker: &mut Checker,
     offset: u32,
     type_id: usize,
@@ -117,17 +108,16 @@ fn fill_by_value(
         (whole_by offset type_id (Value (view e.now)) whole) checker.old }
 {
     if whole {
-        let x = operand(alloc, checker, e)?;
+        let x = operand(checker, e)?;
         refuse_value(checker, e.place(), type_id, &x)
     } else {
-        let filling = begin_object(alloc, offset, type_id)?;
-        fill_value(alloc, checker, filling, e)
+        let filling = begin_object(checker.alloc, offset, type_id)?;
+        fill_value(checker, filling, e)
     }
 }
 
 /// Goes through the whole initialiser of an object of a type at an offset.
 fn fill_whole(
-    alloc: Global,
     checker: &mut Checker,
     offset: u32,
     type_id: usize,
@@ -139,11 +129,11 @@ fn fill_whole(
     match one {
         Initialiser::Value(e) => {
             let whole = is_value_for(checker, type_id, one);
-            fill_by_value(alloc, checker, offset, type_id, whole, e)
+            fill_by_value(checker, offset, type_id, whole, e)
         }
         Initialiser::List(place, inner, _) => {
-            let filling = begin_object(alloc, offset, type_id)?;
-            fill_list(alloc, checker, *place, filling, inner)
+            let filling = begin_object(checker.alloc, offset, type_id)?;
+            fill_list(checker, *place, filling, inner)
         }
     }
 }
@@ -152,7 +142,6 @@ fn fill_whole(
 /// the object stands, which is at this offset, and the type with the size that an array of unknown size gets. An error is a rule
 /// that is broken, or want of memory.
 pub fn content(
-    alloc: Global,
     checker: &mut Checker,
     place: Place,
     offset: u32,
@@ -162,26 +151,22 @@ pub fn content(
     ensures { FollowsBy view_content checker.new result
         (plan_content place offset type_id (view_initialiser initialiser.now)) checker.old }
 {
-    let filling = fill_whole(alloc, checker, offset, type_id, initialiser)?;
+    let filling = fill_whole(checker, offset, type_id, initialiser)?;
     finish_content(checker, place, type_id, filling)
 }
 
 /// Looks through the initialiser of what is no object: what it names must be declared. An error is a rule that is broken, or want
 /// of memory.
-pub fn look_through(
-    alloc: Global,
-    checker: &mut Checker,
-    initialiser: &Initialiser,
-) -> Result<(), CheckError>
+pub fn look_through(checker: &mut Checker, initialiser: &Initialiser) -> Result<(), CheckError>
     ensures { Follows checker.new result
         (looked_through (view_initialiser initialiser.now)) checker.old }
 {
     let nothing = Filling {
-        rest: Vec::new(alloc),
-        items: Vec::new(alloc),
+        rest: Vec::new(checker.alloc),
+        items: Vec::new(checker.alloc),
         count: 0,
         over: true,
     };
-    fill(alloc, checker, nothing, initialiser)?;
+    fill(checker, nothing, initialiser)?;
     Ok(())
 }

@@ -18,12 +18,10 @@ use dae_types_fills::check_scalar_list;
 use dae_types_kinds::CheckError;
 use dae_types_tables::{Checker, is_scalar};
 use dae_types_walk::operand;
-use std::alloc::Global;
 
 /// Sets a local scalar by its initialiser, an expression perhaps in braces. The place is that of its name.
 #[cycle(scalar)]
 fn set_scalar(
-    alloc: Global,
     checker: &mut Checker,
     place: Place,
     number: usize,
@@ -33,15 +31,14 @@ fn set_scalar(
         (plan_scalar place number (view_initialiser initialiser.now)) checker.old }
 {
     match initialiser {
-        Initialiser::Value(e) => set_value(alloc, checker, place, number, e),
-        Initialiser::List(brace, list, _) => set_first(alloc, checker, place, number, *brace, list),
+        Initialiser::Value(e) => set_value(checker, place, number, e),
+        Initialiser::List(brace, list, _) => set_first(checker, place, number, *brace, list),
     }
 }
 
 /// Sets a local scalar by a list of one initialiser.
 #[cycle(scalar)]
 fn set_first(
-    alloc: Global,
     checker: &mut Checker,
     place: Place,
     number: usize,
@@ -53,14 +50,13 @@ fn set_first(
 {
     check_scalar_list(checker, brace, list)?;
     match list {
-        [first, ..] => set_scalar(alloc, checker, place, number, first),
-        [] => Ok(Vec::new(alloc)),
+        [first, ..] => set_scalar(checker, place, number, first),
+        [] => Ok(Vec::new(checker.alloc)),
     }
 }
 
 /// Sets a local scalar to the value of an expression.
 fn set_value(
-    alloc: Global,
     checker: &mut Checker,
     place: Place,
     number: usize,
@@ -69,13 +65,12 @@ fn set_value(
     ensures { GivesStatements checker.new result
         (plan_scalar place number (Value (view e.now))) checker.old }
 {
-    let x = operand(alloc, checker, e)?;
-    initialise_scalar(alloc, checker, place, e.place(), number, x)
+    let x = operand(checker, e)?;
+    initialise_scalar(checker, place, e.place(), number, x)
 }
 
 /// Initialises a local object, whose name stands at this place.
 fn initialise(
-    alloc: Global,
     checker: &mut Checker,
     place: Place,
     number: usize,
@@ -86,17 +81,16 @@ fn initialise(
 {
     let type_id = type_of_local(checker, number);
     if is_scalar(checker.shape_of(type_id)) {
-        set_scalar(alloc, checker, place, number, initialiser)
+        set_scalar(checker, place, number, initialiser)
     } else {
         let offset = offset_of_local(checker, number);
-        let content = content(alloc, checker, place, offset, type_id, initialiser)?;
-        initialise_aggregate(alloc, checker, place, number, content)
+        let content = content(checker, place, offset, type_id, initialiser)?;
+        initialise_aggregate(checker, place, number, content)
     }
 }
 
 /// Begins a local object with its initialiser or without, or looks through the initialiser of what is none.
 pub fn begin(
-    alloc: Global,
     checker: &mut Checker,
     place: Place,
     given: &Option<(Place, Initialiser)>,
@@ -107,15 +101,15 @@ pub fn begin(
 {
     match given {
         Some((_, initialiser)) => match number {
-            Some(number) => initialise(alloc, checker, place, number, initialiser),
+            Some(number) => initialise(checker, place, number, initialiser),
             None => {
-                look_through(alloc, checker, initialiser)?;
-                Ok(Vec::new(alloc))
+                look_through(checker, initialiser)?;
+                Ok(Vec::new(checker.alloc))
             }
         },
         None => match number {
-            Some(number) => begin_local(alloc, checker, place, number),
-            None => Ok(Vec::new(alloc)),
+            Some(number) => begin_local(checker, place, number),
+            None => Ok(Vec::new(checker.alloc)),
         },
     }
 }

@@ -15,12 +15,10 @@ use dae_types_folding::{Value, common, known_and, known_branch, known_or};
 use dae_types_kinds::{Category, CheckError, INT_ID, Known, Rule, Shape, VOID_ID};
 use dae_types_tables::{Checker, broken, is_integer, is_scalar, is_void};
 use dae_types_values::is_null;
-use std::alloc::Global;
 
 /// `&&` between two values, at their places.
 #[tactic(auto, unfolding(dae_types_rules::specs::Plan::ask_all))]
 pub fn and(
-    alloc: Global,
     checker: &Checker,
     place: Place,
     second: Place,
@@ -36,15 +34,14 @@ pub fn and(
         return Err(broken(Rule::NotScalar, second));
     }
     let known = known_and(x.known, y.known);
-    let left = Box::new(alloc, x.tree)?;
-    let right = Box::new(alloc, y.tree)?;
+    let left = Box::new(checker.alloc, x.tree)?;
+    let right = Box::new(checker.alloc, y.tree)?;
     Ok(Value::of_known(Expression::And(place, left, right), INT_ID, known))
 }
 
 /// `||` between two values, at their places.
 #[tactic(auto, unfolding(dae_types_rules::specs::Plan::ask_all))]
 pub fn or(
-    alloc: Global,
     checker: &Checker,
     place: Place,
     second: Place,
@@ -60,8 +57,8 @@ pub fn or(
         return Err(broken(Rule::NotScalar, second));
     }
     let known = known_or(x.known, y.known);
-    let left = Box::new(alloc, x.tree)?;
-    let right = Box::new(alloc, y.tree)?;
+    let left = Box::new(checker.alloc, x.tree)?;
+    let right = Box::new(checker.alloc, y.tree)?;
     Ok(Value::of_known(Expression::Or(place, left, right), INT_ID, known))
 }
 
@@ -142,7 +139,6 @@ fn conditional_by(tree: Expression, type_id: usize, category: Category, known: K
 /// `?:` of a scalar and two values.
 #[tactic(auto, unfolding(dae_types_rules::specs::Plan::ask_all))]
 pub fn conditional(
-    alloc: Global,
     checker: &mut Checker,
     place: Place,
     x: Value,
@@ -157,9 +153,9 @@ pub fn conditional(
     let known = known_branch(x.known, y.known, z.known);
     let known = known_if(is_integer(checker.shape_of(type_id)), known);
     let category = either_category(y.category, z.category);
-    let test = Box::new(alloc, x.tree)?;
-    let first = Box::new(alloc, y.tree)?;
-    let second = Box::new(alloc, z.tree)?;
+    let test = Box::new(checker.alloc, x.tree)?;
+    let first = Box::new(checker.alloc, y.tree)?;
+    let second = Box::new(checker.alloc, z.tree)?;
     let tree = Expression::Conditional(place, test, first, second);
     Ok(conditional_by(tree, type_id, category, known))
 }
@@ -175,11 +171,11 @@ fn kept_category(category: Category) -> Category
 }
 
 /// The comma between two values.
-pub fn comma(alloc: Global, checker: &Checker, x: Value, y: Value) -> Result<Value, CheckError>
+pub fn comma(checker: &Checker, x: Value, y: Value) -> Result<Value, CheckError>
     ensures { GivesValue checker.now result (comma_at (two x y)) checker.now }
 {
-    let left = Box::new(alloc, x.tree)?;
-    let right = Box::new(alloc, y.tree)?;
+    let left = Box::new(checker.alloc, x.tree)?;
+    let right = Box::new(checker.alloc, y.tree)?;
     Ok(Value {
         tree: Expression::Comma(left, right),
         type_id: y.type_id,

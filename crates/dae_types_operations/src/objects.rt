@@ -22,7 +22,6 @@ use dae_types_folding::{
 use dae_types_kinds::{Category, CheckError, Component, Known, Rule, Shape};
 use dae_types_tables::{Checker, broken, is_array, is_structure};
 use dae_types_values::{convert, fits};
-use std::alloc::Global;
 
 /// Whether a tree gives where an object is.
 pub fn is_object(category: Category) -> bool
@@ -35,33 +34,21 @@ pub fn is_object(category: Category) -> bool
 }
 
 /// What an assignment of a value to an object gives.
-fn assigned(
-    alloc: Global,
-    checker: &Checker,
-    place: Place,
-    x: Value,
-    y: Value,
-) -> Result<Value, CheckError>
+fn assigned(checker: &Checker, place: Place, x: Value, y: Value) -> Result<Value, CheckError>
     ensures { MakesValue result
         (assigned place (tables checker.now) (view_value x) (view_value y)) }
 {
     let type_id = x.type_id;
     let kind = load_kind(checker.shape_of(type_id));
-    let y = convert(alloc, checker, place, y, type_id)?;
-    let target = target_of(alloc, x)?;
-    let tree = Expression::Assign(place, kind, target, Box::new(alloc, y.tree)?);
+    let y = convert(checker, place, y, type_id)?;
+    let target = target_of(checker.alloc, x)?;
+    let tree = Expression::Assign(place, kind, target, Box::new(checker.alloc, y.tree)?);
     Ok(Value::plain(tree, type_id))
 }
 
 /// `=`
 #[tactic(auto, unfolding(dae_types_rules::specs::Plan::ask_all))]
-fn store(
-    alloc: Global,
-    checker: &Checker,
-    place: Place,
-    x: Value,
-    y: Value,
-) -> Result<Value, CheckError>
+fn store(checker: &Checker, place: Place, x: Value, y: Value) -> Result<Value, CheckError>
     ensures { GivesValue checker.now result (assign_at place (two x y)) checker.now }
 {
     if !is_object(x.category) {
@@ -76,7 +63,7 @@ fn store(
     if is_structure(checker.shape_of(y.type_id)) {
         return Err(broken(Rule::StructureValue, place));
     }
-    assigned(alloc, checker, place, x, y)
+    assigned(checker, place, x, y)
 }
 
 /// The operation of a compound assignment; a comparison has none, and counts as a sum.
@@ -101,7 +88,6 @@ fn is_update(combination: Option<Combination>) -> bool
 
 /// The right side of a compound assignment.
 fn updated_by(
-    alloc: Global,
     checker: &Checker,
     place: Place,
     operator: BinaryOperator,
@@ -115,7 +101,7 @@ fn updated_by(
 {
     match combination {
         Some(Combination::PointerFirst(to)) => {
-            scaled(alloc, place, y.tree, checker.layout_at(to).size)
+            scaled(checker.alloc, place, y.tree, checker.layout_at(to).size)
         }
         _ => Ok(y.tree),
     }
@@ -123,7 +109,6 @@ fn updated_by(
 
 /// What a compound assignment gives.
 fn updated(
-    alloc: Global,
     checker: &Checker,
     place: Place,
     operator: BinaryOperator,
@@ -138,9 +123,9 @@ fn updated(
     let unsigned = is_unsigned_for(operator, left, checker.shape_of(y.type_id));
     let operation = operator_in(deed_of(unsigned, operator));
     let combination = combination_of(checker, operator, &x, &y);
-    let right = updated_by(alloc, checker, place, operator, &x, y, combination)?;
-    let right = Box::new(alloc, right)?;
-    let target = target_of(alloc, x)?;
+    let right = updated_by(checker, place, operator, &x, y, combination)?;
+    let right = Box::new(checker.alloc, right)?;
+    let target = target_of(checker.alloc, x)?;
     let tree = Expression::Update(place, load_kind(left), target, operation, right);
     Ok(Value::plain(tree, type_id))
 }
@@ -148,7 +133,6 @@ fn updated(
 /// `+=` and its kin.
 #[tactic(auto, unfolding(dae_types_rules::specs::Plan::ask_all))]
 fn update(
-    alloc: Global,
     checker: &Checker,
     place: Place,
     operator: BinaryOperator,
@@ -170,12 +154,11 @@ fn update(
     if lacks_size(checker, scaled_by(combination)) {
         return Err(broken(Rule::Incomplete, place));
     }
-    updated(alloc, checker, place, operator, x, y)
+    updated(checker, place, operator, x, y)
 }
 
 /// An assignment of a value to an object.
 pub fn assign(
-    alloc: Global,
     checker: &Checker,
     place: Place,
     operator: AssignmentOperator,
@@ -185,7 +168,7 @@ pub fn assign(
     ensures { GivesValue checker.now result (assignment_at place operator (two x y)) checker.now }
 {
     match operator {
-        AssignmentOperator::Assign => store(alloc, checker, place, x, y),
+        AssignmentOperator::Assign => store(checker, place, x, y),
         AssignmentOperator::Multiply
         | AssignmentOperator::Divide
         | AssignmentOperator::Remainder
@@ -195,7 +178,7 @@ pub fn assign(
         | AssignmentOperator::ShiftRight
         | AssignmentOperator::And
         | AssignmentOperator::Xor
-        | AssignmentOperator::Or => update(alloc, checker, place, operator_of(operator), x, y),
+        | AssignmentOperator::Or => update(checker, place, operator_of(operator), x, y),
     }
 }
 
@@ -216,7 +199,6 @@ fn owner(checker: &Checker, operator: MemberOperator, x: &Value) -> Option<usize
 
 /// A member of a structure that is a value: a scalar is read at once.
 fn member_value(
-    alloc: Global,
     checker: &Checker,
     place: Place,
     tree: Expression,
@@ -235,7 +217,7 @@ fn member_value(
             known: Known::Nothing,
         }),
         shape => {
-            let address = Box::new(alloc, tree)?;
+            let address = Box::new(checker.alloc, tree)?;
             let tree = Expression::Read(place, load_kind(shape), checked, address);
             Ok(Value::plain(tree, type_id))
         }
@@ -244,7 +226,6 @@ fn member_value(
 
 /// A member at an address.
 fn member_in(
-    alloc: Global,
     checker: &Checker,
     place: Place,
     operator: MemberOperator,
@@ -264,7 +245,7 @@ fn member_in(
             known: based(known),
         }),
         (MemberOperator::Dot, Category::Aggregate(checked)) => {
-            member_value(alloc, checker, place, tree, type_id, checked)
+            member_value(checker, place, tree, type_id, checked)
         }
         (MemberOperator::Dot, _) => Ok(Value {
             tree,
@@ -277,7 +258,6 @@ fn member_in(
 
 /// The member of this row.
 fn member_by(
-    alloc: Global,
     checker: &Checker,
     place: Place,
     operator: MemberOperator,
@@ -288,9 +268,8 @@ fn member_by(
         (member_by place (tables checker.now) operator (view_value x) (Some component)) }
 {
     let known = known_further(x.known, component.offset);
-    let tree = further(alloc, place, x.tree, component.offset)?;
+    let tree = further(checker.alloc, place, x.tree, component.offset)?;
     member_in(
-        alloc,
         checker,
         place,
         operator,
@@ -306,7 +285,6 @@ ghost use Rattle.std.specs.Prelude.{Some};
 /// A member of a structure.
 #[tactic(auto, unfolding(dae_types_rules::specs::Plan::ask_all))]
 pub fn member(
-    alloc: Global,
     checker: &Checker,
     place: Place,
     operator: MemberOperator,
@@ -324,5 +302,5 @@ pub fn member(
     let Some(component) = checker.found_component(structure, name.number) else {
         return Err(broken(Rule::BadMember, place));
     };
-    member_by(alloc, checker, place, operator, x, component)
+    member_by(checker, place, operator, x, component)
 }

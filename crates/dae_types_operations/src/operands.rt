@@ -127,7 +127,6 @@ pub fn lacks_size(checker: &Checker, type_id: Option<usize>) -> bool
 
 /// A pointer and an index of elements of a type.
 fn indexed(
-    alloc: Global,
     checker: &Checker,
     place: Place,
     element: usize,
@@ -139,8 +138,8 @@ fn indexed(
 {
     let size = checker.layout_at(element).size;
     let known = moved_on(x.known, scaled_known(y.known, size));
-    let bytes = scaled(alloc, place, y.tree, size)?;
-    let tree = sum_of(alloc, place, x.tree, bytes)?;
+    let bytes = scaled(checker.alloc, place, y.tree, size)?;
+    let tree = sum_of(checker.alloc, place, x.tree, bytes)?;
     Ok(Value {
         tree,
         type_id: x.type_id,
@@ -153,7 +152,6 @@ ghost use Rattle.dae_types_kinds.specs.Values.{indexed_behind};
 
 /// An index of elements of a type, and a pointer.
 fn indexed_behind(
-    alloc: Global,
     checker: &Checker,
     place: Place,
     element: usize,
@@ -165,8 +163,8 @@ fn indexed_behind(
 {
     let size = checker.layout_at(element).size;
     let known = moved_on(y.known, scaled_known(x.known, size));
-    let bytes = scaled(alloc, place, x.tree, size)?;
-    let tree = sum_of(alloc, place, bytes, y.tree)?;
+    let bytes = scaled(checker.alloc, place, x.tree, size)?;
+    let tree = sum_of(checker.alloc, place, bytes, y.tree)?;
     Ok(Value {
         tree,
         type_id: y.type_id,
@@ -177,7 +175,6 @@ fn indexed_behind(
 
 /// A pointer less an index of elements of a type.
 fn indexed_back(
-    alloc: Global,
     checker: &Checker,
     place: Place,
     element: usize,
@@ -189,8 +186,8 @@ fn indexed_back(
 {
     let size = checker.layout_at(element).size;
     let known = moved_back(x.known, scaled_known(y.known, size));
-    let bytes = scaled(alloc, place, y.tree, size)?;
-    let tree = difference_of(alloc, place, x.tree, bytes)?;
+    let bytes = scaled(checker.alloc, place, y.tree, size)?;
+    let tree = difference_of(checker.alloc, place, x.tree, bytes)?;
     Ok(Value {
         tree,
         type_id: x.type_id,
@@ -217,7 +214,6 @@ fn distance(alloc: Global, place: Place, size: u32, x: Value, y: Value) -> Resul
 
 /// What an operator gives of two operands that go together.
 fn combine(
-    alloc: Global,
     checker: &Checker,
     place: Place,
     operator: BinaryOperator,
@@ -235,19 +231,32 @@ fn combine(
             let right = checker.shape_of(y.type_id);
             let unsigned = is_unsigned_for(operator, left, right);
             let deed = deed_of(unsigned, operator);
-            operated(alloc, place, deed, type_for(operator, unsigned), x, y)
+            operated(
+                checker.alloc,
+                place,
+                deed,
+                type_for(operator, unsigned),
+                x,
+                y,
+            )
         }
         Combination::PointerFirst(to) if is_difference(operator) => {
-            indexed_back(alloc, checker, place, to, x, y)
+            indexed_back(checker, place, to, x, y)
         }
-        Combination::PointerFirst(to) => indexed(alloc, checker, place, to, x, y),
-        Combination::PointerSecond(to) => indexed_behind(alloc, checker, place, to, x, y),
+        Combination::PointerFirst(to) => indexed(checker, place, to, x, y),
+        Combination::PointerSecond(to) => indexed_behind(checker, place, to, x, y),
         Combination::Distance(to) => {
             let size = checker.layout_at(to).size;
-            distance(alloc, place, size, x, y)
+            distance(checker.alloc, place, size, x, y)
         }
         Combination::Pointers => {
-            let tree = tree_by(alloc, place, deed_of(true, operator), x.tree, y.tree)?;
+            let tree = tree_by(
+                checker.alloc,
+                place,
+                deed_of(true, operator),
+                x.tree,
+                y.tree,
+            )?;
             Ok(Value::plain(tree, INT_ID))
         }
     }
@@ -256,7 +265,6 @@ fn combine(
 /// An operator between two values, other than `&&` and `||`.
 #[tactic(auto, unfolding(dae_types_rules::specs::Plan::ask_all))]
 pub fn operate(
-    alloc: Global,
     checker: &Checker,
     place: Place,
     operator: BinaryOperator,
@@ -271,12 +279,11 @@ pub fn operate(
     if lacks_size(checker, scaled_by(Some(combination))) {
         return Err(broken(Rule::Incomplete, place));
     }
-    combine(alloc, checker, place, operator, combination, x, y)
+    combine(checker, place, operator, combination, x, y)
 }
 
 /// The object at the sum of a pointer and an index.
 fn subscript(
-    alloc: Global,
     checker: &Checker,
     place: Place,
     x: Value,
@@ -289,7 +296,7 @@ fn subscript(
 {
     match combination {
         Some(Combination::PointerFirst(to)) => {
-            let z = indexed(alloc, checker, place, to, x, y)?;
+            let z = indexed(checker, place, to, x, y)?;
             Ok(Value {
                 tree: z.tree,
                 type_id: to,
@@ -298,7 +305,7 @@ fn subscript(
             })
         }
         Some(Combination::PointerSecond(to)) => {
-            let z = indexed_behind(alloc, checker, place, to, x, y)?;
+            let z = indexed_behind(checker, place, to, x, y)?;
             Ok(Value {
                 tree: z.tree,
                 type_id: to,
@@ -334,7 +341,6 @@ fn index_shape(checker: &Checker, x: &Value, y: &Value) -> Shape
 /// A subscript of two values, at their places: one is a pointer, the other an integer.
 #[tactic(auto, unfolding(dae_types_rules::specs::Plan::ask_all))]
 pub fn index(
-    alloc: Global,
     checker: &Checker,
     place: Place,
     second: Place,
@@ -354,14 +360,13 @@ pub fn index(
     if lacks_size(checker, scaled_by(combination)) {
         return Err(broken(Rule::Incomplete, place));
     }
-    subscript(alloc, checker, place, x, y, combination)
+    subscript(checker, place, x, y, combination)
 }
 
 ghost use Rattle.dae_types_plans.specs.Steps.{binary_at};
 
 /// An operator between two values, at their places.
 pub fn binary(
-    alloc: Global,
     checker: &Checker,
     place: Place,
     second: Place,
@@ -373,8 +378,8 @@ pub fn binary(
         (binary_at place second operator (two x y)) checker.now }
 {
     match operator {
-        BinaryOperator::AndAnd => and(alloc, checker, place, second, x, y),
-        BinaryOperator::OrOr => or(alloc, checker, place, second, x, y),
+        BinaryOperator::AndAnd => and(checker, place, second, x, y),
+        BinaryOperator::OrOr => or(checker, place, second, x, y),
         BinaryOperator::Multiply
         | BinaryOperator::Divide
         | BinaryOperator::Remainder
@@ -390,6 +395,6 @@ pub fn binary(
         | BinaryOperator::NotEqual
         | BinaryOperator::And
         | BinaryOperator::Xor
-        | BinaryOperator::Or => operate(alloc, checker, place, operator, x, y),
+        | BinaryOperator::Or => operate(checker, place, operator, x, y),
     }
 }

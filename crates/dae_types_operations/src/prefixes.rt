@@ -97,7 +97,6 @@ fn step_size(checker: &Checker, shape: Shape) -> u32
 
 /// What a step of an object gives: its new value or the one before.
 fn stepped(
-    alloc: Global,
     checker: &Checker,
     place: Place,
     down: bool,
@@ -110,7 +109,7 @@ fn stepped(
     let shape = checker.shape_of(type_id);
     let size = step_size(checker, shape);
     let change = if down { 0u32.wrapping_sub(size) } else { size };
-    let target = target_of(alloc, x)?;
+    let target = target_of(checker.alloc, x)?;
     let tree = Expression::Step(place, load_kind(shape), target, change, new);
     Ok(Value::plain(tree, type_id))
 }
@@ -118,7 +117,6 @@ fn stepped(
 /// `++` or `--`, before or behind an object.
 #[tactic(auto, unfolding(dae_types_rules::specs::Plan::ask_all))]
 fn step(
-    alloc: Global,
     checker: &Checker,
     place: Place,
     down: bool,
@@ -140,7 +138,7 @@ fn step(
     if lacks_size(checker, pointee(shape)) {
         return Err(broken(Rule::Incomplete, place));
     }
-    stepped(alloc, checker, place, down, new, x)
+    stepped(checker, place, down, new, x)
 }
 
 /// A minus sign, which takes a value from 0.
@@ -184,7 +182,6 @@ fn inverted(alloc: Global, place: Place, x: Value) -> Result<Value, CheckError>
 
 /// An operator before its operand, which has a place of its own and is this name, perhaps.
 pub fn prefix(
-    alloc: Global,
     checker: &mut Checker,
     place: Place,
     operand: Place,
@@ -196,45 +193,44 @@ pub fn prefix(
         (prefix_at place operand operator name (one x)) checker.old }
 {
     match operator {
-        PrefixOperator::Increment => step(alloc, checker, place, false, true, x),
-        PrefixOperator::Decrement => step(alloc, checker, place, true, true, x),
+        PrefixOperator::Increment => step(checker, place, false, true, x),
+        PrefixOperator::Decrement => step(checker, place, true, true, x),
         PrefixOperator::Address => address(checker, place, name, x),
         PrefixOperator::Indirection => {
-            let x = value(alloc, checker, operand, x)?;
+            let x = value(checker, operand, x)?;
             dereference(checker, place, x)
         }
         PrefixOperator::Plus => {
-            let x = value(alloc, checker, operand, x)?;
+            let x = value(checker, operand, x)?;
             let x = scalar(checker, place, x)?;
             let x = integer(checker, place, x)?;
             let type_id = promoted(checker.shape_of(x.type_id));
             Ok(Value::of_known(x.tree, type_id, x.known))
         }
         PrefixOperator::Minus => {
-            let x = value(alloc, checker, operand, x)?;
+            let x = value(checker, operand, x)?;
             let x = scalar(checker, place, x)?;
             let x = integer(checker, place, x)?;
             let type_id = promoted(checker.shape_of(x.type_id));
-            negated(alloc, place, x, type_id)
+            negated(checker.alloc, place, x, type_id)
         }
         PrefixOperator::Complement => {
-            let x = value(alloc, checker, operand, x)?;
+            let x = value(checker, operand, x)?;
             let x = scalar(checker, place, x)?;
             let x = integer(checker, place, x)?;
             let type_id = promoted(checker.shape_of(x.type_id));
-            complemented(alloc, place, x, type_id)
+            complemented(checker.alloc, place, x, type_id)
         }
         PrefixOperator::Not => {
-            let x = value(alloc, checker, operand, x)?;
+            let x = value(checker, operand, x)?;
             let x = scalar(checker, place, x)?;
-            inverted(alloc, place, x)
+            inverted(checker.alloc, place, x)
         }
     }
 }
 
 /// An operator behind its operand.
 pub fn postfix(
-    alloc: Global,
     checker: &Checker,
     place: Place,
     operator: PostfixOperator,
@@ -243,7 +239,7 @@ pub fn postfix(
     ensures { GivesValue checker.now result (postfix_at place operator (one x)) checker.now }
 {
     match operator {
-        PostfixOperator::Increment => step(alloc, checker, place, false, false, x),
-        PostfixOperator::Decrement => step(alloc, checker, place, true, false, x),
+        PostfixOperator::Increment => step(checker, place, false, false, x),
+        PostfixOperator::Decrement => step(checker, place, true, false, x),
     }
 }

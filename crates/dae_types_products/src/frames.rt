@@ -10,7 +10,6 @@ use dae_program::Slot;
 use dae_types_folding::load_kind;
 use dae_types_kinds::{CheckError, Local, Storage};
 use dae_types_tables::Checker;
-use std::alloc::Global;
 
 /// Whether a parameter or local object is kept in a variable.
 fn is_variable(storage: Storage) -> bool
@@ -82,7 +81,6 @@ fn slot_of(checker: &Checker, local: Local, storage: Storage) -> Option<Slot>
 
 /// Where each of so many parameters is stored at the entry.
 pub fn slots_of(
-    alloc: Global,
     checker: &Checker,
     parameters: usize,
     locals: &[Local],
@@ -91,7 +89,7 @@ pub fn slots_of(
     ensures { Gives (λ slots. slots.items) result
         (Ok (slots_of (tables checker.now) parameters locals.now storages.now)) }
 {
-    let mut slots = Vec::new(alloc);
+    let mut slots = Vec::new(checker.alloc);
     let mut rest = storages;
     let mut left = parameters;
     for local in locals {

@@ -77,7 +77,6 @@ fn count_parameters(checker: &Checker, function: usize) -> Result<usize, CheckEr
 
 /// A typed function, from its body, with the place of its name.
 fn typed_function(
-    alloc: Global,
     checker: &Checker,
     names: &[Items<u8>],
     place: Place,
@@ -90,8 +89,8 @@ fn typed_function(
     let count = count_parameters(checker, routine)?;
     let locals = body.locals.as_slice();
     let storages = body.storages.as_slice();
-    let name = text_of(alloc, name_of(names, checker.routine(routine)))?;
-    let parameters = slots_of(alloc, checker, count, locals, storages)?;
+    let name = text_of(checker.alloc, name_of(names, checker.routine(routine)))?;
+    let parameters = slots_of(checker, count, locals, storages)?;
     let variables = count_variables(count, storages)?;
     let frame = frame_size(checker, locals, storages)?;
     Ok(TypedFunction {
@@ -118,7 +117,6 @@ fn next_place(places: &[Place]) -> Option<(Place, &[Place])>
 /// Typed functions, from their bodies, with the places of their names in the same order.
 #[tactic(auto, using(crate::proofs::Lists::functions_append, crate::proofs::Lists::places_append, crate::proofs::Lists::all_append))]
 pub fn functions_in(
-    alloc: Global,
     checker: &Checker,
     names: &[Items<u8>],
     places: &[Place],
@@ -127,13 +125,13 @@ pub fn functions_in(
     ensures { Gives view_all result
         (Ok (written_all (tables checker.now) names.now bodies.items, places.now)) }
 {
-    let mut functions = Vec::new(alloc);
+    let mut functions = Vec::new(checker.alloc);
     let mut rest = places;
     for body in bodies {
         let Some((place, others)) = next_place(rest) else {
             return Err(CheckError::Unsound);
         };
-        functions.push(typed_function(alloc, checker, names, place, body)?)?;
+        functions.push(typed_function(checker, names, place, body)?)?;
         rest = others;
     }
     if !rest.is_empty() {

@@ -17,7 +17,6 @@ use dae_types_kinds::{CheckError, Rule, is_printf};
 use dae_types_tables::{Checker, broken};
 use dae_types_values::routine_of;
 use dae_types_walk::{name_in, operand};
-use std::alloc::Global;
 
 /// Whether a name stands for the library's `printf`.
 fn is_printf_name(checker: &Checker, name: Option<Name>) -> bool
@@ -94,7 +93,6 @@ fn kind_at(kinds: &[bool], number: usize) -> Option<bool>
 
 /// The arguments behind a format, whose conversions want these kinds.
 fn printed(
-    alloc: Global,
     checker: &mut Checker,
     kinds: &[bool],
     list: &[Tree],
@@ -102,10 +100,10 @@ fn printed(
     ensures { FollowsBy views_of_arguments checker.new result
         (plan_arguments_printed kinds.now list.now) checker.old }
 {
-    let mut done = Vec::new(alloc);
+    let mut done = Vec::new(checker.alloc);
     let mut number = 0;
     for e in list {
-        let x = operand(alloc, checker, e)?;
+        let x = operand(checker, e)?;
         done = add_printed(checker, e.place(), kind_at(kinds, number), done, x)?;
         number += 1;
     }
@@ -115,7 +113,6 @@ fn printed(
 /// A call of `printf` by its format and the arguments behind it, at the place of the statement.
 #[tactic(auto, using(crate::proofs::Printed::listed, crate::proofs::Printed::counted))]
 fn print(
-    alloc: Global,
     checker: &mut Checker,
     place: Place,
     format: &Tree,
@@ -124,22 +121,15 @@ fn print(
     ensures { GivesStatements checker.new result
         (plan_format_printed place format.now rest.now) checker.old }
 {
-    let pieces = read_format(
-        alloc,
-        checker,
-        format.place(),
-        literal_in(format),
-        rest.len(),
-    )?;
-    let kinds = kinds_of_arguments(alloc, &pieces)?;
-    let arguments = printed(alloc, checker, &kinds, rest)?;
-    alone(alloc, Statement::Print(place, arguments, pieces))
+    let pieces = read_format(checker, format.place(), literal_in(format), rest.len())?;
+    let kinds = kinds_of_arguments(checker.alloc, &pieces)?;
+    let arguments = printed(checker, &kinds, rest)?;
+    alone(checker.alloc, Statement::Print(place, arguments, pieces))
 }
 
 /// A call of `printf` by its arguments, at the place of the statement.
 #[tactic(auto, unfolding(dae_types_rules::specs::Plan::ask_all))]
 fn print_all(
-    alloc: Global,
     checker: &mut Checker,
     place: Place,
     list: &[Tree],
@@ -147,31 +137,27 @@ fn print_all(
     ensures { GivesStatements checker.new result (plan_printf place (views list.now)) checker.old }
 {
     match list {
-        [format, rest @ ..] => print(alloc, checker, place, format, rest),
+        [format, rest @ ..] => print(checker, place, format, rest),
         [] => Err(broken(Rule::BadFormat, place)),
     }
 }
 
 /// An expression whose value isn't used.
-fn plain(alloc: Global, checker: &mut Checker, e: &Tree) -> Result<Vec<Statement>, CheckError>
+fn plain(checker: &mut Checker, e: &Tree) -> Result<Vec<Statement>, CheckError>
     ensures { GivesStatements checker.new result (plan_plain e.now) checker.old }
 {
-    let x = operand(alloc, checker, e)?;
-    alone(alloc, Statement::Evaluate(e.place(), x.tree))
+    let x = operand(checker, e)?;
+    alone(checker.alloc, Statement::Evaluate(e.place(), x.tree))
 }
 
 /// An expression as a statement: a call of `printf`, or another one.
 #[inline(never)]
-pub fn evaluate(
-    alloc: Global,
-    checker: &mut Checker,
-    e: &Tree,
-) -> Result<Vec<Statement>, CheckError>
+pub fn evaluate(checker: &mut Checker, e: &Tree) -> Result<Vec<Statement>, CheckError>
     ensures { GivesStatements checker.new result (plan_evaluate (view e.now)) checker.old }
 {
     if is_printf_name(checker, callee_name(e)) {
-        print_all(alloc, checker, e.place(), arguments_of(e))
+        print_all(checker, e.place(), arguments_of(e))
     } else {
-        plain(alloc, checker, e)
+        plain(checker, e)
     }
 }

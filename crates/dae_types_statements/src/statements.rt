@@ -27,7 +27,6 @@ use dae_types_kinds::{CheckError, Rule};
 use dae_types_locals::declarations;
 use dae_types_tables::{Checker, broken};
 use dae_types_walk::place_of_specifiers;
-use std::alloc::Global;
 
 /// What stands round the body of a loop.
 fn in_loop(around: Surrounding) -> Surrounding
@@ -88,7 +87,6 @@ fn check_switch_body(checker: &Checker, list: &[Declaration]) -> Result<(), Chec
 /// A statement.
 #[cycle(statement)]
 fn statement(
-    alloc: Global,
     checker: &mut Checker,
     around: Surrounding,
     one: &TreeStatement,
@@ -97,48 +95,40 @@ fn statement(
         (plan_statement around (view_statement one.now)) checker.old }
 {
     match one {
-        TreeStatement::Block(inner) => scope(alloc, checker, around, inner),
-        TreeStatement::Empty(_) => Ok(Vec::new(alloc)),
-        TreeStatement::Evaluate(e, _) => evaluate(alloc, checker, e),
+        TreeStatement::Block(inner) => scope(checker, around, inner),
+        TreeStatement::Empty(_) => Ok(Vec::new(checker.alloc)),
+        TreeStatement::Evaluate(e, _) => evaluate(checker, e),
         TreeStatement::If(place, test, t) => {
-            let test = condition(alloc, checker, &test.expression)?;
-            if_true(alloc, checker, around, *place, Condition { tree: test }, t)
+            let test = condition(checker, &test.expression)?;
+            if_true(checker, around, *place, Condition { tree: test }, t)
         }
         TreeStatement::IfElse(place, test, t, u) => {
-            let test = condition(alloc, checker, &test.expression)?;
-            let statements = statement(alloc, checker, around, t)?;
+            let test = condition(checker, &test.expression)?;
+            let statements = statement(checker, around, t)?;
             let test = Condition { tree: test };
-            if_false(
-                alloc,
-                checker,
-                around,
-                *place,
-                test,
-                Written { statements },
-                u,
-            )
+            if_false(checker, around, *place, test, Written { statements }, u)
         }
         TreeStatement::While(place, test, t) => {
-            let test = condition(alloc, checker, &test.expression)?;
-            while_true(alloc, checker, around, *place, Condition { tree: test }, t)
+            let test = condition(checker, &test.expression)?;
+            while_true(checker, around, *place, Condition { tree: test }, t)
         }
         TreeStatement::Do(place, t, _, test, _) => {
-            let body = statement(alloc, checker, in_loop(around), t)?;
-            until_false(alloc, checker, *place, body, &test.expression)
+            let body = statement(checker, in_loop(around), t)?;
+            until_false(checker, *place, body, &test.expression)
         }
         TreeStatement::For(place, _, heading, t) => {
-            let start = optional_value(alloc, checker, &heading.start)?;
-            let test = optional_condition(alloc, checker, &heading.test)?;
-            let step = optional_value(alloc, checker, &heading.step)?;
+            let start = optional_value(checker, &heading.start)?;
+            let test = optional_condition(checker, &heading.test)?;
+            let step = optional_value(checker, &heading.step)?;
             let first = starting_place(*place, &heading.start);
-            for_each(alloc, checker, around, first, start, *place, test, step, t)
+            for_each(checker, around, first, start, *place, test, step, t)
         }
-        TreeStatement::Break(place, _) => break_out(alloc, checker, *place, around),
-        TreeStatement::Continue(place, _) => go_on(alloc, checker, *place, around),
-        TreeStatement::Return(place, e, _) => give_back(alloc, checker, *place, around, e),
+        TreeStatement::Break(place, _) => break_out(checker, *place, around),
+        TreeStatement::Continue(place, _) => go_on(checker, *place, around),
+        TreeStatement::Return(place, e, _) => give_back(checker, *place, around, e),
         TreeStatement::Switch(place, test, t) => {
-            let value = selector(alloc, checker, &test.expression)?;
-            switch(alloc, checker, around, *place, value, t)
+            let value = selector(checker, &test.expression)?;
+            switch(checker, around, *place, value, t)
         }
         TreeStatement::Case(place, _, _) => Err(stray_label(checker, *place)),
         TreeStatement::Default(place, _) => Err(stray_label(checker, *place)),
@@ -149,7 +139,6 @@ fn statement(
 #[cycle(statement)]
 #[inline(never)]
 fn scope(
-    alloc: Global,
     checker: &mut Checker,
     around: Surrounding,
     inner: &Block,
@@ -157,9 +146,8 @@ fn scope(
     ensures { GivesStatements checker.new result (plan_scope around inner.now) checker.old }
 {
     let outer = checker.open();
-    let begun = declarations(alloc, checker, &inner.declarations)?;
+    let begun = declarations(checker, &inner.declarations)?;
     let done = sequence(
-        alloc,
         checker,
         around,
         Written { statements: begun },
@@ -173,7 +161,6 @@ fn scope(
 #[cycle(statement)]
 #[inline(never)]
 fn sequence(
-    alloc: Global,
     checker: &mut Checker,
     around: Surrounding,
     mut done: Written,
@@ -184,7 +171,7 @@ fn sequence(
         (views_statements list.now)) checker.old }
 {
     for one in list {
-        let next = statement(alloc, checker, around, one)?;
+        let next = statement(checker, around, one)?;
         let statements = append(done.statements, next)?;
         done = Written { statements };
     }
@@ -195,7 +182,6 @@ fn sequence(
 #[cycle(statement)]
 #[inline(never)]
 fn if_true(
-    alloc: Global,
     checker: &mut Checker,
     around: Surrounding,
     place: Place,
@@ -205,15 +191,20 @@ fn if_true(
     ensures { GivesStatements checker.new result
         (plan_chosen place (view test.tree) around (view_statement one.now)) checker.old }
 {
-    let yes = statement(alloc, checker, around, one)?;
-    choose(alloc, place, test.tree, yes, Vec::new(alloc))
+    let yes = statement(checker, around, one)?;
+    choose(
+        checker.alloc,
+        place,
+        test.tree,
+        yes,
+        Vec::new(checker.alloc),
+    )
 }
 
 /// `if` with `else`, behind its condition and the statement before `else`.
 #[cycle(statement)]
 #[inline(never)]
 fn if_false(
-    alloc: Global,
     checker: &mut Checker,
     around: Surrounding,
     place: Place,
@@ -225,15 +216,14 @@ fn if_false(
         (plan_otherwise place (view test.tree) (as_statements yes.statements) around
         (view_statement one.now)) checker.old }
 {
-    let no = statement(alloc, checker, around, one)?;
-    choose(alloc, place, test.tree, yes.statements, no)
+    let no = statement(checker, around, one)?;
+    choose(checker.alloc, place, test.tree, yes.statements, no)
 }
 
 /// `while` behind its condition.
 #[cycle(statement)]
 #[inline(never)]
 fn while_true(
-    alloc: Global,
     checker: &mut Checker,
     around: Surrounding,
     place: Place,
@@ -243,14 +233,13 @@ fn while_true(
     ensures { GivesStatements checker.new result
         (plan_while place (view test.tree) around (view_statement one.now)) checker.old }
 {
-    let body = statement(alloc, checker, in_loop(around), one)?;
-    repeat(alloc, place, Some(test.tree), body, None)
+    let body = statement(checker, in_loop(around), one)?;
+    repeat(checker.alloc, place, Some(test.tree), body, None)
 }
 
 /// `do` behind its body.
 #[inline(never)]
 fn until_false(
-    alloc: Global,
     checker: &mut Checker,
     place: Place,
     body: Vec<Statement>,
@@ -259,15 +248,14 @@ fn until_false(
     ensures { GivesStatements checker.new result
         (plan_do place (as_statements body) (view_tree e.now)) checker.old }
 {
-    let test = condition(alloc, checker, e)?;
-    repeat_before(alloc, place, body, test)
+    let test = condition(checker, e)?;
+    repeat_before(checker.alloc, place, body, test)
 }
 
 /// `for` behind its expressions. The first place is that of the one at its start, if there is one.
 #[cycle(statement)]
 #[inline(never)]
 fn for_each(
-    alloc: Global,
     checker: &mut Checker,
     around: Surrounding,
     first: Place,
@@ -281,15 +269,14 @@ fn for_each(
         (plan_for first (view_some start) place (view_some test) (view_some step) around
         (view_statement one.now)) checker.old }
 {
-    let body = statement(alloc, checker, in_loop(around), one)?;
-    repeat_from(alloc, first, start, place, test, body, step)
+    let body = statement(checker, in_loop(around), one)?;
+    repeat_from(checker.alloc, first, start, place, test, body, step)
 }
 
 /// `switch` behind its value.
 #[cycle(statement)]
 #[inline(never)]
 fn switch(
-    alloc: Global,
     checker: &mut Checker,
     around: Surrounding,
     place: Place,
@@ -299,14 +286,13 @@ fn switch(
     ensures { GivesStatements checker.new result
         (plan_switch place (done_value value) around (view_statement one.now)) checker.old }
 {
-    let arms = switch_body(alloc, checker, in_switch(around), one)?;
-    branch(alloc, place, value.tree, arms)
+    let arms = switch_body(checker, in_switch(around), one)?;
+    branch(checker.alloc, place, value.tree, arms)
 }
 
 /// The body of a switch: a block.
 #[cycle(statement)]
 fn switch_body(
-    alloc: Global,
     checker: &mut Checker,
     around: Surrounding,
     one: &TreeStatement,
@@ -315,7 +301,7 @@ fn switch_body(
         (plan_switch_body around (view_statement one.now)) checker.old }
 {
     match one {
-        TreeStatement::Block(inner) => switch_block(alloc, checker, around, inner),
+        TreeStatement::Block(inner) => switch_block(checker, around, inner),
         _ => Err(no_block(checker, one.place())),
     }
 }
@@ -323,7 +309,6 @@ fn switch_body(
 /// The block of a switch, in a scope of its own.
 #[cycle(statement)]
 fn switch_block(
-    alloc: Global,
     checker: &mut Checker,
     around: Surrounding,
     inner: &Block,
@@ -332,7 +317,7 @@ fn switch_block(
         (plan_switch_block around inner.now) checker.old }
 {
     let enclosing = checker.open();
-    let arms = switch_parts(alloc, checker, around, inner)?;
+    let arms = switch_parts(checker, around, inner)?;
     checker.close(enclosing)?;
     Ok(arms)
 }
@@ -340,7 +325,6 @@ fn switch_block(
 /// What stands in the block of a switch.
 #[cycle(statement)]
 fn switch_parts(
-    alloc: Global,
     checker: &mut Checker,
     around: Surrounding,
     inner: &Block,
@@ -349,13 +333,12 @@ fn switch_parts(
         (plan_switch_parts around inner.now) checker.old }
 {
     check_switch_body(checker, &inner.declarations)?;
-    arms(alloc, checker, around, &inner.statements)
+    arms(checker, around, &inner.statements)
 }
 
 /// The arms of a switch.
 #[cycle(statement)]
 fn arms(
-    alloc: Global,
     checker: &mut Checker,
     around: Surrounding,
     list: &[TreeStatement],
@@ -364,11 +347,11 @@ fn arms(
         (plan_arms around unarmed (views_statements list.now)) checker.old }
 {
     let mut arming = Arming {
-        seen: Vec::new(alloc),
-        arms: Vec::new(alloc),
+        seen: Vec::new(checker.alloc),
+        arms: Vec::new(checker.alloc),
     };
     for one in list {
-        arming = labelled(alloc, checker, around, arming, one)?;
+        arming = labelled(checker, around, arming, one)?;
     }
     Ok(arming.arms)
 }
@@ -377,7 +360,6 @@ fn arms(
 #[cycle(statement)]
 #[inline(never)]
 fn labelled(
-    alloc: Global,
     checker: &mut Checker,
     around: Surrounding,
     arming: Arming,
@@ -388,15 +370,15 @@ fn labelled(
 {
     match one {
         TreeStatement::Case(place, e, t) => {
-            let word = label(alloc, checker, e)?;
-            let arming = add_case(alloc, checker, *place, arming, word)?;
-            labelled(alloc, checker, around, arming, t)
+            let word = label(checker, e)?;
+            let arming = add_case(checker, *place, arming, word)?;
+            labelled(checker, around, arming, t)
         }
         TreeStatement::Default(place, t) => {
-            let arming = add_default(alloc, checker, *place, arming)?;
-            labelled(alloc, checker, around, arming, t)
+            let arming = add_default(checker, *place, arming)?;
+            labelled(checker, around, arming, t)
         }
-        _ => unlabelled(alloc, checker, around, arming, one),
+        _ => unlabelled(checker, around, arming, one),
     }
 }
 
@@ -404,7 +386,6 @@ fn labelled(
 #[cycle(statement)]
 #[inline(never)]
 fn unlabelled(
-    alloc: Global,
     checker: &mut Checker,
     around: Surrounding,
     arming: Arming,
@@ -413,8 +394,8 @@ fn unlabelled(
     ensures { FollowsBy view_arming checker.new result
         (plan_unlabelled around (view_arming arming) (view_statement one.now)) checker.old }
 {
-    let written = statement(alloc, checker, around, one)?;
-    let arms = add_statements(alloc, arming.arms, written)?;
+    let written = statement(checker, around, one)?;
+    let arms = add_statements(checker.alloc, arming.arms, written)?;
     Ok(Arming {
         seen: arming.seen,
         arms,
@@ -424,7 +405,6 @@ fn unlabelled(
 /// The body of a function, whose scope is begun: the statements that its declarations and statements come to. An error is a rule
 /// that is broken, or want of memory.
 pub fn block(
-    alloc: Global,
     checker: &mut Checker,
     around: Surrounding,
     declarations: &[Declaration],
@@ -434,12 +414,6 @@ pub fn block(
         (plan_block around (view_declarations declarations.now)
         (views_statements statements.now)) checker.old }
 {
-    let begun = dae_types_locals::declarations(alloc, checker, declarations)?;
-    sequence(
-        alloc,
-        checker,
-        around,
-        Written { statements: begun },
-        statements,
-    )
+    let begun = dae_types_locals::declarations(checker, declarations)?;
+    sequence(checker, around, Written { statements: begun }, statements)
 }

@@ -19,28 +19,26 @@ use dae_types_kinds::CheckError;
 use dae_types_tables::Checker;
 use dae_types_values::integer;
 use dae_types_walk::{constant_value, expression, operand};
-use std::alloc::Global;
 
 /// A condition, which must be a scalar.
 #[inline(never)]
-pub fn condition(alloc: Global, checker: &mut Checker, e: &Tree) -> Result<Expression, CheckError>
+pub fn condition(checker: &mut Checker, e: &Tree) -> Result<Expression, CheckError>
     ensures { FollowsBy view checker.new result (plan_condition (view_tree e.now)) checker.old }
 {
-    let x = expression(alloc, checker, e)?;
-    test(alloc, checker, e.place(), x)
+    let x = expression(checker, e)?;
+    test(checker, e.place(), x)
 }
 
 /// The condition of a `for`, if it has one.
 #[inline(never)]
 pub fn optional_condition(
-    alloc: Global,
     checker: &mut Checker,
     e: &Option<Tree>,
 ) -> Result<Option<Expression>, CheckError>
     ensures { FollowsBy view_some checker.new result (plan_test (view_optional e.now)) checker.old }
 {
     match e {
-        Some(e) => Ok(Some(condition(alloc, checker, e)?)),
+        Some(e) => Ok(Some(condition(checker, e)?)),
         None => Ok(None),
     }
 }
@@ -48,7 +46,6 @@ pub fn optional_condition(
 /// An expression of a `for`, if it has one.
 #[inline(never)]
 pub fn optional_value(
-    alloc: Global,
     checker: &mut Checker,
     e: &Option<Tree>,
 ) -> Result<Option<Expression>, CheckError>
@@ -56,7 +53,7 @@ pub fn optional_value(
         (plan_optional (view_optional e.now)) checker.old }
 {
     match e {
-        Some(e) => Ok(Some(operand(alloc, checker, e)?.tree)),
+        Some(e) => Ok(Some(operand(checker, e)?.tree)),
         None => Ok(None),
     }
 }
@@ -73,26 +70,25 @@ pub fn starting_place(place: Place, start: &Option<Tree>) -> Place
 
 /// The value that a `switch` selects by, an integer.
 #[inline(never)]
-pub fn selector(alloc: Global, checker: &mut Checker, e: &Tree) -> Result<Value, CheckError>
+pub fn selector(checker: &mut Checker, e: &Tree) -> Result<Value, CheckError>
     ensures { GivesValue checker.new result (plan_selected (view_tree e.now)) checker.old }
 {
-    let x = operand(alloc, checker, e)?;
+    let x = operand(checker, e)?;
     integer(checker, e.place(), x)
 }
 
 /// The word of a label of a `switch`, a constant.
 #[inline(never)]
-pub fn label(alloc: Global, checker: &mut Checker, e: &Tree) -> Result<u32, CheckError>
+pub fn label(checker: &mut Checker, e: &Tree) -> Result<u32, CheckError>
     ensures { Follows checker.new result (label_at (view_tree e.now)) checker.old }
 {
-    let x = operand(alloc, checker, e)?;
+    let x = operand(checker, e)?;
     constant_value(checker, e.place(), x)
 }
 
 /// `return` with a value or without.
 #[inline(never)]
 pub fn give_back(
-    alloc: Global,
     checker: &mut Checker,
     place: Place,
     around: Surrounding,
@@ -103,9 +99,9 @@ pub fn give_back(
 {
     match e {
         Some(e) => {
-            let x = operand(alloc, checker, e)?;
-            return_value(alloc, checker, place, around, x)
+            let x = operand(checker, e)?;
+            return_value(checker, place, around, x)
         }
-        None => return_nothing(alloc, place, around.is_main),
+        None => return_nothing(checker.alloc, place, around.is_main),
     }
 }

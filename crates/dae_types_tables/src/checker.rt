@@ -14,6 +14,8 @@ use std::alloc::Global;
 /// What has been declared so far. Rows stand in the order of the text; a row's number is its place.
 #[derive(Drop)]
 pub struct Checker {
+    /// Where the memory of the tables, and of what is made of them, comes from.
+    pub alloc: Global,
     pub(crate) shapes: Vec<Shape>,
     pub(crate) structures: Vec<Structure>,
     pub(crate) components: Vec<Component>,
@@ -42,6 +44,7 @@ impl Checker {
         ensures { IfOk result (λ c. tables c ≡ bare literals main) }
     {
         Ok(Checker {
+            alloc,
             shapes: Vec::from_array(alloc, FIRST_SHAPES)?,
             structures: Vec::new(alloc),
             components: Vec::new(alloc),

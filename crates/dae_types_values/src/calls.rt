@@ -38,46 +38,36 @@ pub fn routine_of(checker: &Checker, name: Name) -> Option<usize>
 ghost use Rattle.dae_types_kinds.specs.Tables.{found_name};
 
 /// The types of parameters in their order, from their list of at most so many.
-fn parameters_from(
-    alloc: Global,
-    checker: &Checker,
-    depth: usize,
-    shape: Shape,
-) -> Result<Vec<usize>, CheckError>
+fn parameters_from(checker: &Checker, depth: usize, shape: Shape) -> Result<Vec<usize>, CheckError>
     ensures { Gives (λ ts. ts.items) result
         (Ok (parameters_from depth (tables checker.now) shape)) }
 {
     if depth == 0 {
-        return Ok(Vec::new(alloc));
+        return Ok(Vec::new(checker.alloc));
     }
     match shape {
         Shape::Parameter(before, type_id) => {
             let shape = checker.shape_of(before);
-            let mut types = parameters_from(alloc, checker, depth - 1, shape)?;
+            let mut types = parameters_from(checker, depth - 1, shape)?;
             types.push(type_id)?;
             Ok(types)
         }
-        _ => Ok(Vec::new(alloc)),
+        _ => Ok(Vec::new(checker.alloc)),
     }
 }
 
 /// The types of a function's parameters.
 #[tactic(auto, unfolding(dae_types_plans::specs::Steps::parameter_types))]
-fn parameter_types(
-    alloc: Global,
-    checker: &Checker,
-    function: usize,
-) -> Result<Vec<usize>, CheckError>
+fn parameter_types(checker: &Checker, function: usize) -> Result<Vec<usize>, CheckError>
     ensures { Gives (λ ts. ts.items) result (Ok (parameter_types (tables checker.now) function)) }
 {
     let shape = checker.shape_of(routine_type(checker.routine(function)));
     let list = checker.shape_of(parameters_of(shape));
-    parameters_from(alloc, checker, checker.count_shapes(), list)
+    parameters_from(checker, checker.count_shapes(), list)
 }
 
 /// The type of a parameter, where a function is called and has it. The list of types is made for each argument.
 fn parameter_type(
-    alloc: Global,
     checker: &Checker,
     function: Option<usize>,
     number: usize,
@@ -86,7 +76,7 @@ fn parameter_type(
 {
     match function {
         Some(function) => {
-            let types = parameter_types(alloc, checker, function)?;
+            let types = parameter_types(checker, function)?;
             Ok(types.get(number).copied())
         }
         None => Ok(None),
@@ -105,7 +95,6 @@ fn fits_some(checker: &Checker, x: &Value, type_id: Option<usize>) -> bool
 
 /// An argument as it is passed.
 fn passed(
-    alloc: Global,
     checker: &Checker,
     place: Place,
     x: Value,
@@ -115,7 +104,7 @@ fn passed(
 {
     match type_id {
         Some(type_id) => {
-            let x = convert(alloc, checker, place, x, type_id)?;
+            let x = convert(checker, place, x, type_id)?;
             Ok(x.tree)
         }
         None => Ok(x.tree),
@@ -125,7 +114,6 @@ fn passed(
 /// An argument, by its number, of a function or of what is none, behind those that are done.
 #[tactic(auto, unfolding(dae_types_rules::specs::Plan::ask_all))]
 pub fn add_argument(
-    alloc: Global,
     checker: &Checker,
     place: Place,
     function: Option<usize>,
@@ -136,14 +124,14 @@ pub fn add_argument(
     ensures { FollowsBy views checker.now result
         (argument_at place function number (views done) (one x)) checker.now }
 {
-    let type_id = parameter_type(alloc, checker, function, number)?;
+    let type_id = parameter_type(checker, function, number)?;
     if !fits_some(checker, &x, type_id) {
         return Err(broken(Rule::BadArgument, place));
     }
     if type_id.is_some() && is_structure(checker.shape_of(x.type_id)) {
         return Err(broken(Rule::StructureValue, place));
     }
-    let argument = passed(alloc, checker, place, x, type_id)?;
+    let argument = passed(checker, place, x, type_id)?;
     done.push(argument)?;
     Ok(done)
 }
@@ -174,22 +162,16 @@ fn note_call(
 }
 
 /// Whether a function has another number of parameters.
-fn differs_in_number(
-    alloc: Global,
-    checker: &Checker,
-    function: usize,
-    given: usize,
-) -> Result<bool, CheckError>
+fn differs_in_number(checker: &Checker, function: usize, given: usize) -> Result<bool, CheckError>
     ensures { Gives (λ b. b) result (Ok (differs_in_number (tables checker.now) function given)) }
 {
-    let types = parameter_types(alloc, checker, function)?;
+    let types = parameter_types(checker, function)?;
     Ok(given != types.len())
 }
 
 /// A call of a function by its name, with so many arguments. Nothing of it is gone through yet.
 #[tactic(auto, unfolding(dae_types_rules::specs::Plan::ask_all))]
 pub fn begin_call(
-    alloc: Global,
     checker: &mut Checker,
     place: Place,
     name: Name,
@@ -206,7 +188,7 @@ pub fn begin_call(
     if is_main(checker, name.number) {
         return Err(broken(Rule::MainCalled, place));
     }
-    let differs = differs_in_number(alloc, checker, function, given)?;
+    let differs = differs_in_number(checker, function, given)?;
     if differs {
         return Err(broken(Rule::ArgumentCount, place));
     }
@@ -258,7 +240,6 @@ fn call_tree(
 
 /// What a call of a function gives.
 pub fn call(
-    alloc: Global,
     checker: &Checker,
     place: Place,
     function: usize,
@@ -271,6 +252,6 @@ pub fn call(
     };
     let routine = checker.routine(function);
     let type_id = result_of(checker.shape_of(routine_type(routine)));
-    let tree = call_tree(alloc, place, number, library_of(routine), arguments)?;
+    let tree = call_tree(checker.alloc, place, number, library_of(routine), arguments)?;
     Ok(Value::plain(tree, type_id))
 }

@@ -13,7 +13,6 @@ use dae_base::Place;
 use dae_types_folding::{Value, changed, is_zero, known_as, load_kind};
 use dae_types_kinds::{CheckError, Known, Rule, Shape};
 use dae_types_tables::{Checker, broken, is_integer, is_scalar, is_structure, is_void};
-use std::alloc::Global;
 
 /// Whether this is a number that is 0, cast to `void *`.
 fn is_null_pointer(known: Known) -> bool
@@ -42,7 +41,6 @@ pub fn is_null(checker: &Checker, x: &Value) -> bool
 /// A value as one of another type.
 #[tactic(auto, unfolding(dae_types_kinds::specs::Values::converted))]
 pub fn convert(
-    alloc: Global,
     checker: &Checker,
     place: Place,
     x: Value,
@@ -56,7 +54,7 @@ pub fn convert(
         return Ok(Value::plain(x.tree, type_id));
     }
     let known = known_as(from, to, x.known);
-    let tree = changed(alloc, place, load_kind(from), load_kind(to), x.tree)?;
+    let tree = changed(checker.alloc, place, load_kind(from), load_kind(to), x.tree)?;
     Ok(Value::of_known(tree, type_id, known))
 }
 
@@ -98,17 +96,11 @@ fn is_made_null(checker: &Checker, x: &Value, type_id: usize) -> bool
 }
 
 /// A value as one of another type by a cast.
-fn cast_to(
-    alloc: Global,
-    checker: &Checker,
-    place: Place,
-    x: Value,
-    type_id: usize,
-) -> Result<Value, CheckError>
+fn cast_to(checker: &Checker, place: Place, x: Value, type_id: usize) -> Result<Value, CheckError>
     ensures { MakesValue result (cast_to place (tables checker.now) (view_value x) type_id) }
 {
     let is_null = is_made_null(checker, &x, type_id);
-    let y = convert(alloc, checker, place, x, type_id)?;
+    let y = convert(checker, place, x, type_id)?;
     let known = if is_null { Known::NullPointer } else { y.known };
     Ok(Value {
         tree: y.tree,
@@ -120,13 +112,7 @@ fn cast_to(
 
 /// A cast.
 #[tactic(auto, unfolding(dae_types_rules::specs::Plan::ask_all))]
-pub fn cast(
-    alloc: Global,
-    checker: &Checker,
-    place: Place,
-    type_id: usize,
-    x: Value,
-) -> Result<Value, CheckError>
+pub fn cast(checker: &Checker, place: Place, type_id: usize, x: Value) -> Result<Value, CheckError>
     ensures { GivesValue checker.now result (cast_at place (cast_of type_id x)) checker.now }
 {
     if is_bad_cast(
@@ -136,5 +122,5 @@ pub fn cast(
     ) {
         return Err(broken(Rule::BadCast, place));
     }
-    cast_to(alloc, checker, place, x, type_id)
+    cast_to(checker, place, x, type_id)
 }

@@ -14,16 +14,9 @@ use dae_program::Expression;
 use dae_types_folding::{Value, load_kind};
 use dae_types_kinds::{Category, CheckError, Known, Rule, Shape, UNSIGNED_ID};
 use dae_types_tables::{Checker, broken, is_integer, is_scalar, is_structure};
-use std::alloc::Global;
 
 /// The value of an object: an array gives the address of its first element, and a structure stays where it is.
-fn read(
-    alloc: Global,
-    checker: &mut Checker,
-    place: Place,
-    x: Value,
-    checked: bool,
-) -> Result<Value, CheckError>
+fn read(checker: &mut Checker, place: Place, x: Value, checked: bool) -> Result<Value, CheckError>
     ensures { Gives (λ y. (tables checker.new, view_value y)) result
         (Ok (read_by place (tables checker.old) (view_value x) checked
         (shape_of (tables checker.old) x.type_id))) }
@@ -46,7 +39,7 @@ fn read(
             })
         }
         shape => {
-            let address = Box::new(alloc, x.tree)?;
+            let address = Box::new(checker.alloc, x.tree)?;
             let tree = Expression::Read(place, load_kind(shape), checked, address);
             Ok(Value::plain(tree, x.type_id))
         }
@@ -55,19 +48,14 @@ fn read(
 
 /// The value of an expression.
 #[tactic(auto, unfolding(dae_types_rules::specs::Plan::ask_all))]
-pub fn value(
-    alloc: Global,
-    checker: &mut Checker,
-    place: Place,
-    x: Value,
-) -> Result<Value, CheckError>
+pub fn value(checker: &mut Checker, place: Place, x: Value) -> Result<Value, CheckError>
     ensures { GivesValue checker.new result (value_at place (one x)) checker.old }
 {
     if is_structure(checker.shape_of(x.type_id)) && !checker.is_complete(x.type_id) {
         return Err(broken(Rule::Incomplete, place));
     }
     match x.category {
-        Category::At(checked) => read(alloc, checker, place, x, checked),
+        Category::At(checked) => read(checker, place, x, checked),
         Category::InVariable(_) => Ok(Value::plain(x.tree, x.type_id)),
         _ => Ok(x),
     }

@@ -22,54 +22,53 @@ use dae_tree::{
 use dae_types_folding::Value;
 use dae_types_kinds::{CheckError, Context, INT_ID, Layout, NO_PARAMETERS_ID, NamedType, Rule};
 use dae_types_tables::{Checker, broken};
-use std::alloc::Global;
 
 /// The typed tree of an expression, as an object where it is one. Each kind has a function of its
 /// own, so that a level of a nest takes no more of the stack than its kind needs.
 #[cycle(tree)]
-pub fn expression(alloc: Global, checker: &mut Checker, e: &Expression) -> Result<Value, CheckError>
+pub fn expression(checker: &mut Checker, e: &Expression) -> Result<Value, CheckError>
     ensures { GivesValue checker.new result (plan (view e.now)) checker.old }
 {
     match e {
         Expression::Identifier(name) => dae_types_values::name(checker, *name),
         Expression::Constant(_, constant) => Ok(dae_types_values::constant_number(*constant)),
         Expression::Literal(_, number) => dae_types_values::literal(checker, *number),
-        Expression::Parenthesised(_, a) => expression(alloc, checker, a),
-        Expression::Index(_, _, _) => subscript(alloc, checker, e),
-        Expression::Call(_, _, _) => call_or_refuse(alloc, checker, e),
-        Expression::Member(a, _, MemberOperator::Dot, name) => dot(alloc, checker, a, *name),
-        Expression::Member(a, _, MemberOperator::Arrow, name) => arrow(alloc, checker, a, *name),
-        Expression::Postfix(a, _, PostfixOperator::Increment) => increment(alloc, checker, a),
-        Expression::Postfix(a, _, PostfixOperator::Decrement) => decrement(alloc, checker, a),
-        Expression::Prefix(place, operator, a) => prefix(alloc, checker, *place, *operator, a),
-        Expression::SizeofExpression(place, a) => sizeof(alloc, checker, *place, a),
+        Expression::Parenthesised(_, a) => expression(checker, a),
+        Expression::Index(_, _, _) => subscript(checker, e),
+        Expression::Call(_, _, _) => call_or_refuse(checker, e),
+        Expression::Member(a, _, MemberOperator::Dot, name) => dot(checker, a, *name),
+        Expression::Member(a, _, MemberOperator::Arrow, name) => arrow(checker, a, *name),
+        Expression::Postfix(a, _, PostfixOperator::Increment) => increment(checker, a),
+        Expression::Postfix(a, _, PostfixOperator::Decrement) => decrement(checker, a),
+        Expression::Prefix(place, operator, a) => prefix(checker, *place, *operator, a),
+        Expression::SizeofExpression(place, a) => sizeof(checker, *place, a),
         Expression::SizeofType(place, _, name) => {
-            let type_id = type_name(alloc, checker, name, *place)?;
+            let type_id = type_name(checker, name, *place)?;
             dae_types_values::sizeof(checker, *place, type_id)
         }
         Expression::Cast(place, name, a) => {
-            let type_id = type_name(alloc, checker, name, *place)?;
-            cast(alloc, checker, *place, type_id, a)
+            let type_id = type_name(checker, name, *place)?;
+            cast(checker, *place, type_id, a)
         }
-        Expression::Binary(_, _, _, _) => operation(alloc, checker, e),
-        Expression::Conditional(_, _, _, _) => choice(alloc, checker, e),
-        Expression::Assignment(_, _, _, _) => assign_to(alloc, checker, e),
-        Expression::Comma(_, _) => comma(alloc, checker, e),
+        Expression::Binary(_, _, _, _) => operation(checker, e),
+        Expression::Conditional(_, _, _, _) => choice(checker, e),
+        Expression::Assignment(_, _, _, _) => assign_to(checker, e),
+        Expression::Comma(_, _) => comma(checker, e),
     }
 }
 
 /// A subscript, which is an operator between two values.
 #[cycle(tree)]
 #[inline(never)]
-fn subscript(alloc: Global, checker: &mut Checker, e: &Expression) -> Result<Value, CheckError>
+fn subscript(checker: &mut Checker, e: &Expression) -> Result<Value, CheckError>
     requires { IsIndex e.now }
     ensures { GivesValue checker.new result (plan (view e.now)) checker.old }
 {
     match e {
         Expression::Index(a, _, b) => {
-            let x = operand(alloc, checker, a)?;
-            let (x, y) = pair(alloc, checker, x, b)?;
-            dae_types_operations::index(alloc, checker, a.place(), b.place(), x, y)
+            let x = operand(checker, a)?;
+            let (x, y) = pair(checker, x, b)?;
+            dae_types_operations::index(checker, a.place(), b.place(), x, y)
         }
         _ => unreachable!(),
     }
@@ -78,16 +77,16 @@ fn subscript(alloc: Global, checker: &mut Checker, e: &Expression) -> Result<Val
 /// A call of a function by its name; a call of anything else is refused, behind its arguments.
 #[cycle(tree)]
 #[inline(never)]
-fn call_or_refuse(alloc: Global, checker: &mut Checker, e: &Expression) -> Result<Value, CheckError>
+fn call_or_refuse(checker: &mut Checker, e: &Expression) -> Result<Value, CheckError>
     requires { IsCall e.now }
     ensures { GivesValue checker.new result (plan (view e.now)) checker.old }
 {
     match e {
         Expression::Call(callee, _, list) => match called_function(checker, callee) {
-            Some((name, function)) => { call(alloc, checker, callee.place(), name, function, list) }
+            Some((name, function)) => { call(checker, callee.place(), name, function, list) }
             None => {
-                let x = operand(alloc, checker, callee)?;
-                no_call(alloc, checker, callee.place(), x, list)
+                let x = operand(checker, callee)?;
+                no_call(checker, callee.place(), x, list)
             }
         },
         _ => unreachable!(),
@@ -97,65 +96,55 @@ fn call_or_refuse(alloc: Global, checker: &mut Checker, e: &Expression) -> Resul
 /// A member of a structure.
 #[cycle(tree)]
 #[inline(never)]
-fn dot(
-    alloc: Global,
-    checker: &mut Checker,
-    a: &Expression,
-    name: Name,
-) -> Result<Value, CheckError>
+fn dot(checker: &mut Checker, a: &Expression, name: Name) -> Result<Value, CheckError>
     ensures { GivesValue checker.new result (plan_member a.now signs.Dot name) checker.old }
 {
-    let x = expression(alloc, checker, a)?;
-    dae_types_operations::member(alloc, checker, a.place(), MemberOperator::Dot, name, x)
+    let x = expression(checker, a)?;
+    dae_types_operations::member(checker, a.place(), MemberOperator::Dot, name, x)
 }
 
 /// A member of the structure that a pointer points to.
 #[cycle(tree)]
 #[inline(never)]
-fn arrow(
-    alloc: Global,
-    checker: &mut Checker,
-    a: &Expression,
-    name: Name,
-) -> Result<Value, CheckError>
+fn arrow(checker: &mut Checker, a: &Expression, name: Name) -> Result<Value, CheckError>
     ensures { GivesValue checker.new result (plan_member a.now signs.Arrow name) checker.old }
 {
-    let x = operand(alloc, checker, a)?;
-    dae_types_operations::member(alloc, checker, a.place(), MemberOperator::Arrow, name, x)
+    let x = operand(checker, a)?;
+    dae_types_operations::member(checker, a.place(), MemberOperator::Arrow, name, x)
 }
 
 /// `++` behind an object.
 #[cycle(tree)]
 #[inline(never)]
-fn increment(alloc: Global, checker: &mut Checker, a: &Expression) -> Result<Value, CheckError>
+fn increment(checker: &mut Checker, a: &Expression) -> Result<Value, CheckError>
     ensures { GivesValue checker.new result (plan_postfix a.now postfix.Increment) checker.old }
 {
-    let x = expression(alloc, checker, a)?;
-    dae_types_operations::postfix(alloc, checker, a.place(), PostfixOperator::Increment, x)
+    let x = expression(checker, a)?;
+    dae_types_operations::postfix(checker, a.place(), PostfixOperator::Increment, x)
 }
 
 /// `--` behind an object.
 #[cycle(tree)]
 #[inline(never)]
-fn decrement(alloc: Global, checker: &mut Checker, a: &Expression) -> Result<Value, CheckError>
+fn decrement(checker: &mut Checker, a: &Expression) -> Result<Value, CheckError>
     ensures { GivesValue checker.new result (plan_postfix a.now postfix.Decrement) checker.old }
 {
-    let x = expression(alloc, checker, a)?;
-    dae_types_operations::postfix(alloc, checker, a.place(), PostfixOperator::Decrement, x)
+    let x = expression(checker, a)?;
+    dae_types_operations::postfix(checker, a.place(), PostfixOperator::Decrement, x)
 }
 
 /// An operator between two expressions.
 #[cycle(tree)]
 #[inline(never)]
 #[tactic(auto, using(crate::proofs::Steps::binary_follows, crate::proofs::Steps::binary_stops))]
-fn operation(alloc: Global, checker: &mut Checker, e: &Expression) -> Result<Value, CheckError>
+fn operation(checker: &mut Checker, e: &Expression) -> Result<Value, CheckError>
     requires { IsBinary e.now }
     ensures { GivesValue checker.new result (plan (view e.now)) checker.old }
 {
     match e {
         Expression::Binary(a, _, operator, b) => {
-            let x = operand(alloc, checker, a)?;
-            binary(alloc, checker, a.place(), *operator, x, b)
+            let x = operand(checker, a)?;
+            binary(checker, a.place(), *operator, x, b)
         }
         _ => unreachable!(),
     }
@@ -164,16 +153,16 @@ fn operation(alloc: Global, checker: &mut Checker, e: &Expression) -> Result<Val
 /// `?:` between three expressions.
 #[cycle(tree)]
 #[inline(never)]
-fn choice(alloc: Global, checker: &mut Checker, e: &Expression) -> Result<Value, CheckError>
+fn choice(checker: &mut Checker, e: &Expression) -> Result<Value, CheckError>
     requires { IsConditional e.now }
     ensures { GivesValue checker.new result (plan (view e.now)) checker.old }
 {
     match e {
         Expression::Conditional(a, _, b, c) => {
-            let x = operand(alloc, checker, a)?;
+            let x = operand(checker, a)?;
             let x = dae_types_values::scalar(checker, a.place(), x)?;
-            let (x, y) = pair(alloc, checker, x, b)?;
-            conditional(alloc, checker, a.place(), x, y, c)
+            let (x, y) = pair(checker, x, b)?;
+            conditional(checker, a.place(), x, y, c)
         }
         _ => unreachable!(),
     }
@@ -183,14 +172,14 @@ fn choice(alloc: Global, checker: &mut Checker, e: &Expression) -> Result<Value,
 #[cycle(tree)]
 #[inline(never)]
 #[tactic(auto, using(crate::proofs::Steps::assignment_follows, crate::proofs::Steps::assignment_stops))]
-fn assign_to(alloc: Global, checker: &mut Checker, e: &Expression) -> Result<Value, CheckError>
+fn assign_to(checker: &mut Checker, e: &Expression) -> Result<Value, CheckError>
     requires { IsAssignment e.now }
     ensures { GivesValue checker.new result (plan (view e.now)) checker.old }
 {
     match e {
         Expression::Assignment(a, _, operator, b) => {
-            let x = expression(alloc, checker, a)?;
-            assignment(alloc, checker, a.place(), *operator, x, b)
+            let x = expression(checker, a)?;
+            assignment(checker, a.place(), *operator, x, b)
         }
         _ => unreachable!(),
     }
@@ -199,15 +188,15 @@ fn assign_to(alloc: Global, checker: &mut Checker, e: &Expression) -> Result<Val
 /// A comma between two expressions.
 #[cycle(tree)]
 #[inline(never)]
-fn comma(alloc: Global, checker: &mut Checker, e: &Expression) -> Result<Value, CheckError>
+fn comma(checker: &mut Checker, e: &Expression) -> Result<Value, CheckError>
     requires { IsComma e.now }
     ensures { GivesValue checker.new result (plan (view e.now)) checker.old }
 {
     match e {
         Expression::Comma(a, b) => {
-            let x = operand(alloc, checker, a)?;
-            let (x, y) = pair(alloc, checker, x, b)?;
-            dae_types_operations::comma(alloc, checker, x, y)
+            let x = operand(checker, a)?;
+            let (x, y) = pair(checker, x, b)?;
+            dae_types_operations::comma(checker, x, y)
         }
         _ => unreachable!(),
     }
@@ -216,25 +205,20 @@ fn comma(alloc: Global, checker: &mut Checker, e: &Expression) -> Result<Value, 
 /// The value of an expression.
 #[cycle(tree)]
 #[inline(never)]
-pub fn operand(alloc: Global, checker: &mut Checker, e: &Expression) -> Result<Value, CheckError>
+pub fn operand(checker: &mut Checker, e: &Expression) -> Result<Value, CheckError>
     ensures { GivesValue checker.new result (plan_value (view e.now)) checker.old }
 {
-    let x = expression(alloc, checker, e)?;
-    dae_types_values::value(alloc, checker, e.place(), x)
+    let x = expression(checker, e)?;
+    dae_types_values::value(checker, e.place(), x)
 }
 
 /// A value, and the value of an expression behind it.
 #[cycle(tree)]
 #[inline(never)]
-fn pair(
-    alloc: Global,
-    checker: &mut Checker,
-    x: Value,
-    b: &Expression,
-) -> Result<(Value, Value), CheckError>
+fn pair(checker: &mut Checker, x: Value, b: &Expression) -> Result<(Value, Value), CheckError>
     ensures { FollowsBy view_pair checker.new result (plan_behind x b.now) checker.old }
 {
-    let y = operand(alloc, checker, b)?;
+    let y = operand(checker, b)?;
     Ok((x, y))
 }
 
@@ -243,7 +227,6 @@ fn pair(
 #[inline(never)]
 #[tactic(auto, using(crate::proofs::Steps::prefix_given, crate::proofs::Steps::prefix_failed))]
 fn prefix(
-    alloc: Global,
     checker: &mut Checker,
     place: Place,
     operator: PrefixOperator,
@@ -252,24 +235,19 @@ fn prefix(
     ensures { GivesValue checker.new result
         (plan (Prefix place operator (view a.now))) checker.old }
 {
-    let x = expression(alloc, checker, a)?;
-    dae_types_operations::prefix(alloc, checker, place, a.place(), operator, name_in(a), x)
+    let x = expression(checker, a)?;
+    dae_types_operations::prefix(checker, place, a.place(), operator, name_in(a), x)
 }
 
 /// `sizeof` before an expression, which isn't used.
 #[cycle(tree)]
 #[inline(never)]
-fn sizeof(
-    alloc: Global,
-    checker: &mut Checker,
-    place: Place,
-    a: &Expression,
-) -> Result<Value, CheckError>
+fn sizeof(checker: &mut Checker, place: Place, a: &Expression) -> Result<Value, CheckError>
     ensures { GivesValue checker.new result
         (plan (SizeofExpression place (view a.now))) checker.old }
 {
     let uses = checker.copy_uses()?;
-    let x = expression(alloc, checker, a)?;
+    let x = expression(checker, a)?;
     checker.set_uses(uses);
     dae_types_values::sizeof(checker, place, x.type_id)
 }
@@ -278,7 +256,6 @@ fn sizeof(
 #[cycle(tree)]
 #[inline(never)]
 fn cast(
-    alloc: Global,
     checker: &mut Checker,
     place: Place,
     type_id: usize,
@@ -286,8 +263,8 @@ fn cast(
 ) -> Result<Value, CheckError>
     ensures { GivesValue checker.new result (plan_cast place type_id a.now) checker.old }
 {
-    let x = operand(alloc, checker, a)?;
-    dae_types_values::cast(alloc, checker, place, type_id, x)
+    let x = operand(checker, a)?;
+    dae_types_values::cast(checker, place, type_id, x)
 }
 
 /// An operator between a value, from this place, and an expression.
@@ -295,7 +272,6 @@ fn cast(
 #[inline(never)]
 #[tactic(auto, using(crate::proofs::Steps::binary_given, crate::proofs::Steps::binary_failed))]
 fn binary(
-    alloc: Global,
     checker: &mut Checker,
     place: Place,
     operator: BinaryOperator,
@@ -304,15 +280,14 @@ fn binary(
 ) -> Result<Value, CheckError>
     ensures { GivesValue checker.new result (plan_binary place operator x b.now) checker.old }
 {
-    let y = operand(alloc, checker, b)?;
-    dae_types_operations::binary(alloc, checker, place, b.place(), operator, x, y)
+    let y = operand(checker, b)?;
+    dae_types_operations::binary(checker, place, b.place(), operator, x, y)
 }
 
 /// `?:` between a condition, from this place, a value and an expression.
 #[cycle(tree)]
 #[inline(never)]
 fn conditional(
-    alloc: Global,
     checker: &mut Checker,
     place: Place,
     x: Value,
@@ -321,8 +296,8 @@ fn conditional(
 ) -> Result<Value, CheckError>
     ensures { GivesValue checker.new result (plan_conditional place x y b.now) checker.old }
 {
-    let z = operand(alloc, checker, b)?;
-    dae_types_operations::conditional(alloc, checker, place, x, y, z)
+    let z = operand(checker, b)?;
+    dae_types_operations::conditional(checker, place, x, y, z)
 }
 
 /// An assignment of an expression to an object, from this place.
@@ -330,7 +305,6 @@ fn conditional(
 #[inline(never)]
 #[tactic(auto, using(crate::proofs::Steps::assignment_given, crate::proofs::Steps::assignment_failed))]
 fn assignment(
-    alloc: Global,
     checker: &mut Checker,
     place: Place,
     operator: AssignmentOperator,
@@ -339,15 +313,14 @@ fn assignment(
 ) -> Result<Value, CheckError>
     ensures { GivesValue checker.new result (plan_assignment place operator x b.now) checker.old }
 {
-    let y = operand(alloc, checker, b)?;
-    dae_types_operations::assign(alloc, checker, place, operator, x, y)
+    let y = operand(checker, b)?;
+    dae_types_operations::assign(checker, place, operator, x, y)
 }
 
 /// A call of a function by its name.
 #[cycle(tree)]
 #[inline(never)]
 fn call(
-    alloc: Global,
     checker: &mut Checker,
     place: Place,
     name: Name,
@@ -356,9 +329,9 @@ fn call(
 ) -> Result<Value, CheckError>
     ensures { GivesValue checker.new result (plan_call place name function list.now) checker.old }
 {
-    dae_types_values::begin_call(alloc, checker, place, name, function, list.len())?;
-    let arguments = arguments(alloc, checker, Some(function), list)?;
-    dae_types_values::call(alloc, checker, place, function, arguments)
+    dae_types_values::begin_call(checker, place, name, function, list.len())?;
+    let arguments = arguments(checker, Some(function), list)?;
+    dae_types_values::call(checker, place, function, arguments)
 }
 
 /// A call of a value, which is no function.
@@ -366,7 +339,6 @@ fn call(
 #[inline(never)]
 #[tactic(auto, unfolding(dae_types_rules::specs::Plan::ask_all))]
 fn no_call(
-    alloc: Global,
     checker: &mut Checker,
     place: Place,
     x: Value,
@@ -374,7 +346,7 @@ fn no_call(
 ) -> Result<Value, CheckError>
     ensures { GivesValue checker.new result (plan_no_call place (one x) list.now) checker.old }
 {
-    arguments(alloc, checker, None, list)?;
+    arguments(checker, None, list)?;
     Err(broken(Rule::BadCall, place))
 }
 
@@ -382,7 +354,6 @@ fn no_call(
 #[cycle(tree)]
 #[inline(never)]
 fn arguments(
-    alloc: Global,
     checker: &mut Checker,
     function: Option<usize>,
     list: &[Expression],
@@ -390,19 +361,11 @@ fn arguments(
     ensures { FollowsBy views_of_arguments checker.new result
         (plan_all function list.now) checker.old }
 {
-    let mut done = Vec::new(alloc);
+    let mut done = Vec::new(checker.alloc);
     let mut number = 0;
     for e in list {
-        let x = operand(alloc, checker, e)?;
-        done = dae_types_values::add_argument(
-            alloc,
-            checker,
-            e.place(),
-            function,
-            number,
-            done,
-            x,
-        )?;
+        let x = operand(checker, e)?;
+        done = dae_types_values::add_argument(checker, e.place(), function, number, done, x)?;
         number += 1;
     }
     Ok(done)
@@ -411,17 +374,12 @@ fn arguments(
 /// The type of a type name, before a token at this place.
 #[cycle(tree)]
 #[inline(never)]
-pub fn type_name(
-    alloc: Global,
-    checker: &mut Checker,
-    name: &TypeName,
-    place: Place,
-) -> Result<usize, CheckError>
+pub fn type_name(checker: &mut Checker, name: &TypeName, place: Place) -> Result<usize, CheckError>
     ensures { Follows checker.new result (plan_type_name name.now place) checker.old }
 {
-    let base = base(alloc, checker, Context::TypeName, &name.specifiers)?;
+    let base = base(checker, Context::TypeName, &name.specifiers)?;
     let place = place_of_specifiers(&name.specifiers, place);
-    let declared = declarator(alloc, checker, place, false, base, &name.declarator)?;
+    let declared = declarator(checker, place, false, base, &name.declarator)?;
     Ok(declared.type_id)
 }
 
@@ -429,14 +387,13 @@ pub fn type_name(
 #[cycle(tree)]
 #[inline(never)]
 pub fn base(
-    alloc: Global,
     checker: &mut Checker,
     context: Context,
     list: &[Specifier],
 ) -> Result<usize, CheckError>
     ensures { Follows checker.new result (plan_base context list.now) checker.old }
 {
-    let alone = specifiers(alloc, checker, context, false, list)?;
+    let alone = specifiers(checker, context, false, list)?;
     Ok(dae_types_sites::base_type(Seen::of_specifiers(list), alone))
 }
 
@@ -444,7 +401,6 @@ pub fn base(
 #[cycle(tree)]
 #[inline(never)]
 pub fn specifiers(
-    alloc: Global,
     checker: &mut Checker,
     context: Context,
     alone: bool,
@@ -454,7 +410,7 @@ pub fn specifiers(
 {
     let mut base = None;
     for one in list {
-        base = specifier(alloc, checker, context, alone, base, one)?;
+        base = specifier(checker, context, alone, base, one)?;
     }
     Ok(base)
 }
@@ -463,7 +419,6 @@ pub fn specifiers(
 #[cycle(tree)]
 #[inline(never)]
 fn specifier(
-    alloc: Global,
     checker: &mut Checker,
     context: Context,
     alone: bool,
@@ -479,11 +434,9 @@ fn specifier(
         ),
         Specifier::TypeName(name) => dae_types_sites::type_of_name(checker, *name),
         Specifier::Structure(_, name) => dae_types_sites::structure_by_tag(checker, alone, *name),
-        Specifier::StructureBody(place, tag, _, list) => {
-            structure(alloc, checker, *place, *tag, list)
-        }
+        Specifier::StructureBody(place, tag, _, list) => { structure(checker, *place, *tag, list) }
         Specifier::Enumeration(_, name) => dae_types_sites::enumeration_by_tag(checker, *name),
-        Specifier::EnumerationBody(_, tag, _, list, _) => enumeration(alloc, checker, *tag, list),
+        Specifier::EnumerationBody(_, tag, _, list, _) => enumeration(checker, *tag, list),
     }
 }
 
@@ -491,7 +444,6 @@ fn specifier(
 #[cycle(tree)]
 #[inline(never)]
 fn structure(
-    alloc: Global,
     checker: &mut Checker,
     place: Place,
     tag: Option<Name>,
@@ -500,7 +452,7 @@ fn structure(
     ensures { Follows checker.new result (plan_structure place tag list.now) checker.old }
 {
     let structure = dae_types_sites::begin_structure(checker, tag)?;
-    let layout = members(alloc, checker, structure, list)?;
+    let layout = members(checker, structure, list)?;
     dae_types_sites::end_structure(checker, place, tag, structure, layout)
 }
 
@@ -508,7 +460,6 @@ fn structure(
 #[cycle(tree)]
 #[inline(never)]
 fn enumeration(
-    alloc: Global,
     checker: &mut Checker,
     tag: Option<Name>,
     list: &[Enumerator],
@@ -516,7 +467,7 @@ fn enumeration(
     ensures { Follows checker.new result (plan_enumeration tag list.now) checker.old }
 {
     dae_types_sites::declare_enumeration(checker, tag)?;
-    enumerators(alloc, checker, list)?;
+    enumerators(checker, list)?;
     Ok(Some(INT_ID))
 }
 
@@ -524,7 +475,6 @@ fn enumeration(
 #[cycle(tree)]
 #[inline(never)]
 pub fn members(
-    alloc: Global,
     checker: &mut Checker,
     structure: usize,
     list: &[Member],
@@ -533,17 +483,9 @@ pub fn members(
 {
     let mut layout = Layout { size: 0, align: 1 };
     for member in list {
-        let base = base(alloc, checker, Context::Member, &member.specifiers)?;
+        let base = base(checker, Context::Member, &member.specifiers)?;
         let place = place_of_specifiers(&member.specifiers, member.end);
-        layout = components(
-            alloc,
-            checker,
-            place,
-            structure,
-            base,
-            layout,
-            &member.declarators,
-        )?;
+        layout = components(checker, place, structure, base, layout, &member.declarators)?;
     }
     Ok(layout)
 }
@@ -552,7 +494,6 @@ pub fn members(
 #[cycle(tree)]
 #[inline(never)]
 pub fn components(
-    alloc: Global,
     checker: &mut Checker,
     place: Place,
     structure: usize,
@@ -565,7 +506,7 @@ pub fn components(
 {
     for one in list {
         let at = declared_place(one, place);
-        let declared = declarator(alloc, checker, at, false, base, one)?;
+        let declared = declarator(checker, at, false, base, one)?;
         layout = dae_types_sites::add_member(checker, at, structure, layout, one.name(), declared)?;
     }
     Ok(layout)
@@ -574,11 +515,7 @@ pub fn components(
 /// Enumerators, and the value of a next one.
 #[cycle(tree)]
 #[inline(never)]
-pub fn enumerators(
-    alloc: Global,
-    checker: &mut Checker,
-    list: &[Enumerator],
-) -> Result<u32, CheckError>
+pub fn enumerators(checker: &mut Checker, list: &[Enumerator]) -> Result<u32, CheckError>
     ensures { Follows checker.new result
         (plan_enumerators 0 (views_enumerators list.now)) checker.old }
 {
@@ -589,7 +526,7 @@ pub fn enumerators(
                 checker, *name, word,
             )?,
             Enumerator::Valued(name, _, e) => {
-                let x = operand(alloc, checker, e)?;
+                let x = operand(checker, e)?;
                 let value = constant_value(checker, e.place(), x)?;
                 word = dae_types_sites::add_enumerator(checker, *name, value)?;
             }
@@ -602,7 +539,6 @@ pub fn enumerators(
 #[cycle(tree)]
 #[tactic(auto, using(crate::proofs::Rows::function_gives))]
 pub fn declarator(
-    alloc: Global,
     checker: &mut Checker,
     place: Place,
     free: bool,
@@ -621,17 +557,17 @@ pub fn declarator(
             name: Some(*name),
             type_id: base,
         }),
-        Declarator::Grouped(_, inner) => declarator(alloc, checker, place, free, base, inner),
+        Declarator::Grouped(_, inner) => declarator(checker, place, free, base, inner),
         Declarator::Pointer(_, _, inner) => {
             let base = dae_types_sites::make_pointer(checker, place, base)?;
-            declarator(alloc, checker, place, free, base, inner)
+            declarator(checker, place, free, base, inner)
         }
         Declarator::Unsized(inner, _) => {
             let base = dae_types_sites::make_unsized_array(checker, place, base)?;
-            declarator(alloc, checker, place, free, base, inner)
+            declarator(checker, place, free, base, inner)
         }
         Declarator::Sized(inner, _, size) => {
-            let x = operand(alloc, checker, size)?;
+            let x = operand(checker, size)?;
             let count = element_count(checker, size.place(), x)?;
             let base = dae_types_sites::make_array(
                 checker,
@@ -640,15 +576,15 @@ pub fn declarator(
                 base,
                 count,
             )?;
-            declarator(alloc, checker, place, free, base, inner)
+            declarator(checker, place, free, base, inner)
         }
         Declarator::Empty(inner, _) | Declarator::Void(inner, _, _) => {
             let base = dae_types_sites::make_function(checker, place, base, NO_PARAMETERS_ID)?;
-            declarator(alloc, checker, place, free, base, inner)
+            declarator(checker, place, free, base, inner)
         }
         Declarator::Function(inner, q, list) => {
-            let base = function(alloc, checker, place, base, *q, list)?;
-            declarator(alloc, checker, place, free, base, inner)
+            let base = function(checker, place, base, *q, list)?;
+            declarator(checker, place, free, base, inner)
         }
     }
 }
@@ -657,7 +593,6 @@ pub fn declarator(
 #[cycle(tree)]
 #[inline(never)]
 fn function(
-    alloc: Global,
     checker: &mut Checker,
     place: Place,
     base: usize,
@@ -667,7 +602,7 @@ fn function(
     ensures { Follows checker.new result (plan_function place base q list.now) checker.old }
 {
     let outer = checker.open();
-    let types = parameters(alloc, checker, q, list)?;
+    let types = parameters(checker, q, list)?;
     checker.close(outer)?;
     dae_types_sites::make_function(checker, place, base, types)
 }
@@ -676,7 +611,6 @@ fn function(
 #[cycle(tree)]
 #[inline(never)]
 pub fn parameters(
-    alloc: Global,
     checker: &mut Checker,
     place: Place,
     list: &[Parameter],
@@ -686,8 +620,8 @@ pub fn parameters(
     let mut types = NO_PARAMETERS_ID;
     for one in list {
         let at = declared_place(&one.declarator, place_of_specifiers(&one.specifiers, place));
-        let base = base(alloc, checker, Context::Parameter, &one.specifiers)?;
-        let declared = declarator(alloc, checker, at, true, base, &one.declarator)?;
+        let base = base(checker, Context::Parameter, &one.specifiers)?;
+        let declared = declarator(checker, at, true, base, &one.declarator)?;
         types = dae_types_sites::add_parameter(
             checker,
             at,
