@@ -224,35 +224,27 @@ fn member_value(
     }
 }
 
-/// A member at an address.
+/// A member at an address, which is its tree. Its category is still that of its structure.
 fn member_in(
     checker: &Checker,
     place: Place,
     operator: MemberOperator,
-    tree: Expression,
-    type_id: usize,
-    category: Category,
-    known: Known,
+    x: Value,
 ) -> Result<Value, CheckError>
     ensures { MakesValue result
-        (member_in place (tables checker.now) operator (view tree) type_id category known) }
+        (member_in place (tables checker.now) operator (view x.tree) x.type_id x.category x.known) }
 {
-    match (operator, category) {
+    match (operator, x.category) {
         (MemberOperator::Arrow, _) => Ok(Value {
-            tree,
-            type_id,
+            tree: x.tree,
+            type_id: x.type_id,
             category: Category::At(true),
-            known: based(known),
+            known: based(x.known),
         }),
         (MemberOperator::Dot, Category::Aggregate(checked)) => {
-            member_value(checker, place, tree, type_id, checked)
+            member_value(checker, place, x.tree, x.type_id, checked)
         }
-        (MemberOperator::Dot, _) => Ok(Value {
-            tree,
-            type_id,
-            category,
-            known,
-        }),
+        (MemberOperator::Dot, _) => Ok(x),
     }
 }
 
@@ -269,15 +261,13 @@ fn member_by(
 {
     let known = known_further(x.known, component.offset);
     let tree = further(checker.alloc, place, x.tree, component.offset)?;
-    member_in(
-        checker,
-        place,
-        operator,
+    let member = Value {
         tree,
-        component.type_id,
-        x.category,
+        type_id: component.type_id,
+        category: x.category,
         known,
-    )
+    };
+    member_in(checker, place, operator, member)
 }
 
 ghost use Rattle.std.specs.Prelude.{Some};
