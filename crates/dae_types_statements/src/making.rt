@@ -24,6 +24,18 @@ pub struct Written {
     pub statements: Vec<Statement>,
 }
 
+/// The heading of a `for`: its expressions, which are done.
+#[derive(Drop)]
+pub struct TypedHeading {
+    /// The place of the statement.
+    pub place: Place,
+    /// The place of the expression at the start, if there is one.
+    pub first: Place,
+    pub start: Option<Expression>,
+    pub test: Option<Expression>,
+    pub step: Option<Expression>,
+}
+
 /// `if` and `else`.
 #[inline(never)]
 pub fn choose(
@@ -54,24 +66,24 @@ pub fn repeat(
     alone(alloc, Statement::Loop(place, test, body, step))
 }
 
-/// `for`; the first place is that of the expression at its start, if there is one.
+/// `for`.
 #[inline(never)]
 pub fn repeat_from(
     alloc: Global,
-    at_start: Place,
-    start: Option<Expression>,
-    place: Place,
-    test: Option<Expression>,
+    heading: TypedHeading,
     body: Vec<Statement>,
-    step: Option<Expression>,
 ) -> Result<Vec<Statement>, CheckError>
     ensures { MakesStatements result
-        (started at_start (view_some start)
-        (Loop place (view_some test) (as_statements body) (view_some step) Done)) }
+        (started heading.first (view_some heading.start)
+        (Loop heading.place (view_some heading.test) (as_statements body) (view_some heading.step)
+        Done)) }
 {
-    let repeated = repeat(alloc, place, test, body, step)?;
-    match start {
-        Some(e) => append(alone(alloc, Statement::Evaluate(at_start, e))?, repeated),
+    let repeated = repeat(alloc, heading.place, heading.test, body, heading.step)?;
+    match heading.start {
+        Some(e) => append(
+            alone(alloc, Statement::Evaluate(heading.first, e))?,
+            repeated,
+        ),
         None => Ok(repeated),
     }
 }

@@ -13,12 +13,14 @@ ghost use Rattle.dae_types_bodies.specs.Written.{GivesStatements, as_statements}
 ghost use Rattle.dae_types_statements.specs.Plans.{plan_chosen, plan_do, plan_for, plan_label, plan_no_block, plan_otherwise, plan_scope, plan_stray, plan_switch, plan_switch_block, plan_switch_body, plan_switch_parts, plan_unlabelled, plan_while, unarmed, view_arms};
 
 use crate::evaluating::evaluate;
-use crate::making::{Condition, Written, branch, choose, repeat, repeat_before, repeat_from};
+use crate::making::{
+    Condition, TypedHeading, Written, branch, choose, repeat, repeat_before, repeat_from,
+};
 use crate::values::{
     condition, give_back, label, optional_condition, optional_value, selector, starting_place,
 };
 use dae_base::Place;
-use dae_program::{Arm, Expression, Statement};
+use dae_program::{Arm, Statement};
 use dae_tree::{Block, Declaration, Expression as Tree, Statement as TreeStatement};
 use dae_types_bodies::{Arming, add_case, add_default, add_statements, append, break_out, go_on};
 use dae_types_file_plans::Surrounding;
@@ -121,7 +123,14 @@ fn statement(
             let test = optional_condition(checker, &heading.test)?;
             let step = optional_value(checker, &heading.step)?;
             let first = starting_place(*place, &heading.start);
-            for_each(checker, around, first, start, *place, test, step, t)
+            let heading = TypedHeading {
+                place: *place,
+                first,
+                start,
+                test,
+                step,
+            };
+            for_each(checker, around, heading, t)
         }
         TreeStatement::Break(place, _) => break_out(checker, *place, around),
         TreeStatement::Continue(place, _) => go_on(checker, *place, around),
@@ -252,25 +261,21 @@ fn until_false(
     repeat_before(checker.alloc, place, body, test)
 }
 
-/// `for` behind its expressions. The first place is that of the one at its start, if there is one.
+/// `for` behind its expressions.
 #[cycle(statement)]
 #[inline(never)]
 fn for_each(
     checker: &mut Checker,
     around: Surrounding,
-    first: Place,
-    start: Option<Expression>,
-    place: Place,
-    test: Option<Expression>,
-    step: Option<Expression>,
+    heading: TypedHeading,
     one: &TreeStatement,
 ) -> Result<Vec<Statement>, CheckError>
     ensures { GivesStatements checker.new result
-        (plan_for first (view_some start) place (view_some test) (view_some step) around
-        (view_statement one.now)) checker.old }
+        (plan_for heading.first (view_some heading.start) heading.place (view_some heading.test)
+        (view_some heading.step) around (view_statement one.now)) checker.old }
 {
     let body = statement(checker, in_loop(around), one)?;
-    repeat_from(checker.alloc, first, start, place, test, body, step)
+    repeat_from(checker.alloc, heading, body)
 }
 
 /// `switch` behind its value.
