@@ -19,6 +19,15 @@ use dae_types_kinds::{CheckError, Known, Rule, Shape};
 use dae_types_tables::{Checker, broken, is_structure};
 use dae_types_values::fits;
 
+/// An array that a literal is for: its offset in bytes, the type of its elements, and their
+/// number if it has one.
+#[derive(Clone, Copy)]
+struct TextArray {
+    offset: u32,
+    element: usize,
+    count: Option<u32>,
+}
+
 /// Whether a constant expression divides by zero.
 fn is_division(known: Known) -> bool
     ensures { result ≡ is_division known }
@@ -118,19 +127,18 @@ fn fill_text(
     checker: &Checker,
     place: Place,
     literal: Option<u32>,
-    offset: u32,
-    element: usize,
-    count: Option<u32>,
+    array: TextArray,
     filling: Filling,
 ) -> Result<Filling, CheckError>
     ensures { FollowsBy view_filling checker.now result
-        (text_item place literal offset element count (view_filling filling)) checker.now }
+        (text_item place literal array.offset array.element array.count (view_filling filling))
+        checker.now }
 {
     let bytes = literal_bytes(checker, literal);
-    if is_longer(bytes.len(), count) {
+    if is_longer(bytes.len(), array.count) {
         return Err(broken(Rule::TooManyInitialisers, place));
     }
-    let kind = load_kind(checker.shape_of(element));
+    let kind = load_kind(checker.shape_of(array.element));
     let Ok(length) = u32::try_from(bytes.len()) else {
         return Err(CheckError::TooMany);
     };
@@ -138,7 +146,7 @@ fn fill_text(
         return Err(CheckError::TooMany);
     };
     let mut items = filling.items;
-    push_bytes(&mut items, offset, kind, bytes)?;
+    push_bytes(&mut items, array.offset, kind, bytes)?;
     Ok(Filling {
         rest: filling.rest,
         items,
@@ -225,15 +233,13 @@ pub fn fill_item(
     let filling = landing.filling;
     match checker.shape_of(destination.type_id) {
         Shape::Array(element, count) => {
-            fill_text(
-                checker,
-                place,
-                literal,
-                destination.offset,
+            let offset = destination.offset;
+            let array = TextArray {
+                offset,
                 element,
                 count,
-                filling,
-            )
+            };
+            fill_text(checker, place, literal, array, filling)
         }
         Shape::Struct(_) => fill_structure(checker, place, x, destination.type_id, filling),
         _ => fill_scalar(checker, place, x, destination, filling),
