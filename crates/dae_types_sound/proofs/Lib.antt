@@ -1,6 +1,5 @@
 mod Numbers
 mod Fitting
-mod Reading
 mod Small
 pub mod Steps
 mod Distinct

@@ -15,11 +15,11 @@ use Rattle.dae_types_sound.specs.Declarations.{is_sound_declaration, is_sound_us
 use Rattle.dae_types_sound.specs.Distinct.{have_own_names}
 use Rattle.dae_types_sound.specs.Fit.{are_fit_statements, body_jumps, extent_of, has_parameters, is_fit_function}
 use Rattle.dae_types_sound.specs.Names.{names_in}
-use Rattle.dae_types_sound.specs.Reads.{is_reading_body}
+use Rattle.dae_types_ready.specs.Reads.{is_reading_body}
 use Rattle.dae_types_sound.specs.Shapes.{are_laid_out, are_sound_shapes}
 use Rattle.dae_types_sound.proofs.Distinct.{own_names}
 use Rattle.dae_types_sound.proofs.Fitting.{print_bytes, sound_functions}
-use Rattle.dae_types_sound.proofs.Reading.{set_first}
+use Rattle.dae_types_ready.proofs.Reading.{set_first}
 use Rattle.dae_types_sound.proofs.Small.{are_used, calls_sound, chains, elements_complete, layouts, numbers_equal, sound_declarations, uses_declared}
 
 ready : (f : FileParts) (n : FileNames) (ts : List TypedFunction) → list_all (is_fit_function f n) ts ≡ true → list_all is_reading_body ts ≡ true → list_all is_ready_function ts ≡ true

@@ -2,5 +2,4 @@ pub mod Declarations
 pub mod Distinct
 pub mod Fit
 pub mod Names
-pub mod Reads
 pub mod Shapes

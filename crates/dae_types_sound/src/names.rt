@@ -4,8 +4,8 @@ ghost use Rattle.std.specs.Prelude.{◌≡◌, [], OnOk, map, option_copied, sli
 ghost use Rattle.dae_types_typed.specs.Linkage.{object_name, routine_name};
 ghost use Rattle.dae_types_sound.specs.Distinct.{AreNew, AreNoted, IsNewName, IsNoted, have_own_names, object_names, routine_names};
 
-use crate::doubts::Doubt;
 use dae_types_kinds::{Object, Routine};
+use dae_types_ready::Doubt;
 use dae_types_typed::FileParts;
 use indexmap::IndexSet;
 use std::alloc::Global;

@@ -4,12 +4,11 @@ ghost use Rattle.std.specs.Prelude.{◌≡◌, IfOk, OnOk, true};
 ghost use Rattle.dae_types_typed.specs.Sound.{IsSound};
 
 use crate::declarations::{are_bodies_of, are_sound_declarations, are_sound_uses};
-use crate::doubts::Doubt;
 use crate::functions::are_fit_functions;
 use crate::names::see_names;
-use crate::ready::see_ready;
 use crate::shapes::{are_complete_members, are_laid_out, are_sound_shapes};
 use crate::tables::names_in;
+use dae_types_ready::{Doubt, see_ready};
 use dae_types_typed::FileParts;
 use std::alloc::{AllocError, Global};
 

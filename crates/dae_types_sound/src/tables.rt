@@ -6,10 +6,10 @@ ghost use Rattle.dae_types_plans.specs.Steps.{parameter_types, parameters_from};
 ghost use Rattle.dae_types_typed.specs.Sound.{is_use_of, is_used, same_entity, tables_of};
 ghost use Rattle.dae_types_sound.specs.Names.{names_in, parameter_list, shorter, used_count, used_counts, used_layout, used_layouts};
 
-use crate::doubts::Doubt;
 use crate::extents::FileNames;
 use dae_base::Items;
 use dae_types_kinds::{Entity, Layout, Object, Routine, Shape, Use};
+use dae_types_ready::Doubt;
 use dae_types_typed::FileParts;
 use std::alloc::Global;
 

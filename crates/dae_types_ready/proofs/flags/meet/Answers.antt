@@ -1,7 +1,7 @@
 use Rattle.std.proofs.Common.{sym, length}
 use Rattle.std.proofs.lemmas.Bool.{ltb-false}
-use Rattle.dae_types_sound.proofs.Steps.{meet_ends}
-use Rattle.dae_types_sound.proofs.flags.meet.Goals as goal
+use Rattle.dae_types_ready.proofs.Steps.{meet_ends}
+use Rattle.dae_types_ready.proofs.flags.meet.Goals as goal
 
 pub returns-in-None : goal.returns-in-None
 returns-in-None c =

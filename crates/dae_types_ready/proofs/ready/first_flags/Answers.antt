@@ -1,5 +1,5 @@
-use Rattle.dae_types_sound.proofs.Steps.{flags_more}
-use Rattle.dae_types_sound.proofs.ready.first_flags.Goals as goal
+use Rattle.dae_types_ready.proofs.Steps.{flags_more}
+use Rattle.dae_types_ready.proofs.ready.first_flags.Goals as goal
 
 pub loop-variable-preserved : goal.loop-variable-preserved
 loop-variable-preserved c =

@@ -2,7 +2,7 @@
 
 ghost use Rattle.std.specs.Prelude.{◌≡◌, IfOk, Some};
 ghost use Rattle.dae_program.specs.Views.{view, view_expressions, view_settings, view_some, view_target};
-ghost use Rattle.dae_types_sound.specs.Reads.{Sets, reading, reading_all, reading_aside, reading_items, reading_old, reading_some, reading_target, setting_target};
+ghost use Rattle.dae_types_ready.specs.Reads.{Sets, reading, reading_all, reading_aside, reading_items, reading_old, reading_some, reading_target, setting_target};
 
 use crate::doubts::Doubt;
 use crate::flags::{copy_of, meet, read_variable, set_all, set_variable};

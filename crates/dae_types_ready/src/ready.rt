@@ -3,7 +3,7 @@
 ghost use Rattle.std.specs.Prelude.{◌≡◌, ◌&&◌, ℕ, IfOk, OnOk, Some, nat_le, nat_lt, true};
 ghost use Rattle.std.specs.List.{list_all};
 ghost use Rattle.dae_program.specs.Views.{view_statements, arms_of};
-ghost use Rattle.dae_types_sound.specs.Reads.{LeadsOn, Sets, first_flags, is_reading_body, reading_arms, reading_statements};
+ghost use Rattle.dae_types_ready.specs.Reads.{LeadsOn, Sets, first_flags, is_reading_body, reading_arms, reading_statements};
 
 use crate::doubts::Doubt;
 use crate::flags::{copy_of, meet, set_all};

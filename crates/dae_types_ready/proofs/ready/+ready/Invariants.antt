@@ -1,7 +1,7 @@
 use Rattle.std.proofs.Common.{◌≡◌, drop}
 use Rattle.dae_program.specs.Views.{view_statements, arms_of}
-use Rattle.dae_types_sound.specs.Reads.{reading_arms, reading_statements}
-use Rattle.dae_types_sound.proofs.ready.+ready.Given as goal
+use Rattle.dae_types_ready.specs.Reads.{reading_arms, reading_statements}
+use Rattle.dae_types_ready.proofs.ready.+ready.Given as goal
 
 abbrev pub invariant-read_statements-loop-s : goal.invariant-read_statements-loop-s
 invariant-read_statements-loop-s l =

@@ -1,7 +1,7 @@
 // Flags of the variables that are set.
 
 ghost use Rattle.std.specs.Prelude.{◌≡◌, IfOk, Some};
-ghost use Rattle.dae_types_sound.specs.Reads.{Sets, all_flags, meet, read_variable, set_variable};
+ghost use Rattle.dae_types_ready.specs.Reads.{Sets, all_flags, meet, read_variable, set_variable};
 
 use crate::doubts::Doubt;
 use std::alloc::Global;

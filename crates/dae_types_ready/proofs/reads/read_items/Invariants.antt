@@ -1,7 +1,7 @@
 use Rattle.std.proofs.Common.{◌≡◌, drop}
 use Rattle.dae_program.specs.Views.{view_settings}
-use Rattle.dae_types_sound.specs.Reads.{reading_items}
-use Rattle.dae_types_sound.proofs.reads.read_items.Given as goal
+use Rattle.dae_types_ready.specs.Reads.{reading_items}
+use Rattle.dae_types_ready.proofs.reads.read_items.Given as goal
 
 abbrev pub invariant-loop-item : goal.invariant-loop-item
 invariant-loop-item l =

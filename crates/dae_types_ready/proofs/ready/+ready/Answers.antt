@@ -1,5 +1,5 @@
-use Rattle.dae_types_sound.proofs.Steps.{arms_step, do_reads, if_reads, loop_reads, switch_reads}
-use Rattle.dae_types_sound.proofs.ready.+ready.Goals as goal
+use Rattle.dae_types_ready.proofs.Steps.{arms_step, do_reads, if_reads, loop_reads, switch_reads}
+use Rattle.dae_types_ready.proofs.ready.+ready.Goals as goal
 
 pub read_arms-loop-arm-preserved : goal.read_arms-loop-arm-preserved
 read_arms-loop-arm-preserved t c =

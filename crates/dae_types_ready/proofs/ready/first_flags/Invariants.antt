@@ -1,6 +1,6 @@
 use Rattle.std.proofs.Common.{◌≡◌, ◌++◌, ◌-◌}
-use Rattle.dae_types_sound.specs.Reads.{first_flags, flags_from}
-use Rattle.dae_types_sound.proofs.ready.first_flags.Given as goal
+use Rattle.dae_types_ready.specs.Reads.{first_flags, flags_from}
+use Rattle.dae_types_ready.proofs.ready.first_flags.Given as goal
 
 abbrev pub invariant-loop-variable : goal.invariant-loop-variable
 invariant-loop-variable l =

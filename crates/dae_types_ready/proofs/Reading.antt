@@ -9,7 +9,7 @@ use Rattle.dae_types_typed.specs.declared.files.TypedFunction.{TypedFunction}
 use Rattle.dae_types_typed.specs.Sound.{function_at}
 use Rattle.dae_program.specs.Trees as tree
 use Rattle.dae_program.specs.Trees.{Expression, Target, Expressions, Setting, Statements, Arms}
-use Rattle.dae_types_sound.specs.Reads.{flagged, Flagged, ◌⊳⊳◌, read_variable, all_flags, meet, both_ways, aside, reading, reading_target, reading_old, setting_target, reading_all, reading_some, reading_items, reading_statements, reading_arms, flags_from, first_flags, is_reading_body}
+use Rattle.dae_types_ready.specs.Reads.{flagged, Flagged, ◌⊳⊳◌, read_variable, all_flags, meet, both_ways, aside, reading, reading_target, reading_old, setting_target, reading_all, reading_some, reading_items, reading_statements, reading_arms, flags_from, first_flags, is_reading_body}
 
 -- by flags no more is set
 abbrev pub IsWithinSet : List Bool → VariableSet → Type 0

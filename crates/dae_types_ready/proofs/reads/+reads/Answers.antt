@@ -1,9 +1,9 @@
 use Rattle.std.proofs.Common.{◌≡◌, Bool, IfOk, Some}
 use Rattle.std.specs.Prelude.{Vec}
 use Rattle.std.specs.declared.alloc.Global.{Global}
-use Rattle.dae_types_sound.specs.Reads.{reading}
+use Rattle.dae_types_ready.specs.Reads.{reading}
 use Rattle.dae_program.proofs.LawsOfTrees.{by_call}
-use Rattle.dae_types_sound.proofs.reads.+reads.Goals as goal
+use Rattle.dae_types_ready.proofs.reads.+reads.Goals as goal
 
 pub read-returns-in-Call : goal.read-returns-in-Call
 read-returns-in-Call t c =

@@ -1,7 +1,7 @@
 use Rattle.std.proofs.Common.{◌≡◌, drop}
 use Rattle.dae_program.specs.Views.{view_expressions}
-use Rattle.dae_types_sound.specs.Reads.{reading_all}
-use Rattle.dae_types_sound.proofs.reads.+reads.Given as goal
+use Rattle.dae_types_ready.specs.Reads.{reading_all}
+use Rattle.dae_types_ready.proofs.reads.+reads.Given as goal
 
 abbrev pub invariant-read_all-loop-e : goal.invariant-read_all-loop-e
 invariant-read_all-loop-e l =
