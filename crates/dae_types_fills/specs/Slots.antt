@@ -1,6 +1,7 @@
 -- Stacks of what is to be filled, in memory, as plain data. The next part of a stack in memory is its last one.
-use Rattle.std.specs.Prelude.{List, [], ◌∷◌, Option, Some, None}
-use Rattle.dae_types_file_plans.specs.Initialisers.{Rest, Once, Elements, Members, Slot, slot}
+use Rattle.std.specs.Prelude.{ℕ, List, [], ◌∷◌, Option, Some, None, slice_get}
+use Rattle.dae_types_kinds.specs.Tables.{Tables}
+use Rattle.dae_types_file_plans.specs.Initialisers.{Rest, Once, Elements, Members, Slot, components_of, member_slot, slot}
 use Rattle.dae_types_fills.specs.declared.slots.Rest.{Rest as RestInMemory}
 use Rattle.dae_types_fills.specs.declared.slots.Rest.TheVariants as rests
 use Rattle.dae_types_fills.specs.declared.slots.Slot.{Slot as SlotInMemory}
@@ -30,3 +31,7 @@ left_behind (Some x) rest = view_rest x ∷ rest
 abbrev pub slot_or : Option Start → List Rest → Option Slot → Option Slot
 slot_or None rest behind = behind
 slot_or (Some x) rest behind = Some (slot x.offset x.type_id (left_behind x.left rest))
+
+-- the next member of a structure at an offset, of which so many are begun, or else what is next behind it
+abbrev pub structure_slot : Tables → (offset structure begun : ℕ) → List Rest → Option Slot → Option Slot
+structure_slot s o k n rest behind = member_slot o k n (slice_get (components_of s k) n) rest behind

@@ -2,10 +2,10 @@
 
 ghost use Rattle.std.specs.Prelude.{◌≡◌, ◌*◌, ◌&&◌, ◌||◌, List, ◌∷◌, Option, Ok, slice_get};
 ghost use Rattle.dae_types_kinds.specs.Types.{is_scalar, is_structure};
-ghost use Rattle.dae_types_file_plans.specs.Initialisers.{Rest as PlainRest, Slot as PlainSlot, behind_bytes, components_of, descend, element_slot, is_before, is_text_array, member_slot, next_slot, or_slot, parts_of, slot};
+ghost use Rattle.dae_types_file_plans.specs.Initialisers.{Rest as PlainRest, Slot as PlainSlot, behind_bytes, components_of, descend, element_slot, is_before, is_text_array, next_slot, or_slot, parts_of, slot};
 ghost use Rattle.dae_types_rules.specs.Plan.{Gives};
 ghost use Rattle.dae_types_tables.specs.Seen.{tables};
-ghost use Rattle.dae_types_fills.specs.Slots.{left_behind, slot_or, view_rest, view_slot, view_stack};
+ghost use Rattle.dae_types_fills.specs.Slots.{left_behind, slot_or, structure_slot, view_rest, view_slot, view_stack};
 ghost use Rattle.dae_types_fills.specs.Filled.{seen};
 
 use dae_types_kinds::{CheckError, Component, Shape};
@@ -150,8 +150,7 @@ fn first_member(
 ) -> Result<Option<Start>, CheckError>
     ensures { (rest : List PlainRest) (behind : Option PlainSlot)
         → Gives (λ r. slot_or r rest behind) result
-        (Ok (member_slot offset structure begun
-        (slice_get (components_of (tables checker.now) structure) begun) rest behind)) }
+        (Ok (structure_slot (tables checker.now) offset structure begun rest behind)) }
 {
     let Some(member) = component(checker, structure, begun) else {
         return Ok(None);
