@@ -15,7 +15,7 @@ use Rattle.dae_types_rules.specs.Plan.{Plan, node, chain, pure}
 use Rattle.dae_types_plans.specs.Steps.{base_at, changes_to, declared_place, looks, nothing, settles_name}
 use Rattle.dae_types_plans.specs.Expressions.{plan_declarator, plan_specifiers}
 use Rattle.dae_types_file_plans.specs.declared.surroundings.Surrounding.{Surrounding}
-use Rattle.dae_types_file_plans.specs.Files.{Product, data_at, definition_at, end_sites, function_at, is_direct, plan_body_of, parameters_in, plan_defined_as, second_at, some_of, some_type, started, storage_of, type_of_object}
+use Rattle.dae_types_file_plans.specs.Files.{Product, data_at, definition_at, end_sites, function_at, is_direct, plan_body_of, parameters_in, plan_defined, plan_defined_as, second_at, some_of, some_type, started, storage_of, type_of_object}
 use Rattle.dae_types_file_plans.specs.Initialisers.{plan_content}
 use Rattle.dae_types_file_plans.specs.Statements.{plan_block}
 use Rattle.dae_types_rules.specs.Table.{is_static}
@@ -67,6 +67,10 @@ plan_begun ws d b =
     chain tt (changes_to started) (λ x. chain int_id (plan_file_base false ws)
     (λ t. chain None (plan_type_of_definition p ws t d) (plan_defined_as p (storage_of ws) (declared_name d)
     (parameters_in (function_part d)) (view_declarations b.declarations.items) (views_statements b.statements.items))))
+
+-- what comes behind these products by a definition in memory
+abbrev pub plan_added : List Product → Specifiers → Declarator → Block → Plan (List Product)
+plan_added done ws d b = plan_defined done ws d b.place (view_declarations b.declarations.items) (views_statements b.statements.items)
 
 -- ---- the end of the file
 

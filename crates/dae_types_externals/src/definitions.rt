@@ -2,12 +2,11 @@
 
 ghost use Rattle.std.specs.Prelude.{◌≡◌, Some};
 ghost use Rattle.dae_tree.specs.Names.{function_part};
-ghost use Rattle.dae_tree.specs.FileViews.{view_declarations, views_statements};
 ghost use Rattle.dae_tree.specs.Views.{view_declarator, views_parameters, views_specifiers};
-ghost use Rattle.dae_types_file_plans.specs.Files.{is_direct, parameters_in, plan_defined, started};
+ghost use Rattle.dae_types_file_plans.specs.Files.{is_direct, parameters_in, started};
 ghost use Rattle.dae_types_tables.specs.Seen.{tables, Follows, FollowsBy};
 ghost use Rattle.dae_types_products.specs.Products.{GivesProducts, as_products};
-ghost use Rattle.dae_types_externals.specs.Parts.{plan_begun, plan_defining, plan_definition, plan_entry, plan_type_of_definition};
+ghost use Rattle.dae_types_externals.specs.Parts.{plan_added, plan_begun, plan_defining, plan_definition, plan_entry, plan_type_of_definition};
 
 use crate::bodies::function_body;
 use crate::declarations::{base, storage_class};
@@ -163,9 +162,8 @@ pub fn add_definition(
     body: &Block,
 ) -> Result<Vec<Product>, CheckError>
     ensures { GivesProducts checker.new result
-        (plan_defined (as_products done) (views_specifiers list.now)
-        (view_declarator part.now) body.now.place (view_declarations body.now.declarations.items)
-        (views_statements body.now.statements.items)) checker.old }
+        (plan_added (as_products done) (views_specifiers list.now) (view_declarator part.now)
+        body.now) checker.old }
 {
     let more = whole_definition(checker, list, part, body)?;
     append(done, more)
