@@ -20,6 +20,15 @@ use dae_types_statements::block;
 use dae_types_tables::{Checker, broken, copy_kept, set_kept, storages};
 use dae_types_walk::place_of_specifiers;
 
+/// What the declarator of a definition declares: the function's name, if there is one, with its
+/// place, and its type.
+#[derive(Clone, Copy)]
+pub struct Signature {
+    pub place: Place,
+    pub name: Option<Name>,
+    pub type_id: usize,
+}
+
 /// Asks that each parameter of a definition has a name (C90 6.7.1). The place is that of the declared name.
 #[tactic(auto, unfolding(dae_types_rules::specs::Plan::ask_all))]
 fn check_names(checker: &Checker, place: Place, parameters: &[Parameter]) -> Result<(), CheckError>
@@ -137,22 +146,21 @@ fn body_twice(
     write_body(checker, function, around, body)
 }
 
-/// The body of a function of a type, by its number.
+/// The body of a function, by its number.
 #[tactic(auto, using(crate::proofs::Parameters::parameters_counted))]
 pub fn function_body(
     checker: &mut Checker,
-    place: Place,
-    name: Option<Name>,
+    signature: Signature,
     parameters: &[Parameter],
     body: &Block,
-    type_id: usize,
     function: Option<usize>,
 ) -> Result<Vec<Product>, CheckError>
     ensures { GivesProducts checker.new result
-        (plan_body_in place name
-        (views_parameters parameters.now) body.now type_id function) checker.old }
+        (plan_body_in signature.place signature.name (views_parameters parameters.now) body.now
+        signature.type_id function) checker.old }
 {
-    check_names(checker, place, parameters)?;
-    let around = surrounding(checker, is_main_name(checker, name), type_id);
+    check_names(checker, signature.place, parameters)?;
+    let is_main = is_main_name(checker, signature.name);
+    let around = surrounding(checker, is_main, signature.type_id);
     body_twice(checker, parameters.len(), function, around, body)
 }

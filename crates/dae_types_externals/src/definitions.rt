@@ -8,10 +8,10 @@ ghost use Rattle.dae_types_tables.specs.Seen.{tables, Follows, FollowsBy};
 ghost use Rattle.dae_types_products.specs.Products.{GivesProducts, as_products};
 ghost use Rattle.dae_types_externals.specs.Parts.{plan_added, plan_begun, plan_defining, plan_definition, plan_entry, plan_type_of_definition};
 
-use crate::bodies::function_body;
+use crate::bodies::{Signature, function_body};
 use crate::declarations::{base, storage_class};
 use dae_base::Place;
-use dae_tree::{Block, Declarator, Keyword, Name, Parameter, Specifier};
+use dae_tree::{Block, Declarator, Keyword, Parameter, Specifier};
 use dae_types_file_plans::Role;
 use dae_types_kinds::CheckError;
 use dae_types_linkage::{declare_function, define_function, definition_type, is_static};
@@ -88,34 +88,38 @@ fn type_of_definition(
 /// Declares the function that a definition defines, and gives its number.
 fn enter_definition(
     checker: &mut Checker,
-    place: Place,
     word: Option<Keyword>,
-    name: Option<Name>,
-    type_id: usize,
+    signature: Signature,
 ) -> Result<Option<usize>, CheckError>
-    ensures { Follows checker.new result (plan_entry place word name type_id) checker.old }
+    ensures { Follows checker.new result
+        (plan_entry signature.place word signature.name signature.type_id) checker.old }
 {
-    let function = declare_function(checker, place, is_static(word), false, name, type_id)?;
+    let own = is_static(word);
+    let Signature {
+        place,
+        name,
+        type_id,
+    } = signature;
+    let function = declare_function(checker, place, own, false, name, type_id)?;
     define_function(checker, place, function)
 }
 
-/// What a definition comes to, by its type.
+/// What a definition comes to, by what its declarator declares.
 fn definition(
     checker: &mut Checker,
-    place: Place,
     word: Option<Keyword>,
-    name: Option<Name>,
+    signature: Signature,
     parameters: &[Parameter],
     body: &Block,
-    type_id: usize,
 ) -> Result<Vec<Product>, CheckError>
     ensures { GivesProducts checker.new result
-        (plan_definition place word name
-        (views_parameters parameters.now) body.now type_id) checker.old }
+        (plan_definition signature.place word signature.name (views_parameters parameters.now)
+        body.now signature.type_id) checker.old }
 {
-    let function = enter_definition(checker, place, word, name, type_id)?;
+    let place = signature.place;
+    let function = enter_definition(checker, word, signature)?;
     let declared = declares_function(checker.alloc, place, Role::Definition, function)?;
-    let body = function_body(checker, place, name, parameters, body, type_id, function)?;
+    let body = function_body(checker, signature, parameters, body, function)?;
     append(declared, body)
 }
 
@@ -133,7 +137,12 @@ fn definition_by(
 {
     let parameters = parameters_in(part);
     let name = part.name();
-    definition(checker, place, word, name, parameters, body, type_id)
+    let signature = Signature {
+        place,
+        name,
+        type_id,
+    };
+    definition(checker, word, signature, parameters, body)
 }
 
 /// What a definition comes to.
