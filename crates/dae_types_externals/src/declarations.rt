@@ -4,7 +4,7 @@ ghost use Rattle.std.specs.Prelude.{◌≡◌, Some, true};
 ghost use Rattle.dae_tree.specs.FileViews.{view_declaration, view_initialiser, view_item, view_items, view_value};
 ghost use Rattle.dae_tree.specs.Views.{view_declarator, views_specifiers};
 ghost use Rattle.dae_types_file_plans.specs.Files.{plan_data, plan_declared, plan_function, plan_item_at, plan_items, plan_object, plan_typed, role_of, storage_of};
-ghost use Rattle.dae_types_file_plans.specs.Statements.{is_alone};
+ghost use Rattle.dae_types_sites.specs.Scopes.{is_innermost};
 ghost use Rattle.dae_types_tables.specs.Seen.{Follows, FollowsBy};
 ghost use Rattle.dae_types_products.specs.Products.{GivesProducts, as_products};
 ghost use Rattle.dae_types_externals.specs.Parts.{plan_file_base, plan_object_data, plan_type_of};
@@ -17,18 +17,18 @@ use dae_types_linkage::{
     declare_function, declare_object, declare_type, is_extern, is_static, set_object_type,
     type_of_object,
 };
-use dae_types_locals::{content, has_typedef, look_through};
+use dae_types_locals::{content, has_typedef, look_through, tag_scope};
 use dae_types_products::{Product, append, declares_function, declares_object};
-use dae_types_sites::base_type;
+use dae_types_sites::{Adjustment, TagScope, base_type};
 use dae_types_tables::{Checker, is_function};
 use dae_types_walk::{declarator, declared_place, place_of_specifiers, specifiers};
 
-/// The type that specifiers name at file scope. The flag says that they declare nothing else.
-pub fn base(checker: &mut Checker, alone: bool, list: &[Specifier]) -> Result<usize, CheckError>
+/// The type that specifiers name at file scope. A tag without members is looked for in this scope.
+pub fn base(checker: &mut Checker, scope: TagScope, list: &[Specifier]) -> Result<usize, CheckError>
     ensures { Follows checker.new result
-        (plan_file_base alone (views_specifiers list.now)) checker.old }
+        (plan_file_base (is_innermost scope) (views_specifiers list.now)) checker.old }
 {
-    let whole = specifiers(checker, Context::File, alone, list)?;
+    let whole = specifiers(checker, Context::File, scope, list)?;
     Ok(base_type(Seen::of_specifiers(list), whole))
 }
 
@@ -37,14 +37,6 @@ pub fn storage_class(list: &[Specifier]) -> Option<Keyword>
     ensures { result ≡ storage_of (views_specifiers list.now) }
 {
     Seen::of_specifiers(list).storage
-}
-
-/// Whether a declaration has no declarator.
-#[tactic(auto, using(dae_types_locals::proofs::Laws::alone_where_empty))]
-fn is_alone(items: &[Item]) -> bool
-    ensures { result ≡ is_alone (view_items items.now) }
-{
-    items.is_empty()
 }
 
 /// What a declaration is for an object: it has an initialiser, it gives room, or neither (C90 6.7.2).
@@ -166,7 +158,7 @@ fn declared_type(
     ensures { FollowsBy (λ t. Some t) checker.new result
         (plan_type_of place base (view_declarator part.now)) checker.old }
 {
-    let declared = declarator(checker, place, false, base, part)?;
+    let declared = declarator(checker, place, Adjustment::Kept, base, part)?;
     Ok(declared.type_id)
 }
 
@@ -181,7 +173,7 @@ fn name_type(
     ensures { GivesProducts checker.new result
         (plan_item_at true place word base (view_item item.now)) checker.old }
 {
-    let declared = declarator(checker, place, false, base, &item.declarator)?;
+    let declared = declarator(checker, place, Adjustment::Kept, base, &item.declarator)?;
     let given = item.initialiser.is_some();
     let name = item.declarator.name();
     declare_type(checker, place, false, given, name, declared)?;
@@ -240,7 +232,7 @@ pub fn add_declaration(
 {
     let list = declaration.specifiers.as_slice();
     let items = declaration.items.as_slice();
-    let base = base(checker, is_alone(items), list)?;
+    let base = base(checker, tag_scope(items), list)?;
     let place = place_of_specifiers(list, declaration.end);
     let word = storage_class(list);
     add_items(checker, has_typedef(list), place, word, base, done, items)

@@ -17,6 +17,7 @@ use dae_types_kinds::CheckError;
 use dae_types_linkage::{declare_function, define_function, definition_type, is_static};
 use dae_types_locals::has_typedef;
 use dae_types_products::{Product, append, declares_function};
+use dae_types_sites::{Adjustment, TagScope};
 use dae_types_tables::{Checker, Kept, set_kept};
 use dae_types_walk::{declarator, declared_place, place_of_specifiers};
 
@@ -81,7 +82,7 @@ fn type_of_definition(
         (plan_type_of_definition place (views_specifiers list.now) base
         (view_declarator part.now)) checker.old }
 {
-    let declared = declarator(checker, place, false, base, part)?;
+    let declared = declarator(checker, place, Adjustment::Kept, base, part)?;
     definition_type(checker, place, has_typedef(list), is_direct(part), declared)
 }
 
@@ -157,7 +158,7 @@ fn whole_definition(
 {
     let place = declared_place(part, place_of_specifiers(list, body.place));
     start(checker);
-    let base = base(checker, false, list)?;
+    let base = base(checker, TagScope::Any, list)?;
     let type_id = type_of_definition(checker, place, list, base, part)?;
     definition_by(checker, place, storage_class(list), part, body, type_id)
 }

@@ -1,3 +1,2 @@
 mod Lists
 mod Rows
-pub mod Laws

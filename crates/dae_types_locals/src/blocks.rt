@@ -6,6 +6,7 @@ ghost use Rattle.dae_tree.specs.Views.{view_specifier, views_specifiers};
 ghost use Rattle.dae_tree.specs.FileViews.{view_declaration, view_declarations, view_item, view_items};
 ghost use Rattle.dae_program.specs.Trees.{Done};
 ghost use Rattle.dae_types_file_plans.specs.Statements.{is_alone, plan_declaration, plan_declarations, plan_item_at, plan_items};
+ghost use Rattle.dae_types_sites.specs.Scopes.{is_innermost};
 ghost use Rattle.dae_types_tables.specs.Seen.{Follows};
 ghost use Rattle.dae_types_bodies.specs.Written.{GivesStatements, as_statements};
 ghost use Rattle.dae_types_locals.specs.Plans.{plan_declared};
@@ -17,7 +18,7 @@ use dae_tree::{Declaration, Item, Keyword, Seen, Specifier};
 use dae_types_bodies::append;
 use dae_types_kinds::{CheckError, Context};
 use dae_types_linkage::{declare_local, declare_type};
-use dae_types_sites::base_type;
+use dae_types_sites::{Adjustment, TagScope, base_type};
 use dae_types_tables::Checker;
 use dae_types_walk::{declarator, declared_place, place_of_specifiers, specifiers};
 
@@ -68,7 +69,7 @@ fn name_type(
     ensures { GivesStatements checker.new result
         (plan_item_at true place base (view_item item.now)) checker.old }
 {
-    let declared = declarator(checker, place, false, base, &item.declarator)?;
+    let declared = declarator(checker, place, Adjustment::Kept, base, &item.declarator)?;
     let given = item.initialiser.is_some();
     declare_type(
         checker,
@@ -91,7 +92,7 @@ fn declare(
     ensures { GivesStatements checker.new result
         (plan_item_at false place base (view_item item.now)) checker.old }
 {
-    let declared = declarator(checker, place, false, base, &item.declarator)?;
+    let declared = declarator(checker, place, Adjustment::Kept, base, &item.declarator)?;
     let given = item.initialiser.is_some();
     let number = declare_local(checker, place, given, item.declarator.name(), declared)?;
     begin(checker, place, &item.initialiser, number)
@@ -135,19 +136,25 @@ fn declare_items(
     Ok(done)
 }
 
-/// Whether specifiers stand alone: they declare no name.
+/// Where the tag of a structure without members is looked for in a declaration of these names: in the innermost scope,
+/// if there is none.
 #[tactic(auto, using(crate::proofs::Lists::alone_where_empty))]
-fn is_alone(list: &[Item]) -> bool
-    ensures { result ≡ is_alone (view_items list.now) }
+pub fn tag_scope(items: &[Item]) -> TagScope
+    ensures { is_innermost result ≡ is_alone (view_items items.now) }
 {
-    list.is_empty()
+    if items.is_empty() {
+        TagScope::Innermost
+    } else {
+        TagScope::Any
+    }
 }
 
-/// The type that the specifiers of a declaration name. The flag says that they stand alone.
-fn base(checker: &mut Checker, alone: bool, list: &[Specifier]) -> Result<usize, CheckError>
-    ensures { Follows checker.new result (plan_declared alone list.now) checker.old }
+/// The type that the specifiers of a declaration name.
+fn base(checker: &mut Checker, scope: TagScope, list: &[Specifier]) -> Result<usize, CheckError>
+    ensures { Follows checker.new result
+        (plan_declared (is_innermost scope) list.now) checker.old }
 {
-    let named = specifiers(checker, Context::Block, alone, list)?;
+    let named = specifiers(checker, Context::Block, scope, list)?;
     Ok(base_type(Seen::of_specifiers(list), named))
 }
 
@@ -160,7 +167,7 @@ fn declaration(
     ensures { GivesStatements checker.new result
         (plan_declaration (as_statements done) (view_declaration one.now)) checker.old }
 {
-    let base = base(checker, is_alone(&one.items), &one.specifiers)?;
+    let base = base(checker, tag_scope(&one.items), &one.specifiers)?;
     let place = place_of_specifiers(&one.specifiers, one.end);
     let is_typedef = has_typedef(&one.specifiers);
     declare_items(checker, place, is_typedef, base, done, &one.items)

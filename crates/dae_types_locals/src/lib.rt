@@ -2,7 +2,7 @@
 // object of a file holds, and the statements that a block begins with. An expression stands below, a statement above.
 #![tactic(auto)]
 
-pub use blocks::{declarations, has_typedef};
+pub use blocks::{declarations, has_typedef, tag_scope};
 pub use initialisers::{content, look_through};
 
 mod blocks;

@@ -9,6 +9,7 @@ ghost use Rattle.dae_program.specs.Trees.{Expression};
 ghost use Rattle.dae_types_rules.specs.Plan.{Gives, pure};
 ghost use Rattle.dae_types_rules.specs.Table.{is_size};
 ghost use Rattle.dae_types_tables.specs.Seen.{tables, Follows, Leaves};
+ghost use Rattle.dae_types_sites.specs.Adjusting.{is_adjusted};
 
 use dae_base::Place;
 use dae_tree::Name;
@@ -16,6 +17,14 @@ use dae_types_kinds::{CheckError, Entity, Known, Local, NamedType, Rule, Shape};
 use dae_types_tables::{
     Checker, broken, is_array, is_function, is_integer, is_structure, is_unsigned, is_void,
 };
+
+/// What becomes of an array: it is kept, or it is adjusted to a pointer, as the outermost part of a parameter is, and so
+/// free of a limit (C90 6.7.1).
+#[derive(Clone, Copy)]
+pub enum Adjustment {
+    Kept,
+    ToPointer,
+}
 
 /// A pointer to a type.
 #[tactic(auto, unfolding(dae_types_rules::specs::Plan::ask_all))]
@@ -50,16 +59,17 @@ pub fn make_unsized_array(
     checker.make(Shape::Array(element, None))
 }
 
-/// An array of so many elements. As an outermost part of a parameter it is free of a limit, since it counts as a pointer.
+/// An array of so many elements.
 #[tactic(auto, unfolding(dae_types_rules::specs::Plan::ask_all))]
 pub fn make_array(
     checker: &mut Checker,
     place: Place,
-    free: bool,
+    adjustment: Adjustment,
     element: usize,
     count: u32,
 ) -> Result<usize, CheckError>
-    ensures { Follows checker.new result (sized place free element (pure count)) checker.old }
+    ensures { Follows checker.new result
+        (sized place (is_adjusted adjustment) element (pure count)) checker.old }
 {
     let shape = checker.shape_of(element);
     if is_function(shape) {
@@ -68,17 +78,20 @@ pub fn make_array(
     if !checker.is_complete(element) {
         return Err(broken(Rule::Incomplete, place));
     }
-    if checker.is_too_large(element, counted(free, count)) {
+    if checker.is_too_large(element, counted(adjustment, count)) {
         return Err(broken(Rule::ObjectTooLarge, place));
     }
     checker.make(Shape::Array(element, Some(count)))
 }
 
 /// The number of elements that the limit counts.
-fn counted(free: bool, count: u32) -> Option<u32>
-    ensures { result ≡ counted free count }
+fn counted(adjustment: Adjustment, count: u32) -> Option<u32>
+    ensures { result ≡ counted (is_adjusted adjustment) count }
 {
-    if free { None } else { Some(count) }
+    match adjustment {
+        Adjustment::Kept => Some(count),
+        Adjustment::ToPointer => None,
+    }
 }
 
 /// The number of elements that an array's size says, of which this is known.

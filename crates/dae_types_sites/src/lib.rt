@@ -3,11 +3,11 @@
 #![tactic(auto)]
 
 pub use declarators::{
-    add_named_local, add_parameter, element_count, is_taken, make_array, make_function,
+    Adjustment, add_named_local, add_parameter, element_count, is_taken, make_array, make_function,
     make_pointer, make_unsized_array,
 };
 pub use enumerations::{add_enumerator, constant_value, declare_enumeration, enumeration_by_tag};
-pub use structures::{add_member, begin_structure, end_structure, structure_by_tag};
+pub use structures::{TagScope, add_member, begin_structure, end_structure, structure_by_tag};
 pub use words::{base_type, check_word, type_of_name};
 
 mod declarators;

@@ -1,10 +1,11 @@
 // Tags, structures and their members (C90 6.5.2.1 and 6.5.2.3).
 
-ghost use Rattle.std.specs.Prelude.{◌≡◌};
+ghost use Rattle.std.specs.Prelude.{◌≡◌, Some, false, true};
 ghost use Rattle.dae_types_plans.specs.Steps.{begins_at, ends_at, has_component, member_at, new_structure, number_of, structure_type, tag_at, tag_in};
 ghost use Rattle.dae_types_rules.specs.Plan.{pure};
 ghost use Rattle.dae_types_rules.specs.Table.{has_begun};
 ghost use Rattle.dae_types_tables.specs.Seen.{tables, Follows, LeavesAnd};
+ghost use Rattle.dae_types_sites.specs.Scopes.{is_innermost};
 
 use dae_base::Place;
 use dae_tree::Name;
@@ -13,32 +14,38 @@ use dae_types_tables::{
     Checker, MOST_BYTES, broken, finish_layout, is_function, is_void, place_member, round_up,
 };
 
-/// `struct` and a tag: the type of the structure of that tag, or of a new one that has no members yet. Where the
-/// declaration declares nothing else, the tag is one of the innermost scope.
+/// Where the tag of a structure without members is looked for: in the innermost scope alone, as where its declaration
+/// declares nothing else, or in any scope (C90 6.5.2.3).
+#[derive(Clone, Copy)]
+pub enum TagScope {
+    Innermost,
+    Any,
+}
+
+/// `struct` and a tag: the type of the structure of that tag, or of a new one that has no members yet.
 #[tactic(auto, unfolding(dae_types_rules::specs::Plan::ask_all))]
 pub fn structure_by_tag(
     checker: &mut Checker,
-    alone: bool,
+    scope: TagScope,
     name: Name,
 ) -> Result<Option<usize>, CheckError>
-    ensures { Follows checker.new result (tag_at alone name) checker.old }
+    ensures { Follows checker.new result (tag_at (is_innermost scope) name) checker.old }
 {
-    let number = match tagged(checker, alone, name.number) {
+    let number = match tagged(checker, scope, name.number) {
         Some(Tagged::Enumeration) => return Err(broken(Rule::TagKind, name.place)),
         Some(Tagged::Structure(number)) => number,
-        None => add_structure(checker, Some(name.number), false)?,
+        None => declare_structure(checker, name.number)?,
     };
     structure_type(checker, number)
 }
 
-/// What a tag stands for, in the innermost scope alone or in all.
-fn tagged(checker: &Checker, alone: bool, name: u32) -> Option<Tagged>
-    ensures { result ≡ tag_in alone (tables checker.now) name }
+/// What a tag stands for in such scopes.
+fn tagged(checker: &Checker, scope: TagScope, name: u32) -> Option<Tagged>
+    ensures { result ≡ tag_in (is_innermost scope) (tables checker.now) name }
 {
-    if alone {
-        checker.own_tag(name)
-    } else {
-        checker.found_tag(name)
+    match scope {
+        TagScope::Innermost => checker.own_tag(name),
+        TagScope::Any => checker.found_tag(name),
     }
 }
 
@@ -49,13 +56,26 @@ fn structure_type(checker: &mut Checker, number: usize) -> Result<Option<usize>,
     Ok(Some(checker.make(Shape::Struct(number))?))
 }
 
-/// Adds a structure that isn't complete, with its tag where it has one, and gives its number.
-fn add_structure(checker: &mut Checker, tag: Option<u32>, begun: bool) -> Result<usize, CheckError>
-    ensures { LeavesAnd checker.new result (new_structure tag begun (tables checker.old)) }
+/// Adds a structure of which only the tag is declared, and gives its number.
+fn declare_structure(checker: &mut Checker, tag: u32) -> Result<usize, CheckError>
+    ensures { LeavesAnd checker.new result (new_structure (Some tag) false (tables checker.old)) }
+{
+    let number = checker.add_structure(Structure {
+        tag: Some(tag),
+        begun: false,
+        layout: None,
+    })?;
+    checker.add_tag(tag, Tagged::Structure(number))?;
+    Ok(number)
+}
+
+/// Adds a structure whose members begin, with its tag where it has one, and gives its number.
+fn add_structure(checker: &mut Checker, tag: Option<u32>) -> Result<usize, CheckError>
+    ensures { LeavesAnd checker.new result (new_structure tag true (tables checker.old)) }
 {
     let number = checker.add_structure(Structure {
         tag,
-        begun,
+        begun: true,
         layout: None,
     })?;
     if let Some(name) = tag {
@@ -70,7 +90,7 @@ pub fn begin_structure(checker: &mut Checker, tag: Option<Name>) -> Result<usize
     ensures { Follows checker.new result (begins_at tag) checker.old }
 {
     let Some(name) = tag else {
-        return add_structure(checker, None, true);
+        return add_structure(checker, None);
     };
     let own = checker.own_tag(name.number);
     if has_begun(checker, own) {
@@ -90,7 +110,7 @@ pub fn begin_structure(checker: &mut Checker, tag: Option<Name>) -> Result<usize
             );
             Ok(number)
         }
-        None => add_structure(checker, Some(name.number), true),
+        None => add_structure(checker, Some(name.number)),
     }
 }
 

@@ -7,11 +7,13 @@ ghost use Rattle.dae_tree.specs.declared.operators.PostfixOperator.TheVariants a
 ghost use Rattle.dae_tree.specs.Views.{view, view_declarator, view_specifier, views_declarators, views_enumerators};
 ghost use Rattle.dae_types_plans.specs.Expressions.{plan, plan_component_list, plan_declarator, plan_enumerators, plan_specifier, plan_value};
 ghost use Rattle.dae_types_tables.specs.Seen.{Follows, FollowsBy};
+ghost use Rattle.dae_types_sites.specs.Adjusting.{is_adjusted};
+ghost use Rattle.dae_types_sites.specs.Scopes.{is_innermost};
 ghost use Rattle.dae_types_values.specs.Results.{GivesValue, one, views as views_of_arguments};
 ghost use Rattle.dae_types_walk.specs.Plans.{IsAssignment, IsBinary, IsCall, IsComma, IsConditional, IsIndex, plan_all, plan_alone, plan_assignment, plan_base, plan_behind, plan_binary, plan_call, plan_cast, plan_conditional, plan_enumeration, plan_function, plan_layout, plan_member, plan_no_call, plan_postfix, plan_structure, plan_type_name, plan_types, view_pair};
 
 use crate::parts::{
-    called_function, constant_value, declared_place, element_count, is_last, name_in,
+    array_adjustment, called_function, constant_value, declared_place, element_count, name_in,
     place_of_specifiers,
 };
 use dae_base::Place;
@@ -21,6 +23,7 @@ use dae_tree::{
 };
 use dae_types_folding::Value;
 use dae_types_kinds::{CheckError, Context, INT_ID, Layout, NO_PARAMETERS_ID, NamedType, Rule};
+use dae_types_sites::{Adjustment, TagScope};
 use dae_types_tables::{Checker, broken};
 
 /// The typed tree of an expression, as an object where it is one. Each kind has a function of its
@@ -379,7 +382,7 @@ pub fn type_name(checker: &mut Checker, name: &TypeName, place: Place) -> Result
 {
     let base = base(checker, Context::TypeName, &name.specifiers)?;
     let place = place_of_specifiers(&name.specifiers, place);
-    let declared = declarator(checker, place, false, base, &name.declarator)?;
+    let declared = declarator(checker, place, Adjustment::Kept, base, &name.declarator)?;
     Ok(declared.type_id)
 }
 
@@ -393,24 +396,25 @@ pub fn base(
 ) -> Result<usize, CheckError>
     ensures { Follows checker.new result (plan_base context list.now) checker.old }
 {
-    let alone = specifiers(checker, context, false, list)?;
+    let alone = specifiers(checker, context, TagScope::Any, list)?;
     Ok(dae_types_sites::base_type(Seen::of_specifiers(list), alone))
 }
 
-/// The type that stands alone among specifiers, if there is one. The flag says that they declare nothing else.
+/// The type that stands alone among specifiers, if there is one. A tag without members is looked for in this scope.
 #[cycle(tree)]
 #[inline(never)]
 pub fn specifiers(
     checker: &mut Checker,
     context: Context,
-    alone: bool,
+    scope: TagScope,
     list: &[Specifier],
 ) -> Result<Option<usize>, CheckError>
-    ensures { Follows checker.new result (plan_alone context alone list.now) checker.old }
+    ensures { Follows checker.new result
+        (plan_alone context (is_innermost scope) list.now) checker.old }
 {
     let mut base = None;
     for one in list {
-        base = specifier(checker, context, alone, base, one)?;
+        base = specifier(checker, context, scope, base, one)?;
     }
     Ok(base)
 }
@@ -421,19 +425,20 @@ pub fn specifiers(
 fn specifier(
     checker: &mut Checker,
     context: Context,
-    alone: bool,
+    scope: TagScope,
     base: Option<usize>,
     specifier: &Specifier,
 ) -> Result<Option<usize>, CheckError>
     ensures { Follows checker.new result
-        (plan_specifier context alone base (view_specifier specifier.now)) checker.old }
+        (plan_specifier context (is_innermost scope) base (view_specifier specifier.now))
+        checker.old }
 {
     match specifier {
         Specifier::Word(place, word) => dae_types_sites::check_word(
             checker, *place, context, base, *word,
         ),
         Specifier::TypeName(name) => dae_types_sites::type_of_name(checker, *name),
-        Specifier::Structure(_, name) => dae_types_sites::structure_by_tag(checker, alone, *name),
+        Specifier::Structure(_, name) => dae_types_sites::structure_by_tag(checker, scope, *name),
         Specifier::StructureBody(place, tag, _, list) => { structure(checker, *place, *tag, list) }
         Specifier::Enumeration(_, name) => dae_types_sites::enumeration_by_tag(checker, *name),
         Specifier::EnumerationBody(_, tag, _, list, _) => enumeration(checker, *tag, list),
@@ -506,7 +511,7 @@ pub fn components(
 {
     for one in list {
         let at = declared_place(one, place);
-        let declared = declarator(checker, at, false, base, one)?;
+        let declared = declarator(checker, at, Adjustment::Kept, base, one)?;
         layout = dae_types_sites::add_member(checker, at, structure, layout, one.name(), declared)?;
     }
     Ok(layout)
@@ -535,18 +540,19 @@ pub fn enumerators(checker: &mut Checker, list: &[Enumerator]) -> Result<u32, Ch
     Ok(word)
 }
 
-/// What a declarator declares, from its outermost part.
+/// What a declarator declares, from its outermost part, whose array is adjusted so.
 #[cycle(tree)]
 #[tactic(auto, using(crate::proofs::Rows::function_gives))]
 pub fn declarator(
     checker: &mut Checker,
     place: Place,
-    free: bool,
+    adjustment: Adjustment,
     base: usize,
     part: &Declarator,
 ) -> Result<NamedType, CheckError>
     ensures { Follows checker.new result
-        (plan_declarator place free base (view_declarator part.now)) checker.old }
+        (plan_declarator place (is_adjusted adjustment) base (view_declarator part.now))
+        checker.old }
 {
     match part {
         Declarator::Absent => Ok(NamedType {
@@ -557,34 +563,29 @@ pub fn declarator(
             name: Some(*name),
             type_id: base,
         }),
-        Declarator::Grouped(_, inner) => declarator(checker, place, free, base, inner),
+        Declarator::Grouped(_, inner) => declarator(checker, place, adjustment, base, inner),
         Declarator::Pointer(_, _, inner) => {
             let base = dae_types_sites::make_pointer(checker, place, base)?;
-            declarator(checker, place, free, base, inner)
+            declarator(checker, place, adjustment, base, inner)
         }
         Declarator::Unsized(inner, _) => {
             let base = dae_types_sites::make_unsized_array(checker, place, base)?;
-            declarator(checker, place, free, base, inner)
+            declarator(checker, place, adjustment, base, inner)
         }
         Declarator::Sized(inner, _, size) => {
             let x = operand(checker, size)?;
             let count = element_count(checker, size.place(), x)?;
-            let base = dae_types_sites::make_array(
-                checker,
-                place,
-                free && is_last(inner),
-                base,
-                count,
-            )?;
-            declarator(checker, place, free, base, inner)
+            let array = array_adjustment(adjustment, inner);
+            let base = dae_types_sites::make_array(checker, place, array, base, count)?;
+            declarator(checker, place, adjustment, base, inner)
         }
         Declarator::Empty(inner, _) | Declarator::Void(inner, _, _) => {
             let base = dae_types_sites::make_function(checker, place, base, NO_PARAMETERS_ID)?;
-            declarator(checker, place, free, base, inner)
+            declarator(checker, place, adjustment, base, inner)
         }
         Declarator::Function(inner, q, list) => {
             let base = function(checker, place, base, *q, list)?;
-            declarator(checker, place, free, base, inner)
+            declarator(checker, place, adjustment, base, inner)
         }
     }
 }
@@ -621,7 +622,7 @@ pub fn parameters(
     for one in list {
         let at = declared_place(&one.declarator, place_of_specifiers(&one.specifiers, place));
         let base = base(checker, Context::Parameter, &one.specifiers)?;
-        let declared = declarator(checker, at, true, base, &one.declarator)?;
+        let declared = declarator(checker, at, Adjustment::ToPointer, base, &one.declarator)?;
         types = dae_types_sites::add_parameter(
             checker,
             at,

@@ -1,10 +1,11 @@
 // Names and places in trees, and what expressions are at places where they stand for a function or for a number.
 
-ghost use Rattle.std.specs.Prelude.{◌≡◌};
+ghost use Rattle.std.specs.Prelude.{◌≡◌, ◌&&◌};
 ghost use Rattle.dae_tree.specs.Depth.{place_of_specifiers};
 ghost use Rattle.dae_tree.specs.Views.{view, views_specifiers, view_declarator};
 ghost use Rattle.dae_types_plans.specs.Steps.{constant_at, count_at, declared_place, is_last, name_in, named_place};
 ghost use Rattle.dae_types_tables.specs.Seen.{Follows, tables};
+ghost use Rattle.dae_types_sites.specs.Adjusting.{is_adjusted};
 ghost use Rattle.dae_types_values.specs.Results.{one};
 ghost use Rattle.dae_types_walk.specs.Plans.{function_named};
 
@@ -12,6 +13,7 @@ use dae_base::Place;
 use dae_tree::{Declarator, Expression, Name, Specifier};
 use dae_types_folding::Value;
 use dae_types_kinds::CheckError;
+use dae_types_sites::Adjustment;
 use dae_types_tables::Checker;
 
 /// The name that is an expression, perhaps in parentheses.
@@ -74,6 +76,23 @@ pub fn is_last(declarator: &Declarator) -> bool
     match declarator {
         Declarator::Absent => true,
         _ => declarator.is_bare(),
+    }
+}
+
+/// What becomes of an array that stands round the rest of a declarator, by what becomes of an outermost one.
+pub fn array_adjustment(outermost: Adjustment, rest: &Declarator) -> Adjustment
+    ensures { is_adjusted result
+        ≡ (is_adjusted outermost && is_last (view_declarator rest.now)) }
+{
+    match outermost {
+        Adjustment::Kept => Adjustment::Kept,
+        Adjustment::ToPointer => {
+            if is_last(rest) {
+                Adjustment::ToPointer
+            } else {
+                Adjustment::Kept
+            }
+        }
     }
 }
 

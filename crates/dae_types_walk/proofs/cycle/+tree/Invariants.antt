@@ -2,6 +2,7 @@ use Rattle.std.proofs.Common.{◌≡◌, [], None, drop}
 use Rattle.dae_tree.specs.Views.{views, views_specifiers, views_members, views_declarators, views_enumerators, views_parameters}
 use Rattle.dae_types_kinds.specs.Types.{layout, no_parameters_id}
 use Rattle.dae_types_rules.specs.Plan.{check_of}
+use Rattle.dae_types_sites.specs.Scopes.{is_innermost}
 use Rattle.dae_types_tables.specs.Seen.{tables}
 use Rattle.dae_types_values.specs.Results.{views as views_of_arguments}
 use Rattle.dae_types_plans.specs.Expressions.{plan_arguments, plan_specifiers, plan_members, plan_component_list, plan_enumerators, plan_parameters}
@@ -14,7 +15,7 @@ invariant-arguments-loop-e l = record {
 }
 
 abbrev pub invariant-specifiers-loop-one : goal.invariant-specifiers-loop-one
-invariant-specifiers-loop-one l = check_of (plan_specifiers l.context l.alone l.base (views_specifiers (drop l.one-index l.list))) (tables l.checker) ≡ check_of (plan_specifiers l.context l.alone None (views_specifiers l.list)) (tables l.fn.checker)
+invariant-specifiers-loop-one l = check_of (plan_specifiers l.context (is_innermost l.scope) l.base (views_specifiers (drop l.one-index l.list))) (tables l.checker) ≡ check_of (plan_specifiers l.context (is_innermost l.scope) None (views_specifiers l.list)) (tables l.fn.checker)
 
 abbrev pub invariant-members-loop-member : goal.invariant-members-loop-member
 invariant-members-loop-member l = check_of (plan_members l.structure l.layout (views_members (drop l.member-index l.list))) (tables l.checker) ≡ check_of (plan_members l.structure (layout 0 1) (views_members l.list)) (tables l.fn.checker)

@@ -1,0 +1,2 @@
+pub mod Adjusting
+pub mod Scopes
