@@ -31,12 +31,12 @@ pub fn test(checker: &mut Checker, place: Place, x: Value) -> Result<Expression,
 fn returned(
     alloc: Global,
     place: Place,
-    is_main: bool,
+    around: Surrounding,
     e: Expression,
 ) -> Result<Vec<Statement>, CheckError>
-    ensures { MakesStatements result (returned place is_main (view e)) }
+    ensures { MakesStatements result (returned place around.is_main (view e)) }
 {
-    if is_main {
+    if around.is_main {
         let e = Box::new(alloc, e)?;
         alone(
             alloc,
@@ -81,18 +81,18 @@ pub fn return_value(
         }
     }
     let e = as_result(checker, place, around.result, x)?;
-    returned(checker.alloc, place, around.is_main, e)
+    returned(checker.alloc, place, around, e)
 }
 
 /// `return` without a value; in main it ends the program with 0.
 pub fn return_nothing(
     alloc: Global,
     place: Place,
-    is_main: bool,
+    around: Surrounding,
 ) -> Result<Vec<Statement>, CheckError>
-    ensures { MakesStatements result (nothing_returned place is_main) }
+    ensures { MakesStatements result (nothing_returned place around.is_main) }
 {
-    if is_main {
+    if around.is_main {
         let zero = Box::new(alloc, Expression::Number(0))?;
         alone(
             alloc,

@@ -3,7 +3,7 @@
 ghost use Rattle.std.specs.Prelude.{◌≡◌, Some};
 ghost use Rattle.dae_tree.specs.Views.{views_parameters};
 ghost use Rattle.dae_types_kinds.specs.Values.{result_of};
-ghost use Rattle.dae_types_file_plans.specs.Files.{body_product, first_time, in_body, named_at, plan_body_of, second_time, surrounding, twice};
+ghost use Rattle.dae_types_file_plans.specs.Files.{body_product, first_time, in_body, is_main_name, named_at, plan_body_of, second_time, surrounding, twice};
 ghost use Rattle.dae_types_tables.specs.Seen.{tables, Follows};
 ghost use Rattle.dae_types_bodies.specs.Written.{GivesStatements, as_statements};
 ghost use Rattle.dae_types_products.specs.Products.{GivesProducts, MakesProducts};
@@ -44,13 +44,15 @@ fn check_names(checker: &Checker, place: Place, parameters: &[Parameter]) -> Res
     Ok(())
 }
 
-/// What stands round the statements of a function of a type. The flag says that it is main.
-fn surrounding(checker: &Checker, is_main: bool, type_id: usize) -> Surrounding
-    ensures { result ≡ surrounding (tables checker.now) is_main (Some type_id) }
+/// What stands round the statements of a function.
+fn surrounding(checker: &Checker, signature: Signature) -> Surrounding
+    ensures { result
+        ≡ surrounding (tables checker.now) (is_main_name (tables checker.now) signature.name)
+        (Some signature.type_id) }
 {
     Surrounding {
-        result: Some(result_of(checker.shape_of(type_id))),
-        is_main,
+        result: Some(result_of(checker.shape_of(signature.type_id))),
+        is_main: is_main_name(checker, signature.name),
         inside_loop: false,
         inside_switch: false,
     }
@@ -160,7 +162,6 @@ pub fn function_body(
         signature.type_id function) checker.old }
 {
     check_names(checker, signature.place, parameters)?;
-    let is_main = is_main_name(checker, signature.name);
-    let around = surrounding(checker, is_main, signature.type_id);
+    let around = surrounding(checker, signature);
     body_twice(checker, parameters.len(), function, around, body)
 }

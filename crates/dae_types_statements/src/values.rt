@@ -102,6 +102,6 @@ pub fn give_back(
             let x = operand(checker, e)?;
             return_value(checker, place, around, x)
         }
-        None => return_nothing(checker.alloc, place, around.is_main),
+        None => return_nothing(checker.alloc, place, around),
     }
 }
