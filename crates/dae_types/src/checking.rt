@@ -7,7 +7,7 @@ ghost use Rattle.dae_types.specs.Answers.{Answers, IsWant, start_in};
 
 use crate::assembling::assemble;
 use crate::names::{copy_all, numbers_in};
-use dae_tree::{File, Header};
+use dae_tree::File;
 use dae_types_externals::file_products;
 use dae_types_file_plans::files_are_checked;
 use dae_types_kinds::CheckError;
@@ -26,8 +26,8 @@ fn begin(alloc: Global, file: &File) -> Result<Checker, CheckError>
     let Ok(mut checker) = begin_file(alloc, literals, numbers.main) else {
         return Err(CheckError::Memory);
     };
-    declare_stdio(&mut checker, file.includes(Header::Stdio), &numbers)?;
-    declare_stdlib(&mut checker, file.includes(Header::Stdlib), &numbers)?;
+    declare_stdio(&mut checker, file, &numbers)?;
+    declare_stdlib(&mut checker, file, &numbers)?;
     Ok(checker)
 }
 

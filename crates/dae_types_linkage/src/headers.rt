@@ -7,6 +7,7 @@ ghost use Rattle.dae_types_tables.specs.Seen.{tables, Leaves};
 ghost use Rattle.dae_types_linkage.specs.Numbering.{view_numbers};
 
 use dae_base::Items;
+use dae_tree::{File, Header};
 use dae_types_kinds::{
     CHAR_ID, CheckError, Entity, INT_ID, LibraryFunction, NO_PARAMETERS_ID, Routine, Shape, VOID_ID,
 };
@@ -76,13 +77,13 @@ fn declare_library(
 /// Declares the functions of `<stdio.h>`, where the file includes it.
 pub fn declare_stdio(
     checker: &mut Checker,
-    included: bool,
+    file: &File,
     numbers: &Numbers,
 ) -> Result<(), CheckError>
     ensures { Leaves checker.new result
-        (with_stdio included (view_numbers numbers.now) (tables checker.old)) }
+        (with_stdio file.now.stdio (view_numbers numbers.now) (tables checker.old)) }
 {
-    if !included {
+    if !file.includes(Header::Stdio) {
         return Ok(());
     }
     declare_library(
@@ -102,13 +103,13 @@ pub fn declare_stdio(
 /// Declares the functions of `<stdlib.h>`, where the file includes it.
 pub fn declare_stdlib(
     checker: &mut Checker,
-    included: bool,
+    file: &File,
     numbers: &Numbers,
 ) -> Result<(), CheckError>
     ensures { Leaves checker.new result
-        (with_stdlib included (view_numbers numbers.now) (tables checker.old)) }
+        (with_stdlib file.now.stdlib (view_numbers numbers.now) (tables checker.old)) }
 {
-    if !included {
+    if !file.includes(Header::Stdlib) {
         return Ok(());
     }
     declare_library(checker, LibraryFunction::Exit, EXIT_TYPE, numbers.exit)?;
