@@ -1,10 +1,12 @@
 // Declarations at file scope: names of types, objects with what they hold, and functions (C90 6.5 and 6.7.2).
 
-ghost use Rattle.std.specs.Prelude.{◌≡◌, Some, true};
+ghost use Rattle.std.specs.Prelude.{◌≡◌, Some, not, true};
+ghost use Rattle.dae_tree.specs.Names.{has_typedef};
 ghost use Rattle.dae_tree.specs.FileViews.{view_declaration, view_initialiser, view_item, view_items, view_value};
 ghost use Rattle.dae_tree.specs.Views.{view_declarator, views_specifiers};
 ghost use Rattle.dae_types_file_plans.specs.Files.{plan_data, plan_declared, plan_function, plan_item_at, plan_items, plan_object, plan_typed, role_of, storage_of};
 ghost use Rattle.dae_types_sites.specs.Scopes.{is_innermost};
+ghost use Rattle.dae_types_rules.specs.Table.{is_extern};
 ghost use Rattle.dae_types_tables.specs.Seen.{Follows, FollowsBy};
 ghost use Rattle.dae_types_products.specs.Products.{GivesProducts, as_products};
 ghost use Rattle.dae_types_externals.specs.Parts.{plan_file_base, plan_object_data, plan_type_of};
@@ -14,7 +16,7 @@ use dae_tree::{Declaration, Declarator, Initialiser, Item, Keyword, Seen, Specif
 use dae_types_file_plans::Role;
 use dae_types_kinds::{CheckError, Context};
 use dae_types_linkage::{
-    declare_function, declare_object, declare_type, is_extern, is_static, set_object_type,
+    Introduction, declare_function, declare_object, declare_type, is_extern, set_object_type,
     type_of_object,
 };
 use dae_types_locals::{content, has_typedef, look_through, tag_scope};
@@ -40,15 +42,15 @@ pub fn storage_class(list: &[Specifier]) -> Option<Keyword>
 }
 
 /// What a declaration is for an object: it has an initialiser, it gives room, or neither (C90 6.7.2).
-fn role_of(given: bool, placing: bool) -> Role
-    ensures { result ≡ role_of given placing }
+fn role_of(word: Option<Keyword>, introduction: Introduction) -> Role
+    ensures { result ≡ role_of introduction.given (not (is_extern word)) }
 {
-    if given {
+    if introduction.given {
         Role::Definition
-    } else if placing {
-        Role::Tentative
-    } else {
+    } else if is_extern(word) {
         Role::Reference
+    } else {
+        Role::Tentative
     }
 }
 
@@ -103,9 +105,12 @@ fn function_item(
     ensures { GivesProducts checker.new result
         (plan_function place word (view_item item.now) type_id) checker.old }
 {
-    let given = item.initialiser.is_some();
-    let name = item.declarator.name();
-    let function = declare_function(checker, place, is_static(word), given, name, type_id)?;
+    let introduction = Introduction {
+        place,
+        name: item.declarator.name(),
+        given: item.initialiser.is_some(),
+    };
+    let function = declare_function(checker, word, introduction, type_id)?;
     declares_function(checker.alloc, place, Role::Reference, function)
 }
 
@@ -120,10 +125,13 @@ fn object_item(
     ensures { GivesProducts checker.new result
         (plan_object place word (view_item item.now) type_id) checker.old }
 {
-    let given = item.initialiser.is_some();
-    let name = item.declarator.name();
-    let object = declare_object(checker, place, word, given, name, type_id)?;
-    let role = role_of(given, !is_extern(word));
+    let introduction = Introduction {
+        place,
+        name: item.declarator.name(),
+        given: item.initialiser.is_some(),
+    };
+    let object = declare_object(checker, word, introduction, type_id)?;
+    let role = role_of(word, introduction);
     let declared = declares_object(checker.alloc, place, role, object)?;
     let data = data(checker, place, &item.initialiser, object)?;
     append(declared, data)
@@ -174,48 +182,52 @@ fn name_type(
         (plan_item_at true place word base (view_item item.now)) checker.old }
 {
     let declared = declarator(checker, place, Adjustment::Kept, base, &item.declarator)?;
-    let given = item.initialiser.is_some();
-    let name = item.declarator.name();
-    declare_type(checker, place, false, given, name, declared)?;
+    let introduction = Introduction {
+        place,
+        name: item.declarator.name(),
+        given: item.initialiser.is_some(),
+    };
+    declare_type(checker, Context::File, introduction, declared)?;
     Ok(Vec::new(checker.alloc))
 }
 
-/// Declares an item, whose name stands at this place.
+/// Declares an item as these specifiers say. Its name stands at this place.
 fn item(
     checker: &mut Checker,
-    is_typedef: bool,
+    list: &[Specifier],
     place: Place,
-    word: Option<Keyword>,
     base: usize,
     item: &Item,
 ) -> Result<Vec<Product>, CheckError>
     ensures { GivesProducts checker.new result
-        (plan_item_at is_typedef place word base (view_item item.now)) checker.old }
+        (plan_item_at (has_typedef (views_specifiers list.now)) place
+        (storage_of (views_specifiers list.now)) base (view_item item.now)) checker.old }
 {
-    if is_typedef {
+    let word = storage_class(list);
+    if has_typedef(list) {
         return name_type(checker, place, word, base, item);
     }
     let type_id = declared_type(checker, place, base, &item.declarator)?;
     typed_item(checker, place, word, item, type_id)
 }
 
-/// Adds what the items of a declaration come to. The place is that of its first token.
+/// Adds what the items of a declaration come to, as its specifiers say. The place is that of its first token.
 fn add_items(
     checker: &mut Checker,
-    is_typedef: bool,
+    list: &[Specifier],
     place: Place,
-    word: Option<Keyword>,
     base: usize,
     mut done: Vec<Product>,
     items: &[Item],
 ) -> Result<Vec<Product>, CheckError>
     ensures { GivesProducts checker.new result
-        (plan_items is_typedef place word base (as_products done)
-        (view_items items.now)) checker.old }
+        (plan_items (has_typedef (views_specifiers list.now)) place
+        (storage_of (views_specifiers list.now)) base (as_products done) (view_items items.now))
+        checker.old }
 {
     for one in items {
         let at = declared_place(&one.declarator, place);
-        let more = item(checker, is_typedef, at, word, base, one)?;
+        let more = item(checker, list, at, base, one)?;
         done = append(done, more)?;
     }
     Ok(done)
@@ -234,6 +246,5 @@ pub fn add_declaration(
     let items = declaration.items.as_slice();
     let base = base(checker, tag_scope(items), list)?;
     let place = place_of_specifiers(list, declaration.end);
-    let word = storage_class(list);
-    add_items(checker, has_typedef(list), place, word, base, done, items)
+    add_items(checker, list, place, base, done, items)
 }

@@ -1,9 +1,10 @@
 // Definitions of functions (C90 6.7.1).
 
 ghost use Rattle.std.specs.Prelude.{◌≡◌, Some};
-ghost use Rattle.dae_tree.specs.Names.{function_part};
+ghost use Rattle.dae_tree.specs.Names.{function_part, has_typedef};
 ghost use Rattle.dae_tree.specs.Views.{view_declarator, views_parameters, views_specifiers};
-ghost use Rattle.dae_types_file_plans.specs.Files.{is_direct, parameters_in, started};
+ghost use Rattle.dae_types_file_plans.specs.Files.{definition_at, is_direct, parameters_in, started};
+ghost use Rattle.dae_types_rules.specs.Plan.{pure};
 ghost use Rattle.dae_types_tables.specs.Seen.{tables, Follows, FollowsBy};
 ghost use Rattle.dae_types_products.specs.Products.{GivesProducts, as_products};
 ghost use Rattle.dae_types_externals.specs.Parts.{plan_added, plan_begun, plan_defining, plan_definition, plan_entry, plan_type_of_definition};
@@ -13,12 +14,12 @@ use crate::declarations::{base, storage_class};
 use dae_base::Place;
 use dae_tree::{Block, Declarator, Keyword, Parameter, Specifier};
 use dae_types_file_plans::Role;
-use dae_types_kinds::CheckError;
-use dae_types_linkage::{declare_function, define_function, definition_type, is_static};
+use dae_types_kinds::{CheckError, NamedType, Rule};
+use dae_types_linkage::{Introduction, declare_function, define_function};
 use dae_types_locals::has_typedef;
 use dae_types_products::{Product, append, declares_function};
 use dae_types_sites::{Adjustment, TagScope};
-use dae_types_tables::{Checker, Kept, set_kept};
+use dae_types_tables::{Checker, Kept, broken, is_function, set_kept};
 use dae_types_walk::{declarator, declared_place, place_of_specifiers};
 
 /// Begins a definition: nothing local is there, and no scope is kept.
@@ -69,6 +70,29 @@ fn parameters_in(part: &Declarator) -> &[Parameter]
     }
 }
 
+/// The type of a definition by what its declarator declares. The place is that of its name.
+#[tactic(auto, unfolding(dae_types_rules::specs::Plan::ask_all))]
+fn definition_type(
+    checker: &Checker,
+    place: Place,
+    list: &[Specifier],
+    part: &Declarator,
+    declared: NamedType,
+) -> Result<usize, CheckError>
+    ensures { Follows checker.now result
+        (definition_at place (has_typedef (views_specifiers list.now))
+        (is_direct (view_declarator part.now)) (pure declared)) checker.now }
+{
+    let is_of_function = is_function(checker.shape_of(declared.type_id));
+    if has_typedef(list) || (is_of_function && !is_direct(part)) {
+        return Err(broken(Rule::TypedefMisuse, place));
+    }
+    if !is_of_function {
+        return Err(broken(Rule::BadFunctionType, place));
+    }
+    Ok(declared.type_id)
+}
+
 /// The type of a definition. The place is that of its name.
 #[tactic(auto, using(crate::proofs::Steps::definition_gives, crate::proofs::Steps::definition_fails))]
 fn type_of_definition(
@@ -83,7 +107,7 @@ fn type_of_definition(
         (view_declarator part.now)) checker.old }
 {
     let declared = declarator(checker, place, Adjustment::Kept, base, part)?;
-    definition_type(checker, place, has_typedef(list), is_direct(part), declared)
+    definition_type(checker, place, list, part, declared)
 }
 
 /// Declares the function that a definition defines, and gives its number.
@@ -95,14 +119,13 @@ fn enter_definition(
     ensures { Follows checker.new result
         (plan_entry signature.place word signature.name signature.type_id) checker.old }
 {
-    let own = is_static(word);
-    let Signature {
-        place,
-        name,
-        type_id,
-    } = signature;
-    let function = declare_function(checker, place, own, false, name, type_id)?;
-    define_function(checker, place, function)
+    let introduction = Introduction {
+        place: signature.place,
+        name: signature.name,
+        given: false,
+    };
+    let function = declare_function(checker, word, introduction, signature.type_id)?;
+    define_function(checker, signature.place, function)
 }
 
 /// What a definition comes to, by what its declarator declares.

@@ -5,46 +5,64 @@ ghost use Rattle.dae_types_file_plans.specs.Statements.{local_at, own_of, typede
 ghost use Rattle.dae_types_rules.specs.Plan.{pure};
 ghost use Rattle.dae_types_rules.specs.Table.{clashes_with_type};
 ghost use Rattle.dae_types_tables.specs.Seen.{tables, Follows};
+ghost use Rattle.dae_types_linkage.specs.Contexts.{is_in_block};
 
-use dae_base::Place;
+use crate::introductions::Introduction;
 use dae_tree::Name;
-use dae_types_kinds::{CheckError, Entity, NamedType, Rule};
+use dae_types_kinds::{CheckError, Context, Entity, NamedType, Rule};
 use dae_types_sites::{add_named_local, is_taken};
 use dae_types_tables::{Checker, broken, is_array, is_function, is_void};
 
-/// Declares the name of a type. The flags say that it stands in a block, and that it has an initialiser.
+/// Declares the name of a type, in a file or in a block.
 #[tactic(auto, unfolding(dae_types_rules::specs::Plan::ask_all))]
 pub fn declare_type(
     checker: &mut Checker,
-    place: Place,
-    block: bool,
-    given: bool,
-    name: Option<Name>,
+    context: Context,
+    introduction: Introduction,
     declared: NamedType,
 ) -> Result<(), CheckError>
     ensures { Follows checker.new result
-        (typedef_at place block given name (pure declared)) checker.old }
+        (typedef_at introduction.place (is_in_block context) introduction.given introduction.name
+        (pure declared)) checker.old }
 {
-    if given {
+    let place = introduction.place;
+    if introduction.given {
         return Err(broken(Rule::TypedefMisuse, place));
     }
-    if clashes_with_type(checker, block, declared.type_id, own_entity(checker, name)) {
+    let found = own_entity(checker, introduction.name);
+    if clashes_with_type(checker, context, declared.type_id, found) {
         return Err(broken(Rule::Redeclared, place));
     }
-    let Some(name) = name else {
+    let Some(name) = introduction.name else {
         return Ok(());
     };
     checker.add_name(name.number, Entity::Type(declared.type_id))
 }
 
-/// Whether a type may not have a name that stands for this already.
-fn clashes_with_type(checker: &Checker, block: bool, type_id: usize, found: Option<Entity>) -> bool
-    ensures { result ≡ clashes_with_type block (tables checker.now) type_id found }
+/// Whether a type may not have a name here that stands for this already.
+fn clashes_with_type(
+    checker: &Checker,
+    context: Context,
+    type_id: usize,
+    found: Option<Entity>,
+) -> bool
+    ensures { result
+        ≡ clashes_with_type (is_in_block context) (tables checker.now) type_id found }
 {
     match found {
         None => false,
-        Some(Entity::Type(other)) => block || !checker.same(other, type_id),
+        Some(Entity::Type(other)) => is_in_block(context) || !checker.same(other, type_id),
         Some(_) => true,
+    }
+}
+
+/// Whether a declaration stands in a block.
+fn is_in_block(context: Context) -> bool
+    ensures { result ≡ is_in_block context }
+{
+    match context {
+        Context::Block => true,
+        _ => false,
     }
 }
 
@@ -58,17 +76,18 @@ pub fn own_entity(checker: &Checker, name: Option<Name>) -> Option<Entity>
     }
 }
 
-/// Declares a local object, and gives its number. The flag says that it has an initialiser.
+/// Declares a local object, and gives its number.
 #[tactic(auto, unfolding(dae_types_rules::specs::Plan::ask_all))]
 pub fn declare_local(
     checker: &mut Checker,
-    place: Place,
-    given: bool,
-    name: Option<Name>,
+    introduction: Introduction,
     declared: NamedType,
 ) -> Result<Option<usize>, CheckError>
-    ensures { Follows checker.new result (local_at place given name (pure declared)) checker.old }
+    ensures { Follows checker.new result
+        (local_at introduction.place introduction.given introduction.name (pure declared))
+        checker.old }
 {
+    let place = introduction.place;
     let shape = checker.shape_of(declared.type_id);
     if is_function(shape) {
         return Err(broken(Rule::BlockFunction, place));
@@ -76,13 +95,13 @@ pub fn declare_local(
     if is_void(shape) {
         return Err(broken(Rule::VoidObject, place));
     }
-    if !checker.is_complete(declared.type_id) && !(given && is_array(shape)) {
+    if !checker.is_complete(declared.type_id) && !(introduction.given && is_array(shape)) {
         return Err(broken(Rule::Incomplete, place));
     }
-    if is_taken(checker, name) {
+    if is_taken(checker, introduction.name) {
         return Err(broken(Rule::Redeclared, place));
     }
     let number = checker.count_locals();
-    add_named_local(checker, name, declared.type_id)?;
+    add_named_local(checker, introduction.name, declared.type_id)?;
     Ok(Some(number))
 }

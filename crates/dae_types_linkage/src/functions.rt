@@ -1,45 +1,47 @@
 // Functions of a file: their declarations, and what a definition asks (C90 6.7.1, 5.1.2.2.1 and 6.1.2.2).
 
 ghost use Rattle.std.specs.Prelude.{◌≡◌};
-ghost use Rattle.dae_types_file_plans.specs.Files.{declared_function, definition_at, function_at, is_main_name, name_number, new_routine, retyped, routine_by, second_at};
+ghost use Rattle.dae_types_file_plans.specs.Files.{declared_function, function_at, is_main_name, name_number, new_routine, retyped, routine_by, second_at};
 ghost use Rattle.dae_types_kinds.specs.Values.{parameters_of, result_of};
 ghost use Rattle.dae_types_rules.specs.Plan.{pure};
-ghost use Rattle.dae_types_rules.specs.Table.{clashes_with_function, is_again, is_defined, is_empty_list, is_int, is_main_type};
+ghost use Rattle.dae_types_rules.specs.Table.{clashes_with_function, is_again, is_defined, is_empty_list, is_int, is_main_type, is_static};
 ghost use Rattle.dae_types_tables.specs.Seen.{tables, Follows, LeavesAnd};
 
 use crate::blocks::own_entity;
+use crate::introductions::Introduction;
+use crate::objects::is_static;
 use dae_base::Place;
-use dae_tree::Name;
+use dae_tree::{Keyword, Name};
 use dae_types_kinds::{
-    CheckError, Entity, NamedType, Routine, Rule, Shape, is_printf, parameters_of, result_of,
+    CheckError, Entity, Routine, Rule, Shape, is_printf, parameters_of, result_of,
 };
-use dae_types_tables::{Checker, broken, is_function};
+use dae_types_tables::{Checker, broken};
 
-/// Declares a function, and gives its number. The flags say that the word static stands there, and that it has an
-/// initialiser.
+/// Declares a function, and gives its number. The word is its storage class.
 #[tactic(auto, unfolding(dae_types_rules::specs::Plan::ask_all))]
 pub fn declare_function(
     checker: &mut Checker,
-    place: Place,
-    own: bool,
-    given: bool,
-    name: Option<Name>,
+    word: Option<Keyword>,
+    introduction: Introduction,
     type_id: usize,
 ) -> Result<Option<usize>, CheckError>
     ensures { Follows checker.new result
-        (function_at place own given name (pure type_id)) checker.old }
+        (function_at introduction.place (is_static word) introduction.given introduction.name
+        (pure type_id)) checker.old }
 {
+    let place = introduction.place;
+    let name = introduction.name;
     if is_main_name(checker, name) && !is_main_type(checker, type_id) {
         return Err(broken(Rule::BadMain, place));
     }
     let found = own_entity(checker, name);
-    if clashes_with_function(checker, type_id, own, found) {
+    if clashes_with_function(checker, type_id, word, found) {
         return Err(broken(Rule::Redeclared, place));
     }
-    if given {
+    if introduction.given {
         return Err(broken(Rule::BadInitialiser, place));
     }
-    Ok(Some(enter_function(checker, name, own, type_id, found)?))
+    Ok(Some(enter_function(checker, name, word, type_id, found)?))
 }
 
 /// Whether a name is main.
@@ -85,28 +87,34 @@ fn is_empty_list(shape: Shape) -> bool
 fn clashes_with_function(
     checker: &Checker,
     type_id: usize,
-    own: bool,
+    word: Option<Keyword>,
     found: Option<Entity>,
 ) -> bool
-    ensures { result ≡ clashes_with_function (tables checker.now) type_id own found }
+    ensures { result
+        ≡ clashes_with_function (tables checker.now) type_id (is_static word) found }
 {
     match found {
         None => false,
         Some(Entity::Function(number)) => {
-            !is_again(checker, type_id, own, checker.routine(number))
+            !is_again(checker, type_id, word, checker.routine(number))
         }
         Some(_) => true,
     }
 }
 
 /// Whether a function may be declared again with this type and word.
-fn is_again(checker: &Checker, type_id: usize, own: bool, routine: Option<Routine>) -> bool
-    ensures { result ≡ is_again (tables checker.now) type_id own routine }
+fn is_again(
+    checker: &Checker,
+    type_id: usize,
+    word: Option<Keyword>,
+    routine: Option<Routine>,
+) -> bool
+    ensures { result ≡ is_again (tables checker.now) type_id (is_static word) routine }
 {
     match routine {
         Some(routine) => {
             checker.same(routine.type_id, type_id)
-                && (!own || routine.own)
+                && (!is_static(word) || routine.own)
                 && !is_printf(routine.library)
         }
         None => false,
@@ -117,15 +125,15 @@ fn is_again(checker: &Checker, type_id: usize, own: bool, routine: Option<Routin
 fn enter_function(
     checker: &mut Checker,
     name: Option<Name>,
-    own: bool,
+    word: Option<Keyword>,
     type_id: usize,
     found: Option<Entity>,
 ) -> Result<usize, CheckError>
     ensures { LeavesAnd checker.new result
-        (declared_function name own type_id found (tables checker.old)) }
+        (declared_function name (is_static word) type_id found (tables checker.old)) }
 {
     let Some(Entity::Function(number)) = found else {
-        return add_function(checker, name, own, type_id);
+        return add_function(checker, name, word, type_id);
     };
     if let Some(routine) = checker.routine(number) {
         let composite = checker.composite(routine.type_id, type_id)?;
@@ -144,16 +152,17 @@ fn enter_function(
 fn add_function(
     checker: &mut Checker,
     name: Option<Name>,
-    own: bool,
+    word: Option<Keyword>,
     type_id: usize,
 ) -> Result<usize, CheckError>
-    ensures { LeavesAnd checker.new result (new_routine name own type_id (tables checker.old)) }
+    ensures { LeavesAnd checker.new result
+        (new_routine name (is_static word) type_id (tables checker.old)) }
 {
     let name = name_number(name);
     let number = checker.add_routine(Routine {
         name,
         type_id,
-        own,
+        own: is_static(word),
         defined: false,
         library: None,
     })?;
@@ -169,28 +178,6 @@ pub fn name_number(name: Option<Name>) -> u32
         Some(name) => name.number,
         None => 0,
     }
-}
-
-/// The type of a definition. The flags say that the word typedef stands there, and that the declarator itself has parameters.
-#[tactic(auto, unfolding(dae_types_rules::specs::Plan::ask_all))]
-pub fn definition_type(
-    checker: &Checker,
-    place: Place,
-    is_typedef: bool,
-    is_direct: bool,
-    declared: NamedType,
-) -> Result<usize, CheckError>
-    ensures { Follows checker.now result
-        (definition_at place is_typedef is_direct (pure declared)) checker.now }
-{
-    let is_of_function = is_function(checker.shape_of(declared.type_id));
-    if is_typedef || (is_of_function && !is_direct) {
-        return Err(broken(Rule::TypedefMisuse, place));
-    }
-    if !is_of_function {
-        return Err(broken(Rule::BadFunctionType, place));
-    }
-    Ok(declared.type_id)
 }
 
 /// Notes that a function has a body.

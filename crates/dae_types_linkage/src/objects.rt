@@ -1,6 +1,6 @@
 // Objects of a file: declarations, tentative definitions and linkage (C90 6.1.2.2 and 6.7.2).
 
-ghost use Rattle.std.specs.Prelude.{◌≡◌, slice_get};
+ghost use Rattle.std.specs.Prelude.{◌≡◌, ◌||◌, not, None, slice_get};
 ghost use Rattle.dae_types_file_plans.specs.Files.{declared_object, first_placed, new_object, object_at, type_of_object, with_object_type};
 ghost use Rattle.dae_types_rules.specs.Plan.{pure};
 ghost use Rattle.dae_types_rules.specs.Table.{clashes_with_object, is_extern, is_initialised, is_same_object, is_static};
@@ -8,29 +8,31 @@ ghost use Rattle.dae_types_tables.specs.Seen.{tables, Follows, LeavesAnd};
 
 use crate::blocks::own_entity;
 use crate::functions::name_number;
+use crate::introductions::Introduction;
 use dae_base::Place;
-use dae_tree::{Keyword, Name};
+use dae_tree::Keyword;
 use dae_types_kinds::{CheckError, Entity, INT_ID, Object, Rule};
 use dae_types_tables::{Checker, broken, is_array, is_void};
 
-/// Declares an object, and gives its number. The word is its storage class, and the flag says that it has an initialiser.
+/// Declares an object, and gives its number. The word is its storage class.
 #[tactic(auto, unfolding(dae_types_rules::specs::Plan::ask_all))]
 pub fn declare_object(
     checker: &mut Checker,
-    place: Place,
     word: Option<Keyword>,
-    given: bool,
-    name: Option<Name>,
+    introduction: Introduction,
     type_id: usize,
 ) -> Result<Option<usize>, CheckError>
     ensures { Follows checker.new result
-        (object_at place word given name (pure type_id)) checker.old }
+        (object_at introduction.place word introduction.given introduction.name (pure type_id))
+        checker.old }
 {
+    let place = introduction.place;
+    let given = introduction.given;
     let shape = checker.shape_of(type_id);
     if is_void(shape) {
         return Err(broken(Rule::VoidObject, place));
     }
-    let found = own_entity(checker, name);
+    let found = own_entity(checker, introduction.name);
     if clashes_with_object(checker, type_id, word, found) {
         return Err(broken(Rule::Redeclared, place));
     }
@@ -40,7 +42,7 @@ pub fn declare_object(
     if given && !is_array(shape) && !checker.is_complete(type_id) {
         return Err(broken(Rule::Incomplete, place));
     }
-    Ok(Some(enter_object(checker, place, name, word, given, type_id, found)?))
+    Ok(Some(enter_object(checker, word, introduction, type_id, found)?))
 }
 
 /// Whether the word static stands in specifiers.
@@ -115,18 +117,17 @@ fn is_initialised(checker: &Checker, found: Option<Entity>) -> bool
 /// Enters an object into the tables, or what a declaration more says of it, and gives its number.
 fn enter_object(
     checker: &mut Checker,
-    place: Place,
-    name: Option<Name>,
     word: Option<Keyword>,
-    given: bool,
+    introduction: Introduction,
     type_id: usize,
     found: Option<Entity>,
 ) -> Result<usize, CheckError>
     ensures { LeavesAnd checker.new result
-        (declared_object place name word given type_id found (tables checker.old)) }
+        (declared_object introduction.place introduction.name word introduction.given type_id
+        found (tables checker.old)) }
 {
     let Some(Entity::Object(number)) = found else {
-        return add_object(checker, place, name, word, given, type_id);
+        return add_object(checker, word, introduction, type_id);
     };
     if let Some(object) = checker.object(number) {
         let composite = checker.composite(object.type_id, type_id)?;
@@ -134,8 +135,8 @@ fn enter_object(
             number,
             Object {
                 type_id: composite,
-                initialised: object.initialised || given,
-                placed: first_placed(object.placed, given || !is_extern(word), place),
+                initialised: object.initialised || introduction.given,
+                placed: first_placed(object.placed, word, introduction),
                 ..object
             },
         );
@@ -144,35 +145,50 @@ fn enter_object(
 }
 
 /// The first declaration that gives an object room: the one so far, else this one if it does.
-fn first_placed(so_far: Option<Place>, placing: bool, place: Place) -> Option<Place>
-    ensures { result ≡ first_placed so_far placing place }
+fn first_placed(
+    so_far: Option<Place>,
+    word: Option<Keyword>,
+    introduction: Introduction,
+) -> Option<Place>
+    ensures { result
+        ≡ first_placed so_far (introduction.given || not (is_extern word)) introduction.place }
 {
     match so_far {
         Some(first) => Some(first),
-        None if placing => Some(place),
-        None => None,
+        None => room_given(word, introduction),
+    }
+}
+
+/// Where a declaration gives an object room, unless it only refers to it.
+fn room_given(word: Option<Keyword>, introduction: Introduction) -> Option<Place>
+    ensures { result
+        ≡ first_placed None (introduction.given || not (is_extern word)) introduction.place }
+{
+    if introduction.given || !is_extern(word) {
+        Some(introduction.place)
+    } else {
+        None
     }
 }
 
 /// Adds an object, and gives its number.
 fn add_object(
     checker: &mut Checker,
-    place: Place,
-    name: Option<Name>,
     word: Option<Keyword>,
-    given: bool,
+    introduction: Introduction,
     type_id: usize,
 ) -> Result<usize, CheckError>
     ensures { LeavesAnd checker.new result
-        (new_object place name word given type_id (tables checker.old)) }
+        (new_object introduction.place introduction.name word introduction.given type_id
+        (tables checker.old)) }
 {
-    let name = name_number(name);
+    let name = name_number(introduction.name);
     let number = checker.add_object(Object {
         name,
         type_id,
         own: is_static(word),
-        initialised: given,
-        placed: first_placed(None, given || !is_extern(word), place),
+        initialised: introduction.given,
+        placed: room_given(word, introduction),
     })?;
     checker.add_name(name, Entity::Object(number))?;
     Ok(number)

@@ -17,7 +17,7 @@ use dae_program::Statement;
 use dae_tree::{Declaration, Item, Keyword, Seen, Specifier};
 use dae_types_bodies::append;
 use dae_types_kinds::{CheckError, Context};
-use dae_types_linkage::{declare_local, declare_type};
+use dae_types_linkage::{Introduction, declare_local, declare_type};
 use dae_types_sites::{Adjustment, TagScope, base_type};
 use dae_types_tables::Checker;
 use dae_types_walk::{declarator, declared_place, place_of_specifiers, specifiers};
@@ -70,15 +70,12 @@ fn name_type(
         (plan_item_at true place base (view_item item.now)) checker.old }
 {
     let declared = declarator(checker, place, Adjustment::Kept, base, &item.declarator)?;
-    let given = item.initialiser.is_some();
-    declare_type(
-        checker,
+    let introduction = Introduction {
         place,
-        true,
-        given,
-        item.declarator.name(),
-        declared,
-    )?;
+        name: item.declarator.name(),
+        given: item.initialiser.is_some(),
+    };
+    declare_type(checker, Context::Block, introduction, declared)?;
     Ok(Vec::new(checker.alloc))
 }
 
@@ -93,44 +90,50 @@ fn declare(
         (plan_item_at false place base (view_item item.now)) checker.old }
 {
     let declared = declarator(checker, place, Adjustment::Kept, base, &item.declarator)?;
-    let given = item.initialiser.is_some();
-    let number = declare_local(checker, place, given, item.declarator.name(), declared)?;
+    let introduction = Introduction {
+        place,
+        name: item.declarator.name(),
+        given: item.initialiser.is_some(),
+    };
+    let number = declare_local(checker, introduction, declared)?;
     begin(checker, place, &item.initialiser, number)
 }
 
-/// Declares one name over a type.
+/// Declares one name over a type, as these specifiers say.
 fn declare_item(
     checker: &mut Checker,
-    is_typedef: bool,
+    list: &[Specifier],
     place: Place,
     base: usize,
     item: &Item,
 ) -> Result<Vec<Statement>, CheckError>
     ensures { GivesStatements checker.new result
-        (plan_item_at is_typedef place base (view_item item.now)) checker.old }
+        (plan_item_at (has_typedef (views_specifiers list.now)) place base (view_item item.now))
+        checker.old }
 {
-    if is_typedef {
+    if has_typedef(list) {
         name_type(checker, place, base, item)
     } else {
         declare(checker, place, base, item)
     }
 }
 
-/// Declares names over a type, behind statements that are done.
+/// Declares names over a type, as these specifiers say, behind statements that are done.
 fn declare_items(
     checker: &mut Checker,
     place: Place,
-    is_typedef: bool,
+    list: &[Specifier],
     base: usize,
     mut done: Vec<Statement>,
-    list: &[Item],
+    items: &[Item],
 ) -> Result<Vec<Statement>, CheckError>
     ensures { GivesStatements checker.new result
-        (plan_items place is_typedef base (as_statements done) (view_items list.now)) checker.old }
+        (plan_items place (has_typedef (views_specifiers list.now)) base (as_statements done)
+        (view_items items.now)) checker.old }
 {
-    for one in list {
+    for one in items {
         let at = declared_place(&one.declarator, place);
-        let statements = declare_item(checker, is_typedef, at, base, one)?;
+        let statements = declare_item(checker, list, at, base, one)?;
         done = append(done, statements)?;
     }
     Ok(done)
@@ -169,8 +172,7 @@ fn declaration(
 {
     let base = base(checker, tag_scope(&one.items), &one.specifiers)?;
     let place = place_of_specifiers(&one.specifiers, one.end);
-    let is_typedef = has_typedef(&one.specifiers);
-    declare_items(checker, place, is_typedef, base, done, &one.items)
+    declare_items(checker, place, &one.specifiers, base, done, &one.items)
 }
 
 /// Goes through the declarations of a block, in their order: gives the statements that begin its objects. An error is a rule
