@@ -1,5 +1,5 @@
 -- What is filled so far, in memory, as plain data.
-use Rattle.std.specs.Prelude.{ℕ, Bool, List, [], ◌∷◌, ◌++◌, Option, Some, None, suc, length}
+use Rattle.std.specs.Prelude.{ℕ, List, [], ◌∷◌, ◌++◌, Option, Some, None, suc, length}
 use Rattle.dae_base.specs.declared.LoadKind.{LoadKind}
 use Rattle.dae_program.specs.Trees.{Setting}
 use Rattle.dae_program.specs.Views.{view, view_settings}
@@ -25,9 +25,6 @@ view_setting item = record { offset = item.offset; width = item.width; value = v
 
 abbrev pub view_filling : FillingInMemory → Filling
 view_filling f = record { rest = view_stack f.rest.items; items = view_settings f.items.items; count = f.count; over = f.over }
-
-abbrev pub filling_of : List Rest → List Setting → ℕ → Bool → Filling
-filling_of rest items count is_over = record { rest = rest; items = items; count = count; over = is_over }
 
 -- where an item lands, with what is left behind
 abbrev pub view_destination : List Rest → Option Destination → Option Slot

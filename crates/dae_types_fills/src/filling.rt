@@ -6,7 +6,7 @@ ghost use Rattle.dae_types_tables.specs.Seen.{tables, FollowsBy};
 ghost use Rattle.dae_types_folding.specs.Views.{view_value};
 ghost use Rattle.dae_types_fills.specs.Fillings.{view_filling, view_landing};
 
-use crate::slots::{Rest, descend, next_slot};
+use crate::slots::{ItemKind, Rest, descend, next_slot};
 use dae_base::Place;
 use dae_program::Setting;
 use dae_types_folding::Value;
@@ -73,10 +73,11 @@ pub fn land(
             destination: None,
         });
     };
-    let structure = is_structure(checker.shape_of(x.type_id));
-    let depth = checker.count_shapes();
-    let literal = has_literal(literal);
-    let slot = descend(checker, literal, structure, depth, slot)?;
+    let item = ItemKind {
+        literal: has_literal(literal),
+        structure: is_structure(checker.shape_of(x.type_id)),
+    };
+    let slot = descend(checker, item, checker.count_shapes(), slot)?;
     let destination = Destination {
         offset: slot.offset,
         type_id: slot.type_id,

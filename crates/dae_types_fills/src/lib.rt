@@ -6,11 +6,11 @@ pub use filling::{Destination, Filling, Landing, has_literal, land};
 pub use formats::{format_pieces, kinds_of_arguments};
 pub use items::fill_item;
 pub use lists::{
-    Content, Opening, check_scalar_list, close_list, finish_content, is_value_for, open_list,
-    refuse_value,
+    Content, Enclosing, Opening, check_scalar_list, close_list, finish_content, is_value_for,
+    open_list, refuse_value,
 };
 pub use printing::{add_printed, literal_in, read_format};
-pub use slots::{Rest, Slot, descend, is_text_array, next_slot, parts_of};
+pub use slots::{ItemKind, Rest, Slot, descend, is_text_array, next_slot, parts_of};
 
 mod filling;
 mod formats;

@@ -2,7 +2,6 @@
 
 ghost use Rattle.std.specs.Prelude.{◌≡◌, [], ◌∷◌, Ok};
 ghost use Rattle.dae_tree.specs.FileViews.{view_initialiser, views_initialisers};
-ghost use Rattle.dae_program.specs.Views.{view_settings};
 ghost use Rattle.dae_types_kinds.specs.Types.{shape_of};
 ghost use Rattle.dae_types_rules.specs.Plan.{Gives, pure};
 ghost use Rattle.dae_types_file_plans.specs.Initialisers.{aggregate_at, begun_in, content_at, filled_type, is_literal, is_one, is_one_literal, is_value_for, list_ends, opening_at};
@@ -10,7 +9,7 @@ ghost use Rattle.dae_types_file_plans.specs.Statements.{scalar_list_at};
 ghost use Rattle.dae_types_folding.specs.Views.{view_value};
 ghost use Rattle.dae_types_tables.specs.Seen.{tables, Follows, FollowsBy, LeavesAnd};
 ghost use Rattle.dae_types_fills.specs.Slots.{view_rest, view_stack};
-ghost use Rattle.dae_types_fills.specs.Fillings.{filling_of, view_content, view_filling, view_opening};
+ghost use Rattle.dae_types_fills.specs.Fillings.{view_content, view_filling, view_opening};
 
 use crate::filling::{Filling, has_literal};
 use crate::printing::literal_in;
@@ -28,6 +27,14 @@ use std::alloc::Global;
 pub struct Opening {
     pub inside: Filling,
     pub behind: Vec<Rest>,
+}
+
+/// What a list stands in: what is left behind the list, the next part at the end, and whether no more is said there of
+/// what is too many.
+#[derive(Drop)]
+pub struct Enclosing {
+    pub rest: Vec<Rest>,
+    pub over: bool,
 }
 
 /// What an object holds, and its type.
@@ -66,25 +73,13 @@ fn is_one_literal(list: &[Initialiser]) -> bool
     }
 }
 
-/// A part of what a list fills alone.
-fn only(
-    alloc: Global,
-    part: Rest,
-    over: bool,
-    items: Vec<Setting>,
-    count: u32,
-) -> Result<Filling, CheckError>
-    ensures { Gives view_filling result
-        (Ok (filling_of (view_rest part ∷ []) (view_settings items.items) count over)) }
+/// A part alone, as what is to be filled.
+fn stack_of(alloc: Global, part: Rest) -> Result<Vec<Rest>, CheckError>
+    ensures { Gives (λ v. view_stack v.items) result (Ok (view_rest part ∷ [])) }
 {
-    let mut rest = Vec::new(alloc);
-    rest.push(part)?;
-    Ok(Filling {
-        rest,
-        items,
-        count,
-        over,
-    })
+    let mut stack = Vec::new(alloc);
+    stack.push(part)?;
+    Ok(stack)
 }
 
 /// Begins a list in braces.
@@ -124,8 +119,14 @@ pub fn open_list(
     } else {
         parts_of(slot.offset, slot.type_id, shape)
     };
+    let rest = stack_of(checker.alloc, part)?;
     Ok(Opening {
-        inside: only(checker.alloc, part, whole, filling.items, filling.count)?,
+        inside: Filling {
+            rest,
+            items: filling.items,
+            count: filling.count,
+            over: whole,
+        },
         behind: slot.rest,
     })
 }
@@ -151,16 +152,17 @@ fn begun_in(rest: &[Rest], count: u32) -> u32
     }
 }
 
-/// Goes on behind a list in braces; the flag says whether no more is said there of what is too many.
-pub fn close_list(over: bool, behind: Vec<Rest>, inside: Filling) -> Filling
-    ensures { view_filling result ≡ list_ends over (view_stack behind.items) (view_filling inside) }
+/// Goes on behind a list in braces, in what it stands in.
+pub fn close_list(enclosing: Enclosing, inside: Filling) -> Filling
+    ensures { view_filling result
+        ≡ list_ends enclosing.over (view_stack enclosing.rest.items) (view_filling inside) }
 {
     let count = begun_in(&inside.rest, inside.count);
     Filling {
-        rest: behind,
+        rest: enclosing.rest,
         items: inside.items,
         count,
-        over,
+        over: enclosing.over,
     }
 }
 

@@ -29,6 +29,13 @@ pub struct Slot {
     pub rest: Vec<Rest>,
 }
 
+/// What an item is: a literal, or a structure.
+#[derive(Clone, Copy)]
+pub struct ItemKind {
+    pub literal: bool,
+    pub structure: bool,
+}
+
 /// The first object of a part, and what is left of that part.
 #[derive(Clone, Copy)]
 struct Start {
@@ -206,31 +213,30 @@ pub fn is_text_array(checker: &Checker, shape: Shape) -> bool
 
 /// Whether an item is for an object of this shape and no part of it: for a scalar, for an array of characters if it is a literal,
 /// for a structure if it is one.
-fn is_for(checker: &Checker, literal: bool, structure: bool, shape: Shape) -> bool
+fn is_for(checker: &Checker, item: ItemKind, shape: Shape) -> bool
     ensures { result
         ≡ (is_scalar shape
-        || ((literal && is_text_array (tables checker.now) shape)
-        || (structure && is_structure shape))) }
+        || ((item.literal && is_text_array (tables checker.now) shape)
+        || (item.structure && is_structure shape))) }
 {
-    let text = literal && is_text_array(checker, shape);
-    is_scalar(shape) || (text || (structure && is_structure(shape)))
+    let text = item.literal && is_text_array(checker, shape);
+    is_scalar(shape) || (text || (item.structure && is_structure(shape)))
 }
 
 /// Down to the object that an item is for: a scalar, an array of characters for a literal, or a structure for a structure.
 pub fn descend(
     checker: &Checker,
-    literal: bool,
-    structure: bool,
+    item: ItemKind,
     depth: usize,
     mut slot: Slot,
 ) -> Result<Slot, CheckError>
     ensures { Gives view_slot result
-        (Ok (descend depth (tables checker.now) literal structure (view_slot slot))) }
+        (Ok (descend depth (tables checker.now) item.literal item.structure (view_slot slot))) }
 {
     let mut left = depth;
     while left > 0 {
         let shape = checker.shape_of(slot.type_id);
-        if is_for(checker, literal, structure, shape) {
+        if is_for(checker, item, shape) {
             return Ok(slot);
         }
         slot = first_part(checker, slot, shape)?;

@@ -1,11 +1,13 @@
 // Initialisers of objects that are filled with constants (C90 6.5.7).
 
 ghost use Rattle.std.specs.Prelude.{[], ◌∷◌, Ok};
+ghost use Rattle.dae_tree.specs.Depth.{place_of};
 ghost use Rattle.dae_tree.specs.Trees.{Value};
 ghost use Rattle.dae_tree.specs.Views.{view};
 ghost use Rattle.dae_tree.specs.FileViews.{view_initialiser, views_initialisers};
 ghost use Rattle.dae_types_rules.specs.Plan.{Gives};
-ghost use Rattle.dae_types_file_plans.specs.Initialisers.{Once, empty_filling, plan_content, plan_initialiser, plan_initialisers, whole_by};
+ghost use Rattle.dae_types_plans.specs.Expressions.{plan_value};
+ghost use Rattle.dae_types_file_plans.specs.Initialisers.{Once, aggregate_at, empty_filling, plan_content, plan_initialiser, plan_initialisers};
 ghost use Rattle.dae_types_tables.specs.Seen.{Follows, FollowsBy};
 ghost use Rattle.dae_types_fills.specs.Fillings.{view_content, view_filling};
 ghost use Rattle.dae_types_locals.specs.Plans.{looked_through, plan_list, plan_whole};
@@ -13,8 +15,8 @@ ghost use Rattle.dae_types_locals.specs.Plans.{looked_through, plan_list, plan_w
 use dae_base::Place;
 use dae_tree::{Expression, Initialiser};
 use dae_types_fills::{
-    Content, Filling, Rest, close_list, fill_item, finish_content, is_value_for, land, literal_in,
-    open_list, refuse_value,
+    Content, Enclosing, Filling, Rest, close_list, fill_item, finish_content, is_value_for, land,
+    literal_in, open_list, refuse_value,
 };
 use dae_types_kinds::CheckError;
 use dae_types_tables::Checker;
@@ -46,9 +48,12 @@ fn fill_list(
 {
     let over = filling.over;
     let opening = open_list(checker, place, filling, inner)?;
-    let behind = opening.behind;
+    let enclosing = Enclosing {
+        rest: opening.behind,
+        over,
+    };
     let inside = fill_all(checker, opening.inside, inner)?;
-    Ok(close_list(over, behind, inside))
+    Ok(close_list(enclosing, inside))
 }
 
 /// Goes through initialisers in their order.
@@ -95,25 +100,32 @@ fn begin_object(alloc: Global, offset: u32, type_id: usize) -> Result<Filling, C
     })
 }
 
-/// Goes through an expression as the initialiser of an object of a type at an offset. The flag says that it is a value for a whole
-/// aggregate, which it can't be.
-fn fill_by_value(
+/// Goes through an expression as the value of a whole aggregate of a type, which it can't be.
+fn refuse_whole(
     checker: &mut Checker,
-    offset: u32,
     type_id: usize,
-    whole: bool,
     e: &Expression,
 ) -> Result<Filling, CheckError>
     ensures { FollowsBy view_filling checker.new result
-        (whole_by offset type_id (Value (view e.now)) whole) checker.old }
+        (aggregate_at (place_of (view e.now)) type_id (plan_value (view e.now))) checker.old }
 {
-    if whole {
-        let x = operand(checker, e)?;
-        refuse_value(checker, e.place(), type_id, &x)
-    } else {
-        let filling = begin_object(checker.alloc, offset, type_id)?;
-        fill_value(checker, filling, e)
-    }
+    let x = operand(checker, e)?;
+    refuse_value(checker, e.place(), type_id, &x)
+}
+
+/// Goes through an expression as the first item of an object of a type at an offset.
+fn fill_object(
+    checker: &mut Checker,
+    offset: u32,
+    type_id: usize,
+    e: &Expression,
+) -> Result<Filling, CheckError>
+    ensures { FollowsBy view_filling checker.new result
+        (plan_initialiser (empty_filling (Once offset type_id ∷ [])) (Value (view e.now)))
+        checker.old }
+{
+    let filling = begin_object(checker.alloc, offset, type_id)?;
+    fill_value(checker, filling, e)
 }
 
 /// Goes through the whole initialiser of an object of a type at an offset.
@@ -128,8 +140,11 @@ fn fill_whole(
 {
     match one {
         Initialiser::Value(e) => {
-            let whole = is_value_for(checker, type_id, one);
-            fill_by_value(checker, offset, type_id, whole, e)
+            if is_value_for(checker, type_id, one) {
+                refuse_whole(checker, type_id, e)
+            } else {
+                fill_object(checker, offset, type_id, e)
+            }
         }
         Initialiser::List(place, inner, _) => {
             let filling = begin_object(checker.alloc, offset, type_id)?;

@@ -6,7 +6,7 @@ use Rattle.dae_types_fills.proofs.slots.descend.Given as goal
 
 abbrev pub invariant-loop-left : goal.invariant-loop-left
 invariant-loop-left l =
-    descend l.left (tables l.checker) l.literal l.structure (view_slot l.slot) ≡ descend l.depth (tables l.checker) l.literal l.structure (view_slot l.fn.slot)
+    descend l.left (tables l.checker) l.item.literal l.item.structure (view_slot l.slot) ≡ descend l.depth (tables l.checker) l.item.literal l.item.structure (view_slot l.fn.slot)
 
 abbrev pub decreases-loop-left : goal.decreases-loop-left
 decreases-loop-left l = l.left
