@@ -1,12 +1,14 @@
 // Operators before and behind their operand (C90 6.3.2.4 and 6.3.3).
 
-ghost use Rattle.std.specs.Prelude.{◌≡◌};
+ghost use Rattle.std.specs.Prelude.{◌≡◌, if◌then◌else◌};
+ghost use Rattle.dae_base.specs.Words.{minus};
 ghost use Rattle.dae_types_kinds.specs.Values.{addressed, complemented, inverted, negated, step_size, stepped};
 ghost use Rattle.dae_types_rules.specs.Plan.{pure};
 ghost use Rattle.dae_types_plans.specs.Steps.{address_at, marked_name, postfix_at, prefix_at, star_at, step_at};
 ghost use Rattle.dae_types_tables.specs.Seen.{tables};
 ghost use Rattle.dae_types_folding.specs.Views.{MakesValue, view_value};
 ghost use Rattle.dae_types_values.specs.Results.{GivesValue, one};
+ghost use Rattle.dae_types_operations.specs.Steps.{is_down};
 
 use crate::objects::is_object;
 use crate::operands::lacks_size;
@@ -21,6 +23,13 @@ use dae_types_kinds::{Category, CheckError, Entity, INT_ID, Local, Rule, Shape};
 use dae_types_tables::{Checker, broken, is_array, is_scalar, is_void};
 use dae_types_values::{integer, scalar, value};
 use std::alloc::Global;
+
+/// Which way a step goes: `++` or `--`.
+#[derive(Clone, Copy)]
+enum Direction {
+    Up,
+    Down,
+}
 
 /// Notes that the address of a local object is taken, where a name stands for one.
 fn mark(checker: &mut Checker, name: Option<Name>)
@@ -95,20 +104,31 @@ fn step_size(checker: &Checker, shape: Shape) -> u32
     }
 }
 
+/// The word that a step of this size adds.
+fn change_by(direction: Direction, size: u32) -> u32
+    ensures { result ≡ (if is_down direction then minus 0 size else size) }
+{
+    match direction {
+        Direction::Up => size,
+        Direction::Down => 0u32.wrapping_sub(size),
+    }
+}
+
 /// What a step of an object gives: its new value or the one before.
 fn stepped(
     checker: &Checker,
     place: Place,
-    down: bool,
+    direction: Direction,
     new: bool,
     x: Value,
 ) -> Result<Value, CheckError>
-    ensures { MakesValue result (stepped place (tables checker.now) down new (view_value x)) }
+    ensures { MakesValue result
+        (stepped place (tables checker.now) (is_down direction) new (view_value x)) }
 {
     let type_id = x.type_id;
     let shape = checker.shape_of(type_id);
     let size = step_size(checker, shape);
-    let change = if down { 0u32.wrapping_sub(size) } else { size };
+    let change = change_by(direction, size);
     let target = target_of(checker.alloc, x)?;
     let tree = Expression::Step(place, load_kind(shape), target, change, new);
     Ok(Value::plain(tree, type_id))
@@ -119,11 +139,12 @@ fn stepped(
 fn step(
     checker: &Checker,
     place: Place,
-    down: bool,
+    direction: Direction,
     new: bool,
     x: Value,
 ) -> Result<Value, CheckError>
-    ensures { GivesValue checker.now result (step_at place down new (one x)) checker.now }
+    ensures { GivesValue checker.now result
+        (step_at place (is_down direction) new (one x)) checker.now }
 {
     let shape = checker.shape_of(x.type_id);
     if !is_object(x.category) {
@@ -138,7 +159,7 @@ fn step(
     if lacks_size(checker, pointee(shape)) {
         return Err(broken(Rule::Incomplete, place));
     }
-    stepped(checker, place, down, new, x)
+    stepped(checker, place, direction, new, x)
 }
 
 /// A minus sign, which takes a value from 0.
@@ -193,8 +214,8 @@ pub fn prefix(
         (prefix_at place operand operator name (one x)) checker.old }
 {
     match operator {
-        PrefixOperator::Increment => step(checker, place, false, true, x),
-        PrefixOperator::Decrement => step(checker, place, true, true, x),
+        PrefixOperator::Increment => step(checker, place, Direction::Up, true, x),
+        PrefixOperator::Decrement => step(checker, place, Direction::Down, true, x),
         PrefixOperator::Address => address(checker, place, name, x),
         PrefixOperator::Indirection => {
             let x = value(checker, operand, x)?;
@@ -239,7 +260,7 @@ pub fn postfix(
     ensures { GivesValue checker.now result (postfix_at place operator (one x)) checker.now }
 {
     match operator {
-        PostfixOperator::Increment => step(checker, place, false, false, x),
-        PostfixOperator::Decrement => step(checker, place, true, false, x),
+        PostfixOperator::Increment => step(checker, place, Direction::Up, false, x),
+        PostfixOperator::Decrement => step(checker, place, Direction::Down, false, x),
     }
 }
