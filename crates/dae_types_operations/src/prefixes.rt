@@ -2,6 +2,7 @@
 
 ghost use Rattle.std.specs.Prelude.{◌≡◌, if◌then◌else◌};
 ghost use Rattle.dae_base.specs.Words.{minus};
+ghost use Rattle.dae_program.specs.Views.{is_prefix};
 ghost use Rattle.dae_types_kinds.specs.Values.{addressed, complemented, inverted, negated, step_size, stepped};
 ghost use Rattle.dae_types_rules.specs.Plan.{pure};
 ghost use Rattle.dae_types_plans.specs.Steps.{address_at, marked_name, postfix_at, prefix_at, star_at, step_at};
@@ -14,7 +15,7 @@ use crate::objects::is_object;
 use crate::operands::lacks_size;
 use dae_base::Place;
 use dae_meaning::Operator;
-use dae_program::Expression;
+use dae_program::{Expression, Fixity};
 use dae_tree::{Name, PostfixOperator, PrefixOperator};
 use dae_types_folding::{
     Deed, Value, based, known_not, load_kind, operated, pointee, promoted, target_of,
@@ -119,18 +120,19 @@ fn stepped(
     checker: &Checker,
     place: Place,
     direction: Direction,
-    new: bool,
+    fixity: Fixity,
     x: Value,
 ) -> Result<Value, CheckError>
     ensures { MakesValue result
-        (stepped place (tables checker.now) (is_down direction) new (view_value x)) }
+        (stepped place (tables checker.now) (is_down direction) (is_prefix fixity)
+        (view_value x)) }
 {
     let type_id = x.type_id;
     let shape = checker.shape_of(type_id);
     let size = step_size(checker, shape);
     let change = change_by(direction, size);
     let target = target_of(checker.alloc, x)?;
-    let tree = Expression::Step(place, load_kind(shape), target, change, new);
+    let tree = Expression::Step(place, load_kind(shape), target, change, fixity);
     Ok(Value::plain(tree, type_id))
 }
 
@@ -140,11 +142,11 @@ fn step(
     checker: &Checker,
     place: Place,
     direction: Direction,
-    new: bool,
+    fixity: Fixity,
     x: Value,
 ) -> Result<Value, CheckError>
     ensures { GivesValue checker.now result
-        (step_at place (is_down direction) new (one x)) checker.now }
+        (step_at place (is_down direction) (is_prefix fixity) (one x)) checker.now }
 {
     let shape = checker.shape_of(x.type_id);
     if !is_object(x.category) {
@@ -159,7 +161,7 @@ fn step(
     if lacks_size(checker, pointee(shape)) {
         return Err(broken(Rule::Incomplete, place));
     }
-    stepped(checker, place, direction, new, x)
+    stepped(checker, place, direction, fixity, x)
 }
 
 /// A minus sign, which takes a value from 0.
@@ -214,8 +216,8 @@ pub fn prefix(
         (prefix_at place operand operator name (one x)) checker.old }
 {
     match operator {
-        PrefixOperator::Increment => step(checker, place, Direction::Up, true, x),
-        PrefixOperator::Decrement => step(checker, place, Direction::Down, true, x),
+        PrefixOperator::Increment => step(checker, place, Direction::Up, Fixity::Prefix, x),
+        PrefixOperator::Decrement => step(checker, place, Direction::Down, Fixity::Prefix, x),
         PrefixOperator::Address => address(checker, place, name, x),
         PrefixOperator::Indirection => {
             let x = value(checker, operand, x)?;
@@ -260,7 +262,7 @@ pub fn postfix(
     ensures { GivesValue checker.now result (postfix_at place operator (one x)) checker.now }
 {
     match operator {
-        PostfixOperator::Increment => step(checker, place, Direction::Up, false, x),
-        PostfixOperator::Decrement => step(checker, place, Direction::Down, false, x),
+        PostfixOperator::Increment => step(checker, place, Direction::Up, Fixity::Postfix, x),
+        PostfixOperator::Decrement => step(checker, place, Direction::Down, Fixity::Postfix, x),
     }
 }
