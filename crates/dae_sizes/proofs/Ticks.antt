@@ -11,6 +11,7 @@ use Rattle.dae_program.specs.Trees as program
 use Rattle.dae_program.specs.Trees.{Expression}
 use Rattle.dae_types_kinds.specs.declared.types.Shape.{Shape}
 use Rattle.dae_types_kinds.specs.declared.types.Shape.TheVariants as shape
+use Rattle.dae_types_kinds.specs.declared.values.Addressing.{Addressing}
 use Rattle.dae_types_kinds.specs.declared.values.Category.{Category}
 use Rattle.dae_types_kinds.specs.declared.values.Category.TheVariants as category
 use Rattle.dae_types_kinds.specs.declared.values.Known.{Known}
@@ -32,21 +33,21 @@ use Rattle.dae_sizes.proofs.Weighing.{Joins}
 -- what an expression may still need to be a value: a read, and one more
 abbrev pub room : Category → ℕ
 room category.Plain = 1
-room (category.At checked) = 2
+room (category.At a) = 2
 room (category.InVariable n) = 2
-room (category.Aggregate checked) = 1
+room (category.Aggregate a) = 1
 
 pub room_most : (k : Category) → room k ≤ 2
 room_most category.Plain = omega arith
-room_most (category.At checked) = omega arith
+room_most (category.At a) = omega arith
 room_most (category.InVariable n) = omega arith
-room_most (category.Aggregate checked) = omega arith
+room_most (category.Aggregate a) = omega arith
 
 pub room_least : (k : Category) → 1 ≤ room k
 room_least category.Plain = omega arith
-room_least (category.At checked) = omega arith
+room_least (category.At a) = omega arith
 room_least (category.InVariable n) = omega arith
-room_least (category.Aggregate checked) = omega arith
+room_least (category.Aggregate a) = omega arith
 
 abbrev pub value_ticks : Typed → ℕ
 value_ticks x = 1 + ticks x.tree
@@ -133,14 +134,14 @@ converted_ticks p s x t =
     let h = valued_ticks (changed p k l x.tree) t (known_as (shape_of s x.type_id) (shape_of s t) x.known) in
     if_typed (is_void (shape_of s t)) (1 + ticks x.tree) (plain x.tree t) (converted_by p x (shape_of s x.type_id) (shape_of s t) t) (omega arith) (omega (arith, g, h))
 
-read_got : (p : Place) (s : Tables) (x : Typed) (checked : Bool) (t : Shape) → Got value_ticks 0 (2 + ticks x.tree) s (read_by p s x checked t)
-read_got p s x checked shape.Void = record { grown = stays 0; small = omega arith }
-read_got p s x checked (shape.Struct n) = record { grown = stays 0; small = omega arith }
-read_got p s x checked (shape.Array n count) = record { grown = same 0 s (with_shape (shape.Pointer n) s) refl refl refl; small = omega arith }
-read_got p s x checked t = record { grown = stays 0; small = omega arith }
+read_got : (p : Place) (s : Tables) (x : Typed) (a : Addressing) (t : Shape) → Got value_ticks 0 (2 + ticks x.tree) s (read_by p s x a t)
+read_got p s x a shape.Void = record { grown = stays 0; small = omega arith }
+read_got p s x a (shape.Struct n) = record { grown = stays 0; small = omega arith }
+read_got p s x a (shape.Array n count) = record { grown = same 0 s (with_shape (shape.Pointer n) s) refl refl refl; small = omega arith }
+read_got p s x a t = record { grown = stays 0; small = omega arith }
 
 pub valued_got : (p : Place) (s : Tables) (x : Typed) (k : Category) → Got value_ticks 0 (room k + ticks x.tree) s (valued p s x k)
-valued_got p s x (category.At checked) = read_got p s x checked (shape_of s x.type_id)
+valued_got p s x (category.At a) = read_got p s x a (shape_of s x.type_id)
 valued_got p s x (category.InVariable n) = record { grown = stays 0; small = omega arith }
 valued_got p s x k = record { grown = stays 0; small = omega arith }
 
@@ -211,13 +212,13 @@ inverted_ticks p x = valued_ticks (program.Not p x.tree) int_id (known_not x.kno
 
 -- ---- members, assignments, calls
 
-member_value_ticks : (p : Place) (s : Tables) (e : Expression) (t : ℕ) (checked : Bool) (u : Shape) → place_ticks (member_value p s e t checked u) ≤ 2 + ticks e
-member_value_ticks p s e t checked (shape.Struct n) = omega arith
-member_value_ticks p s e t checked (shape.Array n count) = omega arith
-member_value_ticks p s e t checked u = omega arith
+member_value_ticks : (p : Place) (s : Tables) (e : Expression) (t : ℕ) (a : Addressing) (u : Shape) → place_ticks (member_value p s e t a u) ≤ 2 + ticks e
+member_value_ticks p s e t a (shape.Struct n) = omega arith
+member_value_ticks p s e t a (shape.Array n count) = omega arith
+member_value_ticks p s e t a u = omega arith
 
 member_dot : (p : Place) (s : Tables) (e : Expression) (t : ℕ) (k : Category) (z : Known) → place_ticks (member_in p s signs.Dot e t k z) ≤ 1 + (room k + ticks e)
-member_dot p s e t (category.Aggregate checked) z = let h = member_value_ticks p s e t checked (shape_of s t) in omega (arith, h)
+member_dot p s e t (category.Aggregate a) z = let h = member_value_ticks p s e t a (shape_of s t) in omega (arith, h)
 member_dot p s e t k z = omega arith
 
 -- a member of what is at a place, and of what is pointed to
@@ -233,7 +234,7 @@ arrow_ticks p s x (Some f) = further_ticks p x.tree f.offset
 
 target_ticks : (x : Typed) (k : Category) → ticks_of_target (target_of x k) ≤ ticks x.tree
 target_ticks x (category.InVariable n) = omega arith
-target_ticks x (category.At checked) = omega arith
+target_ticks x (category.At a) = omega arith
 target_ticks x k = omega arith
 
 pub assigned_ticks : (p : Place) (s : Tables) (x y : Typed) → ticks (assigned p s x y).tree ≤ 2 + (ticks x.tree + ticks y.tree)
@@ -254,7 +255,7 @@ pub stepped_ticks : (p : Place) (s : Tables) (down new : Bool) (x : Typed) → t
 stepped_ticks p s down new x = let h = target_ticks x x.category in omega (arith, h)
 
 conditional_by_ticks : (e : Expression) (t : ℕ) (k : Category) (z : Known) → ticks (conditional_by e t k z).tree ≤ ticks e
-conditional_by_ticks e t (category.Aggregate checked) z = omega arith
+conditional_by_ticks e t (category.Aggregate a) z = omega arith
 conditional_by_ticks e t k z = valued_ticks e t z
 
 pub conditional_got : (p : Place) (x y z : Typed) (t : Tables × ℕ) (s : Tables) → Joins s (Some t) → Got place_ticks 0 (3 + ticks x.tree) s (conditional_as p x y z (Some t) s)

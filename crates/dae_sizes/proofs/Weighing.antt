@@ -12,6 +12,7 @@ use Rattle.dae_program.specs.Trees as program
 use Rattle.dae_program.specs.Trees.{Expression}
 use Rattle.dae_types_kinds.specs.declared.types.Shape.{Shape}
 use Rattle.dae_types_kinds.specs.declared.types.Shape.TheVariants as shape
+use Rattle.dae_types_kinds.specs.declared.values.Addressing.{Addressing}
 use Rattle.dae_types_kinds.specs.declared.values.Category.{Category}
 use Rattle.dae_types_kinds.specs.declared.values.Category.TheVariants as category
 use Rattle.dae_types_kinds.specs.declared.values.Known.{Known}
@@ -26,15 +27,15 @@ use Rattle.dae_types_kinds.specs.declared.tables.Storage.{Storage}
 use Rattle.dae_types_kinds.specs.declared.tables.Storage.TheVariants as storage
 use Rattle.dae_types_kinds.specs.Tables.{Tables, with_shape, with_use, set_local, written_at}
 use Rattle.dae_types_kinds.specs.Types.{same as same_type, shape_of, is_void, is_integer, layout_at, composite, composite_shape, composite_within, int_id}
-use Rattle.dae_types_kinds.specs.Values.{Typed, plain, is_null, common, number, valued_by, local_type, stored_in, named, load_kind, read_by, valued, changes, changed, known_as, converted_by, converted, further, scaled, sum_of, difference_of, Deed, Operates, Compares, deed, Combination, Words, PointerFirst, PointerSecond, Distance, Pointers, combination, known_by, tree_by, address_tree, is_unsigned_for, type_for, operated, indexed, indexed_behind, indexed_back, distance, combined_as, subscripted, starred, marked, negated, complemented, inverted, known_not, member_value, member_in, member_by, known_further, target_of, assigned, updated_by, updated, stepped, joined_pointers, joined_shape, joined, conditional_by, conditional_as, either_category, known_if, known_branch, listed, first_of_list, call_tree, called, is_difference, library_of}
+use Rattle.dae_types_kinds.specs.Values.{Typed, plain, is_indirect, is_null, common, number, valued_by, local_type, stored_in, named, load_kind, read_by, valued, changes, changed, known_as, converted_by, converted, further, scaled, sum_of, difference_of, Deed, Operates, Compares, deed, Combination, Words, PointerFirst, PointerSecond, Distance, Pointers, combination, known_by, tree_by, address_tree, is_unsigned_for, type_for, operated, indexed, indexed_behind, indexed_back, distance, combined_as, subscripted, starred, marked, negated, complemented, inverted, known_not, member_value, member_in, member_by, known_further, target_of, assigned, updated_by, updated, stepped, joined_pointers, joined_shape, joined, conditional_by, conditional_as, either_category, known_if, known_branch, listed, first_of_list, call_tree, called, is_difference, library_of}
 use Rattle.dae_void_laws.proofs.Laws.{either_has}
 use Rattle.dae_sizes.specs.Weights.{if_checked, weight, weight_of_target, weight_of_all}
 use Rattle.dae_sizes.proofs.Within.{Grown, Got, same, stays, grows, grown_more}
 
 -- what stands behind a check counts so many more, since its read does
 abbrev pub behind_check : (constant : ℕ) → Category → ℕ
-behind_check c (category.At checked) = if_checked c checked
-behind_check c (category.Aggregate checked) = if_checked c checked
+behind_check c (category.At a) = if_checked c (is_indirect a)
+behind_check c (category.Aggregate a) = if_checked c (is_indirect a)
 behind_check c category.Plain = 0
 behind_check c (category.InVariable n) = 0
 
@@ -43,8 +44,8 @@ if_checked_low c true = omega arith
 if_checked_low c false = omega arith
 
 pub behind_low : (c : ℕ) (k : Category) → behind_check c k ≤ c
-behind_low c (category.At checked) = if_checked_low c checked
-behind_low c (category.Aggregate checked) = if_checked_low c checked
+behind_low c (category.At a) = if_checked_low c (is_indirect a)
+behind_low c (category.Aggregate a) = if_checked_low c (is_indirect a)
 behind_low c category.Plain = omega arith
 behind_low c (category.InVariable n) = omega arith
 
@@ -192,16 +193,16 @@ module _ (c : ℕ) (low : c ≤ 1) where
       let h = valued_weighs (changed p k l x.tree) t (known_as (shape_of s x.type_id) (shape_of s t) x.known) in
       if_typed (is_void (shape_of s t)) c (1 + weight c x.tree) (plain x.tree t) (converted_by p x (shape_of s x.type_id) (shape_of s t) t) (omega arith) (omega (arith, g, h))
 
-  read_got : (p : Place) (s : Tables) (x : Typed) (checked : Bool) (t : Shape) → Got (cost c 0) 0 (1 + (if_checked c checked + weight c x.tree)) s (read_by p s x checked t)
-  read_got p s x checked shape.Void = record { grown = stays 0; small = let b = behind_low c x.category in omega (arith, low, b) }
-  read_got p s x checked (shape.Struct n) = record { grown = stays 0; small = omega arith }
-  read_got p s x checked (shape.Array n count) = record { grown = same 0 s (with_shape (shape.Pointer n) s) refl refl refl; small = omega arith }
-  read_got p s x checked t = record { grown = stays 0; small = omega arith }
+  read_got : (p : Place) (s : Tables) (x : Typed) (a : Addressing) (t : Shape) → Got (cost c 0) 0 (1 + (if_checked c (is_indirect a) + weight c x.tree)) s (read_by p s x a t)
+  read_got p s x a shape.Void = record { grown = stays 0; small = let b = behind_low c x.category in omega (arith, low, b) }
+  read_got p s x a (shape.Struct n) = record { grown = stays 0; small = omega arith }
+  read_got p s x a (shape.Array n count) = record { grown = same 0 s (with_shape (shape.Pointer n) s) refl refl refl; small = omega arith }
+  read_got p s x a t = record { grown = stays 0; small = omega arith }
 
   pub valued_got : (p : Place) (s : Tables) (x : Typed) (k : Category) → Got (cost c 0) 0 (1 + (behind_check c k + weight c x.tree)) s (valued p s x k)
-  valued_got p s x (category.At checked) = read_got p s x checked (shape_of s x.type_id)
+  valued_got p s x (category.At a) = read_got p s x a (shape_of s x.type_id)
   valued_got p s x (category.InVariable n) = record { grown = stays 0; small = omega arith }
-  valued_got p s x (category.Aggregate checked) = record { grown = stays 0; small = let b = behind_low c x.category in omega (arith, low, b) }
+  valued_got p s x (category.Aggregate a) = record { grown = stays 0; small = let b = behind_low c x.category in omega (arith, low, b) }
   valued_got p s x category.Plain = record { grown = stays 0; small = let b = behind_low c x.category in omega (arith, low, b) }
 
   stored_weighs : (p : Place) (t : ℕ) (x : Option Storage) → cost c 0 (stored_in p t x) ≤ 1
@@ -271,14 +272,14 @@ module _ (c : ℕ) (low : c ≤ 1) where
 
   -- ---- members, assignments, calls
 
-  member_value_weighs : (p : Place) (s : Tables) (e : Expression) (t : ℕ) (checked : Bool) (u : Shape) → weight c (member_value p s e t checked u).tree ≤ 2 + weight c e
-  member_value_weighs p s e t checked (shape.Struct n) = omega arith
-  member_value_weighs p s e t checked (shape.Array n count) = omega arith
-  member_value_weighs p s e t checked u = let b = if_checked_low c checked in omega (arith, low, b)
+  member_value_weighs : (p : Place) (s : Tables) (e : Expression) (t : ℕ) (a : Addressing) (u : Shape) → weight c (member_value p s e t a u).tree ≤ 2 + weight c e
+  member_value_weighs p s e t a (shape.Struct n) = omega arith
+  member_value_weighs p s e t a (shape.Array n count) = omega arith
+  member_value_weighs p s e t a u = let b = if_checked_low c (is_indirect a) in omega (arith, low, b)
 
   member_in_weighs : (p : Place) (s : Tables) (o : MemberOperator) (e : Expression) (t : ℕ) (k : Category) (z : Known) → weight c (member_in p s o e t k z).tree ≤ 2 + weight c e
   member_in_weighs p s signs.Arrow e t k z = omega arith
-  member_in_weighs p s signs.Dot e t (category.Aggregate checked) z = member_value_weighs p s e t checked (shape_of s t)
+  member_in_weighs p s signs.Dot e t (category.Aggregate a) z = member_value_weighs p s e t a (shape_of s t)
   member_in_weighs p s signs.Dot e t k z = omega arith
 
   pub member_weighs : (p : Place) (s : Tables) (o : MemberOperator) (x : Typed) (f : Option Component) → weight c (member_by p s o x f).tree ≤ 4 + weight c x.tree
@@ -289,7 +290,7 @@ module _ (c : ℕ) (low : c ≤ 1) where
 
   target_weighs : (x : Typed) (k : Category) → weight_of_target c (target_of x k) ≤ weight c x.tree
   target_weighs x (category.InVariable n) = omega arith
-  target_weighs x (category.At checked) = omega arith
+  target_weighs x (category.At a) = omega arith
   target_weighs x k = omega arith
 
   pub assigned_weighs : (p : Place) (s : Tables) (x y : Typed) → weight c (assigned p s x y).tree ≤ 2 + (weight c x.tree + weight c y.tree)
@@ -310,7 +311,7 @@ module _ (c : ℕ) (low : c ≤ 1) where
   stepped_weighs p s down new x = let h = target_weighs x x.category in omega (arith, h)
 
   conditional_by_weighs : (e : Expression) (t : ℕ) (k : Category) (z : Known) → weight c (conditional_by e t k z).tree ≤ weight c e
-  conditional_by_weighs e t (category.Aggregate checked) z = omega arith
+  conditional_by_weighs e t (category.Aggregate a) z = omega arith
   conditional_by_weighs e t k z = valued_weighs e t z
 
   pub conditional_got : (p : Place) (x y z : Typed) (t : Option (Tables × ℕ)) (s : Tables) → Joins s t → Got (cost c 0) 0 (3 + (weight c x.tree + (weight c y.tree + weight c z.tree))) s (conditional_as p x y z t s)

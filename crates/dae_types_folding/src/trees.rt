@@ -12,7 +12,7 @@ use crate::value::Value;
 use dae_base::{LoadKind, Place};
 use dae_meaning::Operator;
 use dae_program::{Expression, Target};
-use dae_types_kinds::{Category, CheckError, Known};
+use dae_types_kinds::{Category, CheckError, Known, is_indirect};
 use std::alloc::Global;
 
 /// Whether a conversion from one kind to the other may change a word.
@@ -196,7 +196,10 @@ pub fn target_of(alloc: Global, x: Value) -> Result<Target, CheckError>
 {
     match x.category {
         Category::InVariable(variable) => Ok(Target::Variable(variable)),
-        Category::At(checked) => Ok(Target::Object(checked, Box::new(alloc, x.tree)?)),
+        Category::At(addressing) => Ok(Target::Object(
+            is_indirect(addressing),
+            Box::new(alloc, x.tree)?,
+        )),
         _ => Ok(Target::Object(false, Box::new(alloc, x.tree)?)),
     }
 }

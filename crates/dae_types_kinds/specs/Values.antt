@@ -19,6 +19,8 @@ use Rattle.dae_tree.specs.declared.operators.MemberOperator.TheVariants as signs
 use Rattle.dae_program.specs.Trees as program
 use Rattle.dae_types_kinds.specs.declared.types.Shape.{Shape}
 use Rattle.dae_types_kinds.specs.declared.types.Shape.TheVariants as shape
+use Rattle.dae_types_kinds.specs.declared.values.Addressing.{Addressing}
+use Rattle.dae_types_kinds.specs.declared.values.Addressing.TheVariants.{Direct, Indirect}
 use Rattle.dae_types_kinds.specs.declared.values.Category.{Category}
 use Rattle.dae_types_kinds.specs.declared.values.Category.TheVariants as category
 use Rattle.dae_types_kinds.specs.declared.values.Known.{Known}
@@ -97,7 +99,7 @@ abbrev pub is_null : Tables → Typed → Bool
 is_null s x = is_constant_zero s x || is_null_pointer x.known
 
 abbrev pub is_object : Category → Bool
-is_object (category.At checked) = true
+is_object (category.At a) = true
 is_object (category.InVariable n) = true
 is_object _ = false
 
@@ -113,16 +115,16 @@ local_type (Some x) = x.type_id
 
 -- a parameter or local object stands in its variable or in the frame; until that is settled, in the frame
 abbrev pub stored_in : Place → ℕ → Option Storage → Typed
-stored_in p t None = typed (program.Frame p 0) t (category.At false) known.Nothing
+stored_in p t None = typed (program.Frame p 0) t (category.At Direct) known.Nothing
 stored_in p t (Some (storage.Variable n)) = typed (program.Variable p n) t (category.InVariable n) known.Nothing
-stored_in p t (Some (storage.Frame offset)) = typed (program.Frame p offset) t (category.At false) known.Nothing
+stored_in p t (Some (storage.Frame offset)) = typed (program.Frame p offset) t (category.At Direct) known.Nothing
 
 -- among a file's objects the literals come first
 abbrev pub object_number : Tables → ℕ → ℕ
 object_number s n = length s.literals + n
 
 abbrev pub object_at : ℕ → ℕ → Typed
-object_at n t = typed (program.Address n 0) t (category.At false) (known.Address (Some n) 0)
+object_at n t = typed (program.Address n 0) t (category.At Direct) (known.Address (Some n) 0)
 
 abbrev pub named : Place → Option Entity → Tables → Tables × Typed
 named p (Some (entity.Object n)) s = (with_use (entity.Object n) p s, object_at (object_number s n) (object_type (slice_get s.objects n)))
@@ -148,15 +150,20 @@ load_kind shape.Short = kinds.I16
 load_kind shape.UnsignedShort = kinds.U16
 load_kind _ = kinds.I32
 
+-- an address that came through `*`, `->` or a subscript is checked where it is used
+abbrev pub is_indirect : Addressing → Bool
+is_indirect Direct = false
+is_indirect Indirect = true
+
 -- an object gives its value, an array the address of its first element; a structure stays where it is
-abbrev pub read_by : Place → Tables → Typed → Bool → Shape → Tables × Typed
-read_by p s x checked shape.Void = (s, x)
-read_by p s x checked (shape.Struct n) = (s, typed x.tree x.type_id (category.Aggregate checked) known.Nothing)
-read_by p s x checked (shape.Array n count) = (with_shape (shape.Pointer n) s, typed x.tree (length s.shapes) category.Plain x.known)
-read_by p s x checked t = (s, plain (program.Read p (load_kind t) checked x.tree) x.type_id)
+abbrev pub read_by : Place → Tables → Typed → Addressing → Shape → Tables × Typed
+read_by p s x a shape.Void = (s, x)
+read_by p s x a (shape.Struct n) = (s, typed x.tree x.type_id (category.Aggregate a) known.Nothing)
+read_by p s x a (shape.Array n count) = (with_shape (shape.Pointer n) s, typed x.tree (length s.shapes) category.Plain x.known)
+read_by p s x a t = (s, plain (program.Read p (load_kind t) (is_indirect a) x.tree) x.type_id)
 
 abbrev pub valued : Place → Tables → Typed → Category → Tables × Typed
-valued p s x (category.At checked) = read_by p s x checked (shape_of s x.type_id)
+valued p s x (category.At a) = read_by p s x a (shape_of s x.type_id)
 valued p s x (category.InVariable n) = (s, plain x.tree x.type_id)
 valued p s x _ = (s, x)
 
@@ -429,14 +436,14 @@ combined_as p s o x y None = x
 
 -- a subscript, which is the object at a sum (C90 6.3.2.1)
 abbrev pub subscripted : Place → Tables → Typed → Typed → Option Combination → Typed
-subscripted p s x y (Some (PointerFirst n)) = let z = indexed p s n x y in typed z.tree n (category.At true) (based z.known)
-subscripted p s x y (Some (PointerSecond n)) = let z = indexed_behind p s n x y in typed z.tree n (category.At true) (based z.known)
+subscripted p s x y (Some (PointerFirst n)) = let z = indexed p s n x y in typed z.tree n (category.At Indirect) (based z.known)
+subscripted p s x y (Some (PointerSecond n)) = let z = indexed_behind p s n x y in typed z.tree n (category.At Indirect) (based z.known)
 subscripted p s x y _ = x
 
 -- `*` (C90 6.3.3.2)
 abbrev pub starred : Typed → Option ℕ → Typed
 starred x None = x
-starred x (Some n) = typed x.tree n (category.At true) (based x.known)
+starred x (Some n) = typed x.tree n (category.At Indirect) (based x.known)
 
 -- `&`, which says that a local object's address is taken
 abbrev pub marked : ℕ → Option Local → Tables → Tables
@@ -498,14 +505,14 @@ known_further (known.Address o k) offset = known.Address o (plus k offset)
 known_further _ offset = known.Nothing
 
 -- a member of an object is an object; of a structure that is a value, a scalar member is read at once
-abbrev pub member_value : Place → Tables → program.Expression → ℕ → Bool → Shape → Typed
-member_value p s e t checked (shape.Struct n) = typed e t (category.Aggregate checked) known.Nothing
-member_value p s e t checked (shape.Array n count) = typed e t (category.Aggregate checked) known.Nothing
-member_value p s e t checked u = plain (program.Read p (load_kind u) checked e) t
+abbrev pub member_value : Place → Tables → program.Expression → ℕ → Addressing → Shape → Typed
+member_value p s e t a (shape.Struct n) = typed e t (category.Aggregate a) known.Nothing
+member_value p s e t a (shape.Array n count) = typed e t (category.Aggregate a) known.Nothing
+member_value p s e t a u = plain (program.Read p (load_kind u) (is_indirect a) e) t
 
 abbrev pub member_in : Place → Tables → MemberOperator → program.Expression → ℕ → Category → Known → Typed
-member_in p s signs.Arrow e t c k = typed e t (category.At true) (based k)
-member_in p s signs.Dot e t (category.Aggregate checked) k = member_value p s e t checked (shape_of s t)
+member_in p s signs.Arrow e t c k = typed e t (category.At Indirect) (based k)
+member_in p s signs.Dot e t (category.Aggregate a) k = member_value p s e t a (shape_of s t)
 member_in p s signs.Dot e t c k = typed e t c k
 
 abbrev pub member_by : Place → Tables → MemberOperator → Typed → Option Component → Typed
@@ -527,7 +534,7 @@ fits s x t = fits_shape s x t (shape_of s x.type_id) (shape_of s t)
 
 abbrev pub target_of : Typed → Category → program.Target
 target_of x (category.InVariable n) = program.InVariable n
-target_of x (category.At checked) = program.AtAddress checked x.tree
+target_of x (category.At a) = program.AtAddress (is_indirect a) x.tree
 target_of x _ = program.AtAddress false x.tree
 
 abbrev pub assigned : Place → Tables → Typed → Typed → Typed
@@ -599,12 +606,16 @@ abbrev pub known_if : Bool → Known → Known
 known_if true k = k
 known_if false k = known.Nothing
 
+abbrev pub either_addressing : Addressing → Addressing → Addressing
+either_addressing Direct a = a
+either_addressing Indirect a = Indirect
+
 abbrev pub either_category : Category → Category → Category
-either_category (category.Aggregate checked) (category.Aggregate other) = category.Aggregate (checked || other)
+either_category (category.Aggregate a) (category.Aggregate b) = category.Aggregate (either_addressing a b)
 either_category _ _ = category.Plain
 
 abbrev pub conditional_by : program.Expression → ℕ → Category → Known → Typed
-conditional_by e t (category.Aggregate checked) k = typed e t (category.Aggregate checked) known.Nothing
+conditional_by e t (category.Aggregate a) k = typed e t (category.Aggregate a) known.Nothing
 conditional_by e t c k = valued_by e t k
 
 abbrev pub conditional_as : Place → Typed → Typed → Typed → Option (Tables × ℕ) → Tables → Tables × Typed
@@ -613,7 +624,7 @@ conditional_as p x y z (Some t) s =
     (t.0, conditional_by (program.Conditional p x.tree y.tree z.tree) t.1 (either_category y.category z.category) (known_if (is_integer (shape_of t.0 t.1)) (known_branch x.known y.known z.known)))
 
 abbrev pub kept_category : Category → Category
-kept_category (category.Aggregate checked) = category.Aggregate checked
+kept_category (category.Aggregate a) = category.Aggregate a
 kept_category _ = category.Plain
 
 abbrev pub comma : Typed → Typed → Typed

@@ -13,7 +13,7 @@ pub use tables::{
     Routine, Storage, Tag, Tagged, Use,
 };
 pub use types::{Layout, Shape, Structure};
-pub use values::{Category, Known};
+pub use values::{Addressing, Category, Known, is_indirect};
 
 mod numbers;
 mod routines;

@@ -2,7 +2,7 @@
 
 ghost use Rattle.std.specs.Prelude.{◌≡◌, Ok};
 ghost use Rattle.dae_program.specs.Views.{view};
-ghost use Rattle.dae_types_kinds.specs.Values.{comma, conditional_by, either_category, joined, joined_pointers, kept_category, known_if};
+ghost use Rattle.dae_types_kinds.specs.Values.{comma, conditional_by, either_addressing, either_category, joined, joined_pointers, kept_category, known_if};
 ghost use Rattle.dae_types_rules.specs.Plan.{Gives, pure};
 ghost use Rattle.dae_types_plans.specs.Steps.{and_at, comma_at, conditional_at, or_at};
 ghost use Rattle.dae_types_tables.specs.Seen.{tables};
@@ -12,7 +12,7 @@ ghost use Rattle.dae_types_values.specs.Results.{Joins, three, GivesValue, two};
 use dae_base::Place;
 use dae_program::Expression;
 use dae_types_folding::{Value, common, known_and, known_branch, known_or};
-use dae_types_kinds::{Category, CheckError, INT_ID, Known, Rule, Shape, VOID_ID};
+use dae_types_kinds::{Addressing, Category, CheckError, INT_ID, Known, Rule, Shape, VOID_ID};
 use dae_types_tables::{Checker, broken, is_integer, is_scalar, is_void};
 use dae_types_values::is_null;
 
@@ -107,10 +107,20 @@ fn either_category(first: Category, second: Category) -> Category
     ensures { result ≡ either_category first second }
 {
     match (first, second) {
-        (Category::Aggregate(checked), Category::Aggregate(other)) => {
-            Category::Aggregate(checked || other)
+        (Category::Aggregate(one), Category::Aggregate(other)) => {
+            Category::Aggregate(either_addressing(one, other))
         }
         _ => Category::Plain,
+    }
+}
+
+/// How one of two addresses is come by: indirectly, if either is.
+fn either_addressing(one: Addressing, other: Addressing) -> Addressing
+    ensures { result ≡ either_addressing one other }
+{
+    match one {
+        Addressing::Direct => other,
+        Addressing::Indirect => Addressing::Indirect,
     }
 }
 

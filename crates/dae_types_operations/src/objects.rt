@@ -19,7 +19,9 @@ use dae_types_folding::{
     Combination, Deed, Value, based, deed_of, further, is_unsigned_for, known_further, load_kind,
     operator_of, scaled, target_of,
 };
-use dae_types_kinds::{Category, CheckError, Component, Known, Rule, Shape};
+use dae_types_kinds::{
+    Addressing, Category, CheckError, Component, Known, Rule, Shape, is_indirect,
+};
 use dae_types_tables::{Checker, broken, is_array, is_structure};
 use dae_types_values::{convert, fits};
 
@@ -203,22 +205,23 @@ fn member_value(
     place: Place,
     tree: Expression,
     type_id: usize,
-    checked: bool,
+    addressing: Addressing,
 ) -> Result<Value, CheckError>
     ensures { MakesValue result
-        (member_value place (tables checker.now) (view tree) type_id checked
+        (member_value place (tables checker.now) (view tree) type_id addressing
         (shape_of (tables checker.now) type_id)) }
 {
     match checker.shape_of(type_id) {
         Shape::Struct(_) | Shape::Array(_, _) => Ok(Value {
             tree,
             type_id,
-            category: Category::Aggregate(checked),
+            category: Category::Aggregate(addressing),
             known: Known::Nothing,
         }),
         shape => {
             let address = Box::new(checker.alloc, tree)?;
-            let tree = Expression::Read(place, load_kind(shape), checked, address);
+            let indirect = is_indirect(addressing);
+            let tree = Expression::Read(place, load_kind(shape), indirect, address);
             Ok(Value::plain(tree, type_id))
         }
     }
@@ -238,11 +241,11 @@ fn member_in(
         (MemberOperator::Arrow, _) => Ok(Value {
             tree: x.tree,
             type_id: x.type_id,
-            category: Category::At(true),
+            category: Category::At(Addressing::Indirect),
             known: based(x.known),
         }),
-        (MemberOperator::Dot, Category::Aggregate(checked)) => {
-            member_value(checker, place, x.tree, x.type_id, checked)
+        (MemberOperator::Dot, Category::Aggregate(addressing)) => {
+            member_value(checker, place, x.tree, x.type_id, addressing)
         }
         (MemberOperator::Dot, _) => Ok(x),
     }

@@ -21,7 +21,7 @@ use dae_types_folding::{
     is_sum, is_unsigned_for, moved_back, moved_on, operated, scaled, scaled_known, sum_of, tree_by,
     type_for,
 };
-use dae_types_kinds::{Category, CheckError, INT_ID, Rule, Shape};
+use dae_types_kinds::{Addressing, Category, CheckError, INT_ID, Rule, Shape};
 use dae_types_tables::{Checker, broken, is_integer, is_pointer, is_void};
 use dae_types_values::is_null;
 use std::alloc::Global;
@@ -300,7 +300,7 @@ fn subscript(
             Ok(Value {
                 tree: z.tree,
                 type_id: to,
-                category: Category::At(true),
+                category: Category::At(Addressing::Indirect),
                 known: based(z.known),
             })
         }
@@ -309,7 +309,7 @@ fn subscript(
             Ok(Value {
                 tree: z.tree,
                 type_id: to,
-                category: Category::At(true),
+                category: Category::At(Addressing::Indirect),
                 known: based(z.known),
             })
         }

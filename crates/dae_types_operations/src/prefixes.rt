@@ -20,7 +20,7 @@ use dae_tree::{Name, PostfixOperator, PrefixOperator};
 use dae_types_folding::{
     Deed, Value, based, known_not, load_kind, operated, pointee, promoted, target_of,
 };
-use dae_types_kinds::{Category, CheckError, Entity, INT_ID, Local, Rule, Shape};
+use dae_types_kinds::{Addressing, Category, CheckError, Entity, INT_ID, Local, Rule, Shape};
 use dae_types_tables::{Checker, broken, is_array, is_scalar, is_void};
 use dae_types_values::{integer, scalar, value};
 use std::alloc::Global;
@@ -90,7 +90,7 @@ fn dereference(checker: &Checker, place: Place, x: Value) -> Result<Value, Check
     Ok(Value {
         tree: x.tree,
         type_id: to,
-        category: Category::At(true),
+        category: Category::At(Addressing::Indirect),
         known: based(x.known),
     })
 }

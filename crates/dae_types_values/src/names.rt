@@ -14,7 +14,8 @@ use dae_program::Expression;
 use dae_tree::{Constant, Name};
 use dae_types_folding::Value;
 use dae_types_kinds::{
-    CHAR_ID, Category, CheckError, Entity, INT_ID, Known, Rule, Shape, Storage, UNSIGNED_ID,
+    Addressing, CHAR_ID, Category, CheckError, Entity, INT_ID, Known, Rule, Shape, Storage,
+    UNSIGNED_ID,
 };
 use dae_types_tables::{Checker, broken};
 
@@ -43,7 +44,7 @@ fn object_at(number: usize, type_id: usize) -> Result<Value, CheckError>
     Ok(Value {
         tree: Expression::Address(number, 0),
         type_id,
-        category: Category::At(false),
+        category: Category::At(Addressing::Direct),
         known: Known::Address(Some(number), 0),
     })
 }
@@ -86,13 +87,13 @@ fn stored_in(place: Place, type_id: usize, storage: Option<Storage>) -> Value
         Some(Storage::Frame(offset)) => Value {
             tree: Expression::Frame(place, offset),
             type_id,
-            category: Category::At(false),
+            category: Category::At(Addressing::Direct),
             known: Known::Nothing,
         },
         None => Value {
             tree: Expression::Frame(place, 0),
             type_id,
-            category: Category::At(false),
+            category: Category::At(Addressing::Direct),
             known: Known::Nothing,
         },
     }

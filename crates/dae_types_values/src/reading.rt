@@ -12,13 +12,20 @@ ghost use Rattle.dae_types_values.specs.Results.{GivesValue, one};
 use dae_base::Place;
 use dae_program::Expression;
 use dae_types_folding::{Value, load_kind};
-use dae_types_kinds::{Category, CheckError, Known, Rule, Shape, UNSIGNED_ID};
+use dae_types_kinds::{
+    Addressing, Category, CheckError, Known, Rule, Shape, UNSIGNED_ID, is_indirect,
+};
 use dae_types_tables::{Checker, broken, is_integer, is_scalar, is_structure};
 
 /// The value of an object: an array gives the address of its first element, and a structure stays where it is.
-fn read(checker: &mut Checker, place: Place, x: Value, checked: bool) -> Result<Value, CheckError>
+fn read(
+    checker: &mut Checker,
+    place: Place,
+    x: Value,
+    addressing: Addressing,
+) -> Result<Value, CheckError>
     ensures { Gives (λ y. (tables checker.new, view_value y)) result
-        (Ok (read_by place (tables checker.old) (view_value x) checked
+        (Ok (read_by place (tables checker.old) (view_value x) addressing
         (shape_of (tables checker.old) x.type_id))) }
 {
     match checker.shape_of(x.type_id) {
@@ -26,7 +33,7 @@ fn read(checker: &mut Checker, place: Place, x: Value, checked: bool) -> Result<
         Shape::Struct(_) => Ok(Value {
             tree: x.tree,
             type_id: x.type_id,
-            category: Category::Aggregate(checked),
+            category: Category::Aggregate(addressing),
             known: Known::Nothing,
         }),
         Shape::Array(element, _) => {
@@ -40,7 +47,8 @@ fn read(checker: &mut Checker, place: Place, x: Value, checked: bool) -> Result<
         }
         shape => {
             let address = Box::new(checker.alloc, x.tree)?;
-            let tree = Expression::Read(place, load_kind(shape), checked, address);
+            let indirect = is_indirect(addressing);
+            let tree = Expression::Read(place, load_kind(shape), indirect, address);
             Ok(Value::plain(tree, x.type_id))
         }
     }
@@ -55,7 +63,7 @@ pub fn value(checker: &mut Checker, place: Place, x: Value) -> Result<Value, Che
         return Err(broken(Rule::Incomplete, place));
     }
     match x.category {
-        Category::At(checked) => read(checker, place, x, checked),
+        Category::At(addressing) => read(checker, place, x, addressing),
         Category::InVariable(_) => Ok(Value::plain(x.tree, x.type_id)),
         _ => Ok(x),
     }

@@ -32,6 +32,7 @@ use Rattle.dae_types_kinds.specs.declared.tables.Tagged.TheVariants as tagged
 use Rattle.dae_types_kinds.specs.declared.types.Layout.{Layout}
 use Rattle.dae_types_kinds.specs.declared.types.Shape.{Shape}
 use Rattle.dae_types_kinds.specs.declared.types.Shape.TheVariants as shape
+use Rattle.dae_types_kinds.specs.declared.values.Addressing.{Addressing}
 use Rattle.dae_types_kinds.specs.declared.values.Category.{Category}
 use Rattle.dae_types_kinds.specs.declared.values.Category.TheVariants as category
 use Rattle.dae_types_kinds.specs.Tables.{Tables, with_shape, found_name, own_tag, is_named, entity_of}
@@ -279,14 +280,14 @@ type_leads h = leads_reads h (λ s x k l. l)
 
 -- ---- expressions
 
-read_come : (p : Place) (s : Tables) (x : Typed) (checked : Bool) (t : Shape) → Kept s → Clean x.tree → Come Honest s (read_by p s x checked t)
-read_come p s x checked shape.Void k h = come_same k (honest h)
-read_come p s x checked (shape.Struct n) k h = come_same k (honest h)
-read_come p s x checked (shape.Array n count) k h = come_wider (shape_wider (shape.Pointer n) s) k (honest h)
-read_come p s x checked t k h = come_same k (honest (record { inside = h.inside; itself = refl }))
+read_come : (p : Place) (s : Tables) (x : Typed) (a : Addressing) (t : Shape) → Kept s → Clean x.tree → Come Honest s (read_by p s x a t)
+read_come p s x a shape.Void k h = come_same k (honest h)
+read_come p s x a (shape.Struct n) k h = come_same k (honest h)
+read_come p s x a (shape.Array n count) k h = come_wider (shape_wider (shape.Pointer n) s) k (honest h)
+read_come p s x a t k h = come_same k (honest (record { inside = h.inside; itself = refl }))
 
 clean_come : (p : Place) (s : Tables) (x : Typed) (c : Category) → Kept s → Clean x.tree → Come Honest s (valued p s x c)
-clean_come p s x (category.At checked) k h = read_come p s x checked (shape_of s x.type_id) k h
+clean_come p s x (category.At a) k h = read_come p s x a (shape_of s x.type_id) k h
 clean_come p s x (category.InVariable n) k h = come_same k (honest h)
 clean_come p s x c k h = come_same k (honest h)
 

@@ -21,6 +21,7 @@ use Rattle.dae_types_kinds.specs.declared.tables.Storage.{Storage}
 use Rattle.dae_types_kinds.specs.declared.tables.Storage.TheVariants as storage
 use Rattle.dae_types_kinds.specs.declared.types.Shape.{Shape}
 use Rattle.dae_types_kinds.specs.declared.types.Shape.TheVariants as shape
+use Rattle.dae_types_kinds.specs.declared.values.Addressing.{Addressing}
 use Rattle.dae_types_kinds.specs.declared.values.Category.{Category}
 use Rattle.dae_types_kinds.specs.declared.values.Category.TheVariants as category
 use Rattle.dae_types_kinds.specs.declared.values.Known.{Known}
@@ -356,14 +357,14 @@ subscripted_honest p s x y h j = by (combination s binary.Add x y) refl where
 
 -- ---- members, assignments, calls
 
-member_value_clean : (p : Place) (s : Tables) (e : Expression) (t : ℕ) (checked : Bool) (u : Shape) → Clean e → Clean (member_value p s e t checked u).tree
-member_value_clean p s e t checked (shape.Struct n) h = h
-member_value_clean p s e t checked (shape.Array n count) h = h
-member_value_clean p s e t checked u h = record { inside = h.inside; itself = refl }
+member_value_clean : (p : Place) (s : Tables) (e : Expression) (t : ℕ) (a : Addressing) (u : Shape) → Clean e → Clean (member_value p s e t a u).tree
+member_value_clean p s e t a (shape.Struct n) h = h
+member_value_clean p s e t a (shape.Array n count) h = h
+member_value_clean p s e t a u h = record { inside = h.inside; itself = refl }
 
 member_in_clean : (p : Place) (s : Tables) (o : MemberOperator) (e : Expression) (t : ℕ) (c : Category) (k : Known) → Clean e → Clean (member_in p s o e t c k).tree
 member_in_clean p s signs.Arrow e t c k h = h
-member_in_clean p s signs.Dot e t (category.Aggregate checked) k h = member_value_clean p s e t checked (shape_of s t) h
+member_in_clean p s signs.Dot e t (category.Aggregate a) k h = member_value_clean p s e t a (shape_of s t) h
 member_in_clean p s signs.Dot e t c k h = h
 
 pub member_honest : (p : Place) (s : Tables) (o : MemberOperator) (x : Typed) (f : Option Component) → Honest s.shapes x → Honest s.shapes (member_by p s o x f)
@@ -372,7 +373,7 @@ member_honest p s o x (Some f) h = honest (member_in_clean p s o (further p x.tr
 
 target_in : (x : Typed) (k : Category) → void_in x.tree ≤ 0 → void_in_target (target_of x k) ≤ 0
 target_in x (category.InVariable n) h = omega arith
-target_in x (category.At checked) h = h
+target_in x (category.At a) h = h
 target_in x k h = h
 
 pub assigned_clean : (p : Place) (s : Tables) (x y : Typed) → void_in x.tree ≤ 0 → void_in y.tree ≤ 0 → Clean (assigned p s x y).tree
@@ -389,7 +390,7 @@ pub stepped_clean : (p : Place) (s : Tables) (down new : Bool) (x : Typed) → v
 stepped_clean p s down new x h = record { inside = target_in x x.category h; itself = refl }
 
 conditional_by_clean : (e : Expression) (t : ℕ) (k : Category) (z : Known) → Clean e → Clean (conditional_by e t k z).tree
-conditional_by_clean e t (category.Aggregate checked) z h = h
+conditional_by_clean e t (category.Aggregate a) z h = h
 conditional_by_clean e t k z h = valued_clean e t z h
 
 -- the condition is tested
