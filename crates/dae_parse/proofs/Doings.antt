@@ -2,6 +2,7 @@
 use Rattle.std.proofs.Common.{◌∷◌}
 use Rattle.dae_parse_nodes.specs.Parts.{ShowsOperand, ShowsOptional, ShowsSpecified, ShowsEnumerators, ShowsDeclared, ShowsItems, ShowsStatement, ShowsLoop}
 use Rattle.dae_parse_grammar.specs.Frames as plain
+use Rattle.dae_parse_nodes.specs.declared.values.DoParts.{DoParts}
 use Rattle.dae_parse_states.specs.declared.frames.Doing.TheVariants as doing
 use Rattle.dae_parse_states.specs.Frames.{ShowsBefore, ShowsBody, ShowsDoing, manner_of}
 
@@ -20,10 +21,10 @@ pub does_itemed : (s : _) (is : _) (P : plain.Doing → Type 0) (does : plain.Do
 does_itemed s is P (plain.itemed ws i before) shows next = next ws i before shows.0 shows.1
 does_itemed s is P _ shows next = absurd shows
 
-pub does_finishing : (p : _) (b : _) (r : _) (v : _) (a : _) (P : plain.Doing → Type 0) (does : plain.Doing) → ShowsDoing (doing.Finishing p b r v a) does
-    → ((c : _) (e : _) → ShowsStatement b c → ShowsOperand a e → P (plain.finishing p c r v e)) → P does
-does_finishing p b r v a P (plain.finishing q c u w e) shows next = rw (← shows.0, ← shows.2, ← shows.3) (next c e shows.1 shows.4)
-does_finishing p b r v a P _ shows next = absurd shows
+pub does_finishing : (d : DoParts) (P : plain.Doing → Type 0) (does : plain.Doing) → ShowsDoing (doing.Finishing d) does
+    → ((c : _) (e : _) → ShowsStatement d.body c → ShowsOperand d.test e → P (plain.finishing d.place c d.word d.paren e)) → P does
+does_finishing d P (plain.finishing q c u w e) shows next = rw (← shows.0, ← shows.2, ← shows.3) (next c e shows.1 shows.4)
+does_finishing d P _ shows next = absurd shows
 
 pub does_operated : (a : _) (l : _) (P : plain.Doing → Type 0) (does : plain.Doing) → ShowsDoing (doing.Operated a l) does
     → ((e : _) → ShowsOperand a e → P (plain.operated e l)) → P does

@@ -77,9 +77,7 @@ pub fn step(
         Doing::Statements(inside, list) => read_block(machine, inside, list),
         Doing::Stating => read_statement(machine),
         Doing::Opening(head) => read_test(machine, head),
-        Doing::Finishing(place, body, word, paren, test) => {
-            read_do_end(machine, place, body, word, paren, test)
-        }
+        Doing::Finishing(parts) => read_do_end(machine, parts),
         Doing::Looping(word) => read_for(machine, word),
         Doing::Starting(word, paren) => read_loop_start(machine, word, paren),
         Doing::Testing(word, paren, start, first) => read_loop_test(

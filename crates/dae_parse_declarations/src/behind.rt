@@ -13,11 +13,11 @@ ghost use Rattle.dae_parse_states.specs.States.{Steps};
 
 use dae_base::Place;
 use dae_parse_nodes::{
-    Declared, Operand, Specified, grouped, pointer, sized_array, sizeof_type, with_declarator,
-    with_member, with_valued_enumerator,
+    Body, Declared, Operand, Specified, grouped, pointer, sized_array, sizeof_type,
+    with_declarator, with_member, with_valued_enumerator,
 };
 use dae_parse_parts::{CAST, Read};
-use dae_parse_states::{Body, DeclaratorFrame, Doing, ExpressionFrame, Frame, Machine, Manner};
+use dae_parse_states::{DeclaratorFrame, Doing, ExpressionFrame, Frame, Machine, Manner};
 use dae_tree::{Declarator, Enumerator, Member, Name, Sign};
 use std::alloc::AllocError;
 

@@ -13,11 +13,11 @@ ghost use Rattle.dae_parse_states.specs.States.{Stands, Follows, ShowsState, out
 
 use dae_base::Place;
 use dae_parse_nodes::{
-    Specified, has_members, no_enumerators, no_members, no_specifiers, with_enumeration,
+    Body, Specified, has_members, no_enumerators, no_members, no_specifiers, with_enumeration,
     with_enumeration_body, with_plain_enumerator, with_structure, with_structure_body,
 };
 use dae_parse_parts::{CONDITIONAL, Read};
-use dae_parse_states::{Body, Doing, ExpressionFrame, Frame, Machine, SpecifiersFrame};
+use dae_parse_states::{Doing, ExpressionFrame, Frame, Machine, SpecifiersFrame};
 use dae_tree::{Enumerator, Member, Name, Seen, Sign};
 use std::alloc::{AllocError, Global};
 
@@ -139,14 +139,8 @@ fn close_structure(
         → IfOk result (λ d. ShowsDoing d (plain.specifying (with_whole b.seen)
         (StructureBody b.place b.tag b.brace (members_onto ms no_members_tree) ∷ b.before))) }
 {
-    let Body {
-        place,
-        tag,
-        brace,
-        seen,
-        before,
-    } = body;
-    let more = with_structure_body(alloc, before, place, tag, brace, members)?;
+    let seen = body.seen;
+    let more = with_structure_body(alloc, body, members)?;
     Ok(Doing::Specifying(seen.with_whole(), more))
 }
 
@@ -235,13 +229,7 @@ fn close_enumeration(
         (plain.specifying (with_whole b.seen) (EnumerationBody b.place b.tag b.brace
         (enumerators_onto es no_enumerators_tree) comma ∷ b.before))) }
 {
-    let Body {
-        place,
-        tag,
-        brace,
-        seen,
-        before,
-    } = body;
-    let more = with_enumeration_body(alloc, before, place, tag, brace, list, comma)?;
+    let seen = body.seen;
+    let more = with_enumeration_body(alloc, body, list, comma)?;
     Ok(Doing::Specifying(seen.with_whole(), more))
 }

@@ -13,9 +13,9 @@ ghost use Rattle.dae_parse_states.specs.Frames.{ShowsBefore, ShowsBody, ShowsOpe
 ghost use Rattle.dae_parse_states.specs.States.{Stands, Follows, ShowsState, outside_stack, Steps};
 
 use dae_base::Place;
-use dae_parse_nodes::{ParameterList, Specified, no_declarators, with_type_name, with_word};
+use dae_parse_nodes::{Body, ParameterList, Specified, no_declarators, with_type_name, with_word};
 use dae_parse_parts::Read;
-use dae_parse_states::{Body, DeclaratorFrame, Doing, Frame, Machine, Manner, Open, is_type};
+use dae_parse_states::{DeclaratorFrame, Doing, Frame, Machine, Manner, Open, is_type};
 use dae_tree::{Keyword, Kind, Member, Name, Seen};
 use std::alloc::AllocError;
 

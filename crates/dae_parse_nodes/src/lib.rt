@@ -30,7 +30,7 @@ pub use statements::{
     empty_statement, evaluation, for_statement, if_else_statement, if_statement, return_statement,
     switch_statement, while_statement, with_statement,
 };
-pub use values::{Declared, Loop, Operand, ParameterList, Specified};
+pub use values::{Body, Declared, DoParts, Loop, Operand, ParameterList, Specified};
 
 mod declarations;
 mod declarators;

@@ -8,7 +8,7 @@ ghost use Rattle.dae_parse_grammar.specs.FirstPlaces.{firsts_optional};
 ghost use Rattle.dae_parse_parts.specs.Shown.{Shows, box_value};
 ghost use Rattle.dae_parse_nodes.specs.Parts.{view_boxed, ShowsOperand, ShowsOptional, ShowsDeclarations, ShowsStatement, ShowsStatements, ShowsLoop};
 
-use crate::values::{Loop, Operand};
+use crate::values::{DoParts, Loop, Operand};
 use dae_base::Place;
 use dae_parse_parts::{Read, beside, flat, longer, node, over, unbox};
 use dae_tree::{Block, Declaration, Expression, Heading, Statement, Test};
@@ -162,17 +162,21 @@ pub fn while_statement(
 /// `do` with `while` behind its body, at the places of the two words, the parenthesis and the semicolon (C90 6.6.5.2).
 pub fn do_statement(
     alloc: Global,
-    place: Place,
-    body: Read<Box<Statement>>,
-    word: Place,
-    paren: Place,
-    test: Operand,
+    parts: DoParts,
     end: Place,
 ) -> Result<Read<Box<Statement>>, AllocError>
-    ensures { (s : tree.Statement) (e : tree.Expression) → ShowsStatement body s
-        → ShowsOperand test e
-        → IfOk result (λ r. ShowsStatement r (tree.Do place s word paren e end)) }
+    ensures { (s : tree.Statement) (e : tree.Expression) → ShowsStatement parts.body s
+        → ShowsOperand parts.test e
+        → IfOk result
+        (λ r. ShowsStatement r (tree.Do parts.place s parts.word parts.paren e end)) }
 {
+    let DoParts {
+        place,
+        body,
+        word,
+        paren,
+        test,
+    } = parts;
     let parts = beside(body, test.read)?;
     node(alloc, place, parts, |(body, expression)| {
         Statement::Do(place, body, word, test_at(paren, expression), end)

@@ -13,8 +13,8 @@ ghost use Rattle.dae_parse_states.specs.States.{Stands, Follows, outside_stack, 
 
 use dae_base::Place;
 use dae_parse_nodes::{
-    Loop, Operand, block, break_statement, continue_statement, do_statement, empty_statement,
-    no_declarations, no_specifiers, no_statements, return_statement,
+    DoParts, Loop, Operand, block, break_statement, continue_statement, do_statement,
+    empty_statement, no_declarations, no_specifiers, no_statements, return_statement,
 };
 use dae_parse_parts::{COMMA, CONDITIONAL, Read};
 use dae_parse_states::{
@@ -241,21 +241,16 @@ pub fn read_loop_start(
 
 /// Behind the test of a `do` (C90 6.6.5.2).
 #[tactic(auto, using(dae_parse_states::proofs::Laws::semicolon_or_none))]
-pub fn read_do_end(
-    machine: &mut Machine<'_>,
-    place: Place,
-    body: Read<Box<Statement>>,
-    word: Place,
-    paren: Place,
-    test: Operand,
-) -> Result<Option<Doing>, AllocError>
-    ensures { (b : StatementTree) (e : Expression) → ShowsStatement body b → ShowsOperand test e →
-        Steps machine.old result machine.new (step_at (plain.finishing place b word paren e)) }
+pub fn read_do_end(machine: &mut Machine<'_>, parts: DoParts) -> Result<Option<Doing>, AllocError>
+    ensures { (b : StatementTree) (e : Expression) → ShowsStatement parts.body b
+        → ShowsOperand parts.test e
+        → Steps machine.old result machine.new
+        (step_at (plain.finishing parts.place b parts.word parts.paren e)) }
 {
     let Some(end) = machine.rest.take_sign(Sign::Semicolon) else {
         return Ok(None);
     };
-    let whole = do_statement(machine.alloc, place, body, word, paren, test, end)?;
+    let whole = do_statement(machine.alloc, parts, end)?;
     Ok(Some(Doing::GaveStatement(whole, false)))
 }
 

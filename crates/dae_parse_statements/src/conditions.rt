@@ -10,7 +10,7 @@ ghost use Rattle.dae_parse_states.specs.Frames.{ShowsHead};
 ghost use Rattle.dae_parse_states.specs.States.{Steps};
 
 use dae_base::Place;
-use dae_parse_nodes::{Loop, Operand, evaluation, return_statement};
+use dae_parse_nodes::{DoParts, Loop, Operand, evaluation, return_statement};
 use dae_parse_states::{Doing, Frame, Head, Machine, StatementFrame};
 use dae_tree::Sign;
 use std::alloc::AllocError;
@@ -56,7 +56,13 @@ pub fn in_test(
             place, paren, test,
         )))?,
         Head::Do(place, body, word) => {
-            return Ok(Some(Doing::Finishing(place, body, word, paren, test)));
+            return Ok(Some(Doing::Finishing(DoParts {
+                place,
+                body,
+                word,
+                paren,
+                test,
+            })));
         }
     }
     Ok(Some(Doing::Stating))

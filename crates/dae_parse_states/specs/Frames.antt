@@ -8,10 +8,10 @@ use Rattle.dae_tree.specs.Trees as tree
 use Rattle.dae_parse_grammar.specs.Machine.{specifiers_onto, onto}
 use Rattle.dae_parse_grammar.specs.Frames as plain
 use Rattle.dae_parse_nodes.specs.Parts.{ShowsOperand, ShowsArguments, ShowsOptional, ShowsSpecified, ShowsMembers, ShowsEnumerators, ShowsDeclared, ShowsDeclarators, ShowsParameters, ShowsInitialiser, ShowsInitialisers, ShowsItems, ShowsDeclaration, ShowsDeclarations, ShowsStatement, ShowsStatements, ShowsLoop, ShowsExternals}
+use Rattle.dae_parse_nodes.specs.declared.values.Body.{Body}
 use Rattle.dae_parse_nodes.specs.declared.values.Specified.{Specified}
 use Rattle.dae_parse_states.specs.declared.frames.Manner.{Manner}
 use Rattle.dae_parse_states.specs.declared.frames.Manner.TheVariants as manner
-use Rattle.dae_parse_states.specs.declared.frames.Body.{Body}
 use Rattle.dae_parse_states.specs.declared.frames.Open.{Open}
 use Rattle.dae_parse_states.specs.declared.frames.Head.{Head}
 use Rattle.dae_parse_states.specs.declared.frames.Head.TheVariants as head
@@ -186,7 +186,7 @@ ShowsDoing (doing.Declarations i) (plain.declarations a) = ShowsInside i a
 ShowsDoing (doing.Statements i ss) (plain.statements a before) = ShowsInside i a × ShowsStatements ss before
 ShowsDoing doing.Stating plain.stating = Unit {0}
 ShowsDoing (doing.Opening h) (plain.opening a) = ShowsHead h a
-ShowsDoing (doing.Finishing p b r v a) (plain.finishing q c u w e) = (p ≡ q) × ShowsStatement b c × (r ≡ u) × (v ≡ w) × ShowsOperand a e
+ShowsDoing (doing.Finishing d) (plain.finishing q c u w e) = (d.place ≡ q) × ShowsStatement d.body c × (d.word ≡ u) × (d.paren ≡ w) × ShowsOperand d.test e
 ShowsDoing (doing.Looping p) (plain.looping q) = p ≡ q
 ShowsDoing (doing.Starting p r) (plain.starting q u) = (p ≡ q) × (r ≡ u)
 ShowsDoing (doing.Testing p r a v) (plain.testing q u e w) = (p ≡ q) × (r ≡ u) × ShowsOptional a e × (v ≡ w)

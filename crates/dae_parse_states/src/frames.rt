@@ -1,7 +1,7 @@
 // Frames: what a parser has begun and awaits the rest of.
 
 use dae_base::Place;
-use dae_parse_nodes::{Declared, Loop, Operand, ParameterList, Specified};
+use dae_parse_nodes::{Body, Declared, DoParts, Loop, Operand, ParameterList, Specified};
 use dae_parse_parts::Read;
 use dae_tree::{
     AssignmentOperator, BinaryOperator, Declaration, Declarator, Enumerator, Expression, External,
@@ -14,16 +14,6 @@ pub enum Manner {
     ByName,
     WithoutName,
     EitherWay,
-}
-
-/// The body of a structure or enumeration, with the specifiers before it.
-#[derive(Drop)]
-pub struct Body {
-    pub place: Place,
-    pub tag: Option<Name>,
-    pub brace: Place,
-    pub seen: Seen,
-    pub before: Specified,
 }
 
 /// What stands before parameters.
@@ -179,7 +169,7 @@ pub enum Doing {
     Statements(Inside, Read<Vec<Statement>>),
     Stating,
     Opening(Head),
-    Finishing(Place, Read<Box<Statement>>, Place, Place, Operand),
+    Finishing(DoParts),
     Looping(Place),
     Starting(Place, Place),
     Testing(Place, Place, Option<Operand>, Place),

@@ -4,7 +4,7 @@
 #![tactic(auto)]
 
 pub use frames::{
-    Before, Body, DeclarationFrame, DeclaratorFrame, Doing, ExpressionFrame, Frame, Head,
+    Before, DeclarationFrame, DeclaratorFrame, Doing, ExpressionFrame, Frame, Head,
     InitialiserFrame, Inside, Manner, Open, SpecifiersFrame, StatementFrame,
 };
 pub use machine::Machine;

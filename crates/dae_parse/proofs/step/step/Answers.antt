@@ -25,7 +25,8 @@ returns-in-Itemed c = λ d s shows.
 
 pub returns-in-Finishing : goal.returns-in-Finishing
 returns-in-Finishing c = λ d s shows.
-    let i = does_finishing c.in-Finishing.place c.in-Finishing.body c.in-Finishing.word c.in-Finishing.paren c.in-Finishing.test (λ (u : plain.Doing). (b : Statement) × (e : Expression) × (u ≡ plain.finishing c.in-Finishing.place b c.in-Finishing.word c.in-Finishing.paren e) × ShowsStatement c.in-Finishing.body b × ShowsOperand c.in-Finishing.test e) d (subst (λ (g : Doing). ShowsDoing g d) c.in-Finishing.is shows) (λ b e x0 x1. (b, e, refl, x0, x1)) in
+    let parts = c.in-Finishing.parts in
+    let i = does_finishing parts (λ (u : plain.Doing). (b : Statement) × (e : Expression) × (u ≡ plain.finishing parts.place b parts.word parts.paren e) × ShowsStatement parts.body b × ShowsOperand parts.test e) d (subst (λ (g : Doing). ShowsDoing g d) c.in-Finishing.is shows) (λ b e x0 x1. (b, e, refl, x0, x1)) in
     rw i.2 (λ stands holds bottom count. c.read_do_end.ensures i.0 i.1 i.3 i.4 s stands)
 
 pub returns-in-Operated : goal.returns-in-Operated
