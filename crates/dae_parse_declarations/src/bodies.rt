@@ -3,6 +3,7 @@
 ghost use Rattle.std.specs.Prelude.{◌∷◌, List, IfOk};
 ghost use Rattle.dae_tree.specs.Words.{with_whole};
 ghost use Rattle.dae_tree.specs.Trees.{Specifier, StructureBody, EnumerationBody, no_members as no_members_tree, no_enumerators as no_enumerators_tree};
+ghost use Rattle.dae_tree.specs.Views.{has_comma};
 ghost use Rattle.dae_tree.specs.Lists as lists;
 ghost use Rattle.dae_parse_grammar.specs.Frames as plain;
 ghost use Rattle.dae_parse_grammar.specs.Frames.{Frame as PlainFrame};
@@ -18,7 +19,7 @@ use dae_parse_nodes::{
 };
 use dae_parse_parts::{CONDITIONAL, Read};
 use dae_parse_states::{Doing, ExpressionFrame, Frame, Machine, SpecifiersFrame};
-use dae_tree::{Enumerator, Member, Name, Seen, Sign};
+use dae_tree::{Enumerator, Member, Name, Seen, Sign, TrailingComma};
 use std::alloc::{AllocError, Global};
 
 /// Behind `struct` or `enum` (C90 6.5.2).
@@ -195,7 +196,7 @@ pub fn read_behind_enumerator(
         return Ok(Some(Doing::Entering(body, list)));
     }
     if machine.rest.take_sign(Sign::RightBrace).is_some() {
-        return Ok(Some(close_enumeration(machine.alloc, body, list, false)?));
+        return Ok(Some(close_enumeration(machine.alloc, body, list, TrailingComma::Absent)?));
     }
     Ok(None)
 }
@@ -212,7 +213,7 @@ pub fn read_behind_comma(
         → Steps machine.old result machine.new (comma_followed b es e) }
 {
     if machine.rest.take_sign(Sign::RightBrace).is_some() {
-        return Ok(Some(close_enumeration(machine.alloc, body, list, true)?));
+        return Ok(Some(close_enumeration(machine.alloc, body, list, TrailingComma::Present)?));
     }
     Ok(Some(Doing::Enumerating(body, list)))
 }
@@ -222,12 +223,12 @@ fn close_enumeration(
     alloc: Global,
     body: Body,
     list: Read<Vec<Enumerator>>,
-    comma: bool,
+    comma: TrailingComma,
 ) -> Result<Doing, AllocError>
     ensures { (b : plain.Body) (es : List lists.Entry) → ShowsBody body b → ShowsEnumerators list es
         → IfOk result (λ d. ShowsDoing d
         (plain.specifying (with_whole b.seen) (EnumerationBody b.place b.tag b.brace
-        (enumerators_onto es no_enumerators_tree) comma ∷ b.before))) }
+        (enumerators_onto es no_enumerators_tree) (has_comma comma) ∷ b.before))) }
 {
     let seen = body.seen;
     let more = with_enumeration_body(alloc, body, list, comma)?;

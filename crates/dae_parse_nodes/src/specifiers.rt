@@ -3,6 +3,7 @@
 ghost use Rattle.std.specs.Prelude.{◌≡◌, List, [], ◌∷◌, Option, Some, None, IfOk, ◌||◌};
 ghost use Rattle.dae_tree.specs.Trees as tree;
 ghost use Rattle.dae_tree.specs.Depth.{place_of_specifier};
+ghost use Rattle.dae_tree.specs.Views.{has_comma};
 ghost use Rattle.dae_tree.specs.Lists as lists;
 ghost use Rattle.dae_parse_grammar.specs.Frames as frames;
 ghost use Rattle.dae_parse_grammar.specs.Machine.{specifiers_onto, members_onto, enumerators_onto, declarators_onto};
@@ -11,7 +12,7 @@ ghost use Rattle.dae_parse_nodes.specs.Parts.{specifier_word, says_typedef, void
 use crate::values::{Body, Declared, Operand, Specified};
 use dae_base::Place;
 use dae_parse_parts::{Read, beside, flat, longer, over};
-use dae_tree::{Declarator, Enumerator, Keyword, Member, Name, Specifier};
+use dae_tree::{Declarator, Enumerator, Keyword, Member, Name, Specifier, TrailingComma};
 use std::alloc::{AllocError, Global};
 
 /// No specifiers.
@@ -181,7 +182,7 @@ pub fn with_enumeration_body(
     alloc: Global,
     body: Body,
     enumerators: Read<Vec<Enumerator>>,
-    comma: bool,
+    comma: TrailingComma,
 ) -> Result<Specified, AllocError>
     ensures { (ws : List tree.Specifier) (es : List lists.Entry)
         → ShowsSpecified body.before (specifiers_onto ws tree.no_specifiers)
@@ -190,7 +191,8 @@ pub fn with_enumeration_body(
         (λ r. ShowsSpecified r
         (specifiers_onto
         (tree.EnumerationBody body.place body.tag body.brace
-        (enumerators_onto es tree.no_enumerators) comma ∷ ws) tree.no_specifiers)) }
+        (enumerators_onto es tree.no_enumerators) (has_comma comma) ∷ ws)
+        tree.no_specifiers)) }
 {
     let Body {
         place,
