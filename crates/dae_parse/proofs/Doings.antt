@@ -4,7 +4,7 @@ use Rattle.dae_parse_nodes.specs.Parts.{ShowsOperand, ShowsOptional, ShowsSpecif
 use Rattle.dae_parse_grammar.specs.Frames as plain
 use Rattle.dae_parse_nodes.specs.declared.values.DoParts.{DoParts}
 use Rattle.dae_parse_states.specs.declared.frames.Doing.TheVariants as doing
-use Rattle.dae_parse_states.specs.Frames.{ShowsBefore, ShowsBody, ShowsDoing, manner_of}
+use Rattle.dae_parse_states.specs.Frames.{ShowsBefore, ShowsBody, ShowsDoing, is_structure_kind, manner_of}
 
 pub does_enumerated : (b : _) (xs : _) (n : _) (P : plain.Doing → Type 0) (does : plain.Doing) → ShowsDoing (doing.Enumerated b xs n) does
     → ((a : _) (es : _) → ShowsBody b a → ShowsEnumerators xs es → P (plain.enumerated a es n)) → P does
@@ -37,7 +37,7 @@ does_calling a p l P (plain.calling e q k) shows next = rw (← shows.1, ← sho
 does_calling a p l P _ shows next = absurd shows
 
 pub does_tagged : (b : _) (p : _) (n : _) (w : _) (ws : _) (P : plain.Doing → Type 0) (does : plain.Doing) → ShowsDoing (doing.Tagged b p n w ws) does
-    → ((before : _) → ShowsBefore ws before → P (plain.tagged b p n w before)) → P does
+    → ((before : _) → ShowsBefore ws before → P (plain.tagged (is_structure_kind b) p n w before)) → P does
 does_tagged b p n w ws P (plain.tagged c q m t before) shows next = rw (← shows.0, ← shows.1, ← shows.2, ← shows.3) (next before shows.4)
 does_tagged b p n w ws P _ shows next = absurd shows
 
