@@ -7,10 +7,10 @@ use Rattle.dae_tree.specs.declared.faults.LexError.{LexError}
 use Rattle.dae_lex.specs.declared.macros.Macros.{Macros}
 use Rattle.dae_lex.specs.declared.numbers.Numbers.{Numbers}
 use Rattle.dae_lex.specs.declared.output.Output.{Output}
-use Rattle.dae_lex.specs.declared.pieces.Piece.{Piece}
+use Rattle.dae_lex_scan.specs.declared.pieces.Piece.{Piece}
 use Rattle.dae_lex.specs.declared.replace.Open.{Open}
 use Rattle.dae_lex.specs.declared.replace.Stack.{Stack}
-use Rattle.dae_lex.specs.Cuts.{cut_of}
+use Rattle.dae_lex_scan.specs.Cuts.{cut_of}
 use Rattle.dae_lex.specs.Numbers.{IsName, IsNumbered, cuts_of, definitions_of}
 use Rattle.dae_lex.specs.Settling.{State, Fails, settle, state_of}
 

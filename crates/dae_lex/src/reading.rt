@@ -4,17 +4,16 @@ ghost use Rattle.std.specs.Prelude.{◌≡◌, ◌≤◌, ◌<◌, ◌^◌, leng
 ghost use Rattle.dae_tree.specs.Tokens.{reads_of, tested_in, tokens_of, Answers};
 ghost use Rattle.dae_tree.specs.declared.faults.LexError.TheVariants.{Memory};
 ghost use Rattle.dae_tree.specs.Order.{HasLeastPlace};
-ghost use Rattle.dae_lex.specs.Cuts.{cut_of};
+ghost use Rattle.dae_lex_scan.specs.Cuts.{cut_of};
 ghost use Rattle.dae_lex.specs.Settling.{Fails, AreRead, IsMeant, read_of};
 ghost use Rattle.dae_lex.specs.Whole.{items_of_pieces, HasRead, Meets, SpansFrom, reading_with, span};
 
 use crate::directives::take_lines;
 use crate::finish::{Builder, build, own_names};
-use crate::lines::join_lines;
 use crate::numbers::Numbers;
 use crate::output::{Output, ReadToken};
-use crate::pieces::{Piece, cut_pieces};
 use dae_base::{Items, Place};
+use dae_lex_scan::{Piece, cut_pieces, join_lines};
 use dae_tree::{Includes, LexError, Room, Tokens};
 use std::alloc::Global;
 

@@ -3,7 +3,7 @@
 ghost use Rattle.std.specs.Prelude.{◌≡◌, ◌≤◌, ◌<◌, ◌+◌, ◌^◌, ◌++◌, ℕ, [], ◌∷◌, None, nat_eq, length, option_map, is_some, OnOk, IfErr, IfSome, MatchOption, All};
 ghost use Rattle.std.specs.Map.{lookup};
 ghost use Rattle.dae_tree.specs.Replacing.{expand, replaced};
-ghost use Rattle.dae_lex.specs.Cuts.{cut_of};
+ghost use Rattle.dae_lex_scan.specs.Cuts.{cut_of};
 ghost use Rattle.dae_lex.specs.Numbers.{IsName, IsNumbered, AreDefined, cuts_of, definitions_of};
 ghost use Rattle.dae_lex.specs.Settling.{Settles, AreRead, state_of, settle};
 ghost use Rattle.dae_lex.specs.Pending.{AreOpen, frames_of, replacement_in, settling, work_of, Follows};
@@ -13,7 +13,7 @@ ghost use Rattle.dae_tree.specs.declared.faults.LexError.TheVariants.{Memory};
 use crate::macros::Macros;
 use crate::numbers::{NumberedPiece, Numbers};
 use crate::output::Output;
-use crate::pieces::Piece;
+use dae_lex_scan::Piece;
 use dae_tree::{LexError, PieceKind};
 use indexmap::IndexMap;
 use std::alloc::Global;

@@ -4,15 +4,15 @@ use Rattle.std.specs.List.{flat_map}
 use Rattle.std.proofs.lemmas.List.{take_rest, length-drop, map-append}
 use Rattle.std.proofs.lemmas.Grind.{flat_map-append}
 use Rattle.dae_tree.specs.Forms.{form}
-use Rattle.dae_lex.specs.Cuts.{cut_of}
-use Rattle.dae_lex.specs.Cuts.{chars}
+use Rattle.dae_lex_scan.specs.Cuts.{cut_of}
+use Rattle.dae_lex_scan.specs.Cuts.{chars}
 use Rattle.dae_tree.specs.Pieces.{Cut, piece}
-use Rattle.dae_lex.proofs.Cutting.{cut_more, cut_all, piece_span, piece_place, spelled_more, spelled_all}
+use Rattle.dae_lex_scan.proofs.Cutting.{cut_more, cut_all, piece_span, piece_place, spelled_more, spelled_all}
 use Rattle.dae_tree.specs.Lines.{start_of}
-use Rattle.dae_lex.proofs.Places.{place_before, before_low, before_next, spots_within, places_push, places_wider, places_from}
-use Rattle.dae_lex.proofs.Rising.{bound, bound_below, bound_next, bound_end, rise_within}
-use Rattle.dae_lex.proofs.Spans.{follow_push, follow_wider}
-use Rattle.dae_lex.proofs.pieces.cut_pieces.Goals as goal
+use Rattle.dae_lex_scan.proofs.InOrder.{place_before, before_low, before_next, spots_within, places_push, places_wider, places_from}
+use Rattle.dae_lex_scan.proofs.Rising.{bound, bound_below, bound_next, bound_end, rise_within}
+use Rattle.dae_lex_scan.proofs.Following.{follow_push, follow_wider}
+use Rattle.dae_lex_scan.proofs.pieces.cut_pieces.Goals as goal
 
 pub loop-at-preserved : goal.loop-at-preserved
 loop-at-preserved c =

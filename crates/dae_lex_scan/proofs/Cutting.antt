@@ -6,7 +6,7 @@ use Rattle.dae_tree.specs.declared.pieces.Form.{Form}
 use Rattle.dae_tree.specs.Lines.{Char, bytes_of, spots_of, start_of}
 use Rattle.dae_tree.specs.Forms.{form}
 use Rattle.dae_tree.specs.Pieces.{Cut, cut, piece}
-use Rattle.dae_lex.specs.Cuts.{chars}
+use Rattle.dae_lex_scan.specs.Cuts.{chars}
 
 drop_map : {A B : Type 0} (f : A → B) (n : ℕ) (xs : List A) → map f (drop n xs) ≡ drop n (map f xs)
 drop_map f zero xs = refl

@@ -2,9 +2,9 @@ use Rattle.std.proofs.Common.{◌≡◌, ◌+◌, ◌-◌, suc, ap, sym, ◌∙�
 use Rattle.std.proofs.lemmas.List.{take_rest, drop_more, drop_all}
 use Rattle.dae_tree.specs.Lines.{bytes_of, spots_of, start_of, spot_behind, join_left}
 use Rattle.dae_tree.specs.declared.pieces.Spot.{Spot}
-use Rattle.dae_lex.proofs.Joining.{Within, within_more, keeps, skips, from_start, at_end}
-use Rattle.dae_lex.proofs.lines.join_lines.Goals as goal
-use Rattle.dae_lex.proofs.lines.join_lines.Goals.{then-joining-eq0+in_ok-push_byte+in_ok-push_spot, else-joining-eq0}
+use Rattle.dae_lex_scan.proofs.Joining.{Within, within_more, keeps, skips, from_start, at_end}
+use Rattle.dae_lex_scan.proofs.lines.join_lines.Goals as goal
+use Rattle.dae_lex_scan.proofs.lines.join_lines.Goals.{then-joining-eq0+in_ok-push_byte+in_ok-push_spot, else-joining-eq0}
 
 pub loop-i-init : goal.loop-i-init
 loop-i-init c =

@@ -1,8 +1,8 @@
 use Rattle.std.proofs.Common.{◌≡◌, ◌+◌, ◌-◌, take, drop, arith, ap, ◌∙◌}
 use Rattle.std.proofs.lemmas.List.{get_or_read, length-drop}
 use Rattle.dae_tree.specs.Lines.{start_of}
-use Rattle.dae_lex.proofs.Cutting.{piece_from}
-use Rattle.dae_lex.proofs.pieces.piece_at.Goals as goal
+use Rattle.dae_lex_scan.proofs.Cutting.{piece_from}
+use Rattle.dae_lex_scan.proofs.pieces.piece_at.Goals as goal
 
 pub returns : goal.returns
 returns c =

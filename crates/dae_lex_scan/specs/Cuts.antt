@@ -5,7 +5,7 @@ use Rattle.dae_base.specs.declared.Place.{Place}
 use Rattle.dae_tree.specs.Order.{IsNoLater}
 use Rattle.dae_tree.specs.Pieces.{Cut}
 use Rattle.dae_tree.specs.declared.pieces.Spot.{Spot}
-use Rattle.dae_lex.specs.declared.pieces.Piece.{Piece}
+use Rattle.dae_lex_scan.specs.declared.pieces.Piece.{Piece}
 
 abbrev pub cut_of : Piece → Cut
 cut_of p = record { kind = p.kind; spelling = p.spelling.now; start = p.start; end = p.end; place = p.place }

@@ -1,7 +1,7 @@
 use Rattle.std.proofs.Common.{◌≡◌, ◌++◌, drop}
 use Rattle.dae_tree.specs.Lines.{bytes_of, spots_of, start_of, spot_behind, joined_lines}
-use Rattle.dae_lex.proofs.Joining.{from, Within}
-use Rattle.dae_lex.proofs.lines.join_lines.Given as goal
+use Rattle.dae_lex_scan.proofs.Joining.{from, Within}
+use Rattle.dae_lex_scan.proofs.lines.join_lines.Given as goal
 
 abbrev pub invariant-loop-i : goal.invariant-loop-i
 invariant-loop-i l = record {

@@ -4,13 +4,13 @@ ghost use Rattle.std.specs.Prelude.{◌≡◌, ℕ, ◌≤◌, ◌<◌, ◌+◌,
 ghost use Rattle.std.specs.List.{flat_map};
 ghost use Rattle.dae_tree.specs.Forms.{IsWithin};
 ghost use Rattle.dae_tree.specs.Pieces.{cut, piece};
-ghost use Rattle.dae_lex.specs.Cuts.{cut_of, chars, Rise, FollowEachOther, SpotsFrom, PlacesFrom};
+ghost use Rattle.dae_lex_scan.specs.Cuts.{cut_of, chars, Rise, FollowEachOther, SpotsFrom, PlacesFrom};
 ghost use Rattle.dae_base.specs.declared.Place.{Place as Place_};
 ghost use Rattle.dae_tree.specs.declared.faults.LexError.TheVariants.{Memory};
 
+use crate::forms::form_at;
 use crate::lines::Joined;
 use dae_base::Place;
-use dae_lex_scan::form_at;
 use dae_tree::{Form, LexError, PieceKind};
 use std::alloc::Global;
 

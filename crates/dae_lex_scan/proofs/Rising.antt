@@ -2,8 +2,8 @@
 use Rattle.std.proofs.Common.{◌≡◌, ℕ, zero, suc, ◌+◌, ◌-◌, ◌<◌, ◌≤◌, List, [], ◌∷◌, get_or, length, refl, ap, sym, subst, arith}
 use Rattle.dae_tree.specs.declared.pieces.Spot.{Spot}
 use Rattle.dae_tree.specs.Lines.{Char, spots_of, start_of, spot_after, placed, join_left, without_joins, joined_lines}
-use Rattle.dae_lex.specs.Cuts.{Rise}
-use Rattle.dae_lex.proofs.Joining.{next, front}
+use Rattle.dae_lex_scan.specs.Cuts.{Rise}
+use Rattle.dae_lex_scan.proofs.Joining.{next, front}
 
 rise_end : (ss : List Spot) (e b : ℕ) → Rise e ss b → e ≤ b
 rise_end [] e b h = h

@@ -6,8 +6,8 @@ use Rattle.dae_base.specs.declared.Place.{Place}
 use Rattle.dae_tree.specs.declared.pieces.Spot.{Spot}
 use Rattle.dae_tree.specs.Lines.{Char, spots_of, start_of, spot_after, placed, join_left, without_joins, joined_lines}
 use Rattle.dae_tree.specs.Order.{IsNoLater}
-use Rattle.dae_lex.specs.Cuts.{SpotsFrom, PlacesFrom}
-use Rattle.dae_lex.proofs.Joining.{next, front}
+use Rattle.dae_lex_scan.specs.Cuts.{SpotsFrom, PlacesFrom}
+use Rattle.dae_lex_scan.proofs.Joining.{next, front}
 
 pub same_place : (p : Place) → IsNoLater p p
 same_place p = inr (refl, omega arith)

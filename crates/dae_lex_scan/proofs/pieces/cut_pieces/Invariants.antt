@@ -1,11 +1,11 @@
 use Rattle.std.proofs.Common.{◌≡◌, ℕ, ◌++◌, ◌≤◌, ◌-◌, length, drop, map}
 use Rattle.std.specs.List.{flat_map}
 use Rattle.dae_tree.specs.Pieces.{cut}
-use Rattle.dae_lex.specs.Cuts.{cut_of, chars, Rise, FollowEachOther, SpotsFrom}
+use Rattle.dae_lex_scan.specs.Cuts.{cut_of, chars, Rise, FollowEachOther, SpotsFrom}
 use Rattle.dae_base.specs.declared.Place.{Place}
-use Rattle.dae_lex.proofs.Places.{PlacesTo, place_before}
-use Rattle.dae_lex.proofs.Rising.{bound}
-use Rattle.dae_lex.proofs.pieces.cut_pieces.Given as goal
+use Rattle.dae_lex_scan.proofs.InOrder.{PlacesTo, place_before}
+use Rattle.dae_lex_scan.proofs.Rising.{bound}
+use Rattle.dae_lex_scan.proofs.pieces.cut_pieces.Given as goal
 
 abbrev pub invariant-loop-at : goal.invariant-loop-at
 invariant-loop-at l = record {
