@@ -11,11 +11,11 @@ ghost use Rattle.dae_parse_nodes.specs.Parts.{ShowsOperand, ShowsOptional, Shows
 ghost use Rattle.dae_parse_states.specs.Frames.{ShowsHead, ShowsInside};
 ghost use Rattle.dae_parse_states.specs.States.{Stands, Follows, outside_stack, frames_of, Steps};
 
-use dae_base::Place;
-use dae_parse_nodes::{
-    DoParts, Loop, Operand, block, break_statement, continue_statement, do_statement,
-    empty_statement, no_declarations, no_specifiers, no_statements, return_statement,
+use crate::nodes::{
+    block, break_statement, continue_statement, do_statement, empty_statement, return_statement,
 };
+use dae_base::Place;
+use dae_parse_nodes::{DoParts, Loop, Operand, no_declarations, no_specifiers, no_statements};
 use dae_parse_parts::{COMMA, CONDITIONAL, Read};
 use dae_parse_states::{
     DeclarationFrame, Doing, ExpressionFrame, Frame, FunctionBody, Head, Inside, Machine,

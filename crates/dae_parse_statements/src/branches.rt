@@ -9,11 +9,12 @@ ghost use Rattle.dae_parse_nodes.specs.Parts.{ShowsOperand, ShowsOptional, Shows
 ghost use Rattle.dae_parse_states.specs.Frames.{ShowsInside};
 ghost use Rattle.dae_parse_states.specs.States.{Stands, Follows, outside_stack, Steps};
 
-use dae_base::Place;
-use dae_parse_nodes::{
-    Loop, Operand, case_statement, default_statement, for_statement, if_else_statement,
-    if_statement, switch_statement, while_statement, with_statement,
+use crate::nodes::{
+    case_statement, default_statement, for_statement, if_else_statement, if_statement,
+    switch_statement, while_statement, with_statement,
 };
+use dae_base::Place;
+use dae_parse_nodes::{Loop, Operand};
 use dae_parse_parts::Read;
 use dae_parse_states::{Doing, Frame, Head, Inside, Machine, StatementFrame, StatementKind};
 use dae_tree::{Keyword, Statement};

@@ -9,8 +9,9 @@ ghost use Rattle.dae_parse_nodes.specs.Parts.{ShowsOperand, ShowsOptional, Shows
 ghost use Rattle.dae_parse_states.specs.Frames.{ShowsHead};
 ghost use Rattle.dae_parse_states.specs.States.{Steps};
 
+use crate::nodes::{evaluation, return_statement};
 use dae_base::Place;
-use dae_parse_nodes::{DoParts, Loop, Operand, evaluation, return_statement};
+use dae_parse_nodes::{DoParts, Loop, Operand};
 use dae_parse_states::{Doing, Frame, Head, Machine, StatementFrame, StatementKind};
 use dae_tree::Sign;
 use std::alloc::AllocError;
