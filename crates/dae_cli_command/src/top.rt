@@ -12,7 +12,7 @@ use dae_cli_drive::{Stop, noted};
 use dae_cli_guard_job::guard;
 use dae_cli_image_jobs::exec;
 use dae_cli_listing_job::dis;
-use dae_cli_source_jobs::{big, compile_files, report, run};
+use dae_cli_source_jobs::{SourceOptions, big, compile_files, report, run};
 use dae_cli_time_job::{TimeOptions, time};
 use dae_cli_trace_jobs::{check, trace};
 use dae_cli_words::{Job, spelled_job};
@@ -50,10 +50,15 @@ pub fn dae_main<F: Shelf, O: Sink, N: Sink>(
     };
     match job {
         Job::Run(compiled, options, files) => {
-            run(alloc, files, compiled, &options, shelf, out, note)
+            let options = SourceOptions {
+                compiled,
+                run: options,
+            };
+            run(alloc, files, &options, shelf, out, note)
         }
-        Job::Big(compiled, options, functions) => {
-            big(alloc, functions, compiled, &options, out, note)
+        Job::Big(compiled, run, functions) => {
+            let options = SourceOptions { compiled, run };
+            big(alloc, functions, &options, out, note)
         }
         Job::Exec(options, name) => exec(alloc, name, &options, shelf, out, note),
         Job::Compile(options, to, files) => compile_files(alloc, files, options, to, shelf, note),

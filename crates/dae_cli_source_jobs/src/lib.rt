@@ -5,12 +5,14 @@
 
 pub use compile::compile_files;
 pub use numbered::big;
+pub use options::SourceOptions;
 pub use reporting::report;
 pub use running::run;
 
 mod compile;
 mod fetching;
 mod numbered;
+mod options;
 mod reporting;
 mod running;
 mod sources;

@@ -9,9 +9,10 @@ ghost use Rattle.dae_cli_files.specs.ImageFiles.{NoneOf};
 ghost use Rattle.dae_compile.specs.Images.{IsImageOf};
 ghost use Rattle.dae_cli_source_jobs.specs.Numbers.{DueOfBig};
 
+use crate::options::SourceOptions;
 use crate::sources::compilation_of_texts;
 use dae_big::{big_name, big_source};
-use dae_cli_drive::{RunOptions, Stop, run_image};
+use dae_cli_drive::{Stop, run_image};
 use dae_compile::Options;
 use dae_image::Image;
 use dae_io::Sink;
@@ -21,19 +22,18 @@ use std::alloc::{AllocError, Global};
 pub fn big<O: Sink, N: Sink>(
     alloc: Global,
     number: u16,
-    compiled: Options,
-    options: &RunOptions,
+    options: &SourceOptions,
     out: &mut O,
     note: &mut N,
 ) -> u8
     requires { number ≤ 900 }
-    ensures gives { GivesDue (DueOfBig number compiled (λ image. DueOfImage image options.now))
-        result (sinks (O.seen out.old) (N.seen note.old))
-        (sinks (O.seen out.new) (N.seen note.new)) }
+    ensures gives { GivesDue
+        (DueOfBig number options.now.compiled (λ image. DueOfImage image options.now.run)) result
+        (sinks (O.seen out.old) (N.seen note.old)) (sinks (O.seen out.new) (N.seen note.new)) }
     ensures unopened { result ≡ 7 → O.seen out.new ≡ O.seen out.old }
 {
-    match image_of_big(alloc, number, compiled) {
-        Ok(image) => run_image(alloc, &image, options, out, note),
+    match image_of_big(alloc, number, options.compiled) {
+        Ok(image) => run_image(alloc, &image, &options.run, out, note),
         Err(stop) => stop.tell(note),
     }
 }

@@ -6,9 +6,9 @@ ghost use Rattle.dae_cli_drive.specs.Puts.{GivesDue, sinks};
 ghost use Rattle.dae_cli_files.specs.Shelves.{KeepsNothing, shelf_seen};
 ghost use Rattle.dae_cli_source_jobs.specs.Sources.{DueOfFiles};
 
+use crate::options::SourceOptions;
 use crate::sources::image_of_files;
-use dae_cli_drive::{RunOptions, run_image};
-use dae_compile::Options;
+use dae_cli_drive::run_image;
 use dae_io::{Shelf, Sink};
 use std::alloc::Global;
 
@@ -16,8 +16,7 @@ use std::alloc::Global;
 pub fn run<F: Shelf, O: Sink, N: Sink>(
     alloc: Global,
     files: &[String],
-    compiled: Options,
-    options: &RunOptions,
+    options: &SourceOptions,
     shelf: &mut F,
     out: &mut O,
     note: &mut N,
@@ -25,13 +24,13 @@ pub fn run<F: Shelf, O: Sink, N: Sink>(
     requires { AreFiles (map string_bytes files.now) }
     ensures gives { GivesDue (DueOfFiles (map string_bytes files.now)
         (shelf_seen F.told F.count F.last F.given shelf.old shelf.new)
-        compiled (λ image. DueOfImage image options.now)) result
+        options.now.compiled (λ image. DueOfImage image options.now.run)) result
         (sinks (O.seen out.old) (N.seen note.old)) (sinks (O.seen out.new) (N.seen note.new)) }
     ensures kept { KeepsNothing (shelf_seen F.told F.count F.last F.given shelf.old shelf.new) }
     ensures unopened { result ≡ 7 → O.seen out.new ≡ O.seen out.old }
 {
-    match image_of_files(alloc, files, compiled, shelf) {
-        Ok(image) => run_image(alloc, &image, options, out, note),
+    match image_of_files(alloc, files, options.compiled, shelf) {
+        Ok(image) => run_image(alloc, &image, &options.run, out, note),
         Err(stop) => stop.tell(note),
     }
 }

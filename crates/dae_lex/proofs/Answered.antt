@@ -1,5 +1,5 @@
 -- From what was read of the pieces to what is read of the text.
-use Rattle.std.proofs.Common.{◌≡◌, ℕ, Bool, List, [], map, subst, ap, sym, ◌∙◌, Result, Ok, Err}
+use Rattle.std.proofs.Common.{◌≡◌, ℕ, List, map, subst, ap, sym, ◌∙◌, Result, Ok, Err}
 use Rattle.dae_base.specs.declared.Place.{Place}
 use Rattle.dae_tree.specs.declared.headers.Header.TheVariants.{Stdio, Stdlib}
 use Rattle.dae_tree.specs.declared.tokens.Includes.{Includes}
@@ -11,10 +11,10 @@ use Rattle.dae_tree.specs.Pieces.{Cut, cut}
 use Rattle.dae_tree.specs.Replacing.{Read, Item}
 use Rattle.dae_tree.specs.Directives.{lines_of, includes}
 use Rattle.dae_tree.specs.Reading.{Reading}
-use Rattle.dae_tree.specs.Tokens.{joined, numbered, names_after, literals_after, reads_of, room_after, with_room, tokens_of}
+use Rattle.dae_tree.specs.Tokens.{reads_of, room_after, with_room, tokens_of}
 use Rattle.dae_lex.specs.declared.output.Output.{Output}
 use Rattle.dae_lex.specs.Settling.{read_of, Fails}
-use Rattle.dae_lex.specs.Whole.{items_of_pieces, HasRead}
+use Rattle.dae_lex.specs.Whole.{items_of_pieces, HasRead, reading_with}
 
 abbrev by_pieces : ℕ → List ℕ → Room → List Cut → Result (Reading × Room) LexError
 by_pieces file text room ps = with_room file text room (lines_of ps) (items_of_pieces room ps) (reads_of room (items_of_pieces room ps))
@@ -28,17 +28,6 @@ failed_room file text room ls items (Ok rs) (Refused c p) h = absurd (cc)
 failed_room file text room ls items (Err f) (BadByte p) h = let k : f ≡ BadByte p = cc in ap Err k
 failed_room file text room ls items (Err f) (TooManyTokens p) h = let k : f ≡ TooManyTokens p = cc in ap Err k
 failed_room file text room ls items (Err f) (Refused c p) h = let k : f ≡ Refused c p = cc in ap Err k
-
-abbrev pub reading_with : List ℕ → List Read → Bool → Bool → Place → Reading
-reading_with text rs stdio stdlib end = record {
-  text = text;
-  tokens = numbered [] [] (joined rs);
-  names = names_after [] (joined rs);
-  literals = literals_after [] (joined rs);
-  stdio = stdio;
-  stdlib = stdlib;
-  end = end;
-}
 
 abbrev answer_of : Reading → Room → Result (Reading × Room) LexError
 answer_of r left = Ok (r, left)

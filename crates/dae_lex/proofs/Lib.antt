@@ -1,5 +1,3 @@
-mod Joining
-mod Cutting
 mod Positions
 mod Entries
 mod Kept
@@ -11,8 +9,6 @@ mod LineSteps
 mod Rows
 mod Whole
 mod Spans
-mod Rising
 mod Numbering
 mod Answered
-mod Places
 mod Refusals

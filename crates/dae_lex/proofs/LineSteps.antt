@@ -7,8 +7,8 @@ use Rattle.dae_tree.specs.Pieces.{Cut}
 use Rattle.dae_tree.specs.Replacing.{Definition, expand}
 use Rattle.dae_tree.specs.Directives.{is_blank_kind, marks_of, is_end_kind, goes_on, lines_of, line_of, with_first, replaced_text, inclusion_of, is_of, includes}
 use Rattle.dae_tree.specs.declared.headers.Header.{Header}
-use Rattle.dae_lex.specs.declared.pieces.Piece.{Piece}
-use Rattle.dae_lex.specs.Cuts.{cut_of}
+use Rattle.dae_lex_scan.specs.declared.pieces.Piece.{Piece}
+use Rattle.dae_lex_scan.specs.Cuts.{cut_of}
 
 -- the first line, by how far it goes
 tail_lines : (p : Cut) (ps : List Cut) (m : ℕ) → (ps ≡ [] → m ≡ 0) → (0 < length ps → lines_of ps ≡ take m ps ∷ lines_of (drop (suc m) ps))

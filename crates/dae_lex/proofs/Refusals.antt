@@ -21,9 +21,9 @@ use Rattle.dae_tree.specs.Replacing.{Meaning, Definition, Item, taken, replaced,
 use Rattle.dae_tree.specs.Directives.{Line, text, refuse, define, include, header_definitions, is_hash_kind, is_blank_kind, is_end_kind, lines_of, with_first, from_mark, stray, stray_by, body_fault_by, first_fault, begins_call, defined_unless, definition_in, header_in, alone, inclusion_in, directive_in, line_in, line_of, known_as, conflict_items, definition_items, with_definition, replaced_text, line_items, macros_after, replaced_lines}
 use Rattle.dae_tree.specs.Tokens.{tested_of}
 use Rattle.dae_tree.specs.Order.{IsNoLater, place_of_error, refusals, HasLeastPlace}
-use Rattle.dae_lex.specs.Cuts.{PlacesFrom}
+use Rattle.dae_lex_scan.specs.Cuts.{PlacesFrom}
 use Rattle.dae_lex.specs.Settling.{Fails}
-use Rattle.dae_lex.proofs.Places.{same_place, later, places_earlier, places_all}
+use Rattle.dae_lex_scan.proofs.Laws.{same_place, later, places_earlier, places_all}
 use Rattle.dae_lex.proofs.Spans.{concat, concat_first}
 
 -- the places of items

@@ -5,7 +5,7 @@ use Rattle.std.proofs.lemmas.List.{drop_more}
 use Rattle.dae_base.specs.declared.Place.{Place}
 use Rattle.dae_tree.specs.Replacing.{Definition}
 use Rattle.dae_tree.specs.Directives.{known_as, conflict_items, definition_items, with_definition, with_definitions, number_macro}
-use Rattle.dae_lex.specs.Reading.{rows_of}
+use Rattle.dae_lex.specs.Rows.{rows_of}
 
 abbrev pub no_row : Bor (List ℕ) × Bor (List ℕ)
 no_row = (record { ref_ptr = (0, 0); now = [] }, record { ref_ptr = (0, 0); now = [] })

@@ -12,7 +12,7 @@ use Rattle.dae_tree.specs.Pieces.{Cut}
 use Rattle.dae_tree.specs.Replacing.{Definition, Item, taken, replaced, refused, Read, items_by, items_of, replacement, expand}
 use Rattle.dae_tree.specs.Directives.{Line, text, is_hash_kind, is_end_kind, lines_of, with_first, from_mark, stray, stray_by, first_fault, begins_call, defined_unless, definition_in, header_in, alone, inclusion_in, directive_in, line_in, line_of, known_as, conflict_items, definition_items, with_definition, replaced_text, line_items, macros_after, replaced_lines}
 use Rattle.dae_tree.specs.Tokens.{literal_of, before, before_by, joined}
-use Rattle.dae_lex.specs.Cuts.{FollowEachOther}
+use Rattle.dae_lex_scan.specs.Cuts.{FollowEachOther}
 use Rattle.dae_lex.specs.Whole.{span, origins, SpansFrom}
 
 earlier : (s e t f : ℕ) (xs : List (ℕ × ℕ)) (b : ℕ) → t ≤ s → f ≤ e → SpansFrom s e xs b → SpansFrom t f xs b
@@ -73,7 +73,7 @@ steps_same x (y ∷ xs) ys s e b a h k l m rest =
     (h, k, l, m, steps_same x xs ys x.0 x.1 b a.1 (omega arith) (omega arith) l m rest)
 
 -- pieces
-pub follow_end : (e : ℕ) (ps : List Cut) (b : ℕ) → FollowEachOther e ps b → e ≤ b
+follow_end : (e : ℕ) (ps : List Cut) (b : ℕ) → FollowEachOther e ps b → e ≤ b
 follow_end e [] b h = h
 follow_end e (p ∷ ps) b h = let u = h.0 in let v = h.1 in omega (arith, follow_end p.end ps b h.2)
 
@@ -85,14 +85,6 @@ follow_skip : (e : ℕ) (ps qs : List Cut) (b : ℕ) → FollowEachOther e (ps +
 follow_skip e [] qs b h = h
 follow_skip e (p ∷ ps) qs b h =
     let u = h.0 in let v = h.1 in follow_earlier p.end e qs b (omega arith) (follow_skip p.end ps qs b h.2)
-
-pub follow_push : (e : ℕ) (ps : List Cut) (b : ℕ) (p : Cut) → FollowEachOther e ps b → b ≤ p.start → p.start < p.end → FollowEachOther e (ps ++ p ∷ []) p.end
-follow_push e [] b p h k l = (omega arith, l, omega arith)
-follow_push e (q ∷ qs) b p h k l = (h.0, h.1, follow_push q.end qs b p h.2 k l)
-
-pub follow_wider : (e : ℕ) (ps : List Cut) (b c : ℕ) → FollowEachOther e ps b → b ≤ c → FollowEachOther e ps c
-follow_wider e [] b c h k = omega arith
-follow_wider e (p ∷ ps) b c h k = (h.0, h.1, follow_wider p.end ps b c h.2 k)
 
 -- the pieces of all lines
 abbrev pub concat : List (List Cut) → List Cut

@@ -1,7 +1,6 @@
-pub mod Cuts
 pub mod Numbers
 pub mod Settling
 pub mod Pending
-pub mod Reading
+pub mod Rows
 pub mod Finishing
 pub mod Whole

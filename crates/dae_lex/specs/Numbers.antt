@@ -11,7 +11,7 @@ use Rattle.dae_lex.specs.declared.numbers.Numbers.{Numbers}
 use Rattle.dae_lex.specs.declared.numbers.NumberedPiece.{NumberedPiece}
 use Rattle.dae_lex.specs.declared.macros.Macro.{Macro}
 use Rattle.dae_lex.specs.declared.macros.Macros.{Macros}
-use Rattle.dae_lex.specs.Cuts.{cut_of}
+use Rattle.dae_lex_scan.specs.Cuts.{cut_of}
 
 abbrev pub words_of : Numbers → List (List ℕ)
 words_of w = map (λ k. k.now) w.words.keys

@@ -1,14 +1,18 @@
 -- Replacements that aren't over, the outermost first, and what they still give.
-use Rattle.std.specs.Prelude.{◌≡◌, ℕ, pred, ◌+◌, ◌*◌, ◌^◌, List, [], ◌∷◌, ◌++◌, map, length, Result, Ok, Err, All}
+use Rattle.std.specs.Prelude.{◌≡◌, ℕ, pred, ◌+◌, ◌*◌, ◌^◌, List, [], ◌∷◌, ◌++◌, map, length, Option, Result, Ok, Err, All}
 use Rattle.std.specs.List.{flat_map, sum_by}
 use Rattle.dae_tree.specs.Pieces.{Cut}
-use Rattle.dae_tree.specs.Replacing.{Definition, Item, expand}
+use Rattle.dae_tree.specs.Replacing.{Definition, Item, expand, replacement}
 use Rattle.dae_tree.specs.declared.faults.LexError.{LexError}
+use Rattle.dae_lex.specs.declared.macros.Macros.{Macros}
 use Rattle.dae_lex.specs.declared.numbers.Numbers.{Numbers}
+use Rattle.dae_lex.specs.declared.output.Output.{Output}
+use Rattle.dae_lex_scan.specs.declared.pieces.Piece.{Piece}
 use Rattle.dae_lex.specs.declared.replace.Open.{Open}
 use Rattle.dae_lex.specs.declared.replace.Stack.{Stack}
-use Rattle.dae_lex.specs.Numbers.{IsName, IsNumbered, cuts_of}
-use Rattle.dae_lex.specs.Settling.{State, Fails}
+use Rattle.dae_lex_scan.specs.Cuts.{cut_of}
+use Rattle.dae_lex.specs.Numbers.{IsName, IsNumbered, cuts_of, definitions_of}
+use Rattle.dae_lex.specs.Settling.{State, Fails, settle, state_of}
 
 pub record Frame : Type 0 where
   pub name : List ℕ
@@ -28,11 +32,20 @@ AreOpen w s =
 abbrev pub names_of : List Frame → List (List ℕ)
 names_of fs = map (λ f. f.name) fs
 
+-- what a piece is replaced by, where these replacements aren't over
+abbrev pub replacement_in : Macros → Stack → Cut → Option (List Cut)
+replacement_in macros stack p = replacement (definitions_of macros) (names_of (frames_of stack)) p
+
 -- what the rest gives, where n replacements may stand in one another and these names were come from
 unfoldable pub pending : ℕ → List Definition → List (List ℕ) → Cut → List Frame → List Item
 pending n macros names origin [] = []
 pending n macros names origin (f ∷ inner) =
     pending (pred n) macros (names ++ f.name ∷ []) origin inner ++ flat_map (expand (pred n) macros (names ++ f.name ∷ []) origin) f.rest
+
+-- what settling gives of it
+abbrev pub settling : ℕ → Macros → Piece → Output → Stack → Result State LexError
+settling n macros origin out stack =
+    settle (state_of out) (pending n (definitions_of macros) [] (cut_of origin) (frames_of stack))
 
 -- what is left to do falls with each turn
 unfoldable pub work_of : ℕ → List Frame → ℕ

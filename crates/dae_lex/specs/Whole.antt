@@ -1,9 +1,11 @@
 -- What is read of the pieces of a text, and of the text.
-use Rattle.std.specs.Prelude.{◌≡◌, ℕ, ◌<◌, ◌≤◌, List, [], ◌∷◌, map, length, Result, Ok, Err}
+use Rattle.std.specs.Prelude.{◌≡◌, ℕ, ◌<◌, ◌≤◌, Bool, List, [], ◌∷◌, map, length, Result, Ok, Err}
+use Rattle.dae_base.specs.declared.Place.{Place}
 use Rattle.dae_tree.specs.Pieces.{Cut}
 use Rattle.dae_tree.specs.Replacing.{Item, taken, replaced, refused, Read}
 use Rattle.dae_tree.specs.Directives.{lines_of, replaced_lines, includes}
-use Rattle.dae_tree.specs.Tokens.{reads_of, room_after}
+use Rattle.dae_tree.specs.Reading.{Reading}
+use Rattle.dae_tree.specs.Tokens.{joined, numbered, names_after, literals_after, reads_of, room_after}
 use Rattle.dae_tree.specs.declared.headers.Header.TheVariants.{Stdio, Stdlib}
 use Rattle.dae_tree.specs.declared.tokens.Includes.{Includes}
 use Rattle.dae_tree.specs.declared.tokens.Room.{Room}
@@ -37,6 +39,18 @@ pub record HasRead (room : Room) (pieces : List Cut) (seen : Includes) (out : Ou
   pub stdlib : seen.stdlib ≡ includes Stdlib (lines_of pieces)
   pub spans : map span (map read_of out.tokens.items) ≡ origins (items_of_pieces room pieces)
   pub few : length out.tokens.items ≤ room.tokens
+
+-- a text with the tokens that were read of it, its literals joined
+abbrev pub reading_with : List ℕ → List Read → Bool → Bool → Place → Reading
+reading_with text rs stdio stdlib end = record {
+  text = text;
+  tokens = numbered [] [] (joined rs);
+  names = names_after [] (joined rs);
+  literals = literals_after [] (joined rs);
+  stdio = stdio;
+  stdlib = stdlib;
+  end = end;
+}
 
 -- what a call says of the answer that is defined
 abbrev pub Meets : {A : Type 0} → Result A LexError → Result A LexError → Type 0

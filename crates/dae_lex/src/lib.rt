@@ -8,10 +8,8 @@ pub use reading::tokens;
 
 mod directives;
 mod finish;
-mod lines;
 mod macros;
 mod numbers;
 mod output;
-mod pieces;
 mod reading;
 mod replace;

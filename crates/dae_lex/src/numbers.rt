@@ -5,9 +5,8 @@ ghost use Rattle.dae_tree.specs.Literals.{values_of, inside};
 ghost use Rattle.dae_lex.specs.Numbers.{IsName, IsLiteral, IsNumbered, Keeps};
 ghost use Rattle.dae_tree.specs.declared.faults.LexError.TheVariants.{Memory};
 
-use crate::pieces::Piece;
 use dae_base::Items;
-use dae_lex_scan::append_values;
+use dae_lex_scan::{Piece, append_values};
 use dae_tree::{LexError, PieceKind};
 use indexmap::IndexSet;
 use std::alloc::Global;

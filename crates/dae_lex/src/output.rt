@@ -2,18 +2,17 @@
 
 ghost use Rattle.std.specs.Prelude.{◌≡◌, ◌<◌, ◌+◌, [], ◌∷◌, option_map, IfOk, OnOk, Result, Ok, Err};
 ghost use Rattle.dae_tree.specs.Tokens.{literal_of};
-ghost use Rattle.dae_tree.specs.Replacing.{items_of, taken, replaced, error_at, word_meaning, literal_length};
-ghost use Rattle.dae_lex.specs.Cuts.{cut_of};
+ghost use Rattle.dae_tree.specs.Replacing.{items_of, taken, replaced, word_meaning, literal_length};
+ghost use Rattle.dae_lex_scan.specs.Cuts.{cut_of};
 ghost use Rattle.dae_lex.specs.Numbers.{IsName, IsNumbered};
 ghost use Rattle.dae_lex.specs.Settling.{Settles, AreRead, IsMeant, state_of, settle, meaning_of, meant};
 ghost use Rattle.dae_lex.specs.declared.numbers.Numbers.{Numbers as Numbers_};
 ghost use Rattle.dae_tree.specs.declared.faults.LexError.TheVariants.{Memory};
 
 use crate::numbers::{NumberedPiece, Numbers, between_quotes};
-use crate::pieces::Piece;
 use dae_base::Place;
-use dae_lex_scan::{find_keyword, find_refused_word};
-use dae_tree::{Constant, Construct, Fault, Keyword, LexError, PieceKind, Room, Sign};
+use dae_lex_scan::{Piece, fault_at, find_keyword, find_refused_word};
+use dae_tree::{Constant, Construct, Keyword, LexError, PieceKind, Room, Sign};
 use std::alloc::Global;
 
 /// What a token is, with the number and the bytes of a name, or the number and the spelling of a literal.
@@ -40,16 +39,6 @@ pub struct ReadToken<'j> {
 pub struct Output<'j> {
     pub tokens: Vec<ReadToken<'j>>,
     pub room: Room,
-}
-
-/// A fault at a place, as the reason why a text has no tokens.
-pub fn fault_at(fault: Fault, place: Place) -> LexError
-    ensures { result ≡ error_at fault place }
-{
-    match fault {
-        Fault::BadByte => LexError::BadByte(place),
-        Fault::Named(construct) => LexError::Refused(construct, place),
-    }
 }
 
 /// What a word is as a token, or by what name it is refused.

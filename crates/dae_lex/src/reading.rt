@@ -1,20 +1,19 @@
 //! The tokens of a text, from its bytes on.
 
-ghost use Rattle.std.specs.Prelude.{◌≡◌, ◌≤◌, ◌<◌, ◌^◌, [], length, map, IfOk, IfErr, All};
-ghost use Rattle.dae_tree.specs.Tokens.{reads_of, tested_in, tokens_of, joined, numbered, names_after, literals_after, Answers};
+ghost use Rattle.std.specs.Prelude.{◌≡◌, ◌≤◌, ◌<◌, ◌^◌, length, map, IfOk, IfErr, All};
+ghost use Rattle.dae_tree.specs.Tokens.{reads_of, tested_in, tokens_of, Answers};
 ghost use Rattle.dae_tree.specs.declared.faults.LexError.TheVariants.{Memory};
 ghost use Rattle.dae_tree.specs.Order.{HasLeastPlace};
-ghost use Rattle.dae_lex.specs.Cuts.{cut_of};
+ghost use Rattle.dae_lex_scan.specs.Cuts.{cut_of};
 ghost use Rattle.dae_lex.specs.Settling.{Fails, AreRead, IsMeant, read_of};
-ghost use Rattle.dae_lex.specs.Whole.{items_of_pieces, HasRead, Meets, SpansFrom, span};
+ghost use Rattle.dae_lex.specs.Whole.{items_of_pieces, HasRead, Meets, SpansFrom, reading_with, span};
 
 use crate::directives::take_lines;
 use crate::finish::{Builder, build, own_names};
-use crate::lines::join_lines;
 use crate::numbers::Numbers;
 use crate::output::{Output, ReadToken};
-use crate::pieces::{Piece, cut_pieces};
 use dae_base::{Items, Place};
+use dae_lex_scan::{Piece, cut_pieces, join_lines};
 use dae_tree::{Includes, LexError, Room, Tokens};
 use std::alloc::Global;
 
@@ -50,15 +49,8 @@ fn finish_text<'t>(
     requires few { length reads.now < 2 ^ 32 }
     requires meant { All (λ t. IsMeant numbers.now t.meaning) reads.now }
     requires spans { SpansFrom 0 0 (map span (map read_of reads.now)) (length text.now) }
-    ensures ok { IfOk result (λ tokens. tokens ≡ record {
-      text = text.entry.now;
-      tokens = numbered [] [] (joined (map read_of reads.now));
-      names = names_after [] (joined (map read_of reads.now));
-      literals = literals_after [] (joined (map read_of reads.now));
-      stdio = seen.stdio;
-      stdlib = seen.stdlib;
-      end = end;
-    }) }
+    ensures ok { IfOk result (λ tokens. tokens
+        ≡ reading_with text.entry.now (map read_of reads.now) seen.stdio seen.stdlib end) }
     ensures err { IfErr result (λ e. e ≡ Memory) }
 {
     let Builder {

@@ -2,18 +2,18 @@
 
 ghost use Rattle.std.specs.Prelude.{◌≡◌, ◌≤◌, ◌<◌, ◌+◌, ◌^◌, ◌++◌, ℕ, [], ◌∷◌, None, nat_eq, length, option_map, is_some, OnOk, IfErr, IfSome, MatchOption, All};
 ghost use Rattle.std.specs.Map.{lookup};
-ghost use Rattle.dae_tree.specs.Replacing.{replacement, expand, replaced};
-ghost use Rattle.dae_lex.specs.Cuts.{cut_of};
+ghost use Rattle.dae_tree.specs.Replacing.{expand, replaced};
+ghost use Rattle.dae_lex_scan.specs.Cuts.{cut_of};
 ghost use Rattle.dae_lex.specs.Numbers.{IsName, IsNumbered, AreDefined, cuts_of, definitions_of};
 ghost use Rattle.dae_lex.specs.Settling.{Settles, AreRead, state_of, settle};
-ghost use Rattle.dae_lex.specs.Pending.{AreOpen, frames_of, names_of, pending, work_of, Follows};
+ghost use Rattle.dae_lex.specs.Pending.{AreOpen, frames_of, replacement_in, settling, work_of, Follows};
 ghost use Rattle.dae_lex.specs.declared.numbers.Numbers.{Numbers as Numbers_};
 ghost use Rattle.dae_tree.specs.declared.faults.LexError.TheVariants.{Memory};
 
 use crate::macros::Macros;
 use crate::numbers::{NumberedPiece, Numbers};
 use crate::output::Output;
-use crate::pieces::Piece;
+use dae_lex_scan::Piece;
 use dae_tree::{LexError, PieceKind};
 use indexmap::IndexMap;
 use std::alloc::Global;
@@ -104,8 +104,7 @@ fn replacement_of<'m, 'j>(
 ) -> Option<&'m [NumberedPiece<'j>]>
     ensures body { (w : Numbers_) → AreDefined w macros.now → AreOpen w stack.now →
         IsNumbered w next.entry → option_map (λ body. cuts_of body.now) result
-        ≡ replacement (definitions_of macros.now) (names_of (frames_of stack.now))
-        (cut_of next.entry.piece) }
+        ≡ replacement_in macros.now stack.now (cut_of next.entry.piece) }
     ensures numbered { (w : Numbers_) → AreDefined w macros.now →
         IfSome result (λ body. All (IsNumbered w) body.now) }
     ensures small { IfSome result (λ body. length body.now < 2 ^ 64) }
@@ -162,11 +161,8 @@ fn turn<'m, 'j>(
     requires numbered { AreOpen numbers.now stack.old }
     requires read { AreRead numbers.now out.old }
     ensures settles { (n : ℕ) → out.old.room.replacements + length stack.old.frames.entries ≤ n →
-        Follows result
-        (settle (state_of out.old)
-        (pending n (definitions_of macros.now) [] (cut_of origin.entry) (frames_of stack.old)))
-        (settle (state_of out.new)
-        (pending n (definitions_of macros.now) [] (cut_of origin.entry) (frames_of stack.new))) }
+        Follows result (settling n macros.now origin.entry out.old stack.old)
+        (settling n macros.now origin.entry out.new stack.new) }
     ensures depth { OnOk result
         (out.new.room.replacements + length stack.new.frames.entries
         ≤ out.old.room.replacements + length stack.old.frames.entries) }

@@ -3,3 +3,9 @@ mod Values
 mod Faults
 mod Units
 mod Longest
+mod Following
+mod Joining
+mod Cutting
+mod Rising
+mod InOrder
+pub mod Laws

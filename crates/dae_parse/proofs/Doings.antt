@@ -2,8 +2,9 @@
 use Rattle.std.proofs.Common.{◌∷◌}
 use Rattle.dae_parse_nodes.specs.Parts.{ShowsOperand, ShowsOptional, ShowsSpecified, ShowsEnumerators, ShowsDeclared, ShowsItems, ShowsStatement, ShowsLoop}
 use Rattle.dae_parse_grammar.specs.Frames as plain
+use Rattle.dae_parse_nodes.specs.declared.values.DoParts.{DoParts}
 use Rattle.dae_parse_states.specs.declared.frames.Doing.TheVariants as doing
-use Rattle.dae_parse_states.specs.Frames.{ShowsBefore, ShowsBody, ShowsDoing, manner_of}
+use Rattle.dae_parse_states.specs.Frames.{ShowsBefore, ShowsBody, ShowsDoing, is_structure_kind, manner_of}
 
 pub does_enumerated : (b : _) (xs : _) (n : _) (P : plain.Doing → Type 0) (does : plain.Doing) → ShowsDoing (doing.Enumerated b xs n) does
     → ((a : _) (es : _) → ShowsBody b a → ShowsEnumerators xs es → P (plain.enumerated a es n)) → P does
@@ -20,10 +21,10 @@ pub does_itemed : (s : _) (is : _) (P : plain.Doing → Type 0) (does : plain.Do
 does_itemed s is P (plain.itemed ws i before) shows next = next ws i before shows.0 shows.1
 does_itemed s is P _ shows next = absurd shows
 
-pub does_finishing : (p : _) (b : _) (r : _) (v : _) (a : _) (P : plain.Doing → Type 0) (does : plain.Doing) → ShowsDoing (doing.Finishing p b r v a) does
-    → ((c : _) (e : _) → ShowsStatement b c → ShowsOperand a e → P (plain.finishing p c r v e)) → P does
-does_finishing p b r v a P (plain.finishing q c u w e) shows next = rw (← shows.0, ← shows.2, ← shows.3) (next c e shows.1 shows.4)
-does_finishing p b r v a P _ shows next = absurd shows
+pub does_finishing : (d : DoParts) (P : plain.Doing → Type 0) (does : plain.Doing) → ShowsDoing (doing.Finishing d) does
+    → ((c : _) (e : _) → ShowsStatement d.body c → ShowsOperand d.test e → P (plain.finishing d.place c d.word d.paren e)) → P does
+does_finishing d P (plain.finishing q c u w e) shows next = rw (← shows.0, ← shows.2, ← shows.3) (next c e shows.1 shows.4)
+does_finishing d P _ shows next = absurd shows
 
 pub does_operated : (a : _) (l : _) (P : plain.Doing → Type 0) (does : plain.Doing) → ShowsDoing (doing.Operated a l) does
     → ((e : _) → ShowsOperand a e → P (plain.operated e l)) → P does
@@ -36,7 +37,7 @@ does_calling a p l P (plain.calling e q k) shows next = rw (← shows.1, ← sho
 does_calling a p l P _ shows next = absurd shows
 
 pub does_tagged : (b : _) (p : _) (n : _) (w : _) (ws : _) (P : plain.Doing → Type 0) (does : plain.Doing) → ShowsDoing (doing.Tagged b p n w ws) does
-    → ((before : _) → ShowsBefore ws before → P (plain.tagged b p n w before)) → P does
+    → ((before : _) → ShowsBefore ws before → P (plain.tagged (is_structure_kind b) p n w before)) → P does
 does_tagged b p n w ws P (plain.tagged c q m t before) shows next = rw (← shows.0, ← shows.1, ← shows.2, ← shows.3) (next before shows.4)
 does_tagged b p n w ws P _ shows next = absurd shows
 

@@ -9,7 +9,7 @@ ghost use Rattle.dae_parse_grammar.specs.Standing.{Holds};
 ghost use Rattle.dae_parse_grammar.specs.Taken.{tokens_of};
 ghost use Rattle.dae_parse_states.specs.Bottom.{IsBottom};
 ghost use Rattle.dae_parse_nodes.specs.Parts.{ShowsOperand, ShowsSpecified, ShowsDeclared, ShowsInitialiser, ShowsDeclaration, ShowsStatement};
-ghost use Rattle.dae_parse_states.specs.Frames.{is_block};
+ghost use Rattle.dae_parse_states.specs.Frames.{kind_of_statement};
 ghost use Rattle.dae_parse_states.specs.States.{Stands, Follows, outside_stack, Steps};
 
 use dae_parse_declarations::{
@@ -27,7 +27,7 @@ use dae_parse_statements::{
 };
 use dae_parse_states::{
     DeclarationFrame, DeclaratorFrame, Doing, ExpressionFrame, InitialiserFrame, Machine,
-    SpecifiersFrame, StatementFrame,
+    SpecifiersFrame, StatementFrame, StatementKind,
 };
 use dae_tree::{Declaration, Initialiser, Statement};
 use std::alloc::AllocError;
@@ -102,7 +102,9 @@ pub fn give_specifiers(
         }
         SpecifiersFrame::ForParameter(open, list) => for_parameter(machine, specified, open, list),
         SpecifiersFrame::ForMember(body, members) => for_member(machine, specified, body, members),
-        SpecifiersFrame::ForDeclaration(outer) => for_declaration(machine, specified, outer),
+        SpecifiersFrame::ForDeclaration(function_body) => {
+            for_declaration(machine, specified, function_body)
+        }
     }
 }
 
@@ -137,8 +139,12 @@ pub fn give_declarator(
         DeclaratorFrame::OfMember(body, members, specified, before) => {
             of_member(machine, declared, body, members, specified, before)
         }
-        DeclaratorFrame::OfItem(outer, specified, items) => of_item(
-            machine, declared, outer, specified, items,
+        DeclaratorFrame::OfItem(function_body, specified, items) => of_item(
+            machine,
+            declared,
+            function_body,
+            specified,
+            items,
         ),
     }
 }
@@ -188,11 +194,11 @@ pub fn give_declaration(
 pub fn give_statement(
     machine: &mut Machine<'_>,
     found: Read<Box<Statement>>,
-    is_body: bool,
+    kind: StatementKind,
     total: usize,
 ) -> Result<Option<Doing>, AllocError>
     ensures { (b : StatementTree) (s : List PlainFrame) → ShowsStatement found b
-        → is_body ≡ is_block b → Stands machine.old s (outside_stack s) → IsBottom s
+        → kind ≡ kind_of_statement b → Stands machine.old s (outside_stack s) → IsBottom s
         → length (tokens_of (state (plain.gave_statement b) s machine.old.scope.names
         machine.old.rest)) ≡ total
         → IfOk result (λ r. Follows r machine.new
@@ -222,7 +228,7 @@ pub fn give_statement(
             machine, found, inside, before,
         ),
         StatementFrame::InDefinition(specified, declared) => {
-            in_definition(machine, found, is_body, specified, declared, total)
+            in_definition(machine, found, kind, specified, declared, total)
         }
     }
 }

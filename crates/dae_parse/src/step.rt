@@ -47,11 +47,9 @@ pub fn step(
         Doing::Calling(callee, place, level) => read_call(machine, callee, place, level),
         Doing::Measuring(place, level) => read_sizeof(machine, place, level),
         Doing::Specifying(seen, before) => read_specifier(machine, seen, before),
-        Doing::Tagging(is_structure, place, seen, before) => {
-            read_tag(machine, is_structure, place, seen, before)
-        }
-        Doing::Tagged(is_structure, place, name, seen, before) => {
-            read_body(machine, is_structure, place, name, seen, before)
+        Doing::Tagging(kind, place, seen, before) => read_tag(machine, kind, place, seen, before),
+        Doing::Tagged(kind, place, name, seen, before) => {
+            read_body(machine, kind, place, name, seen, before)
         }
         Doing::Membering(body, members) => read_member(machine, body, members),
         Doing::Enumerating(body, list) => read_enumerator(machine, body, list),
@@ -59,7 +57,7 @@ pub fn step(
         Doing::Entered(body, list) => read_behind_enumerator(machine, body, list),
         Doing::Entering(body, list) => read_behind_comma(machine, body, list),
         Doing::GaveSpecifiers(specified) => give_specifiers(machine, specified),
-        Doing::Declaring(manner, needed) => read_declarator(machine, manner, needed),
+        Doing::Declaring(manner, presence) => read_declarator(machine, manner, presence),
         Doing::Qualifying(manner, place, list) => read_qualifier(machine, manner, place, list),
         Doing::Suffixing(manner, declared) => read_suffix(machine, manner, declared),
         Doing::Sizing(manner, declared, place) => read_size(machine, manner, declared, place),
@@ -77,9 +75,7 @@ pub fn step(
         Doing::Statements(inside, list) => read_block(machine, inside, list),
         Doing::Stating => read_statement(machine),
         Doing::Opening(head) => read_test(machine, head),
-        Doing::Finishing(place, body, word, paren, test) => {
-            read_do_end(machine, place, body, word, paren, test)
-        }
+        Doing::Finishing(parts) => read_do_end(machine, parts),
         Doing::Looping(word) => read_for(machine, word),
         Doing::Starting(word, paren) => read_loop_start(machine, word, paren),
         Doing::Testing(word, paren, start, first) => read_loop_test(
@@ -90,6 +86,6 @@ pub fn step(
         Doing::Breaking(place) => read_break(machine, place),
         Doing::Continuing(place) => read_continue(machine, place),
         Doing::Defaulting(place) => read_default(machine, place),
-        Doing::GaveStatement(found, is_block) => give_statement(machine, found, is_block, total),
+        Doing::GaveStatement(found, kind) => give_statement(machine, found, kind, total),
     }
 }

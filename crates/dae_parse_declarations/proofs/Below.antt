@@ -1,5 +1,5 @@
 -- What stands below the body of a function.
-use Rattle.std.proofs.Common.{◌≡◌, ℕ, length, true, List, [], ◌∷◌, Some, None, refl}
+use Rattle.std.proofs.Common.{◌≡◌, ℕ, length, List, [], ◌∷◌, Some, None, refl}
 use Rattle.dae_base.specs.declared.Place.{Place}
 use Rattle.dae_tree.specs.Marks.{Mark}
 use Rattle.dae_tree.specs.Names.{Names}
@@ -20,7 +20,8 @@ use Rattle.dae_parse_parts.specs.declared.reading.Read.{Read}
 use Rattle.dae_parse_nodes.specs.Parts.{ShowsStatement}
 use Rattle.dae_parse_states.specs.States.{outside_stack}
 use Rattle.dae_parse_states.specs.Bottom.{IsBottom}
-use Rattle.dae_parse_states.specs.Frames.{ShowsStack, ShowsFile, is_block}
+use Rattle.dae_parse_states.specs.declared.frames.StatementKind.TheVariants as statement_kind
+use Rattle.dae_parse_states.specs.Frames.{ShowsStack, ShowsFile, kind_of_statement}
 
 -- it stands in a file alone
 pub file_or_none : (b : tree.Statement) (ws : tree.Specifiers) (d : tree.Declarator) (outside : Names) (fs : List Frame) (s : List plain.Frame) (ts : List Mark) → ShowsStack fs s → ((f : Before) (below : List Frame) → ¬ (fs ≡ frame.Declaration (declaration.InFile f) ∷ below))
@@ -44,7 +45,7 @@ pub record IsDefined (b : tree.Statement) (ws : tree.Specifiers) (d : tree.Decla
   pub same : defined ws d outside b s ts ≡ Some (plain.state (plain.externals (tree.Defined ws d place declarations statements ∷ externals)) [] outside ts)
 
 pub is_defined : (b : tree.Statement) (ws : tree.Specifiers) (d : tree.Declarator) (outside : Names) (s : List plain.Frame) (ts : List Mark) (found : Read (Box Statement Global)) (before : Before) (below : List Frame) (os : List Names) (total : ℕ)
-    → ShowsStatement found b → true ≡ is_block b → ShowsStack (frame.Declaration (declaration.InFile before) ∷ below) s → IsBottom s → length (stack_taken s (spell_specifiers ws (spell_declarator d (spell_statement b ts)))) ≡ total → os ≡ outside ∷ outside_stack s
+    → ShowsStatement found b → statement_kind.Block ≡ kind_of_statement b → ShowsStack (frame.Declaration (declaration.InFile before) ∷ below) s → IsBottom s → length (stack_taken s (spell_specifiers ws (spell_declarator d (spell_statement b ts)))) ≡ total → os ≡ outside ∷ outside_stack s
     → IsDefined b ws d outside s ts found before below os total
 is_defined (tree.Block p ds ss) ws d outside [] ts found before below os total shows is stack bottom e o = absurd stack
 is_defined (tree.Block p ds ss) ws d outside (plain.awaits_declaration (plain.in_file xs) ∷ []) ts found before below os total shows is stack bottom e o =

@@ -13,11 +13,11 @@ ghost use Rattle.dae_parse_states.specs.States.{Steps};
 
 use dae_base::Place;
 use dae_parse_nodes::{
-    Declared, Operand, Specified, grouped, pointer, sized_array, sizeof_type, with_declarator,
-    with_member, with_valued_enumerator,
+    Body, Declared, Operand, Specified, grouped, pointer, sized_array, sizeof_type,
+    with_declarator, with_member, with_valued_enumerator,
 };
 use dae_parse_parts::{CAST, Read};
-use dae_parse_states::{Body, DeclaratorFrame, Doing, ExpressionFrame, Frame, Machine, Manner};
+use dae_parse_states::{DeclaratorFrame, Doing, ExpressionFrame, Frame, Machine, Manner, Presence};
 use dae_tree::{Declarator, Enumerator, Member, Name, Sign};
 use std::alloc::AllocError;
 
@@ -157,7 +157,7 @@ pub fn of_member(
     let list = with_declarator(before, declared)?;
     if machine.rest.take_sign(Sign::Comma).is_some() {
         machine.push(Frame::Declarator(DeclaratorFrame::OfMember(body, members, specified, list)))?;
-        return Ok(Some(Doing::Declaring(Manner::ByName, false)));
+        return Ok(Some(Doing::Declaring(Manner::ByName, Presence::Optional)));
     }
     let Some(end) = machine.rest.take_sign(Sign::Semicolon) else {
         return Ok(None);

@@ -3,38 +3,39 @@
 ghost use Rattle.std.specs.Prelude.{◌∷◌, List, IfOk};
 ghost use Rattle.dae_tree.specs.Words.{with_whole};
 ghost use Rattle.dae_tree.specs.Trees.{Specifier, StructureBody, EnumerationBody, no_members as no_members_tree, no_enumerators as no_enumerators_tree};
+ghost use Rattle.dae_tree.specs.Views.{has_comma};
 ghost use Rattle.dae_tree.specs.Lists as lists;
 ghost use Rattle.dae_parse_grammar.specs.Frames as plain;
 ghost use Rattle.dae_parse_grammar.specs.Frames.{Frame as PlainFrame};
 ghost use Rattle.dae_parse_grammar.specs.Machine.{tag_taken, tag_followed, tag_alone, body_opened, members_followed, enumerator_named, enumerator_followed, entry_followed, comma_followed, members_onto, enumerators_onto};
 ghost use Rattle.dae_parse_nodes.specs.Parts.{ShowsMembers, ShowsEnumerators};
-ghost use Rattle.dae_parse_states.specs.Frames.{ShowsBefore, ShowsBody, ShowsDoing};
+ghost use Rattle.dae_parse_states.specs.Frames.{is_structure_kind, ShowsBefore, ShowsBody, ShowsDoing};
 ghost use Rattle.dae_parse_states.specs.States.{Stands, Follows, ShowsState, outside_stack, Steps};
 
 use dae_base::Place;
 use dae_parse_nodes::{
-    Specified, has_members, no_enumerators, no_members, no_specifiers, with_enumeration,
+    Body, Specified, has_members, no_enumerators, no_members, no_specifiers, with_enumeration,
     with_enumeration_body, with_plain_enumerator, with_structure, with_structure_body,
 };
 use dae_parse_parts::{CONDITIONAL, Read};
-use dae_parse_states::{Body, Doing, ExpressionFrame, Frame, Machine, SpecifiersFrame};
-use dae_tree::{Enumerator, Member, Name, Seen, Sign};
+use dae_parse_states::{Doing, ExpressionFrame, Frame, Machine, SpecifiersFrame, TagKind};
+use dae_tree::{Enumerator, Member, Name, Seen, Sign, TrailingComma};
 use std::alloc::{AllocError, Global};
 
 /// Behind `struct` or `enum` (C90 6.5.2).
 #[tactic(auto, using(crate::proofs::OtherwiseDeclarators::tag_or_none))]
 pub fn read_tag(
     machine: &mut Machine<'_>,
-    is_structure: bool,
+    kind: TagKind,
     place: Place,
     seen: Seen,
     before: Specified,
 ) -> Result<Option<Doing>, AllocError>
     ensures { (ws : List Specifier) → ShowsBefore before ws →
-        Steps machine.old result machine.new (tag_taken is_structure place seen ws) }
+        Steps machine.old result machine.new (tag_taken (is_structure_kind kind) place seen ws) }
 {
     if let Some(name) = machine.rest.take_name() {
-        return Ok(Some(Doing::Tagged(is_structure, place, name, seen, before)));
+        return Ok(Some(Doing::Tagged(kind, place, name, seen, before)));
     }
     let Some(brace) = machine.rest.take_sign(Sign::LeftBrace) else {
         return Ok(None);
@@ -47,20 +48,19 @@ pub fn read_tag(
         seen,
         before,
     };
-    Ok(Some(open_body(machine, is_structure, body)))
+    Ok(Some(open_body(machine, kind, body)))
 }
 
 /// Behind the brace of a body.
-fn open_body(machine: &Machine<'_>, is_structure: bool, body: Body) -> Doing
+fn open_body(machine: &Machine<'_>, kind: TagKind, body: Body) -> Doing
     ensures { (b : plain.Body) (s : List PlainFrame) → ShowsBody body b
         → Stands machine.now s (outside_stack s)
         → ShowsState result machine.now
-        (body_opened is_structure b s machine.now.scope.names machine.now.rest) }
+        (body_opened (is_structure_kind kind) b s machine.now.scope.names machine.now.rest) }
 {
-    if is_structure {
-        Doing::Membering(body, no_members(machine.alloc))
-    } else {
-        Doing::Enumerating(body, no_enumerators(machine.alloc))
+    match kind {
+        TagKind::Structure => Doing::Membering(body, no_members(machine.alloc)),
+        TagKind::Enumeration => Doing::Enumerating(body, no_enumerators(machine.alloc)),
     }
 }
 
@@ -68,14 +68,15 @@ fn open_body(machine: &Machine<'_>, is_structure: bool, body: Body) -> Doing
 #[tactic(auto, using(crate::proofs::OtherwiseDeclarators::tag_alone_otherwise))]
 pub fn read_body(
     machine: &mut Machine<'_>,
-    is_structure: bool,
+    kind: TagKind,
     place: Place,
     name: Name,
     seen: Seen,
     before: Specified,
 ) -> Result<Option<Doing>, AllocError>
-    ensures { (ws : List Specifier) → ShowsBefore before ws →
-        Steps machine.old result machine.new (tag_followed is_structure place name seen ws) }
+    ensures { (ws : List Specifier) → ShowsBefore before ws
+        → Steps machine.old result machine.new
+        (tag_followed (is_structure_kind kind) place name seen ws) }
 {
     if let Some(brace) = machine.rest.take_sign(Sign::LeftBrace) {
         let tag = Some(name);
@@ -86,27 +87,27 @@ pub fn read_body(
             seen,
             before,
         };
-        return Ok(Some(open_body(machine, is_structure, body)));
+        return Ok(Some(open_body(machine, kind, body)));
     }
-    let more = with_tag(machine.alloc, is_structure, before, place, name)?;
+    let more = with_tag(machine.alloc, kind, before, place, name)?;
     Ok(Some(Doing::Specifying(seen.with_whole(), more)))
 }
 
 /// A tag without a body more.
 fn with_tag(
     alloc: Global,
-    is_structure: bool,
+    kind: TagKind,
     before: Specified,
     place: Place,
     name: Name,
 ) -> Result<Specified, AllocError>
     ensures { (ws : List Specifier) → ShowsBefore before ws
-        → IfOk result (λ r. ShowsBefore r (tag_alone is_structure place name ∷ ws)) }
+        → IfOk result
+        (λ r. ShowsBefore r (tag_alone (is_structure_kind kind) place name ∷ ws)) }
 {
-    if is_structure {
-        with_structure(alloc, before, place, name)
-    } else {
-        with_enumeration(alloc, before, place, name)
+    match kind {
+        TagKind::Structure => with_structure(alloc, before, place, name),
+        TagKind::Enumeration => with_enumeration(alloc, before, place, name),
     }
 }
 
@@ -139,14 +140,8 @@ fn close_structure(
         → IfOk result (λ d. ShowsDoing d (plain.specifying (with_whole b.seen)
         (StructureBody b.place b.tag b.brace (members_onto ms no_members_tree) ∷ b.before))) }
 {
-    let Body {
-        place,
-        tag,
-        brace,
-        seen,
-        before,
-    } = body;
-    let more = with_structure_body(alloc, before, place, tag, brace, members)?;
+    let seen = body.seen;
+    let more = with_structure_body(alloc, body, members)?;
     Ok(Doing::Specifying(seen.with_whole(), more))
 }
 
@@ -201,7 +196,7 @@ pub fn read_behind_enumerator(
         return Ok(Some(Doing::Entering(body, list)));
     }
     if machine.rest.take_sign(Sign::RightBrace).is_some() {
-        return Ok(Some(close_enumeration(machine.alloc, body, list, false)?));
+        return Ok(Some(close_enumeration(machine.alloc, body, list, TrailingComma::Absent)?));
     }
     Ok(None)
 }
@@ -218,7 +213,7 @@ pub fn read_behind_comma(
         → Steps machine.old result machine.new (comma_followed b es e) }
 {
     if machine.rest.take_sign(Sign::RightBrace).is_some() {
-        return Ok(Some(close_enumeration(machine.alloc, body, list, true)?));
+        return Ok(Some(close_enumeration(machine.alloc, body, list, TrailingComma::Present)?));
     }
     Ok(Some(Doing::Enumerating(body, list)))
 }
@@ -228,20 +223,14 @@ fn close_enumeration(
     alloc: Global,
     body: Body,
     list: Read<Vec<Enumerator>>,
-    comma: bool,
+    comma: TrailingComma,
 ) -> Result<Doing, AllocError>
     ensures { (b : plain.Body) (es : List lists.Entry) → ShowsBody body b → ShowsEnumerators list es
         → IfOk result (λ d. ShowsDoing d
         (plain.specifying (with_whole b.seen) (EnumerationBody b.place b.tag b.brace
-        (enumerators_onto es no_enumerators_tree) comma ∷ b.before))) }
+        (enumerators_onto es no_enumerators_tree) (has_comma comma) ∷ b.before))) }
 {
-    let Body {
-        place,
-        tag,
-        brace,
-        seen,
-        before,
-    } = body;
-    let more = with_enumeration_body(alloc, before, place, tag, brace, list, comma)?;
+    let seen = body.seen;
+    let more = with_enumeration_body(alloc, body, list, comma)?;
     Ok(Doing::Specifying(seen.with_whole(), more))
 }

@@ -10,7 +10,7 @@ ghost use Rattle.dae_parse_nodes.specs.Parts.{is_some_list, ShowsSpecified, Show
 ghost use Rattle.dae_parse_states.specs.Fronts.{sign_at};
 ghost use Rattle.dae_tree.specs.declared.signs.Sign.TheVariants as signs;
 ghost use Rattle.dae_parse_states.specs.Bottom.{IsBottom};
-ghost use Rattle.dae_parse_states.specs.Frames.{ShowsInside, ShowsFile};
+ghost use Rattle.dae_parse_states.specs.Frames.{is_allowed, ShowsInside, ShowsFile};
 ghost use Rattle.dae_parse_states.specs.States.{Stands, Follows, outside_stack, Steps};
 
 use dae_base::Place;
@@ -20,58 +20,60 @@ use dae_parse_nodes::{
 };
 use dae_parse_parts::Read;
 use dae_parse_states::{
-    Before, DeclarationFrame, DeclaratorFrame, Doing, Frame, InitialiserFrame, Inside, Machine,
-    Manner, SpecifiersFrame, StatementFrame,
+    Before, DeclarationFrame, DeclaratorFrame, Doing, Frame, FunctionBody, InitialiserFrame,
+    Inside, Machine, Manner, Presence, SpecifiersFrame, StatementFrame,
 };
 use dae_tree::{Declaration, Initialiser, Item, Seen, Sign};
 use std::alloc::AllocError;
 
-/// Behind the specifiers of a declaration, at file scope or inside (C90 6.5).
+/// Behind the specifiers of a declaration, at file scope or inside (C90 6.5). At file scope it may be a definition.
 #[tactic(auto, using(crate::proofs::OtherwiseDeclarations::declaration_otherwise))]
 pub fn for_declaration(
     machine: &mut Machine<'_>,
     specified: Specified,
-    outer: bool,
+    function_body: FunctionBody,
 ) -> Result<Option<Doing>, AllocError>
-    ensures { (ws : Specifiers) → ShowsSpecified specified ws →
-        Steps machine.old result machine.new (specifiers_given ws (plain.for_declaration outer)) }
+    ensures { (ws : Specifiers) → ShowsSpecified specified ws
+        → Steps machine.old result machine.new
+        (specifiers_given ws (plain.for_declaration (is_allowed function_body))) }
 {
     let none = no_items(machine.alloc);
     if let Some(end) = machine.rest.take_sign(Sign::Semicolon) {
         let whole = declaration(machine.alloc, specified, none, end)?;
         return Ok(Some(Doing::GaveDeclaration(whole)));
     }
-    machine.push(Frame::Declarator(DeclaratorFrame::OfItem(outer, specified, none)))?;
-    Ok(Some(Doing::Declaring(Manner::ByName, false)))
+    machine.push(Frame::Declarator(DeclaratorFrame::OfItem(function_body, specified, none)))?;
+    Ok(Some(Doing::Declaring(Manner::ByName, Presence::Optional)))
 }
 
 /// Behind a declarator of a declaration. The first at file scope may begin the definition of a function (C90 6.5.4 and 6.7.1).
 pub fn of_item(
     machine: &mut Machine<'_>,
     declared: Declared,
-    outer: bool,
+    function_body: FunctionBody,
     specified: Specified,
     items: Read<Vec<Item>>,
 ) -> Result<Option<Doing>, AllocError>
     ensures { (d : DeclaratorTree) (ws : Specifiers) (is : List ItemTree) → ShowsDeclared declared d
         → ShowsSpecified specified ws → ShowsItems items is
-        → Steps machine.old result machine.new (declarator_given d (plain.of_item outer ws is)) }
+        → Steps machine.old result machine.new
+        (declarator_given d (plain.of_item (is_allowed function_body) ws is)) }
 {
-    machine.bind(declared.name, specified.typedef)?;
-    read_behind_declarator(machine, declared, outer, specified, items)
+    machine.bind(&declared, &specified)?;
+    read_behind_declarator(machine, declared, function_body, specified, items)
 }
 
 /// Behind a declarator whose name is bound.
 fn read_behind_declarator(
     machine: &mut Machine<'_>,
     declared: Declared,
-    outer: bool,
+    function_body: FunctionBody,
     specified: Specified,
     items: Read<Vec<Item>>,
 ) -> Result<Option<Doing>, AllocError>
     ensures { (d : DeclaratorTree) (ws : Specifiers) (is : List ItemTree) → ShowsDeclared declared d
         → ShowsSpecified specified ws → ShowsItems items is
-        → Steps machine.old result machine.new (item_given outer d ws is) }
+        → Steps machine.old result machine.new (item_given (is_allowed function_body) d ws is) }
 {
     if let Some(place) = machine.rest.take_sign(Sign::Assign) {
         machine.push(Frame::Initialiser(InitialiserFrame::OfValue(
@@ -79,13 +81,15 @@ fn read_behind_declarator(
         )))?;
         return Ok(Some(Doing::Initialising));
     }
-    if !outer {
-        return read_behind_inner(machine, declared, specified, items);
+    match function_body {
+        FunctionBody::Excluded => read_behind_inner(machine, declared, specified, items),
+        FunctionBody::Allowed => {
+            if has_items(&items) {
+                return read_behind_later(machine, declared, specified, items);
+            }
+            read_behind_first(machine, declared, specified, items)
+        }
     }
-    if has_items(&items) {
-        return read_behind_later(machine, declared, specified, items);
-    }
-    read_behind_first(machine, declared, specified, items)
 }
 
 /// Behind a declarator inside, where no value is given.
@@ -198,8 +202,12 @@ pub fn read_behind_item(
         → ShowsItems items (i ∷ is) → Steps machine.old result machine.new (item_followed ws i is) }
 {
     if machine.rest.take_sign(Sign::Comma).is_some() {
-        machine.push(Frame::Declarator(DeclaratorFrame::OfItem(false, specified, items)))?;
-        return Ok(Some(Doing::Declaring(Manner::ByName, false)));
+        machine.push(Frame::Declarator(DeclaratorFrame::OfItem(
+            FunctionBody::Excluded,
+            specified,
+            items,
+        )))?;
+        return Ok(Some(Doing::Declaring(Manner::ByName, Presence::Optional)));
     }
     let Some(end) = machine.rest.take_sign(Sign::Semicolon) else {
         return Ok(None);
@@ -274,7 +282,7 @@ pub fn read_external(machine: &mut Machine<'_>, before: Before) -> Result<Option
         return Ok(None);
     }
     machine.push(Frame::Declaration(DeclarationFrame::InFile(before)))?;
-    machine.push(Frame::Specifiers(SpecifiersFrame::ForDeclaration(true)))?;
+    machine.push(Frame::Specifiers(SpecifiersFrame::ForDeclaration(FunctionBody::Allowed)))?;
     let before = no_specifiers(machine.alloc);
     Ok(Some(Doing::Specifying(Seen::nothing(), before)))
 }

@@ -9,7 +9,7 @@ ghost use Rattle.dae_tree.specs.Trees.{Declarator};
 ghost use Rattle.dae_parse_grammar.specs.Frames.{Frame as PlainFrame};
 ghost use Rattle.dae_parse_grammar.specs.Machine.{declared as declared_of, nothing_declared, qualified, suffixed, sized, parameters_opened, onto, begins_parameters as parameters_begin};
 ghost use Rattle.dae_parse_nodes.specs.Parts.{ShowsDeclared};
-ghost use Rattle.dae_parse_states.specs.Frames.{manner_of};
+ghost use Rattle.dae_parse_states.specs.Frames.{is_required, manner_of};
 ghost use Rattle.dae_parse_declarations.specs.Ahead.{parameters_ahead};
 ghost use Rattle.dae_parse_states.specs.States.{Stands, Follows, outside_stack, Steps};
 
@@ -20,37 +20,38 @@ use dae_parse_nodes::{
 use dae_parse_parts::CONDITIONAL;
 use dae_parse_scope::Scope;
 use dae_parse_states::{
-    DeclaratorFrame, Doing, ExpressionFrame, Frame, Machine, Manner, Open, Rest, SpecifiersFrame,
-    begins_specifiers,
+    DeclaratorFrame, Doing, ExpressionFrame, Frame, Machine, Manner, Open, Presence, Rest,
+    SpecifiersFrame, begins_specifiers,
 };
 use dae_tree::{Keyword, Seen, Sign};
 use std::alloc::AllocError;
 
-/// Before a declarator, of which a part must stand there or none (C90 6.5.4 and 6.5.5).
+/// Before a declarator, of which a part is required or none (C90 6.5.4 and 6.5.5).
 pub fn read_declarator(
     machine: &mut Machine<'_>,
     manner: Manner,
-    needed: bool,
+    presence: Presence,
 ) -> Result<Option<Doing>, AllocError>
-    ensures { Steps machine.old result machine.new (declared_of (manner_of manner) needed) }
+    ensures { Steps machine.old result machine.new
+        (declared_of (manner_of manner) (is_required presence)) }
 {
     if let Some(star) = machine.rest.take_sign(Sign::Times) {
         return Ok(Some(Doing::Qualifying(manner, star, Vec::new(machine.alloc))));
     }
     match machine.rest.sign() {
-        Some(Sign::LeftParen) => read_parenthesis(machine, manner, needed),
-        Some(Sign::LeftBracket) => Ok(read_bracket(machine, manner, needed)),
-        _ => read_name_or_nothing(machine, manner, needed),
+        Some(Sign::LeftParen) => read_parenthesis(machine, manner, presence),
+        Some(Sign::LeftBracket) => Ok(read_bracket(machine, manner, presence)),
+        _ => read_name_or_nothing(machine, manner, presence),
     }
 }
 
 /// Before a bracket: the suffix of no part, where a name may be lacking.
 #[tactic(auto, using(crate::proofs::OtherwiseDeclarators::bracket_by_name, crate::proofs::OtherwiseDeclarators::bracket_without, crate::proofs::OtherwiseDeclarators::bracket_either))]
-fn read_bracket(machine: &Machine<'_>, manner: Manner, needed: bool) -> Option<Doing>
+fn read_bracket(machine: &Machine<'_>, manner: Manner, presence: Presence) -> Option<Doing>
     ensures { (s : List PlainFrame) → sign_at machine.now.rest ≡ Some signs.LeftBracket
         → Stands machine.now s (outside_stack s)
         → Follows result machine.now (declared_of
-        (manner_of manner) needed s machine.now.scope.names machine.now.rest) }
+        (manner_of manner) (is_required presence) s machine.now.scope.names machine.now.rest) }
 {
     match manner {
         Manner::ByName => None,
@@ -61,21 +62,18 @@ fn read_bracket(machine: &Machine<'_>, manner: Manner, needed: bool) -> Option<D
     }
 }
 
-/// No part, where none must stand there and a name may be lacking.
-fn read_nothing(machine: &Machine<'_>, manner: Manner, needed: bool) -> Option<Doing>
+/// No part, where none is required and a name may be lacking.
+fn read_nothing(machine: &Machine<'_>, manner: Manner, presence: Presence) -> Option<Doing>
     ensures { (s : List PlainFrame) → Stands machine.now s (outside_stack s)
         → Follows result machine.now (nothing_declared
-        (manner_of manner) needed s machine.now.scope.names machine.now.rest) }
+        (manner_of manner) (is_required presence) s machine.now.scope.names machine.now.rest) }
 {
     match manner {
         Manner::ByName => None,
-        Manner::WithoutName | Manner::EitherWay => {
-            if needed {
-                None
-            } else {
-                Some(Doing::GaveDeclarator(absent(machine.alloc)))
-            }
-        }
+        Manner::WithoutName | Manner::EitherWay => match presence {
+            Presence::Required => None,
+            Presence::Optional => Some(Doing::GaveDeclarator(absent(machine.alloc))),
+        },
     }
 }
 
@@ -84,19 +82,20 @@ fn read_nothing(machine: &Machine<'_>, manner: Manner, needed: bool) -> Option<D
 fn read_name_or_nothing(
     machine: &mut Machine<'_>,
     manner: Manner,
-    needed: bool,
+    presence: Presence,
 ) -> Result<Option<Doing>, AllocError>
     ensures { ¬ (sign_at machine.old.rest ≡ Some signs.Times)
         → ¬ (sign_at machine.old.rest ≡ Some signs.LeftParen)
         → ¬ (sign_at machine.old.rest ≡ Some signs.LeftBracket)
-        → Steps machine.old result machine.new (declared_of (manner_of manner) needed) }
+        → Steps machine.old result machine.new
+        (declared_of (manner_of manner) (is_required presence)) }
 {
     if manner == Manner::WithoutName {
-        return Ok(read_nothing(machine, manner, needed));
+        return Ok(read_nothing(machine, manner, presence));
     }
     match machine.rest.take_name() {
         Some(name) => Ok(Some(Doing::Suffixing(manner, named(machine.alloc, name)?))),
-        None => Ok(read_nothing(machine, manner, needed)),
+        None => Ok(read_nothing(machine, manner, presence)),
     }
 }
 
@@ -105,10 +104,11 @@ fn read_name_or_nothing(
 fn read_parenthesis(
     machine: &mut Machine<'_>,
     manner: Manner,
-    needed: bool,
+    presence: Presence,
 ) -> Result<Option<Doing>, AllocError>
-    ensures { sign_at machine.old.rest ≡ Some signs.LeftParen →
-        Steps machine.old result machine.new (declared_of (manner_of manner) needed) }
+    ensures { sign_at machine.old.rest ≡ Some signs.LeftParen
+        → Steps machine.old result machine.new
+        (declared_of (manner_of manner) (is_required presence)) }
 {
     if begins_parameters(machine, manner) {
         return Ok(Some(Doing::Suffixing(manner, absent(machine.alloc))));
@@ -117,7 +117,7 @@ fn read_parenthesis(
         return Ok(None);
     };
     machine.push(Frame::Declarator(DeclaratorFrame::InGroup(paren, manner)))?;
-    Ok(Some(Doing::Declaring(manner, true)))
+    Ok(Some(Doing::Declaring(manner, Presence::Required)))
 }
 
 /// Whether parameters begin behind the next token, where a name may be lacking.
@@ -162,7 +162,7 @@ pub fn read_qualifier(
         return Ok(Some(Doing::Qualifying(manner, place, qualifiers)));
     }
     machine.push(Frame::Declarator(DeclaratorFrame::BehindStar(place, qualifiers)))?;
-    Ok(Some(Doing::Declaring(manner, false)))
+    Ok(Some(Doing::Declaring(manner, Presence::Optional)))
 }
 
 /// Behind a declarator that suffixes may follow (C90 6.5.4.2 and 6.5.4.3).

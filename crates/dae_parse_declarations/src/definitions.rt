@@ -12,13 +12,13 @@ ghost use Rattle.dae_parse_states.specs.Bottom.{IsBottom};
 ghost use Rattle.dae_base.specs.declared.Place.{Place};
 ghost use Rattle.dae_parse_states.specs.declared.frames.Before.{Before as BeforeValue};
 ghost use Rattle.dae_parse_states.specs.declared.frames.DeclarationFrame.TheVariants as frames;
-ghost use Rattle.dae_parse_states.specs.Frames.{is_block, ShowsFile};
+ghost use Rattle.dae_parse_states.specs.Frames.{kind_of_statement, ShowsFile};
 ghost use Rattle.dae_parse_states.specs.States.{Stands, Follows, outside_stack};
 
 use dae_base::Place;
 use dae_parse_nodes::{Declared, Specified, definition, with_external};
 use dae_parse_parts::Read;
-use dae_parse_states::{Before, DeclarationFrame, Doing, Machine};
+use dae_parse_states::{Before, DeclarationFrame, Doing, Machine, StatementKind};
 use dae_tree::Statement;
 use std::alloc::AllocError;
 
@@ -29,14 +29,14 @@ const GREATEST_LENGTH: usize = 8192;
 pub fn in_definition(
     machine: &mut Machine<'_>,
     found: Read<Box<Statement>>,
-    is_body: bool,
+    kind: StatementKind,
     specified: Specified,
     declared: Declared,
     total: usize,
 ) -> Result<Option<Doing>, AllocError>
     ensures { (b : StatementTree) (ws : Specifiers) (d : Declarator) (outside : Names)
         (s : List PlainFrame)
-        → ShowsStatement found b → is_body ≡ is_block b → ShowsSpecified specified ws
+        → ShowsStatement found b → kind ≡ kind_of_statement b → ShowsSpecified specified ws
         → ShowsDeclared declared d → IsBottom s
         → length (tokens_of (plain.state (plain.gave_statement b)
         (plain.awaits_statement (plain.in_definition ws d outside) ∷ s)
@@ -47,9 +47,9 @@ pub fn in_definition(
         → IfOk result (λ r. Follows r machine.new (statement_given b
         (plain.in_definition ws d outside) s machine.old.scope.names machine.old.rest)) }
 {
-    if !is_body {
+    let StatementKind::Block = kind else {
         return Ok(None);
-    }
+    };
     let Some(frame) = machine.pop_declaration() else {
         return Ok(None);
     };

@@ -12,7 +12,7 @@ use dae_base::Place;
 use dae_parse_nodes::{Operand, initialiser_list, no_initialisers, value, with_initialiser};
 use dae_parse_parts::{ASSIGNMENT, Read};
 use dae_parse_states::{Doing, ExpressionFrame, Frame, InitialiserFrame, Machine};
-use dae_tree::{Initialiser, Sign};
+use dae_tree::{Initialiser, Sign, TrailingComma};
 use std::alloc::AllocError;
 
 /// Before an initialiser (C90 6.5.7).
@@ -42,7 +42,7 @@ pub fn read_list(
         Steps machine.old result machine.new (list_followed place xs) }
 {
     if machine.rest.take_sign(Sign::RightBrace).is_some() {
-        let whole = initialiser_list(machine.alloc, place, list, true)?;
+        let whole = initialiser_list(machine.alloc, place, list, TrailingComma::Present)?;
         return Ok(Some(Doing::GaveInitialiser(whole)));
     }
     machine.push(Frame::Initialiser(InitialiserFrame::InList(place, list)))?;
@@ -67,7 +67,7 @@ pub fn in_list(
     if machine.rest.take_sign(Sign::RightBrace).is_none() {
         return Ok(None);
     }
-    let whole = initialiser_list(machine.alloc, place, list, false)?;
+    let whole = initialiser_list(machine.alloc, place, list, TrailingComma::Absent)?;
     Ok(Some(Doing::GaveInitialiser(whole)))
 }
 

@@ -41,7 +41,7 @@ pub fn of_parameter(
         → IfOk result (λ r. Follows r machine.new (declarator_given d
         (plain.of_parameter o ps ws) s machine.old.scope.names machine.old.rest)) }
 {
-    machine.bind(declared.name, specified.typedef)?;
+    machine.bind(&declared, &specified)?;
     let list = with_parameter(list, specified, declared)?;
     if machine.rest.take_sign(Sign::Comma).is_some() {
         machine.push(Frame::Specifiers(SpecifiersFrame::ForParameter(opened, list)))?;

@@ -13,9 +13,11 @@ ghost use Rattle.dae_parse_states.specs.Frames.{ShowsBefore, ShowsBody, ShowsOpe
 ghost use Rattle.dae_parse_states.specs.States.{Stands, Follows, ShowsState, outside_stack, Steps};
 
 use dae_base::Place;
-use dae_parse_nodes::{ParameterList, Specified, no_declarators, with_type_name, with_word};
+use dae_parse_nodes::{Body, ParameterList, Specified, no_declarators, with_type_name, with_word};
 use dae_parse_parts::Read;
-use dae_parse_states::{Body, DeclaratorFrame, Doing, Frame, Machine, Manner, Open, is_type};
+use dae_parse_states::{
+    DeclaratorFrame, Doing, Frame, Machine, Manner, Open, Presence, TagKind, is_type,
+};
 use dae_tree::{Keyword, Kind, Member, Name, Seen};
 use std::alloc::AllocError;
 
@@ -89,8 +91,8 @@ fn add_word(
         (taken word place seen ws s machine.now.scope.names machine.now.rest)) }
 {
     match word {
-        Keyword::Struct => Ok(Doing::Tagging(true, place, seen, before)),
-        Keyword::Enum => Ok(Doing::Tagging(false, place, seen, before)),
+        Keyword::Struct => Ok(Doing::Tagging(TagKind::Structure, place, seen, before)),
+        Keyword::Enum => Ok(Doing::Tagging(TagKind::Enumeration, place, seen, before)),
         _ => {
             let more = with_word(machine.alloc, before, place, word)?;
             Ok(Doing::Specifying(seen.with_word(word), more))
@@ -127,7 +129,7 @@ pub fn for_cast(
         Steps machine.old result machine.new (specifiers_given ws (plain.for_cast place level)) }
 {
     machine.push(Frame::Declarator(DeclaratorFrame::OfCast(place, specified, level)))?;
-    Ok(Some(Doing::Declaring(Manner::WithoutName, false)))
+    Ok(Some(Doing::Declaring(Manner::WithoutName, Presence::Optional)))
 }
 
 /// Behind the specifiers of a type in `sizeof` (C90 6.3.3.4).
@@ -143,7 +145,7 @@ pub fn for_sizeof(
         (specifiers_given ws (plain.for_sizeof place paren level)) }
 {
     machine.push(Frame::Declarator(DeclaratorFrame::OfSizeof(place, paren, specified, level)))?;
-    Ok(Some(Doing::Declaring(Manner::WithoutName, false)))
+    Ok(Some(Doing::Declaring(Manner::WithoutName, Presence::Optional)))
 }
 
 /// Behind the specifiers of a parameter (C90 6.5.4.3).
@@ -161,7 +163,7 @@ pub fn for_parameter(
         (plain.for_parameter o ps) s machine.old.scope.names machine.old.rest)) }
 {
     machine.push(Frame::Declarator(DeclaratorFrame::OfParameter(opened, list, specified)))?;
-    Ok(Some(Doing::Declaring(Manner::EitherWay, false)))
+    Ok(Some(Doing::Declaring(Manner::EitherWay, Presence::Optional)))
 }
 
 /// Behind the specifiers of members (C90 6.5.2.1).
@@ -177,5 +179,5 @@ pub fn for_member(
 {
     let none = no_declarators(machine.alloc);
     machine.push(Frame::Declarator(DeclaratorFrame::OfMember(body, members, specified, none)))?;
-    Ok(Some(Doing::Declaring(Manner::ByName, false)))
+    Ok(Some(Doing::Declaring(Manner::ByName, Presence::Optional)))
 }

@@ -4,3 +4,4 @@ mod Specifying
 mod Making
 mod Blocks
 mod Operands
+pub mod Laws

@@ -17,7 +17,7 @@ use Rattle.dae_parse_grammar.specs.Machine.{specifiers_onto}
 use Rattle.dae_parse_grammar.proofs.Laws.{or_else_along}
 use Rattle.dae_parse_parts.specs.declared.reading.Read.{Read}
 use Rattle.dae_parse_parts.specs.Shown.{Holds, IsSeen, Shows, IsLonger}
-use Rattle.dae_parse_nodes.specs.Parts.{ShowsSpecifiers, ShowsSpecifier, first_place}
+use Rattle.dae_parse_nodes.specs.Parts.{specifier_word, says_typedef, void_place, ShowsSpecifiers, ShowsSpecifier, first_place}
 use Rattle.dae_parse_parts.proofs.Laws.{holds_same, or_else_none}
 use Rattle.dae_parse_parts.proofs.Laws.{seen_at}
 
@@ -35,6 +35,15 @@ one w = tree.specifier_then w tree.no_specifiers
 
 last_joined : (before : List tree.Specifier) (w : tree.Specifier) → specifiers_onto (w ∷ before) tree.no_specifiers ≡ joined (specifiers_onto before tree.no_specifiers) (one w)
 last_joined before w = onto_joined before tree.no_specifiers (one w)
+
+-- what a specifier's word says of it
+pub typedef_by_word : (w : tree.Specifier) → says_typedef (specifier_word w) ≡ is_typedef_specifier w
+typedef_by_word (tree.Word p k) = refl
+typedef_by_word _ = refl
+
+pub void_by_word : (w : tree.Specifier) → void_place (place_of_specifier w) (specifier_word w) ≡ void_word (one w)
+void_by_word (tree.Word p keywords.Void) = refl
+void_by_word _ = refl
 
 typedef_joined : (ws : tree.Specifiers) (w : tree.Specifier) → has_typedef (joined ws (one w)) ≡ has_typedef ws || is_typedef_specifier w
 typedef_joined tree.no_specifiers w = or_nothing (is_typedef_specifier w)

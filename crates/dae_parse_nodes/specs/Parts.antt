@@ -2,6 +2,8 @@
 use Rattle.std.specs.Prelude.{◌≡◌, ℕ, Bool, true, false, List, [], ◌∷◌, Option, Some, None, Box, Vec}
 use Rattle.std.specs.declared.alloc.Global.{Global}
 use Rattle.dae_base.specs.declared.Place.{Place}
+use Rattle.dae_tree.specs.declared.words.Keyword.{Keyword}
+use Rattle.dae_tree.specs.declared.words.Keyword.TheVariants as keywords
 use Rattle.dae_tree.specs.declared.expressions.Name.{Name}
 use Rattle.dae_tree.specs.declared.expressions.Expression.{Expression}
 use Rattle.dae_tree.specs.declared.expressions.Specifier.{Specifier}
@@ -19,7 +21,7 @@ use Rattle.dae_tree.specs.Trees as tree
 use Rattle.dae_tree.specs.Views.{view, view_optional, views_specifiers, view_specifier, view_declarator, views_declarators}
 use Rattle.dae_tree.specs.FileViews.{view_initialiser, view_item, view_declaration, view_statement, view_external}
 use Rattle.dae_tree.specs.Depth.{place_of, place_of_specifier}
-use Rattle.dae_tree.specs.Names.{Names, declared_name, has_typedef, is_bare, with_parameters}
+use Rattle.dae_tree.specs.Names.{Names, declared_name, is_typedef_word, has_typedef, is_bare, with_parameters}
 use Rattle.dae_tree.specs.Grammar.{level, void_word, void_alone}
 use Rattle.dae_parse_grammar.specs.FirstPlaces.{Places, nowhere, both, firsts, firsts_specifiers, firsts_specifier, firsts_declarators, firsts_declarator, firsts_initialiser, firsts_value, firsts_declaration, firsts_statement, firsts_external}
 use Rattle.dae_tree.specs.Lists as lists
@@ -61,6 +63,19 @@ ShowsOptional _ _ = ⊥
 
 abbrev pub ShowsSpecifier : Read Specifier → tree.Specifier → Type 0
 ShowsSpecifier = Shows view_specifier firsts_specifier
+
+-- the word that a specifier is, and what such a word says
+abbrev pub specifier_word : tree.Specifier → Option Keyword
+specifier_word (tree.Word p k) = Some k
+specifier_word _ = None
+
+abbrev pub says_typedef : Option Keyword → Bool
+says_typedef None = false
+says_typedef (Some k) = is_typedef_word k
+
+abbrev pub void_place : Place → Option Keyword → Option Place
+void_place p (Some keywords.Void) = Some p
+void_place p _ = None
 
 abbrev pub ShowsSpecifiers : Read (Vec Specifier Global) → tree.Specifiers → Type 0
 ShowsSpecifiers = Shows (λ list. views_specifiers list.items) firsts_specifiers

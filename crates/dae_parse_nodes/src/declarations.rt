@@ -3,6 +3,7 @@
 ghost use Rattle.std.specs.Prelude.{◌≡◌, ◌≢◌, List, [], ◌∷◌, Option, Some, None, IfOk};
 ghost use Rattle.dae_base.specs.declared.Place.{Place};
 ghost use Rattle.dae_tree.specs.Trees as tree;
+ghost use Rattle.dae_tree.specs.Views.{has_comma};
 ghost use Rattle.dae_tree.specs.FileViews.{view_statement};
 ghost use Rattle.dae_tree.specs.declared.statements.Block.{Block};
 ghost use Rattle.dae_tree.specs.declared.statements.Statement.TheVariants as statements;
@@ -14,7 +15,7 @@ use crate::values::{Declared, Operand, Specified};
 use dae_base::Place;
 use dae_parse_depths::Depths;
 use dae_parse_parts::{Read, beside, longer, over};
-use dae_tree::{Block, Declaration, External, Initialiser, Item, Statement};
+use dae_tree::{Block, Declaration, External, Initialiser, Item, Statement, TrailingComma};
 use std::alloc::{AllocError, Global};
 
 /// An expression as an initialiser.
@@ -46,12 +47,12 @@ pub fn initialiser_list(
     alloc: Global,
     place: Place,
     list: Read<Vec<Initialiser>>,
-    comma: bool,
+    comma: TrailingComma,
 ) -> Result<Read<Initialiser>, AllocError>
     ensures { (xs : List tree.Initialiser) → ShowsInitialisers list xs
         → IfOk result
         (λ r. ShowsInitialiser r
-        (tree.Listed place (initialisers_onto xs tree.no_initialisers) comma)) }
+        (tree.Listed place (initialisers_onto xs tree.no_initialisers) (has_comma comma))) }
 {
     let Read { tree, depths } = over(alloc, place, list)?;
     let tree = match tree {

@@ -1,7 +1,8 @@
-// What a parser builds: the parts that it keeps, and one function for each node over them. A part is a tree with the places
-// of its first nodes at each depth. It takes the parts of a node, each with what it shows of the grammar's trees. It gives the
-// part that shows the node over them. It promises the places of the first nodes down to the greatest depth, and the tree
-// exactly where no node in it is too deep. Nothing fails but for want of memory.
+// What a parser builds: the parts that it keeps, and one function for each node over them, but for statements, whose nodes
+// stand beside the steps that make them. A part is a tree with the places of its first nodes at each depth. It takes the
+// parts of a node, each with what it shows of the grammar's trees. It gives the part that shows the node over them. It
+// promises the places of the first nodes down to the greatest depth, and the tree exactly where no node in it is too deep.
+// Nothing fails but for want of memory.
 #![tactic(auto)]
 
 pub use declarations::{
@@ -25,17 +26,11 @@ pub use specifiers::{
     with_plain_enumerator, with_structure, with_structure_body, with_type_name,
     with_valued_enumerator, with_word,
 };
-pub use statements::{
-    block, break_statement, case_statement, continue_statement, default_statement, do_statement,
-    empty_statement, evaluation, for_statement, if_else_statement, if_statement, return_statement,
-    switch_statement, while_statement, with_statement,
-};
-pub use values::{Declared, Loop, Operand, ParameterList, Specified};
+pub use values::{Body, Declared, DoParts, Loop, Operand, ParameterList, Specified};
 
 mod declarations;
 mod declarators;
 mod expressions;
 mod lists;
 mod specifiers;
-mod statements;
 mod values;

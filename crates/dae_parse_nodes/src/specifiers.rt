@@ -2,18 +2,17 @@
 
 ghost use Rattle.std.specs.Prelude.{◌≡◌, List, [], ◌∷◌, Option, Some, None, IfOk, ◌||◌};
 ghost use Rattle.dae_tree.specs.Trees as tree;
-ghost use Rattle.dae_tree.specs.Names.{is_typedef_specifier, is_typedef_word};
 ghost use Rattle.dae_tree.specs.Depth.{place_of_specifier};
-ghost use Rattle.dae_tree.specs.Grammar.{void_word};
+ghost use Rattle.dae_tree.specs.Views.{has_comma};
 ghost use Rattle.dae_tree.specs.Lists as lists;
 ghost use Rattle.dae_parse_grammar.specs.Frames as frames;
 ghost use Rattle.dae_parse_grammar.specs.Machine.{specifiers_onto, members_onto, enumerators_onto, declarators_onto};
-ghost use Rattle.dae_parse_nodes.specs.Parts.{ShowsOperand, ShowsSpecifier, ShowsSpecified, ShowsDeclared, ShowsDeclarators, ShowsMembers, ShowsEnumerators};
+ghost use Rattle.dae_parse_nodes.specs.Parts.{specifier_word, says_typedef, void_place, ShowsOperand, ShowsSpecifier, ShowsSpecified, ShowsDeclared, ShowsDeclarators, ShowsMembers, ShowsEnumerators};
 
-use crate::values::{Declared, Operand, Specified};
+use crate::values::{Body, Declared, Operand, Specified};
 use dae_base::Place;
 use dae_parse_parts::{Read, beside, flat, longer, over};
-use dae_tree::{Declarator, Enumerator, Keyword, Member, Name, Specifier};
+use dae_tree::{Declarator, Enumerator, Keyword, Member, Name, Specifier, TrailingComma};
 use std::alloc::{AllocError, Global};
 
 /// No specifiers.
@@ -28,18 +27,16 @@ pub fn no_specifiers(alloc: Global) -> Specified
     }
 }
 
-/// A specifier more, whose place it is, whether it is `typedef`, and where it is `void`.
+/// A specifier more, with its place, and with the word that it is, if it is one.
 fn with_specifier(
     before: Specified,
     specifier: Read<Specifier>,
     place: Place,
-    is_typedef: bool,
-    void: Option<Place>,
+    word: Option<Keyword>,
 ) -> Result<Specified, AllocError>
     ensures { (ws : List tree.Specifier) (w : tree.Specifier)
         → ShowsSpecified before (specifiers_onto ws tree.no_specifiers) → ShowsSpecifier specifier w
-        → place ≡ place_of_specifier w → is_typedef ≡ is_typedef_specifier w
-        → void ≡ void_word (tree.specifier_then w tree.no_specifiers)
+        → place ≡ place_of_specifier w → word ≡ specifier_word w
         → IfOk result (λ r. ShowsSpecified r (specifiers_onto (w ∷ ws) tree.no_specifiers)) }
 {
     let Specified {
@@ -49,7 +46,7 @@ fn with_specifier(
         void: _,
     } = before;
     let read = longer(read, specifier)?;
-    let typedef = either(typedef, is_typedef);
+    let typedef = either(typedef, is_typedef(word));
     match first {
         Some(first) => Ok(Specified {
             read,
@@ -61,7 +58,7 @@ fn with_specifier(
             read,
             typedef,
             place: Some(place),
-            void,
+            void: void_at(place, word),
         }),
     }
 }
@@ -72,18 +69,18 @@ fn either(a: bool, b: bool) -> bool
     a || b
 }
 
-fn is_typedef(word: Keyword) -> bool
-    ensures { result ≡ is_typedef_word word }
+fn is_typedef(word: Option<Keyword>) -> bool
+    ensures { result ≡ says_typedef word }
 {
-    matches!(word, Keyword::Typedef)
+    matches!(word, Some(Keyword::Typedef))
 }
 
 /// The place of a word that is `void`.
-fn void_at(place: Place, word: Keyword) -> Option<Place>
-    ensures { result ≡ void_word (tree.specifier_then (tree.Word place word) tree.no_specifiers) }
+fn void_at(place: Place, word: Option<Keyword>) -> Option<Place>
+    ensures { result ≡ void_place place word }
 {
     match word {
-        Keyword::Void => Some(place),
+        Some(Keyword::Void) => Some(place),
         _ => None,
     }
 }
@@ -101,8 +98,7 @@ pub fn with_word(
         (λ r. ShowsSpecified r (specifiers_onto (tree.Word place word ∷ ws) tree.no_specifiers)) }
 {
     let read = flat(alloc, Specifier::Word(place, word));
-    let void = void_at(place, word);
-    with_specifier(before, read, place, is_typedef(word), void)
+    with_specifier(before, read, place, Some(word))
 }
 
 /// A name of a type more (C90 6.5.6).
@@ -114,7 +110,7 @@ pub fn with_type_name(alloc: Global, before: Specified, name: Name) -> Result<Sp
 {
     let place = name.place;
     let read = flat(alloc, Specifier::TypeName(name));
-    with_specifier(before, read, place, false, None)
+    with_specifier(before, read, place, None)
 }
 
 /// `struct` and a tag more (C90 6.5.2.3).
@@ -131,7 +127,7 @@ pub fn with_structure(
         (specifiers_onto (tree.Structure place name ∷ ws) tree.no_specifiers)) }
 {
     let read = flat(alloc, Specifier::Structure(place, name));
-    with_specifier(before, read, place, false, None)
+    with_specifier(before, read, place, None)
 }
 
 /// `enum` and a tag more (C90 6.5.2.3).
@@ -148,53 +144,63 @@ pub fn with_enumeration(
         (specifiers_onto (tree.Enumeration place name ∷ ws) tree.no_specifiers)) }
 {
     let read = flat(alloc, Specifier::Enumeration(place, name));
-    with_specifier(before, read, place, false, None)
+    with_specifier(before, read, place, None)
 }
 
 /// A structure with its members more (C90 6.5.2.1).
 pub fn with_structure_body(
     alloc: Global,
-    before: Specified,
-    place: Place,
-    tag: Option<Name>,
-    brace: Place,
+    body: Body,
     members: Read<Vec<Member>>,
 ) -> Result<Specified, AllocError>
     ensures { (ws : List tree.Specifier) (ms : List lists.MemberLine)
-        → ShowsSpecified before (specifiers_onto ws tree.no_specifiers) → ShowsMembers members ms
+        → ShowsSpecified body.before (specifiers_onto ws tree.no_specifiers)
+        → ShowsMembers members ms
         → IfOk result
         (λ r. ShowsSpecified r
         (specifiers_onto
-        (tree.StructureBody place tag brace (members_onto ms tree.no_members)
+        (tree.StructureBody body.place body.tag body.brace (members_onto ms tree.no_members)
         ∷ ws) tree.no_specifiers)) }
 {
+    let Body {
+        place,
+        tag,
+        brace,
+        seen: _,
+        before,
+    } = body;
     let Read { tree, depths } = over(alloc, place, members)?;
     let tree = match tree {
         Some(members) => Some(Specifier::StructureBody(place, tag, brace, members)),
         None => None,
     };
-    with_specifier(before, Read { tree, depths }, place, false, None)
+    with_specifier(before, Read { tree, depths }, place, None)
 }
 
 /// An enumeration with its enumerators more, and whether a comma stands behind the last (C90 6.5.2.2).
 pub fn with_enumeration_body(
     alloc: Global,
-    before: Specified,
-    place: Place,
-    tag: Option<Name>,
-    brace: Place,
+    body: Body,
     enumerators: Read<Vec<Enumerator>>,
-    comma: bool,
+    comma: TrailingComma,
 ) -> Result<Specified, AllocError>
     ensures { (ws : List tree.Specifier) (es : List lists.Entry)
-        → ShowsSpecified before (specifiers_onto ws tree.no_specifiers)
+        → ShowsSpecified body.before (specifiers_onto ws tree.no_specifiers)
         → ShowsEnumerators enumerators es
         → IfOk result
         (λ r. ShowsSpecified r
         (specifiers_onto
-        (tree.EnumerationBody place tag brace (enumerators_onto es tree.no_enumerators) comma
-        ∷ ws) tree.no_specifiers)) }
+        (tree.EnumerationBody body.place body.tag body.brace
+        (enumerators_onto es tree.no_enumerators) (has_comma comma) ∷ ws)
+        tree.no_specifiers)) }
 {
+    let Body {
+        place,
+        tag,
+        brace,
+        seen: _,
+        before,
+    } = body;
     let Read { tree, depths } = over(alloc, place, enumerators)?;
     let tree = match tree {
         Some(enumerators) => Some(Specifier::EnumerationBody(
@@ -206,7 +212,7 @@ pub fn with_enumeration_body(
         )),
         None => None,
     };
-    with_specifier(before, Read { tree, depths }, place, false, None)
+    with_specifier(before, Read { tree, depths }, place, None)
 }
 
 /// A declarator of members more.

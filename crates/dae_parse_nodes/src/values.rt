@@ -1,9 +1,9 @@
-// What is kept beside the tree of a part: of operands, specifiers, declarators, parameters and loops.
+// What is kept beside the tree of a part: of operands, specifiers, declarators, parameters, bodies and loops.
 
 use dae_base::Place;
 use dae_parse_parts::Read;
 use dae_parse_scope::Binding;
-use dae_tree::{Declarator, Expression, Parameter, Specifier};
+use dae_tree::{Declarator, Expression, Name, Parameter, Seen, Specifier, Statement};
 
 /// An expression that was read, its level, and the place of its first token.
 #[derive(Drop)]
@@ -43,6 +43,26 @@ pub struct ParameterList {
     pub any: bool,
     /// The place of `void`, where it stands alone.
     pub void: Option<Place>,
+}
+
+/// The body of a structure or enumeration, with the specifiers before it.
+#[derive(Drop)]
+pub struct Body {
+    pub place: Place,
+    pub tag: Option<Name>,
+    pub brace: Place,
+    pub seen: Seen,
+    pub before: Specified,
+}
+
+/// The parts of a `do` before its semicolon: its body, its test, and the places of its two words and its parenthesis.
+#[derive(Drop)]
+pub struct DoParts {
+    pub place: Place,
+    pub body: Read<Box<Statement>>,
+    pub word: Place,
+    pub paren: Place,
+    pub test: Operand,
 }
 
 /// The parts of a `for` before its step: its word, its parenthesis, and the expressions with the semicolons behind them.

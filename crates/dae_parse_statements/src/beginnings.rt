@@ -11,15 +11,15 @@ ghost use Rattle.dae_parse_nodes.specs.Parts.{ShowsOperand, ShowsOptional, Shows
 ghost use Rattle.dae_parse_states.specs.Frames.{ShowsHead, ShowsInside};
 ghost use Rattle.dae_parse_states.specs.States.{Stands, Follows, outside_stack, frames_of, Steps};
 
-use dae_base::Place;
-use dae_parse_nodes::{
-    Loop, Operand, block, break_statement, continue_statement, do_statement, empty_statement,
-    no_declarations, no_specifiers, no_statements, return_statement,
+use crate::nodes::{
+    block, break_statement, continue_statement, do_statement, empty_statement, return_statement,
 };
+use dae_base::Place;
+use dae_parse_nodes::{DoParts, Loop, Operand, no_declarations, no_specifiers, no_statements};
 use dae_parse_parts::{COMMA, CONDITIONAL, Read};
 use dae_parse_states::{
-    DeclarationFrame, Doing, ExpressionFrame, Frame, Head, Inside, Machine, SpecifiersFrame,
-    StatementFrame, begins_specifiers,
+    DeclarationFrame, Doing, ExpressionFrame, Frame, FunctionBody, Head, Inside, Machine,
+    SpecifiersFrame, StatementFrame, StatementKind, begins_specifiers,
 };
 use dae_tree::{Keyword, Seen, Sign, Statement};
 use std::alloc::AllocError;
@@ -36,7 +36,7 @@ pub fn read_declaration(
 {
     if begins_specifiers(&machine.scope, &machine.rest) {
         machine.push(Frame::Declaration(DeclarationFrame::InBlock(inside)))?;
-        machine.push(Frame::Specifiers(SpecifiersFrame::ForDeclaration(false)))?;
+        machine.push(Frame::Specifiers(SpecifiersFrame::ForDeclaration(FunctionBody::Excluded)))?;
         let before = no_specifiers(machine.alloc);
         return Ok(Some(Doing::Specifying(Seen::nothing(), before)));
     }
@@ -63,7 +63,7 @@ pub fn read_block(
             declarations,
         } = inside;
         let whole = block(machine.alloc, place, declarations, list)?;
-        return Ok(Some(Doing::GaveStatement(whole, true)));
+        return Ok(Some(Doing::GaveStatement(whole, StatementKind::Block)));
     }
     machine.push(Frame::Statement(StatementFrame::InStatements(inside, list)))?;
     Ok(Some(Doing::Stating))
@@ -84,7 +84,7 @@ pub fn read_statement(machine: &mut Machine<'_>) -> Result<Option<Doing>, AllocE
     }
     if let Some(place) = machine.rest.take_sign(Sign::Semicolon) {
         let whole = empty_statement(machine.alloc, place)?;
-        return Ok(Some(Doing::GaveStatement(whole, false)));
+        return Ok(Some(Doing::GaveStatement(whole, StatementKind::Other)));
     }
     let Some(word) = machine.rest.word() else {
         return begin_evaluation(machine);
@@ -241,22 +241,17 @@ pub fn read_loop_start(
 
 /// Behind the test of a `do` (C90 6.6.5.2).
 #[tactic(auto, using(dae_parse_states::proofs::Laws::semicolon_or_none))]
-pub fn read_do_end(
-    machine: &mut Machine<'_>,
-    place: Place,
-    body: Read<Box<Statement>>,
-    word: Place,
-    paren: Place,
-    test: Operand,
-) -> Result<Option<Doing>, AllocError>
-    ensures { (b : StatementTree) (e : Expression) → ShowsStatement body b → ShowsOperand test e →
-        Steps machine.old result machine.new (step_at (plain.finishing place b word paren e)) }
+pub fn read_do_end(machine: &mut Machine<'_>, parts: DoParts) -> Result<Option<Doing>, AllocError>
+    ensures { (b : StatementTree) (e : Expression) → ShowsStatement parts.body b
+        → ShowsOperand parts.test e
+        → Steps machine.old result machine.new
+        (step_at (plain.finishing parts.place b parts.word parts.paren e)) }
 {
     let Some(end) = machine.rest.take_sign(Sign::Semicolon) else {
         return Ok(None);
     };
-    let whole = do_statement(machine.alloc, place, body, word, paren, test, end)?;
-    Ok(Some(Doing::GaveStatement(whole, false)))
+    let whole = do_statement(machine.alloc, parts, end)?;
+    Ok(Some(Doing::GaveStatement(whole, StatementKind::Other)))
 }
 
 /// Behind `return` (C90 6.6.6.4).
@@ -266,7 +261,7 @@ pub fn read_return(machine: &mut Machine<'_>, place: Place) -> Result<Option<Doi
 {
     if let Some(end) = machine.rest.take_sign(Sign::Semicolon) {
         let whole = return_statement(machine.alloc, place, None, end)?;
-        return Ok(Some(Doing::GaveStatement(whole, false)));
+        return Ok(Some(Doing::GaveStatement(whole, StatementKind::Other)));
     }
     machine.push(Frame::Expression(ExpressionFrame::InReturn(place)))?;
     Ok(Some(Doing::Seek(COMMA)))
@@ -281,7 +276,7 @@ pub fn read_break(machine: &mut Machine<'_>, place: Place) -> Result<Option<Doin
         return Ok(None);
     };
     let whole = break_statement(machine.alloc, place, end)?;
-    Ok(Some(Doing::GaveStatement(whole, false)))
+    Ok(Some(Doing::GaveStatement(whole, StatementKind::Other)))
 }
 
 /// Behind `continue` (C90 6.6.6.2).
@@ -293,5 +288,5 @@ pub fn read_continue(machine: &mut Machine<'_>, place: Place) -> Result<Option<D
         return Ok(None);
     };
     let whole = continue_statement(machine.alloc, place, end)?;
-    Ok(Some(Doing::GaveStatement(whole, false)))
+    Ok(Some(Doing::GaveStatement(whole, StatementKind::Other)))
 }

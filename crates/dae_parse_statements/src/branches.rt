@@ -9,13 +9,14 @@ ghost use Rattle.dae_parse_nodes.specs.Parts.{ShowsOperand, ShowsOptional, Shows
 ghost use Rattle.dae_parse_states.specs.Frames.{ShowsInside};
 ghost use Rattle.dae_parse_states.specs.States.{Stands, Follows, outside_stack, Steps};
 
-use dae_base::Place;
-use dae_parse_nodes::{
-    Loop, Operand, case_statement, default_statement, for_statement, if_else_statement,
-    if_statement, switch_statement, while_statement, with_statement,
+use crate::nodes::{
+    case_statement, default_statement, for_statement, if_else_statement, if_statement,
+    switch_statement, while_statement, with_statement,
 };
+use dae_base::Place;
+use dae_parse_nodes::{Loop, Operand};
 use dae_parse_parts::Read;
-use dae_parse_states::{Doing, Frame, Head, Inside, Machine, StatementFrame};
+use dae_parse_states::{Doing, Frame, Head, Inside, Machine, StatementFrame, StatementKind};
 use dae_tree::{Keyword, Statement};
 use std::alloc::AllocError;
 
@@ -36,7 +37,7 @@ pub fn then_branch(
         return Ok(Some(Doing::Stating));
     }
     let whole = if_statement(machine.alloc, place, paren, test, found)?;
-    Ok(Some(Doing::GaveStatement(whole, false)))
+    Ok(Some(Doing::GaveStatement(whole, StatementKind::Other)))
 }
 
 /// Behind the second branch of an `if` (C90 6.6.4.1).
@@ -54,7 +55,7 @@ pub fn else_branch(
         (statement_given b (plain.else_branch place paren e a)) }
 {
     let whole = if_else_statement(machine.alloc, place, paren, test, then, found)?;
-    Ok(Some(Doing::GaveStatement(whole, false)))
+    Ok(Some(Doing::GaveStatement(whole, StatementKind::Other)))
 }
 
 /// Behind the body of a `while` (C90 6.6.5.1).
@@ -69,7 +70,7 @@ pub fn while_body(
         Steps machine.old result machine.new (statement_given b (plain.while_body place paren e)) }
 {
     let whole = while_statement(machine.alloc, place, paren, test, found)?;
-    Ok(Some(Doing::GaveStatement(whole, false)))
+    Ok(Some(Doing::GaveStatement(whole, StatementKind::Other)))
 }
 
 /// Behind the body of a `switch` (C90 6.6.4.2).
@@ -84,7 +85,7 @@ pub fn switch_body(
         Steps machine.old result machine.new (statement_given b (plain.switch_body place paren e)) }
 {
     let whole = switch_statement(machine.alloc, place, paren, test, found)?;
-    Ok(Some(Doing::GaveStatement(whole, false)))
+    Ok(Some(Doing::GaveStatement(whole, StatementKind::Other)))
 }
 
 /// Behind the body of a `do` (C90 6.6.5.2).
@@ -115,7 +116,7 @@ pub fn for_body(
         → Steps machine.old result machine.new (statement_given b (plain.for_body l e)) }
 {
     let whole = for_statement(machine.alloc, parts, step, found)?;
-    Ok(Some(Doing::GaveStatement(whole, false)))
+    Ok(Some(Doing::GaveStatement(whole, StatementKind::Other)))
 }
 
 /// Behind the statement of a `case` (C90 6.6.1).
@@ -129,7 +130,7 @@ pub fn case_body(
         Steps machine.old result machine.new (statement_given b (plain.case_body place e)) }
 {
     let whole = case_statement(machine.alloc, place, value, found)?;
-    Ok(Some(Doing::GaveStatement(whole, false)))
+    Ok(Some(Doing::GaveStatement(whole, StatementKind::Other)))
 }
 
 /// Behind the statement of a `default` (C90 6.6.1).
@@ -142,7 +143,7 @@ pub fn default_body(
         Steps machine.old result machine.new (statement_given b (plain.default_body place)) }
 {
     let whole = default_statement(machine.alloc, place, found)?;
-    Ok(Some(Doing::GaveStatement(whole, false)))
+    Ok(Some(Doing::GaveStatement(whole, StatementKind::Other)))
 }
 
 /// Behind a statement of a block (C90 6.6.2).

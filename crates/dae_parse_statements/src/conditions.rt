@@ -9,9 +9,10 @@ ghost use Rattle.dae_parse_nodes.specs.Parts.{ShowsOperand, ShowsOptional, Shows
 ghost use Rattle.dae_parse_states.specs.Frames.{ShowsHead};
 ghost use Rattle.dae_parse_states.specs.States.{Steps};
 
+use crate::nodes::{evaluation, return_statement};
 use dae_base::Place;
-use dae_parse_nodes::{Loop, Operand, evaluation, return_statement};
-use dae_parse_states::{Doing, Frame, Head, Machine, StatementFrame};
+use dae_parse_nodes::{DoParts, Loop, Operand};
+use dae_parse_states::{Doing, Frame, Head, Machine, StatementFrame, StatementKind};
 use dae_tree::Sign;
 use std::alloc::AllocError;
 
@@ -28,7 +29,7 @@ pub fn in_evaluation(
         return Ok(None);
     };
     let whole = evaluation(machine.alloc, operand, end)?;
-    Ok(Some(Doing::GaveStatement(whole, false)))
+    Ok(Some(Doing::GaveStatement(whole, StatementKind::Other)))
 }
 
 /// Behind a test (C90 6.6.4 and 6.6.5).
@@ -56,7 +57,13 @@ pub fn in_test(
             place, paren, test,
         )))?,
         Head::Do(place, body, word) => {
-            return Ok(Some(Doing::Finishing(place, body, word, paren, test)));
+            return Ok(Some(Doing::Finishing(DoParts {
+                place,
+                body,
+                word,
+                paren,
+                test,
+            })));
         }
     }
     Ok(Some(Doing::Stating))
@@ -138,7 +145,7 @@ pub fn in_return(
         return Ok(None);
     };
     let whole = return_statement(machine.alloc, place, Some(value), end)?;
-    Ok(Some(Doing::GaveStatement(whole, false)))
+    Ok(Some(Doing::GaveStatement(whole, StatementKind::Other)))
 }
 
 /// Behind the value of a `case` (C90 6.6.1).

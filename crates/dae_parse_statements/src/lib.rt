@@ -1,5 +1,6 @@
 // The steps of the parser's machine in statements (C90 6.6) and expressions (6.3): before them, behind operands and operators,
-// behind tests, and behind the parts of a statement. Each is a step of the grammar's machine (`Steps`).
+// behind tests, and behind the parts of a statement, with the nodes of statements that they make. Each step is one of the
+// grammar's machine (`Steps`).
 #![tactic(auto)]
 
 pub use beginnings::{
@@ -22,5 +23,6 @@ mod beginnings;
 mod branches;
 mod conditions;
 mod expressions;
+mod nodes;
 mod operands;
 mod operators;

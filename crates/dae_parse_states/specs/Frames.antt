@@ -8,10 +8,18 @@ use Rattle.dae_tree.specs.Trees as tree
 use Rattle.dae_parse_grammar.specs.Machine.{specifiers_onto, onto}
 use Rattle.dae_parse_grammar.specs.Frames as plain
 use Rattle.dae_parse_nodes.specs.Parts.{ShowsOperand, ShowsArguments, ShowsOptional, ShowsSpecified, ShowsMembers, ShowsEnumerators, ShowsDeclared, ShowsDeclarators, ShowsParameters, ShowsInitialiser, ShowsInitialisers, ShowsItems, ShowsDeclaration, ShowsDeclarations, ShowsStatement, ShowsStatements, ShowsLoop, ShowsExternals}
+use Rattle.dae_parse_nodes.specs.declared.values.Body.{Body}
 use Rattle.dae_parse_nodes.specs.declared.values.Specified.{Specified}
 use Rattle.dae_parse_states.specs.declared.frames.Manner.{Manner}
 use Rattle.dae_parse_states.specs.declared.frames.Manner.TheVariants as manner
-use Rattle.dae_parse_states.specs.declared.frames.Body.{Body}
+use Rattle.dae_parse_states.specs.declared.frames.Presence.{Presence}
+use Rattle.dae_parse_states.specs.declared.frames.Presence.TheVariants as presence
+use Rattle.dae_parse_states.specs.declared.frames.TagKind.{TagKind}
+use Rattle.dae_parse_states.specs.declared.frames.TagKind.TheVariants as tag_kind
+use Rattle.dae_parse_states.specs.declared.frames.FunctionBody.{FunctionBody}
+use Rattle.dae_parse_states.specs.declared.frames.FunctionBody.TheVariants as function_body
+use Rattle.dae_parse_states.specs.declared.frames.StatementKind.{StatementKind}
+use Rattle.dae_parse_states.specs.declared.frames.StatementKind.TheVariants as statement_kind
 use Rattle.dae_parse_states.specs.declared.frames.Open.{Open}
 use Rattle.dae_parse_states.specs.declared.frames.Head.{Head}
 use Rattle.dae_parse_states.specs.declared.frames.Head.TheVariants as head
@@ -38,6 +46,20 @@ abbrev pub manner_of : Manner → manners.Manner
 manner_of manner.ByName = manners.by_name
 manner_of manner.WithoutName = manners.without_name
 manner_of manner.EitherWay = manners.either_way
+
+-- what the grammar's machine says by truth values: that some part must stand there, that a tag is a structure's, and that a
+-- declarator may begin a definition
+abbrev pub is_required : Presence → Bool
+is_required presence.Required = true
+is_required presence.Optional = false
+
+abbrev pub is_structure_kind : TagKind → Bool
+is_structure_kind tag_kind.Structure = true
+is_structure_kind tag_kind.Enumeration = false
+
+abbrev pub is_allowed : FunctionBody → Bool
+is_allowed function_body.Allowed = true
+is_allowed function_body.Excluded = false
 
 -- specifiers that were read, the last first
 abbrev pub ShowsBefore : Specified → List tree.Specifier → Type 0
@@ -71,9 +93,9 @@ pub record ShowsFile (b : Before) (before : List tree.External) : Type 0 where
   pub taken : b.taken ≡ length (externals_before before [])
   pub too_long : b.too_long ≡ first_too_long (onto before [])
 
-abbrev pub is_block : tree.Statement → Bool
-is_block (tree.Block p ds ss) = true
-is_block _ = false
+abbrev pub kind_of_statement : tree.Statement → StatementKind
+kind_of_statement (tree.Block p ds ss) = statement_kind.Block
+kind_of_statement _ = statement_kind.Other
 
 abbrev pub ShowsExpressionFrame : ExpressionFrame → plain.ExpressionFrame → Type 0
 ShowsExpressionFrame (expression.InParentheses p l) (plain.in_parentheses q k) = (p ≡ q) × (l ≡ k)
@@ -104,7 +126,7 @@ ShowsSpecifiersFrame (specifiers.ForCast p l) (plain.for_cast q k) = (p ≡ q) �
 ShowsSpecifiersFrame (specifiers.ForSizeof p r l) (plain.for_sizeof q u k) = (p ≡ q) × (r ≡ u) × (l ≡ k)
 ShowsSpecifiersFrame (specifiers.ForParameter o ps) (plain.for_parameter a before) = ShowsOpen o a × ShowsParameters ps before
 ShowsSpecifiersFrame (specifiers.ForMember b ms) (plain.for_member a before) = ShowsBody b a × ShowsMembers ms before
-ShowsSpecifiersFrame (specifiers.ForDeclaration b) (plain.for_declaration c) = b ≡ c
+ShowsSpecifiersFrame (specifiers.ForDeclaration b) (plain.for_declaration c) = is_allowed b ≡ c
 ShowsSpecifiersFrame _ _ = ⊥
 
 abbrev pub ShowsDeclaratorFrame : DeclaratorFrame → plain.DeclaratorFrame → Type 0
@@ -114,7 +136,7 @@ ShowsDeclaratorFrame (declarator.OfCast p s l) (plain.of_cast q ws k) = (p ≡ q
 ShowsDeclaratorFrame (declarator.OfSizeof p r s l) (plain.of_sizeof q u ws k) = (p ≡ q) × (r ≡ u) × ShowsSpecified s ws × (l ≡ k)
 ShowsDeclaratorFrame (declarator.OfParameter o ps s) (plain.of_parameter a before ws) = ShowsOpen o a × ShowsParameters ps before × ShowsSpecified s ws
 ShowsDeclaratorFrame (declarator.OfMember b ms s ds) (plain.of_member a lines ws before) = ShowsBody b a × ShowsMembers ms lines × ShowsSpecified s ws × ShowsDeclarators ds before
-ShowsDeclaratorFrame (declarator.OfItem b s is) (plain.of_item c ws before) = (b ≡ c) × ShowsSpecified s ws × ShowsItems is before
+ShowsDeclaratorFrame (declarator.OfItem b s is) (plain.of_item c ws before) = (is_allowed b ≡ c) × ShowsSpecified s ws × ShowsItems is before
 ShowsDeclaratorFrame _ _ = ⊥
 
 abbrev pub ShowsInitialiserFrame : InitialiserFrame → plain.InitialiserFrame → Type 0
@@ -162,15 +184,15 @@ ShowsDoing (doing.Gave a) (plain.gave e) = ShowsOperand a e
 ShowsDoing (doing.Calling a p l) (plain.calling e q k) = ShowsOperand a e × (p ≡ q) × (l ≡ k)
 ShowsDoing (doing.Measuring p l) (plain.measuring q k) = (p ≡ q) × (l ≡ k)
 ShowsDoing (doing.Specifying s ws) (plain.specifying t before) = (s ≡ t) × ShowsBefore ws before
-ShowsDoing (doing.Tagging b p s ws) (plain.tagging c q t before) = (b ≡ c) × (p ≡ q) × (s ≡ t) × ShowsBefore ws before
-ShowsDoing (doing.Tagged b p n s ws) (plain.tagged c q m t before) = (b ≡ c) × (p ≡ q) × (n ≡ m) × (s ≡ t) × ShowsBefore ws before
+ShowsDoing (doing.Tagging k p s ws) (plain.tagging c q t before) = (is_structure_kind k ≡ c) × (p ≡ q) × (s ≡ t) × ShowsBefore ws before
+ShowsDoing (doing.Tagged k p n s ws) (plain.tagged c q m t before) = (is_structure_kind k ≡ c) × (p ≡ q) × (n ≡ m) × (s ≡ t) × ShowsBefore ws before
 ShowsDoing (doing.Membering b ms) (plain.membering a lines) = ShowsBody b a × ShowsMembers ms lines
 ShowsDoing (doing.Enumerating b xs) (plain.enumerating a es) = ShowsBody b a × ShowsEnumerators xs es
 ShowsDoing (doing.Enumerated b xs n) (plain.enumerated a es m) = ShowsBody b a × ShowsEnumerators xs es × (n ≡ m)
 ShowsDoing (doing.Entered b xs) (plain.entered a es e) = ShowsBody b a × ShowsEnumerators xs (e ∷ es)
 ShowsDoing (doing.Entering b xs) (plain.entering a es e) = ShowsBody b a × ShowsEnumerators xs (e ∷ es)
 ShowsDoing (doing.GaveSpecifiers s) (plain.gave_specifiers ws) = ShowsSpecified s ws
-ShowsDoing (doing.Declaring m b) (plain.declaring n c) = (manner_of m ≡ n) × (b ≡ c)
+ShowsDoing (doing.Declaring m b) (plain.declaring n c) = (manner_of m ≡ n) × (is_required b ≡ c)
 ShowsDoing (doing.Qualifying m p qs) (plain.qualifying n q before) = (manner_of m ≡ n) × (p ≡ q) × (qs.items ≡ onto before [])
 ShowsDoing (doing.Suffixing m d) (plain.suffixing n e) = (manner_of m ≡ n) × ShowsDeclared d e
 ShowsDoing (doing.Sizing m d p) (plain.sizing n e q) = (manner_of m ≡ n) × ShowsDeclared d e × (p ≡ q)
@@ -186,7 +208,7 @@ ShowsDoing (doing.Declarations i) (plain.declarations a) = ShowsInside i a
 ShowsDoing (doing.Statements i ss) (plain.statements a before) = ShowsInside i a × ShowsStatements ss before
 ShowsDoing doing.Stating plain.stating = Unit {0}
 ShowsDoing (doing.Opening h) (plain.opening a) = ShowsHead h a
-ShowsDoing (doing.Finishing p b r v a) (plain.finishing q c u w e) = (p ≡ q) × ShowsStatement b c × (r ≡ u) × (v ≡ w) × ShowsOperand a e
+ShowsDoing (doing.Finishing d) (plain.finishing q c u w e) = (d.place ≡ q) × ShowsStatement d.body c × (d.word ≡ u) × (d.paren ≡ w) × ShowsOperand d.test e
 ShowsDoing (doing.Looping p) (plain.looping q) = p ≡ q
 ShowsDoing (doing.Starting p r) (plain.starting q u) = (p ≡ q) × (r ≡ u)
 ShowsDoing (doing.Testing p r a v) (plain.testing q u e w) = (p ≡ q) × (r ≡ u) × ShowsOptional a e × (v ≡ w)
@@ -195,5 +217,5 @@ ShowsDoing (doing.Returning p) (plain.returning q) = p ≡ q
 ShowsDoing (doing.Breaking p) (plain.breaking q) = p ≡ q
 ShowsDoing (doing.Continuing p) (plain.continuing q) = p ≡ q
 ShowsDoing (doing.Defaulting p) (plain.defaulting q) = p ≡ q
-ShowsDoing (doing.GaveStatement r k) (plain.gave_statement b) = ShowsStatement r b × (k ≡ is_block b)
+ShowsDoing (doing.GaveStatement r k) (plain.gave_statement b) = ShowsStatement r b × (k ≡ kind_of_statement b)
 ShowsDoing _ _ = ⊥

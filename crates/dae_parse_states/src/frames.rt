@@ -1,7 +1,7 @@
 // Frames: what a parser has begun and awaits the rest of.
 
 use dae_base::Place;
-use dae_parse_nodes::{Declared, Loop, Operand, ParameterList, Specified};
+use dae_parse_nodes::{Body, Declared, DoParts, Loop, Operand, ParameterList, Specified};
 use dae_parse_parts::Read;
 use dae_tree::{
     AssignmentOperator, BinaryOperator, Declaration, Declarator, Enumerator, Expression, External,
@@ -16,14 +16,32 @@ pub enum Manner {
     EitherWay,
 }
 
-/// The body of a structure or enumeration, with the specifiers before it.
-#[derive(Drop)]
-pub struct Body {
-    pub place: Place,
-    pub tag: Option<Name>,
-    pub brace: Place,
-    pub seen: Seen,
-    pub before: Specified,
+/// Whether a part of a declarator is required, as in parentheses, or all of them may be lacking (C90 6.5.5).
+#[derive(Clone, Copy, PartialEq, Eq)]
+pub enum Presence {
+    Required,
+    Optional,
+}
+
+/// What a tag names: a structure or an enumeration (C90 6.5.2.3).
+#[derive(Clone, Copy, PartialEq, Eq)]
+pub enum TagKind {
+    Structure,
+    Enumeration,
+}
+
+/// Whether the body of a function may follow a declarator: only the first at file scope (C90 6.7.1).
+#[derive(Clone, Copy, PartialEq, Eq)]
+pub enum FunctionBody {
+    Allowed,
+    Excluded,
+}
+
+/// Whether a statement is a block, as the body of a function is (C90 6.6.2).
+#[derive(Clone, Copy, PartialEq, Eq)]
+pub enum StatementKind {
+    Block,
+    Other,
 }
 
 /// What stands before parameters.
@@ -91,7 +109,7 @@ pub enum SpecifiersFrame {
     ForSizeof(Place, Place, u8),
     ForParameter(Open, ParameterList),
     ForMember(Body, Read<Vec<Member>>),
-    ForDeclaration(bool),
+    ForDeclaration(FunctionBody),
 }
 
 /// What awaits a declarator. A number is the level up to which the whole may go on.
@@ -103,7 +121,7 @@ pub enum DeclaratorFrame {
     OfSizeof(Place, Place, Specified, u8),
     OfParameter(Open, ParameterList, Specified),
     OfMember(Body, Read<Vec<Member>>, Specified, Read<Vec<Declarator>>),
-    OfItem(bool, Specified, Read<Vec<Item>>),
+    OfItem(FunctionBody, Specified, Read<Vec<Item>>),
 }
 
 /// What awaits an initialiser.
@@ -155,15 +173,15 @@ pub enum Doing {
     Calling(Operand, Place, u8),
     Measuring(Place, u8),
     Specifying(Seen, Specified),
-    Tagging(bool, Place, Seen, Specified),
-    Tagged(bool, Place, Name, Seen, Specified),
+    Tagging(TagKind, Place, Seen, Specified),
+    Tagged(TagKind, Place, Name, Seen, Specified),
     Membering(Body, Read<Vec<Member>>),
     Enumerating(Body, Read<Vec<Enumerator>>),
     Enumerated(Body, Read<Vec<Enumerator>>, Name),
     Entered(Body, Read<Vec<Enumerator>>),
     Entering(Body, Read<Vec<Enumerator>>),
     GaveSpecifiers(Specified),
-    Declaring(Manner, bool),
+    Declaring(Manner, Presence),
     Qualifying(Manner, Place, Vec<Place>),
     Suffixing(Manner, Declared),
     Sizing(Manner, Declared, Place),
@@ -179,7 +197,7 @@ pub enum Doing {
     Statements(Inside, Read<Vec<Statement>>),
     Stating,
     Opening(Head),
-    Finishing(Place, Read<Box<Statement>>, Place, Place, Operand),
+    Finishing(DoParts),
     Looping(Place),
     Starting(Place, Place),
     Testing(Place, Place, Option<Operand>, Place),
@@ -188,6 +206,5 @@ pub enum Doing {
     Breaking(Place),
     Continuing(Place),
     Defaulting(Place),
-    /// A statement, and whether it is a block.
-    GaveStatement(Read<Box<Statement>>, bool),
+    GaveStatement(Read<Box<Statement>>, StatementKind),
 }

@@ -4,8 +4,9 @@
 #![tactic(auto)]
 
 pub use frames::{
-    Before, Body, DeclarationFrame, DeclaratorFrame, Doing, ExpressionFrame, Frame, Head,
-    InitialiserFrame, Inside, Manner, Open, SpecifiersFrame, StatementFrame,
+    Before, DeclarationFrame, DeclaratorFrame, Doing, ExpressionFrame, Frame, FunctionBody, Head,
+    InitialiserFrame, Inside, Manner, Open, Presence, SpecifiersFrame, StatementFrame,
+    StatementKind, TagKind,
 };
 pub use machine::Machine;
 pub use names::{begins_specifiers, is_type};

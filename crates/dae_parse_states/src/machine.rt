@@ -9,6 +9,7 @@ ghost use Rattle.dae_parse_states.specs.States.{frames_of, Popped};
 
 use crate::frames::Frame;
 use crate::rest::Rest;
+use dae_parse_nodes::{Declared, Specified};
 use dae_parse_scope::Scope;
 use std::alloc::{AllocError, Global};
 
@@ -43,17 +44,17 @@ impl<'t> Machine<'t> {
         self.stack.pop()
     }
 
-    /// Adds the name that a declarator declares, if it does.
-    pub fn bind(&mut self, name: Option<u32>, is_type: bool) -> Result<(), AllocError>
-        ensures names { (d : Declarator) → name ≡ number_of (declared_name d)
-            → IfOk result
-            (λ _. self.new.scope.names ≡ with_declarator is_type d self.old.scope.names) }
+    /// Adds the name that a declarator declares, if it does, behind specifiers that say whether it is one of a type.
+    pub fn bind(&mut self, declared: &Declared, specified: &Specified) -> Result<(), AllocError>
+        ensures names { (d : Declarator) → declared.now.name ≡ number_of (declared_name d)
+            → IfOk result (λ _. self.new.scope.names
+            ≡ with_declarator specified.now.typedef d self.old.scope.names) }
         ensures outside { IfOk result (λ _. self.new.scope.outside ≡ self.old.scope.outside) }
         ensures stack { frames_of self.new ≡ frames_of self.old }
         ensures rest { self.new.rest ≡ self.old.rest }
     {
-        if let Some(number) = name {
-            self.scope.bind(number, is_type)?;
+        if let Some(number) = declared.name {
+            self.scope.bind(number, specified.typedef)?;
         }
         Ok(())
     }

@@ -436,8 +436,18 @@ fn a_joined_token_has_its_first_place(rt: HostRuntime) {
     assert!(rt; reads(rt.alloc(), b"int a\\\nb;", &tokens));
 }
 
-fn constant(value: u32, unsigned: bool) -> Kind {
-    Kind::Constant(Constant { value, unsigned })
+fn int_constant(value: u32) -> Kind {
+    Kind::Constant(Constant {
+        value,
+        unsigned: false,
+    })
+}
+
+fn unsigned_constant(value: u32) -> Kind {
+    Kind::Constant(Constant {
+        value,
+        unsigned: true,
+    })
 }
 
 fn has_kinds(tokens: &[Token], kinds: &[Kind]) -> bool {
@@ -467,9 +477,9 @@ fn is_spelled(read: &Tokens, expected: &[u8]) -> bool {
 fn check_reading(rt: &impl Abort, read: &Tokens) {
     let kinds = [
         Kind::Literal(0),
-        constant(0, false),
-        constant(u32::MAX, true),
-        constant(65, false),
+        int_constant(0),
+        unsigned_constant(u32::MAX),
+        int_constant(65),
     ];
     assert!(rt; has_kinds(read.tokens(), &kinds));
     assert!(rt; is_spelled(read, b"\"a\" s \"\\n\""));

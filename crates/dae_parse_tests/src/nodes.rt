@@ -3,12 +3,12 @@
 use dae_base::Place;
 use dae_parse_depths::GREATEST_DEPTH;
 use dae_parse_nodes::{
-    Declared, Operand, ParameterList, Specified, binary, function, identifier, named,
+    Body, Declared, Operand, ParameterList, Specified, binary, function, identifier, named,
     no_declarators, no_members, no_parameters, no_specifiers, parenthesised, pointer,
     with_declarator, with_member, with_parameter, with_structure_body, with_word,
 };
 use dae_parse_scope::Binding;
-use dae_tree::{BinaryOperator, Keyword, Name};
+use dae_tree::{BinaryOperator, Keyword, Name, Seen};
 use std::alloc::{AllocError, Global};
 use std::test::Fail;
 
@@ -101,8 +101,14 @@ fn structure(alloc: Global) -> Result<Specified, AllocError> {
     let declarators = with_declarator(no_declarators(alloc), pointer_to_named(alloc)?)?;
     let specified = word(alloc, 10, Keyword::Int)?;
     let members = with_member(no_members(alloc), specified, declarators, at(16))?;
-    let none = no_specifiers(alloc);
-    let specified = with_structure_body(alloc, none, at(1), None, at(8), members)?;
+    let body = Body {
+        place: at(1),
+        tag: None,
+        brace: at(8),
+        seen: Seen::nothing(),
+        before: no_specifiers(alloc),
+    };
+    let specified = with_structure_body(alloc, body, members)?;
     with_word(alloc, specified, at(20), Keyword::Const)
 }
 

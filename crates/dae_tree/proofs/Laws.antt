@@ -1,6 +1,6 @@
 -- The laws of trees: parts of a tree in memory that are lists, seen as lists; and what specifiers of the grammar have.
 use Rattle.std.proofs.Common.{◌≡◌, true, List, [], ◌∷◌, refl, sym, ap, ◌∙◌}
-use Rattle.std.specs.Prelude.{Box, Vec, Option, Bool}
+use Rattle.std.specs.Prelude.{Box, Vec, Option}
 use Rattle.std.specs.declared.alloc.Global.{Global}
 use Rattle.dae_base.specs.declared.Place.{Place}
 use Rattle.dae_base.proofs.Laws.{ap_two, ap_three}
@@ -15,6 +15,7 @@ use Rattle.dae_tree.specs.declared.expressions.Enumerator.{Enumerator}
 use Rattle.dae_tree.specs.declared.expressions.Declarator.{Declarator}
 use Rattle.dae_tree.specs.declared.expressions.Declarator.TheVariants as declarator
 use Rattle.dae_tree.specs.declared.expressions.Parameter.{Parameter}
+use Rattle.dae_tree.specs.declared.expressions.TrailingComma.{TrailingComma}
 use Rattle.dae_tree.specs.declared.expressions.Declarator.TheBlock.{Row_of-Expression, end_of-Expression, more_of-Expression, items-the_row-Expression, items_hidden-the_row-Expression-2, Row_of-Specifier, end_of-Specifier, more_of-Specifier, items-the_row-Specifier, items_hidden-the_row-Specifier-0, items_shown-the_row-Specifier-0, items_shown-the_row-Declarator-3, Row_of-Member, end_of-Member, more_of-Member, items-the_row-Member, items_hidden-the_row-Member-4, Row_of-Enumerator, end_of-Enumerator, more_of-Enumerator, items-the_row-Enumerator, items_hidden-the_row-Enumerator-5, Row_of-Declarator, end_of-Declarator, more_of-Declarator, items-the_row-Declarator, Row_of-Parameter, end_of-Parameter, more_of-Parameter, items-the_row-Parameter, items_hidden-the_row-Parameter-1}
 use Rattle.dae_tree.specs.declared.statements.Initialiser.{Initialiser, Row_of-Initialiser, end_of-Initialiser, more_of-Initialiser}
 use Rattle.dae_tree.specs.declared.statements.Initialiser.TheVariants as initialiser
@@ -24,7 +25,7 @@ use Rattle.dae_tree.specs.declared.statements.Statement.{Statement, Row_of-State
 use Rattle.dae_tree.specs.declared.statements.Statement.TheVariants as statement
 use Rattle.dae_tree.specs.declared.statements.Statement.TheBlock.{items-the_row-Statement, items_hidden-the_row-Statement-0}
 use Rattle.dae_tree.specs.Trees as tree
-use Rattle.dae_tree.specs.Views.{view, views, view_expressions, view_specifier, view_specifiers, views_specifiers, view_members, views_members, view_enumerator, view_enumerators, views_enumerators, view_declarator, view_declarators, views_declarators, view_parameters, views_parameters}
+use Rattle.dae_tree.specs.Views.{has_comma, view, views, view_expressions, view_specifier, view_specifiers, views_specifiers, view_members, views_members, view_enumerator, view_enumerators, views_enumerators, view_declarator, view_declarators, views_declarators, view_parameters, views_parameters}
 use Rattle.dae_tree.specs.FileViews.{view_initialiser, view_initialisers, views_initialisers, view_declarations, view_statement, view_statements, views_statements}
 use Rattle.dae_tree.specs.Grammar.{IsSpecifiers}
 use Rattle.dae_tree.specs.Names.{Names}
@@ -105,10 +106,10 @@ abbrev enumerators_of : Specifier → (n : _) × Row_of-Enumerator n
 enumerators_of (specifier.EnumerationBody' _ _ _ _ row _) = (_, row)
 enumerators_of _ = (_, end_of-Enumerator)
 
-pub view_enumeration_body : (p : Place) (n : Option Name) (q : Place) (list : Vec Enumerator Global) (c : Bool) → view_specifier (specifier.EnumerationBody p n q list c) ≡ tree.EnumerationBody p n q (views_enumerators list.items) c
+pub view_enumeration_body : (p : Place) (n : Option Name) (q : Place) (list : Vec Enumerator Global) (c : TrailingComma) → view_specifier (specifier.EnumerationBody p n q list c) ≡ tree.EnumerationBody p n q (views_enumerators list.items) (has_comma c)
 view_enumeration_body p n q list c =
     let row = enumerators_of (specifier.EnumerationBody p n q list c) in
-    ap (λ es. tree.EnumerationBody p n q es c) (row_enumerators row.0 row.1 ∙ ap views_enumerators (items_hidden-the_row-Enumerator-5 list))
+    ap (λ es. tree.EnumerationBody p n q es (has_comma c)) (row_enumerators row.0 row.1 ∙ ap views_enumerators (items_hidden-the_row-Enumerator-5 list))
 
 abbrev parameters_of : Declarator → (n : _) × Row_of-Parameter n
 parameters_of (declarator.Function' _ _ _ _ row) = (_, row)
@@ -123,10 +124,10 @@ abbrev initialisers_of : Initialiser → (n : _) × Row_of-Initialiser n
 initialisers_of (initialiser.List' _ _ row _) = (_, row)
 initialisers_of _ = (_, end_of-Initialiser)
 
-pub view_initialiser_list : (p : Place) (list : Vec Initialiser Global) (c : Bool) → view_initialiser (initialiser.List p list c) ≡ tree.Listed p (views_initialisers list.items) c
+pub view_initialiser_list : (p : Place) (list : Vec Initialiser Global) (c : TrailingComma) → view_initialiser (initialiser.List p list c) ≡ tree.Listed p (views_initialisers list.items) (has_comma c)
 view_initialiser_list p list c =
     let row = initialisers_of (initialiser.List p list c) in
-    ap (λ xs. tree.Listed p xs c) (row_initialisers row.0 row.1 ∙ ap views_initialisers (items_hidden-the_row-Initialiser-0 list))
+    ap (λ xs. tree.Listed p xs (has_comma c)) (row_initialisers row.0 row.1 ∙ ap views_initialisers (items_hidden-the_row-Initialiser-0 list))
 
 abbrev statements_of : Statement → (n : _) × Row_of-Statement n
 statements_of (statement.Block' _ _ _ row) = (_, row)

@@ -10,12 +10,12 @@ use Rattle.dae_tree.specs.declared.statements.Statement.TheVariants as statement
 use Rattle.dae_tree.specs.declared.statements.External.{External}
 use Rattle.dae_tree.specs.declared.statements.External.TheVariants as external
 use Rattle.dae_tree.specs.Trees as tree
-use Rattle.dae_tree.specs.Views.{view, view_optional, view_declarator, views_specifiers}
+use Rattle.dae_tree.specs.Views.{has_comma, view, view_optional, view_declarator, views_specifiers}
 
 abbrev mutual
   pub view_initialiser : Initialiser → tree.Initialiser
   view_initialiser (initialiser.Value e) = tree.Value (view e)
-  view_initialiser (initialiser.List' p shape row c) = tree.Listed p (view_initialisers row) c
+  view_initialiser (initialiser.List' p shape row c) = tree.Listed p (view_initialisers row) (has_comma c)
 
   pub view_initialisers : {m : _} → Row_of-Initialiser m → tree.Initialisers
   view_initialisers end_of-Initialiser = tree.no_initialisers

@@ -1,5 +1,5 @@
 -- Trees in memory as plain data.
-use Rattle.std.specs.Prelude.{List, [], ◌∷◌, Option, Some, None}
+use Rattle.std.specs.Prelude.{Bool, true, false, List, [], ◌∷◌, Option, Some, None}
 use Rattle.dae_tree.specs.declared.expressions.Expression.TheVariants as code
 use Rattle.dae_tree.specs.declared.expressions.Expression.{Expression}
 use Rattle.dae_tree.specs.declared.expressions.Specifier.TheVariants as specifier
@@ -11,7 +11,13 @@ use Rattle.dae_tree.specs.declared.expressions.Declarator.{Declarator}
 use Rattle.dae_tree.specs.declared.expressions.Declarator.TheBlock.{Row_of-Expression, end_of-Expression, more_of-Expression, Row_of-Specifier, end_of-Specifier, more_of-Specifier, Row_of-Member, end_of-Member, more_of-Member, Row_of-Enumerator, end_of-Enumerator, more_of-Enumerator, Row_of-Declarator, end_of-Declarator, more_of-Declarator, Row_of-Parameter, end_of-Parameter, more_of-Parameter}
 use Rattle.dae_tree.specs.declared.expressions.Member.{Member}
 use Rattle.dae_tree.specs.declared.expressions.Parameter.{Parameter}
+use Rattle.dae_tree.specs.declared.expressions.TrailingComma.{TrailingComma}
+use Rattle.dae_tree.specs.declared.expressions.TrailingComma.TheVariants.{Present, Absent}
 use Rattle.dae_tree.specs.Trees as tree
+
+abbrev pub has_comma : TrailingComma → Bool
+has_comma Present = true
+has_comma Absent = false
 
 abbrev mutual
   pub view : Expression → tree.Expression
@@ -46,7 +52,7 @@ abbrev mutual
   view_specifier (specifier.Structure p n) = tree.Structure p n
   view_specifier (specifier.StructureBody' p n q shape row) = tree.StructureBody p n q (view_members row)
   view_specifier (specifier.Enumeration p n) = tree.Enumeration p n
-  view_specifier (specifier.EnumerationBody' p n q shape row c) = tree.EnumerationBody p n q (view_enumerators row) c
+  view_specifier (specifier.EnumerationBody' p n q shape row c) = tree.EnumerationBody p n q (view_enumerators row) (has_comma c)
 
   pub view_members : {m : _} → Row_of-Member m → tree.Members
   view_members end_of-Member = tree.no_members

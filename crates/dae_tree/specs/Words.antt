@@ -1,6 +1,8 @@
 -- The words of specifiers, in any order: at most one storage class, any const, and one type (C90 6.5.1 and 6.5.2).
 use Rattle.std.specs.Prelude.{Bool, true, false, not, ◌||◌, if◌then◌else◌, List, ◌∷◌, Option, Some, None}
-use Rattle.std.specs.Option.{is_some, is_none}
+use Rattle.std.specs.Option.{is_some, is_none, unwrap_or}
+use Rattle.dae_base.specs.declared.Signedness.{Signedness}
+use Rattle.dae_base.specs.declared.Signedness.TheVariants.{Signed, Unsigned}
 use Rattle.dae_tree.specs.declared.words.Keyword.{Keyword}
 use Rattle.dae_tree.specs.declared.words.Keyword.TheVariants as keywords
 use Rattle.dae_tree.specs.declared.seen.Arithmetic.{Arithmetic}
@@ -41,8 +43,8 @@ with_word seen keywords.Static = record seen { storage = Some keywords.Static }
 with_word seen keywords.Auto = record seen { storage = Some keywords.Auto }
 with_word seen keywords.Register = record seen { storage = Some keywords.Register }
 with_word seen keywords.Typedef = record seen { storage = Some keywords.Typedef }
-with_word seen keywords.Signed = record seen { signedness = Some keywords.Signed }
-with_word seen keywords.Unsigned = record seen { signedness = Some keywords.Unsigned }
+with_word seen keywords.Signed = record seen { signedness = Some Signed }
+with_word seen keywords.Unsigned = record seen { signedness = Some Unsigned }
 with_word seen keywords.Char = record seen { char = true }
 with_word seen keywords.Short = record seen { size = Some keywords.Short }
 with_word seen keywords.Long = record seen { size = Some keywords.Long }
@@ -76,18 +78,21 @@ begins_specifiers names _ = false
 
 -- ---- the arithmetic type that words name, where no type stands alone (C90 6.5.2)
 
-abbrev pub is_unsigned_word : Option Keyword → Bool
-is_unsigned_word (Some keywords.Unsigned) = true
-is_unsigned_word _ = false
-
-abbrev pub char_type : Option Keyword → Arithmetic
+abbrev pub char_type : Option Signedness → Arithmetic
 char_type None = arithmetic.Char
-char_type (Some k) = if is_unsigned_word (Some k) then arithmetic.UnsignedChar else arithmetic.SignedChar
+char_type (Some Signed) = arithmetic.SignedChar
+char_type (Some Unsigned) = arithmetic.UnsignedChar
 
-abbrev pub sized_type : Option Keyword → Bool → Arithmetic
-sized_type (Some keywords.Short) is = if is then arithmetic.UnsignedShort else arithmetic.Short
-sized_type (Some keywords.Long) is = if is then arithmetic.UnsignedLong else arithmetic.Long
-sized_type _ is = if is then arithmetic.Unsigned else arithmetic.Int
+-- the one of two types, a signed and an unsigned one
+abbrev pub by_signedness : Signedness → Arithmetic → Arithmetic → Arithmetic
+by_signedness Signed x y = x
+by_signedness Unsigned x y = y
 
+abbrev pub sized_type : Option Keyword → Signedness → Arithmetic
+sized_type (Some keywords.Short) s = by_signedness s arithmetic.Short arithmetic.UnsignedShort
+sized_type (Some keywords.Long) s = by_signedness s arithmetic.Long arithmetic.UnsignedLong
+sized_type _ s = by_signedness s arithmetic.Int arithmetic.Unsigned
+
+-- but for `char`, a type is signed where no word says more
 abbrev pub arithmetic_type : Seen → Arithmetic
-arithmetic_type seen = if seen.char then char_type seen.signedness else sized_type seen.size (is_unsigned_word seen.signedness)
+arithmetic_type seen = if seen.char then char_type seen.signedness else sized_type seen.size (unwrap_or seen.signedness Signed)

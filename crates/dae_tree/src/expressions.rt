@@ -14,6 +14,13 @@ pub struct Name {
     pub number: u32,
 }
 
+/// Whether a comma stands behind the last part of a list in braces.
+#[derive(Clone, Copy, PartialEq, Eq, Debug)]
+pub enum TrailingComma {
+    Present,
+    Absent,
+}
+
 /// An expression (C90 6.3). A place before or between the parts is that of the sign or word that stands there.
 #[cycle(tree)]
 #[derive(Drop)]
@@ -61,7 +68,7 @@ pub enum Specifier {
     /// `enum` and a tag.
     Enumeration(Place, Name),
     /// `enum`, a tag or none, the enumerators in braces, and whether a comma stands behind the last.
-    EnumerationBody(Place, Option<Name>, Place, Vec<Enumerator>, bool),
+    EnumerationBody(Place, Option<Name>, Place, Vec<Enumerator>, TrailingComma),
 }
 
 /// A declaration of members, with the place of its semicolon (C90 6.5.2.1).

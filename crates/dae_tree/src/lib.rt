@@ -7,7 +7,7 @@
 
 pub use constants::{Constant, SUFFIXES};
 pub use expressions::{
-    Declarator, Enumerator, Expression, Member, Name, Parameter, Specifier, TypeName,
+    Declarator, Enumerator, Expression, Member, Name, Parameter, Specifier, TrailingComma, TypeName,
 };
 pub use faults::{Construct, Fault, LexError};
 pub use files::File;

@@ -6,6 +6,7 @@ ghost use Rattle.dae_tree.specs.Words as words;
 
 use crate::expressions::Specifier;
 use crate::words::Keyword;
+use dae_base::Signedness;
 
 /// An arithmetic type that words of specifiers name (C90 6.5.2).
 #[derive(Clone, Copy, PartialEq, Eq, Debug)]
@@ -27,7 +28,7 @@ pub struct Seen {
     /// A storage class.
     pub storage: Option<Keyword>,
     /// `signed` or `unsigned`.
-    pub signedness: Option<Keyword>,
+    pub signedness: Option<Signedness>,
     pub char: bool,
     /// `short` or `long`.
     pub size: Option<Keyword>,
@@ -100,7 +101,8 @@ impl Seen {
             | Keyword::Auto
             | Keyword::Register
             | Keyword::Typedef => seen.storage = Some(word),
-            Keyword::Signed | Keyword::Unsigned => seen.signedness = Some(word),
+            Keyword::Signed => seen.signedness = Some(Signedness::Signed),
+            Keyword::Unsigned => seen.signedness = Some(Signedness::Unsigned),
             Keyword::Char => seen.char = true,
             Keyword::Short | Keyword::Long => seen.size = Some(word),
             Keyword::Int => seen.int = true,
@@ -138,29 +140,28 @@ impl Seen {
     pub fn arithmetic(self) -> Arithmetic
         ensures { result ≡ words.arithmetic_type self }
     {
-        let unsigned = matches!(self.signedness, Some(Keyword::Unsigned));
         if self.char {
             match self.signedness {
                 None => Arithmetic::Char,
-                Some(_) if unsigned => Arithmetic::UnsignedChar,
-                Some(_) => Arithmetic::SignedChar,
+                Some(Signedness::Signed) => Arithmetic::SignedChar,
+                Some(Signedness::Unsigned) => Arithmetic::UnsignedChar,
             }
         } else {
-            sized(self.size, unsigned)
+            integer_of(self.size, self.signedness.unwrap_or(Signedness::Signed))
         }
     }
 }
 
-/// The integer type of a size, unsigned or not.
-fn sized(size: Option<Keyword>, unsigned: bool) -> Arithmetic
-    ensures { result ≡ words.sized_type size unsigned }
+/// The integer type of a size.
+fn integer_of(size: Option<Keyword>, signedness: Signedness) -> Arithmetic
+    ensures { result ≡ words.sized_type size signedness }
 {
-    match (size, unsigned) {
-        (Some(Keyword::Short), false) => Arithmetic::Short,
-        (Some(Keyword::Short), true) => Arithmetic::UnsignedShort,
-        (Some(Keyword::Long), false) => Arithmetic::Long,
-        (Some(Keyword::Long), true) => Arithmetic::UnsignedLong,
-        (_, false) => Arithmetic::Int,
-        (_, true) => Arithmetic::Unsigned,
+    match (size, signedness) {
+        (Some(Keyword::Short), Signedness::Signed) => Arithmetic::Short,
+        (Some(Keyword::Short), Signedness::Unsigned) => Arithmetic::UnsignedShort,
+        (Some(Keyword::Long), Signedness::Signed) => Arithmetic::Long,
+        (Some(Keyword::Long), Signedness::Unsigned) => Arithmetic::UnsignedLong,
+        (_, Signedness::Signed) => Arithmetic::Int,
+        (_, Signedness::Unsigned) => Arithmetic::Unsigned,
     }
 }

@@ -1,6 +1,6 @@
 // Nodes of initialisers, declarations, statements and externals.
 
-use crate::expressions::{Declarator, Expression, Specifier};
+use crate::expressions::{Declarator, Expression, Specifier, TrailingComma};
 use dae_base::Place;
 
 /// An initialiser (C90 6.5.7).
@@ -8,7 +8,7 @@ use dae_base::Place;
 pub enum Initialiser {
     Value(Expression),
     /// `{`, the initialisers, and whether a comma stands behind the last.
-    List(Place, Vec<Initialiser>, bool),
+    List(Place, Vec<Initialiser>, TrailingComma),
 }
 
 /// A declarator of a declaration, with the place of `=` and the initialiser or without.

@@ -14,9 +14,10 @@ use Rattle.dae_tree.specs.declared.expressions.Enumerator.{Enumerator}
 use Rattle.dae_tree.specs.declared.expressions.Declarator.{Declarator}
 use Rattle.dae_tree.specs.declared.expressions.Declarator.TheVariants as declarator
 use Rattle.dae_tree.specs.declared.expressions.Parameter.{Parameter}
+use Rattle.dae_tree.specs.declared.expressions.TrailingComma.{TrailingComma}
 use Rattle.dae_tree.specs.Trees as tree
 use Rattle.dae_tree.specs.Depth.{place_of}
-use Rattle.dae_tree.specs.Views.{view, views, view_specifier, views_members, views_enumerators, view_declarator, views_parameters}
+use Rattle.dae_tree.specs.Views.{has_comma, view, views, view_specifier, views_members, views_enumerators, view_declarator, views_parameters}
 use Rattle.dae_tree.proofs.Laws.{view_call, view_sizeof_type, view_cast, view_structure_body, view_enumeration_body, view_function}
 use Rattle.dae_types_kinds.specs.declared.rules.Breach.{Breach}
 use Rattle.dae_types_kinds.specs.declared.rules.CheckError.{CheckError}
@@ -145,9 +146,9 @@ pub structure_body_gives : {X : Type 0} (see : X → Tables × Option ℕ) (r : 
 structure_body_gives see r c alone b w p n q list xs s is same g =
     subst (λ x. Gives see r (check_of (plan_specifier c alone b x) s)) (sym (ap view_specifier is ∙ view_structure_body p n q list ∙ ap (λ ys. tree.StructureBody p n q (views_members ys)) (sym same))) g
 
-pub enumeration_body_gives : {X : Type 0} (see : X → Tables × Option ℕ) (r : Result X CheckError) (c : Context) (alone : Bool) (b : Option ℕ) (w : Specifier) (p : Place) (n : Option Name) (q : Place) (list : Vec Enumerator Global) (comma : Bool) (xs : List Enumerator) (s : Tables) → w ≡ specifier.EnumerationBody p n q list comma → xs ≡ list.items → Gives see r (check_of (plan_specifier c alone b (tree.EnumerationBody p n q (views_enumerators xs) comma)) s) → Gives see r (check_of (plan_specifier c alone b (view_specifier w)) s)
+pub enumeration_body_gives : {X : Type 0} (see : X → Tables × Option ℕ) (r : Result X CheckError) (c : Context) (alone : Bool) (b : Option ℕ) (w : Specifier) (p : Place) (n : Option Name) (q : Place) (list : Vec Enumerator Global) (comma : TrailingComma) (xs : List Enumerator) (s : Tables) → w ≡ specifier.EnumerationBody p n q list comma → xs ≡ list.items → Gives see r (check_of (plan_specifier c alone b (tree.EnumerationBody p n q (views_enumerators xs) (has_comma comma))) s) → Gives see r (check_of (plan_specifier c alone b (view_specifier w)) s)
 enumeration_body_gives see r c alone b w p n q list comma xs s is same g =
-    subst (λ x. Gives see r (check_of (plan_specifier c alone b x) s)) (sym (ap view_specifier is ∙ view_enumeration_body p n q list comma ∙ ap (λ ys. tree.EnumerationBody p n q (views_enumerators ys) comma) (sym same))) g
+    subst (λ x. Gives see r (check_of (plan_specifier c alone b x) s)) (sym (ap view_specifier is ∙ view_enumeration_body p n q list comma ∙ ap (λ ys. tree.EnumerationBody p n q (views_enumerators ys) (has_comma comma)) (sym same))) g
 
 pub function_gives : {X : Type 0} (see : X → Tables × NamedType) (r : Result X CheckError) (at : Place) (free : Bool) (b : ℕ) (d : Declarator) (inner : Box Declarator Global) (p : Place) (list : Vec Parameter Global) (xs : List Parameter) (s : Tables) → d ≡ declarator.Function inner p list → xs ≡ list.items → Gives see r (check_of (plan_declarator at free b (tree.Function (view_declarator inner.value) p (views_parameters xs))) s) → Gives see r (check_of (plan_declarator at free b (view_declarator d)) s)
 function_gives see r at free b d inner p list xs s is same g =

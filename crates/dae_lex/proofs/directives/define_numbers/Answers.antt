@@ -2,7 +2,7 @@ use Rattle.std.proofs.Common.{◌+◌, map, ap, sym, ◌∙◌, drop, arith}
 use Rattle.dae_tree.specs.Directives.{known_as, conflict_items, definition_items, with_definition, with_definitions, number_macro}
 use Rattle.dae_lex.specs.Numbers.{definitions_of}
 use Rattle.dae_lex.specs.Settling.{settle}
-use Rattle.dae_lex.specs.Reading.{rows_of}
+use Rattle.dae_lex.specs.Rows.{rows_of}
 use Rattle.dae_lex.proofs.Kept.{keeps_on, defined_still}
 use Rattle.dae_lex.proofs.Rows.{row, items_more, macros_more}
 use Rattle.dae_lex.proofs.Turns.{settle_ok, fails_on, fails_along}

@@ -2,7 +2,7 @@ use Rattle.std.proofs.Common.{◌≡◌, drop, map}
 use Rattle.dae_tree.specs.Directives.{definition_items, with_definitions, number_macro}
 use Rattle.dae_lex.specs.Numbers.{Keeps, AreDefined, definitions_of}
 use Rattle.dae_lex.specs.Settling.{State, settle}
-use Rattle.dae_lex.specs.Reading.{rows_of}
+use Rattle.dae_lex.specs.Rows.{rows_of}
 use Rattle.dae_lex.proofs.directives.define_numbers.Given as goal
 
 abbrev pub invariant-loop-name : goal.invariant-loop-name

@@ -1,6 +1,6 @@
 use Rattle.std.proofs.Common.{◌+◌, ◌++◌, [], ◌∷◌, ap, sym, ◌∙◌, append_assoc, arith, drop, get_or, map}
 use Rattle.dae_tree.specs.Directives.{marks_of}
-use Rattle.dae_lex.specs.Cuts.{cut_of}
+use Rattle.dae_lex_scan.specs.Cuts.{cut_of}
 use Rattle.dae_lex.specs.Numbers.{cuts_of}
 use Rattle.dae_lex.proofs.Kept.{keeps_on}
 use Rattle.dae_lex.proofs.LineSteps.{nowhere, mark_more}

@@ -1,5 +1,5 @@
 use Rattle.std.proofs.Common.{◌≡◌, ◌++◌, All, drop, map}
-use Rattle.dae_lex.specs.Cuts.{cut_of}
+use Rattle.dae_lex_scan.specs.Cuts.{cut_of}
 use Rattle.dae_lex.specs.Numbers.{IsNumbered, Keeps, cuts_of}
 use Rattle.dae_tree.specs.Directives.{marks_of}
 use Rattle.dae_lex.proofs.directives.marks.Given as goal

@@ -3,7 +3,7 @@ use Rattle.std.proofs.lemmas.Bool.{and_right}
 use Rattle.std.proofs.lemmas.List.{length-map}
 use Rattle.std.specs.Str.{bytes_eq}
 use Rattle.dae_tree.specs.Pieces.{Cut}
-use Rattle.dae_lex.specs.Cuts.{cut_of}
+use Rattle.dae_lex_scan.specs.Cuts.{cut_of}
 use Rattle.dae_lex.specs.Numbers.{cuts_of}
 use Rattle.dae_tree.specs.Directives.{same_spellings}
 use Rattle.dae_lex.proofs.directives.same_body.Goals as goal

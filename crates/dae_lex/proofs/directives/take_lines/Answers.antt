@@ -3,7 +3,7 @@ use Rattle.std.proofs.lemmas.List.{take_rest}
 use Rattle.dae_tree.specs.Directives.{lines_of, line_of, line_items, macros_after, replaced_lines, includes}
 use Rattle.dae_tree.specs.declared.headers.Header.TheVariants.{Stdio, Stdlib}
 use Rattle.dae_tree.specs.declared.tokens.Includes.{Includes}
-use Rattle.dae_lex.specs.Cuts.{cut_of}
+use Rattle.dae_lex_scan.specs.Cuts.{cut_of}
 use Rattle.dae_lex.specs.Numbers.{definitions_of}
 use Rattle.dae_lex.specs.Settling.{state_of, settle}
 use Rattle.dae_lex.proofs.LineSteps.{line_more, seen_more}

@@ -1,7 +1,7 @@
 use Rattle.std.proofs.Common.{◌≡◌, ◌≤◌, ◌-◌, ◌||◌, [], length, drop, map}
 use Rattle.dae_tree.specs.Directives.{replaced_lines, lines_of, includes}
 use Rattle.dae_tree.specs.declared.headers.Header.TheVariants.{Stdio, Stdlib}
-use Rattle.dae_lex.specs.Cuts.{cut_of}
+use Rattle.dae_lex_scan.specs.Cuts.{cut_of}
 use Rattle.dae_lex.specs.Numbers.{AreDefined, definitions_of}
 use Rattle.dae_lex.specs.Settling.{AreRead, state_of, settle}
 use Rattle.dae_lex.proofs.directives.take_lines.Given as goal

@@ -2,7 +2,7 @@ use Rattle.std.proofs.Common.{◌+◌, [], map, ap, sym, subst, ◌∙◌, drop,
 use Rattle.std.proofs.lemmas.List.{drop_all}
 use Rattle.dae_tree.specs.Replacing.{expand}
 use Rattle.dae_tree.specs.Directives.{replaced_text}
-use Rattle.dae_lex.specs.Cuts.{cut_of}
+use Rattle.dae_lex_scan.specs.Cuts.{cut_of}
 use Rattle.dae_lex.specs.Numbers.{definitions_of}
 use Rattle.dae_lex.specs.Settling.{Fails, state_of, settle}
 use Rattle.dae_lex.proofs.Kept.{keeps_on, read_still, defined_still}

@@ -1,6 +1,6 @@
 use Rattle.std.proofs.Common.{◌≡◌, ◌≤◌, ℕ, drop, map}
 use Rattle.dae_tree.specs.Directives.{replaced_text}
-use Rattle.dae_lex.specs.Cuts.{cut_of}
+use Rattle.dae_lex_scan.specs.Cuts.{cut_of}
 use Rattle.dae_lex.specs.Numbers.{Keeps, definitions_of}
 use Rattle.dae_lex.specs.Settling.{AreRead, state_of, settle}
 use Rattle.dae_lex.proofs.directives.take_text.Given as goal

@@ -1,6 +1,6 @@
 use Rattle.std.proofs.Common.{map, ap, sym, ◌∙◌, arith}
 use Rattle.std.proofs.lemmas.List.{length-map}
-use Rattle.dae_lex.specs.Cuts.{cut_of}
+use Rattle.dae_lex_scan.specs.Cuts.{cut_of}
 use Rattle.dae_lex.specs.Settling.{State, read_of, state_of, settle}
 use Rattle.dae_lex.specs.Whole.{items_of_pieces}
 use Rattle.dae_lex.proofs.Whole.{settled, unsettled, settle_count, settle_spans}

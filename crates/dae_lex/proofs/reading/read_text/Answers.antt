@@ -5,16 +5,13 @@ use Rattle.dae_tree.specs.Tokens.{tested_of}
 use Rattle.dae_tree.specs.Order.{HasLeastPlace}
 use Rattle.dae_tree.specs.Reading.{Reading}
 use Rattle.dae_tree.specs.declared.tokens.Room.{Room}
-use Rattle.dae_lex.specs.Cuts.{cut_of, chars, Rise, FollowEachOther, SpotsFrom, PlacesFrom}
+use Rattle.dae_lex_scan.specs.Cuts.{cut_of, chars, Rise, FollowEachOther, SpotsFrom, PlacesFrom}
 use Rattle.dae_lex.specs.Settling.{read_of}
-use Rattle.dae_lex.specs.Whole.{SpansFrom, span, items_of_pieces}
-use Rattle.dae_lex.proofs.Joining.{all_small}
-use Rattle.dae_lex.proofs.Rising.{all_rise}
-use Rattle.dae_lex.proofs.Cutting.{chars_of}
-use Rattle.dae_lex.proofs.Places.{all_spots}
+use Rattle.dae_lex.specs.Whole.{SpansFrom, span, items_of_pieces, reading_with}
+use Rattle.dae_lex_scan.proofs.Laws.{all_small, all_rise, chars_of, all_spots}
 use Rattle.dae_lex.proofs.Refusals.{tested_chain, least}
 use Rattle.dae_lex.proofs.Spans.{pieces_steps}
-use Rattle.dae_lex.proofs.Answered.{answered, failed, reading_with}
+use Rattle.dae_lex.proofs.Answered.{answered, failed}
 use Rattle.dae_lex.proofs.reading.read_text.Goals as goal
 
 pub cut_pieces-requires-clause-small : goal.cut_pieces-requires-clause-small

@@ -6,7 +6,7 @@ use Rattle.std.specs.Global.{Vec}
 use Rattle.dae_tree.specs.Replacing.{replacement}
 use Rattle.dae_lex.specs.declared.replace.Open.{Open}
 use Rattle.dae_lex.specs.declared.output.ReadToken.{ReadToken}
-use Rattle.dae_lex.specs.Cuts.{cut_of}
+use Rattle.dae_lex_scan.specs.Cuts.{cut_of}
 use Rattle.dae_lex.specs.Numbers.{cuts_of, definitions_of}
 use Rattle.dae_lex.specs.Settling.{IsMeant, Settles, state_of, settle}
 use Rattle.dae_lex.specs.Pending.{pending, frame_of, names_of}

@@ -1,6 +1,6 @@
 use Rattle.std.proofs.Common.{◌≡◌, ◌≤◌, ◌+◌, ℕ, [], length}
 use Rattle.dae_tree.specs.Replacing.{expand}
-use Rattle.dae_lex.specs.Cuts.{cut_of}
+use Rattle.dae_lex_scan.specs.Cuts.{cut_of}
 use Rattle.dae_lex.specs.Numbers.{definitions_of}
 use Rattle.dae_lex.specs.Settling.{AreRead, state_of, settle}
 use Rattle.dae_lex.specs.Pending.{AreOpen, frames_of, pending, work_of}

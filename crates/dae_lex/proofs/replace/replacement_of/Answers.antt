@@ -4,7 +4,7 @@ use Rattle.std.specs.Map.{lookup}
 use Rattle.dae_tree.specs.Replacing.{is_word_kind}
 use Rattle.dae_lex.specs.declared.macros.Macro.{Macro}
 use Rattle.dae_lex.specs.declared.numbers.NumberedPiece.{NumberedPiece}
-use Rattle.dae_lex.specs.Cuts.{cut_of}
+use Rattle.dae_lex_scan.specs.Cuts.{cut_of}
 use Rattle.dae_lex.specs.Numbers.{IsNumbered, IsNumberedBy, cuts_of, definitions_of}
 use Rattle.dae_lex.specs.Pending.{frames_of, names_of}
 use Rattle.dae_lex.proofs.Found.{mapped_twice, some_from_mapped, open_word, defined_word, defined_body, stays, goes}

@@ -6,7 +6,7 @@ use Rattle.dae_tree.specs.declared.faults.Construct.TheVariants.{TooManyReplacem
 use Rattle.dae_tree.specs.declared.faults.LexError.TheVariants.{Refused}
 use Rattle.dae_tree.specs.Replacing.{replacement, items_of, replaced}
 use Rattle.dae_lex.specs.declared.replace.Open.{Open}
-use Rattle.dae_lex.specs.Cuts.{cut_of}
+use Rattle.dae_lex_scan.specs.Cuts.{cut_of}
 use Rattle.dae_lex.specs.Numbers.{cuts_of, definitions_of}
 use Rattle.dae_lex.specs.Settling.{state_of, settle}
 use Rattle.dae_lex.specs.Pending.{pending, frame_of, frames_of, names_of}

@@ -4,7 +4,7 @@ use Rattle.dae_tree.specs.Lists as lists
 use Rattle.dae_parse_grammar.specs.Frames as plain
 use Rattle.dae_parse_nodes.specs.Parts.{ShowsOperand, ShowsOptional, ShowsSpecified, ShowsEnumerators, ShowsDeclared, ShowsItems, ShowsStatement, ShowsLoop}
 use Rattle.dae_parse_states.specs.declared.frames.Doing.{Doing}
-use Rattle.dae_parse_states.specs.Frames.{ShowsBefore, ShowsBody, ShowsDoing, manner_of}
+use Rattle.dae_parse_states.specs.Frames.{ShowsBefore, ShowsBody, ShowsDoing, is_structure_kind, manner_of}
 use Rattle.dae_parse.proofs.Doings.{does_operated, does_calling, does_tagged, does_enumerated, does_suffixing, does_sizing, does_parametering, does_gave_declarator, does_itemed, does_finishing, does_testing, does_stepping}
 use Rattle.dae_parse.proofs.step.step.Goals as goal
 
@@ -25,7 +25,8 @@ returns-in-Itemed c = λ d s shows.
 
 pub returns-in-Finishing : goal.returns-in-Finishing
 returns-in-Finishing c = λ d s shows.
-    let i = does_finishing c.in-Finishing.place c.in-Finishing.body c.in-Finishing.word c.in-Finishing.paren c.in-Finishing.test (λ (u : plain.Doing). (b : Statement) × (e : Expression) × (u ≡ plain.finishing c.in-Finishing.place b c.in-Finishing.word c.in-Finishing.paren e) × ShowsStatement c.in-Finishing.body b × ShowsOperand c.in-Finishing.test e) d (subst (λ (g : Doing). ShowsDoing g d) c.in-Finishing.is shows) (λ b e x0 x1. (b, e, refl, x0, x1)) in
+    let parts = c.in-Finishing.parts in
+    let i = does_finishing parts (λ (u : plain.Doing). (b : Statement) × (e : Expression) × (u ≡ plain.finishing parts.place b parts.word parts.paren e) × ShowsStatement parts.body b × ShowsOperand parts.test e) d (subst (λ (g : Doing). ShowsDoing g d) c.in-Finishing.is shows) (λ b e x0 x1. (b, e, refl, x0, x1)) in
     rw i.2 (λ stands holds bottom count. c.read_do_end.ensures i.0 i.1 i.3 i.4 s stands)
 
 pub returns-in-Operated : goal.returns-in-Operated
@@ -40,7 +41,7 @@ returns-in-Calling c = λ d s shows.
 
 pub returns-in-Tagged : goal.returns-in-Tagged
 returns-in-Tagged c = λ d s shows.
-    let i = does_tagged c.in-Tagged.is_structure c.in-Tagged.place c.in-Tagged.name c.in-Tagged.seen c.in-Tagged.before (λ (u : plain.Doing). (ws : List Specifier) × (u ≡ plain.tagged c.in-Tagged.is_structure c.in-Tagged.place c.in-Tagged.name c.in-Tagged.seen ws) × ShowsBefore c.in-Tagged.before ws) d (subst (λ (g : Doing). ShowsDoing g d) c.in-Tagged.is shows) (λ ws x0. (ws, refl, x0)) in
+    let i = does_tagged c.in-Tagged.kind c.in-Tagged.place c.in-Tagged.name c.in-Tagged.seen c.in-Tagged.before (λ (u : plain.Doing). (ws : List Specifier) × (u ≡ plain.tagged (is_structure_kind c.in-Tagged.kind) c.in-Tagged.place c.in-Tagged.name c.in-Tagged.seen ws) × ShowsBefore c.in-Tagged.before ws) d (subst (λ (g : Doing). ShowsDoing g d) c.in-Tagged.is shows) (λ ws x0. (ws, refl, x0)) in
     rw i.1 (λ stands holds bottom count. c.read_body.ensures i.0 i.2 s stands)
 
 pub returns-in-Suffixing : goal.returns-in-Suffixing

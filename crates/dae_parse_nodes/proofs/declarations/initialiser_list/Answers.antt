@@ -1,6 +1,7 @@
 use Rattle.std.proofs.Common.{refl, ap, ◌∙◌}
 use Rattle.dae_tree.specs.Trees as tree
 use Rattle.dae_parse_grammar.specs.Machine.{initialisers_onto}
+use Rattle.dae_tree.specs.Views.{has_comma}
 use Rattle.dae_tree.specs.FileViews.{view_initialiser}
 use Rattle.dae_parse_grammar.specs.FirstPlaces.{firsts_initialiser}
 use Rattle.dae_parse_nodes.proofs.Listing.{shows_initialisers}
@@ -13,6 +14,6 @@ pub returns : goal.returns
 returns c = λ xs h.
     let whole = shows_over _ _ c.args.place c.args.list c.in_ok-tree.field-0 (initialisers_onto xs tree.no_initialisers) (shows_initialisers c.args.list xs h) c.in_ok-tree.ensures in
     elim c.match-tree.branch [
-      | in-Some w ↦ shows_made _ _ view_initialiser firsts_initialiser _ c.match-tree.tree (initialisers_onto xs tree.no_initialisers) (tree.Listed c.args.place (initialisers_onto xs tree.no_initialisers) c.args.comma) _ _ whole (refl) w.in-Some.is w.tree-is (λ e. view_initialiser_list c.args.place w.in-Some.list c.args.comma ∙ ap (λ x. tree.Listed c.args.place x c.args.comma) e)
-      | in-None w ↦ shows_absent _ _ view_initialiser firsts_initialiser _ c.match-tree.tree (initialisers_onto xs tree.no_initialisers) (tree.Listed c.args.place (initialisers_onto xs tree.no_initialisers) c.args.comma) whole (refl) w.in-None.is w.tree-is
+      | in-Some w ↦ shows_made _ _ view_initialiser firsts_initialiser _ c.match-tree.tree (initialisers_onto xs tree.no_initialisers) (tree.Listed c.args.place (initialisers_onto xs tree.no_initialisers) (has_comma c.args.comma)) _ _ whole (refl) w.in-Some.is w.tree-is (λ e. view_initialiser_list c.args.place w.in-Some.list c.args.comma ∙ ap (λ x. tree.Listed c.args.place x (has_comma c.args.comma)) e)
+      | in-None w ↦ shows_absent _ _ view_initialiser firsts_initialiser _ c.match-tree.tree (initialisers_onto xs tree.no_initialisers) (tree.Listed c.args.place (initialisers_onto xs tree.no_initialisers) (has_comma c.args.comma)) whole (refl) w.in-None.is w.tree-is
     ]

@@ -7,4 +7,4 @@ use Rattle.dae_parse_nodes.proofs.specifiers.with_type_name.Goals as goal
 
 pub returns : goal.returns
 returns c = λ ws h.
-    c.with_specifier.ensures ws (tree.TypeName c.args.name) h (shows_flat view_specifier firsts_specifier c.flat-read.result _ (tree.TypeName c.args.name) c.flat-read.ensures.tree c.flat-read.ensures.places refl refl) refl refl refl
+    c.with_specifier.ensures ws (tree.TypeName c.args.name) h (shows_flat view_specifier firsts_specifier c.flat-read.result _ (tree.TypeName c.args.name) c.flat-read.ensures.tree c.flat-read.ensures.places refl refl) refl refl

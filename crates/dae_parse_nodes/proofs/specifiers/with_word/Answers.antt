@@ -7,4 +7,4 @@ use Rattle.dae_parse_nodes.proofs.specifiers.with_word.Goals as goal
 
 pub returns : goal.returns
 returns c = λ ws h.
-    c.with_specifier.ensures ws (tree.Word c.args.place c.args.word) h (shows_flat view_specifier firsts_specifier c.flat-read.result _ (tree.Word c.args.place c.args.word) c.flat-read.ensures.tree c.flat-read.ensures.places refl refl) refl c.is_typedef.ensures c.void_at-void.ensures
+    c.with_specifier.ensures ws (tree.Word c.args.place c.args.word) h (shows_flat view_specifier firsts_specifier c.flat-read.result _ (tree.Word c.args.place c.args.word) c.flat-read.ensures.tree c.flat-read.ensures.places refl refl) refl refl
