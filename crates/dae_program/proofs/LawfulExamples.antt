@@ -3,6 +3,7 @@ use Rattle.std.proofs.Common.{◌≡◌, ℕ, Bool, true, false, List, [], ◌�
 use Rattle.dae_base.specs.declared.LoadKind.TheVariants as kind
 use Rattle.dae_base.specs.declared.Width.TheVariants as width
 use Rattle.dae_program.specs.declared.expressions.Expression.TheVariants as expression
+use Rattle.dae_program.specs.declared.expressions.Fixity.TheVariants.{Prefix}
 use Rattle.dae_program.specs.declared.expressions.Target.TheVariants as target
 use Rattle.dae_program.specs.declared.program.Function.{Function}
 use Rattle.dae_program.specs.declared.program.Links.{Links}
@@ -34,7 +35,7 @@ abbrev stops : List Statement
 stops = statement.Evaluate here (expression.Abort here) ∷ []
 
 abbrev steps : ℕ → List Statement
-steps v = statement.Evaluate here (expression.Step here kind.I32 (target.Variable v) 1 true) ∷ []
+steps v = statement.Evaluate here (expression.Step here kind.I32 (target.Variable v) 1 Prefix) ∷ []
 
 abbrev slot : ℕ → List (Option Slot)
 slot offset = Some (record { offset = offset; width = width.B4 }) ∷ (None ∷ [])

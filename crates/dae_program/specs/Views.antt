@@ -1,7 +1,9 @@
 -- Expressions and statements in memory as plain data.
-use Rattle.std.specs.Prelude.{List, [], ◌∷◌, Option, Some, None}
+use Rattle.std.specs.Prelude.{Bool, true, false, List, [], ◌∷◌, Option, Some, None}
 use Rattle.dae_program.specs.declared.expressions.Expression.TheVariants as expression
 use Rattle.dae_program.specs.declared.expressions.Expression.{Expression}
+use Rattle.dae_program.specs.declared.expressions.Fixity.{Fixity}
+use Rattle.dae_program.specs.declared.expressions.Fixity.TheVariants.{Prefix, Postfix}
 use Rattle.dae_program.specs.declared.expressions.Target.TheVariants as target
 use Rattle.dae_program.specs.declared.expressions.Target.{Target}
 use Rattle.dae_program.specs.declared.expressions.Expression.TheBlock.{Row_of-Expression, end_of-Expression, more_of-Expression}
@@ -13,6 +15,11 @@ use Rattle.dae_program.specs.declared.statements.Statement.TheBlock.{Row_of-Stat
 use Rattle.dae_program.specs.Trees as tree
 
 -- ---- expressions
+
+-- whether the new value is given
+abbrev pub is_prefix : Fixity → Bool
+is_prefix Prefix = true
+is_prefix Postfix = false
 
 abbrev mutual
   pub view : Expression → tree.Expression
@@ -31,7 +38,7 @@ abbrev mutual
   view (expression.Comma' b a c d) = tree.Comma (view a) (view d)
   view (expression.Assign' p kind t b a) = tree.Assign p kind (view_target t) (view a)
   view (expression.Update' p kind t operator b a) = tree.Update p kind (view_target t) operator (view a)
-  view (expression.Step p kind t change new) = tree.Step p kind (view_target t) change new
+  view (expression.Step p kind t change fixity) = tree.Step p kind (view_target t) change (is_prefix fixity)
   view (expression.Call' p f shape row) = tree.Call p f (view_row row)
   view (expression.Putchar' p b a) = tree.Putchar p (view a)
   view (expression.Exit' p b a) = tree.Exit p (view a)

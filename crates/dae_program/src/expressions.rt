@@ -3,6 +3,14 @@
 use dae_base::{LoadKind, Place};
 use dae_meaning::{Comparison, Operator};
 
+/// Where the operator of a step stands: before its operand, so that the new value is given, or behind it, so that the value
+/// before is.
+#[derive(Clone, Copy, PartialEq, Eq, Debug)]
+pub enum Fixity {
+    Prefix,
+    Postfix,
+}
+
 /// An expression that gives a word, with the place of its first token. The address of an object is such a word: a
 /// subscript is a sum of addresses, a member the sum of an address and an offset, and an array decays to its address.
 #[cycle(tree)]
@@ -35,8 +43,8 @@ pub enum Expression {
     Assign(Place, LoadKind, Target, Box<Expression>),
     /// `+=` and its kin. The right side is converted and scaled already.
     Update(Place, LoadKind, Target, Operator, Box<Expression>),
-    /// `++` and `--`, which add a number. The flag says that the new value is given.
-    Step(Place, LoadKind, Target, u32, bool),
+    /// `++` and `--`, which add a number.
+    Step(Place, LoadKind, Target, u32, Fixity),
     /// A call of a function by its number in the file, with the arguments converted.
     Call(Place, u32, Vec<Expression>),
     Putchar(Place, Box<Expression>),

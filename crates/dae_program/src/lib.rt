@@ -3,7 +3,7 @@
 // frame, or to numbered objects with static storage, whose addresses the joiner gives.
 #![tactic(auto)]
 
-pub use expressions::{Expression, Target};
+pub use expressions::{Expression, Fixity, Target};
 pub use program::{Function, Links, Program, Slot};
 pub use rules::{lawful_keep_rules, named_never_stray, never_strays};
 pub use statements::{Arm, Piece, Setting, Statement};
