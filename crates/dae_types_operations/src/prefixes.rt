@@ -1,6 +1,7 @@
 // Operators before and behind their operand (C90 6.3.2.4 and 6.3.3).
 
 ghost use Rattle.std.specs.Prelude.{◌≡◌};
+ghost use Rattle.dae_program.specs.Views.{is_prefix};
 ghost use Rattle.dae_types_kinds.specs.Values.{addressed, complemented, inverted, negated, step_size, stepped};
 ghost use Rattle.dae_types_rules.specs.Plan.{pure};
 ghost use Rattle.dae_types_plans.specs.Steps.{address_at, marked_name, postfix_at, prefix_at, star_at, step_at};
@@ -12,7 +13,7 @@ use crate::objects::is_object;
 use crate::operands::lacks_size;
 use dae_base::Place;
 use dae_meaning::Operator;
-use dae_program::Expression;
+use dae_program::{Expression, Fixity};
 use dae_tree::{Name, PostfixOperator, PrefixOperator};
 use dae_types_folding::{
     Deed, Value, based, known_not, load_kind, operated, pointee, promoted, target_of,
@@ -101,17 +102,18 @@ fn stepped(
     checker: &Checker,
     place: Place,
     down: bool,
-    new: bool,
+    fixity: Fixity,
     x: Value,
 ) -> Result<Value, CheckError>
-    ensures { MakesValue result (stepped place (tables checker.now) down new (view_value x)) }
+    ensures { MakesValue result
+        (stepped place (tables checker.now) down (is_prefix fixity) (view_value x)) }
 {
     let type_id = x.type_id;
     let shape = checker.shape_of(type_id);
     let size = step_size(checker, shape);
     let change = if down { 0u32.wrapping_sub(size) } else { size };
     let target = target_of(alloc, x)?;
-    let tree = Expression::Step(place, load_kind(shape), target, change, new);
+    let tree = Expression::Step(place, load_kind(shape), target, change, fixity);
     Ok(Value::plain(tree, type_id))
 }
 
@@ -122,10 +124,11 @@ fn step(
     checker: &Checker,
     place: Place,
     down: bool,
-    new: bool,
+    fixity: Fixity,
     x: Value,
 ) -> Result<Value, CheckError>
-    ensures { GivesValue checker.now result (step_at place down new (one x)) checker.now }
+    ensures { GivesValue checker.now result
+        (step_at place down (is_prefix fixity) (one x)) checker.now }
 {
     let shape = checker.shape_of(x.type_id);
     if !is_object(x.category) {
@@ -140,7 +143,7 @@ fn step(
     if lacks_size(checker, pointee(shape)) {
         return Err(broken(Rule::Incomplete, place));
     }
-    stepped(alloc, checker, place, down, new, x)
+    stepped(alloc, checker, place, down, fixity, x)
 }
 
 /// A minus sign, which takes a value from 0.
@@ -196,8 +199,8 @@ pub fn prefix(
         (prefix_at place operand operator name (one x)) checker.old }
 {
     match operator {
-        PrefixOperator::Increment => step(alloc, checker, place, false, true, x),
-        PrefixOperator::Decrement => step(alloc, checker, place, true, true, x),
+        PrefixOperator::Increment => step(alloc, checker, place, false, Fixity::Prefix, x),
+        PrefixOperator::Decrement => step(alloc, checker, place, true, Fixity::Prefix, x),
         PrefixOperator::Address => address(checker, place, name, x),
         PrefixOperator::Indirection => {
             let x = value(alloc, checker, operand, x)?;
@@ -243,7 +246,7 @@ pub fn postfix(
     ensures { GivesValue checker.now result (postfix_at place operator (one x)) checker.now }
 {
     match operator {
-        PostfixOperator::Increment => step(alloc, checker, place, false, false, x),
-        PostfixOperator::Decrement => step(alloc, checker, place, true, false, x),
+        PostfixOperator::Increment => step(alloc, checker, place, false, Fixity::Postfix, x),
+        PostfixOperator::Decrement => step(alloc, checker, place, true, Fixity::Postfix, x),
     }
 }
