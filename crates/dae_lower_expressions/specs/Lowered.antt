@@ -11,7 +11,10 @@ use Rattle.dae_lower_expressions.specs.declared.leaves.Part.{Part}
 use Rattle.dae_lower_expressions.specs.declared.leaves.Part.TheVariants.{Value, Truth, Effect}
 use Rattle.dae_lower_maker.specs.Counting.{Counts, both, never, is_counted, counts_of}
 use Rattle.dae_lower_maker.specs.Making.{Written, Writes, so_far}
+use Rattle.dae_lower_maker.specs.declared.maker.Increment.{Increment}
 use Rattle.dae_program.specs.Resolved.{address_in, callee_in}
+use Rattle.dae_program.specs.Trees.{Expression, Target, Step}
+use Rattle.dae_program.specs.Views.{is_prefix}
 use Rattle.dae_program.specs.declared.program.Links.{Links as FileLinks}
 use Rattle.std.specs.Prelude.{Some}
 
@@ -53,6 +56,10 @@ abbrev pub used : Part → Ways → VariableSet → ℕ → Made (Unit {0})
 used (Value p v) w later n = w.value later n ≫ gives p v
 used (Truth p v) w later n = branches p (w.condition later n) (gives p v (Number 1)) (gives p v (Number 0))
 used Effect w later n = w.effect later n
+
+-- `++` or `--` as an expression
+abbrev pub step_of : Increment → Target → Expression
+step_of i t = Step i.place i.kind t i.change (is_prefix i.fixity)
 
 -- whether what an assigned place holds is copied
 abbrev pub is_copied : VariableSet → Spot → Bool

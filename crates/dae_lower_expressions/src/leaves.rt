@@ -11,12 +11,13 @@ ghost use Rattle.dae_lower_expressions.specs.Lowered.{is_copied, links_in};
 ghost use Rattle.dae_lower_maker.specs.Counting.{counts_of, is_counted};
 ghost use Rattle.dae_lower_maker.specs.Making.{condition_of, spot_of};
 ghost use Rattle.dae_program.specs.Resolved.{address_in, callee_in};
+ghost use Rattle.dae_program.specs.Views.{is_prefix};
 
 use dae_base::Place;
-use dae_ir::{Item, Operand, Statement, Value};
-use dae_lower_maker::{Condition, Later, Spot, related};
+use dae_ir::{Item, Operand, Statement, Test, Value};
+use dae_lower_maker::{Condition, Later, Spot};
 use dae_meaning::Comparison;
-use dae_program::Links;
+use dae_program::{Fixity, Links};
 use std::alloc::{AllocError, Global};
 
 /// What an expression in a branch is for: a variable gets its value, or 1 or 0 as it isn't or is 0, or its effects are
@@ -60,7 +61,7 @@ pub fn is_copied(later: &Later, spot: Spot) -> bool
 {
     match spot {
         Spot::Variable(v) => later.has(v),
-        Spot::Object(_, _) => false,
+        Spot::Object(_) => false,
     }
 }
 
@@ -81,10 +82,15 @@ pub fn constant(
 }
 
 /// Whether the old value is copied where a place gets a number more: where it is given, or what is to come assigns it.
-pub fn is_kept(later: &Later, new: bool, spot: Spot) -> bool
-    ensures { result ≡ (not new || is_copied (is_counted (counts_of later.now)) (spot_of spot)) }
+pub fn is_kept(later: &Later, fixity: Fixity, spot: Spot) -> bool
+    ensures { result
+        ≡ (not (is_prefix fixity)
+        || is_copied (is_counted (counts_of later.now)) (spot_of spot)) }
 {
-    !new || is_copied(later, spot)
+    match fixity {
+        Fixity::Prefix => is_copied(later, spot),
+        Fixity::Postfix => true,
+    }
 }
 
 /// A number is a condition where it isn't 0.
@@ -92,7 +98,11 @@ pub fn nonzero(x: Operand) -> Condition
     ensures { condition_of result ≡ isnt_zero x }
 {
     Condition {
-        test: related(Comparison::NotEqual, false, x, Operand::Number(0)),
+        test: Test {
+            comparison: Comparison::NotEqual,
+            left: x,
+            right: Operand::Number(0),
+        },
         turned: false,
     }
 }

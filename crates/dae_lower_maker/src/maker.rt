@@ -4,6 +4,7 @@ use crate::later::one_more;
 use dae_base::{Items, LoadKind, Place};
 use dae_ir::{Check, Item, Operand, Statement, Test, Value};
 use dae_meaning::{Comparison, Operator};
+use dae_program::Fixity;
 use std::alloc::{AllocError, Global};
 
 /// The statements so far, and the next variable that isn't used yet.
@@ -13,11 +14,35 @@ pub struct Maker {
     next: u32,
 }
 
-/// What is assigned: a variable, or the object at an address, which may have to be checked.
+/// Where an object lies in memory: its address, and whether that has to be checked.
+#[derive(Clone, Copy, PartialEq, Eq, Debug)]
+pub struct Location {
+    pub address: Operand,
+    pub checked: bool,
+}
+
+/// What is assigned: a variable, or an object in memory.
 #[derive(Clone, Copy, PartialEq, Eq, Debug)]
 pub enum Spot {
     Variable(u32),
-    Object(bool, Operand),
+    Object(Location),
+}
+
+/// What an operator assigns, once its address is known: the place of the operator, the type, and where it is.
+#[derive(Clone, Copy, PartialEq, Eq, Debug)]
+pub struct Lvalue {
+    pub place: Place,
+    pub kind: LoadKind,
+    pub spot: Spot,
+}
+
+/// An operator `++` or `--`: its place, the type of its operand, the number that it adds, and where it stands.
+#[derive(Clone, Copy, PartialEq, Eq, Debug)]
+pub struct Increment {
+    pub place: Place,
+    pub kind: LoadKind,
+    pub change: u32,
+    pub fixity: Fixity,
 }
 
 /// A test that decides by holding, or by not holding.
@@ -161,17 +186,22 @@ impl Maker {
         Ok(z)
     }
 
-    /// The value of the object at an address, behind a check where the flag says so.
+    /// The value of an object in memory, behind a check of its address where one is due.
     pub fn fetched(
         &mut self,
         place: Place,
         kind: LoadKind,
-        checked: bool,
-        x: Operand,
+        location: Location,
     ) -> Result<Operand, AllocError>
-        ensures { IfOk result (Appends (fetched place kind checked x) self.old self.new) }
+        ensures { IfOk result
+            (Appends (fetched place kind location.checked location.address) self.old self.new) }
     {
-        self.item_if(checked, place, Item::Expect(Check::Place(kind.width(), x)))?;
+        let x = location.address;
+        self.item_if(
+            location.checked,
+            place,
+            Item::Expect(Check::Place(kind.width(), x)),
+        )?;
         let z = self.load(place, kind, x)?;
         Ok(z)
     }
@@ -206,102 +236,87 @@ impl Maker {
         }
     }
 
-    /// Stores a word at an address, behind a check where the flag says so.
+    /// Stores a word in memory, behind a check of its address where one is due.
     fn store(
         &mut self,
         place: Place,
         kind: LoadKind,
-        checked: bool,
-        x: Operand,
+        location: Location,
         y: Operand,
     ) -> Result<Operand, AllocError>
-        ensures { IfOk result (Appends (put_in place kind (Placed checked x) y) self.old self.new) }
+        ensures { IfOk result
+            (Appends
+            (put_in place kind (Placed location.checked location.address) y) self.old self.new) }
     {
-        self.item_if(checked, place, Item::Expect(Check::Place(kind.width(), x)))?;
+        let x = location.address;
+        self.item_if(
+            location.checked,
+            place,
+            Item::Expect(Check::Place(kind.width(), x)),
+        )?;
         self.item(place, Item::Store(kind.width(), x, y))?;
         Ok(y)
     }
 
     /// What is assigned gets a value, which is given.
-    pub fn put_in(
-        &mut self,
-        place: Place,
-        kind: LoadKind,
-        spot: Spot,
-        y: Operand,
-    ) -> Result<Operand, AllocError>
-        ensures { IfOk result (Appends (put_in place kind (spot_of spot) y) self.old self.new) }
+    pub fn put_in(&mut self, lvalue: Lvalue, y: Operand) -> Result<Operand, AllocError>
+        ensures { IfOk result
+            (Appends (put_in lvalue.place lvalue.kind (spot_of lvalue.spot) y) self.old self.new) }
     {
-        match spot {
+        match lvalue.spot {
             Spot::Variable(v) => {
-                self.item(place, Item::Assign(v, Value::Same(y)))?;
+                self.item(lvalue.place, Item::Assign(v, Value::Same(y)))?;
                 Ok(y)
             }
-            Spot::Object(checked, x) => {
-                let z = self.store(place, kind, checked, x, y)?;
+            Spot::Object(location) => {
+                let z = self.store(lvalue.place, lvalue.kind, location, y)?;
                 Ok(z)
             }
         }
     }
 
-    /// What an assigned place holds. A variable's value is a copy where the flag says so.
-    pub fn held(
-        &mut self,
-        place: Place,
-        kind: LoadKind,
-        flag: bool,
-        spot: Spot,
-    ) -> Result<Operand, AllocError>
-        ensures { IfOk result (Appends (held_in place kind flag spot) self.old self.new) }
+    /// What is assigned holds this so far. A variable's value is a copy where the flag says so.
+    pub fn held(&mut self, lvalue: Lvalue, flag: bool) -> Result<Operand, AllocError>
+        ensures { IfOk result (Appends (held_in lvalue flag) self.old self.new) }
     {
-        match spot {
+        match lvalue.spot {
             Spot::Variable(v) => {
-                let x = self.variable(flag, place, v)?;
+                let x = self.variable(flag, lvalue.place, v)?;
                 Ok(x)
             }
-            Spot::Object(checked, x) => {
-                let z = self.fetched(place, kind, checked, x)?;
+            Spot::Object(location) => {
+                let z = self.fetched(lvalue.place, lvalue.kind, location)?;
                 Ok(z)
             }
         }
     }
 
     /// What is assigned gets an operand and a number, narrowed to its type.
-    pub fn advanced(
-        &mut self,
-        place: Place,
-        kind: LoadKind,
-        change: u32,
-        spot: Spot,
-        x: Operand,
-    ) -> Result<Operand, AllocError>
-        ensures { IfOk result (Appends (advanced_in place kind change spot x) self.old self.new) }
+    fn advanced(&mut self, lvalue: Lvalue, change: u32, x: Operand) -> Result<Operand, AllocError>
+        ensures { IfOk result (Appends (advanced_in lvalue change x) self.old self.new) }
     {
         let z = self.set(
-            place,
+            lvalue.place,
             Value::Binary(Operator::Add, x, Operand::Number(change)),
         )?;
-        let w = self.narrowed(place, kind, z)?;
-        let y = self.put_in(place, kind, spot, w)?;
+        let w = self.narrowed(lvalue.place, lvalue.kind, z)?;
+        let y = self.put_in(lvalue, w)?;
         Ok(y)
     }
 
     /// What is assigned gets the result of an operation on what it held and an operand, narrowed to its type.
     pub fn updated(
         &mut self,
-        place: Place,
-        kind: LoadKind,
+        lvalue: Lvalue,
         operator: Operator,
-        spot: Spot,
         x: Operand,
         y: Operand,
     ) -> Result<Operand, AllocError>
-        ensures { IfOk result
-            (Appends (updated_in place kind operator spot x y) self.old self.new) }
+        ensures { IfOk result (Appends (updated_in lvalue operator x y) self.old self.new) }
     {
-        let z = self.operated(place, operator, x, y)?;
-        let w = self.narrowed(place, kind, z)?;
-        let result = self.put_in(place, kind, spot, w)?;
+        let z = self.operated(lvalue.place, operator, x, y)?;
+        let w = self.narrowed(lvalue.place, lvalue.kind, z)?;
+        let result = self.put_in(lvalue, w)?;
         Ok(result)
     }
 
@@ -309,34 +324,30 @@ impl Maker {
     /// so.
     pub fn stepped(
         &mut self,
-        place: Place,
-        kind: LoadKind,
-        change: u32,
-        new: bool,
+        increment: Increment,
         flag: bool,
         spot: Spot,
     ) -> Result<Operand, AllocError>
-        ensures { IfOk result
-            (Appends (stepped_in place kind change new flag spot) self.old self.new) }
+        ensures { IfOk result (Appends (stepped_in increment flag spot) self.old self.new) }
     {
-        let x = self.held(place, kind, flag, spot)?;
-        let y = self.advanced(place, kind, change, spot, x)?;
-        Ok(if new { y } else { x })
+        let lvalue = Lvalue {
+            place: increment.place,
+            kind: increment.kind,
+            spot,
+        };
+        let x = self.held(lvalue, flag)?;
+        let y = self.advanced(lvalue, increment.change, x)?;
+        match increment.fixity {
+            Fixity::Prefix => Ok(y),
+            Fixity::Postfix => Ok(x),
+        }
     }
 
-    /// 1 where the comparison of two operands holds, and else 0. The flag says that they are compared the other way round.
-    pub fn compared(
-        &mut self,
-        place: Place,
-        comparison: Comparison,
-        turned: bool,
-        x: Operand,
-        y: Operand,
-    ) -> Result<Operand, AllocError>
-        ensures { IfOk result
-            (Appends (set place (Holds (related comparison turned x y))) self.old self.new) }
+    /// 1 where a test holds, and else 0.
+    pub fn compared(&mut self, place: Place, test: Test) -> Result<Operand, AllocError>
+        ensures { IfOk result (Appends (set place (Holds test)) self.old self.new) }
     {
-        let z = self.set(place, Value::Holds(related(comparison, turned, x, y)))?;
+        let z = self.set(place, Value::Holds(test))?;
         Ok(z)
     }
 
