@@ -11,7 +11,7 @@ ghost use Rattle.dae_program.specs.Views.{statement_then, view, view_settings, v
 
 use crate::blocks::single;
 use crate::continuing::arms_continue;
-use crate::initialising::{put_all, zero};
+use crate::initialising::{Aggregate, put_all, zero};
 use crate::printing::print;
 use crate::switching::{begin_switch, do_arm, end_switch};
 use dae_base::Place;
@@ -124,18 +124,17 @@ fn initialise(
     lowerer: &mut Lowerer,
     links: &Links,
     none: u32,
-    place: Place,
-    offset: u32,
-    size: u32,
+    aggregate: Aggregate,
     items: &[Setting],
 ) -> Result<(), AllocError>
     ensures { IfOk result
         (MakesWhole
         (statements (links_in none links.now)
-        (Initialise place offset size (view_settings items.now) Done)) lowerer.old lowerer.new) }
+        (Initialise aggregate.place aggregate.offset aggregate.size
+        (view_settings items.now) Done)) lowerer.old lowerer.new) }
 {
-    let v = zero(lowerer, place, offset, size)?;
-    put_all(lowerer, links, none, place, v, items)?;
+    let v = zero(lowerer, aggregate)?;
+    put_all(lowerer, links, none, aggregate.place, v, items)?;
     Ok(())
 }
 
@@ -201,7 +200,12 @@ fn make_statement(
             Ok(())
         }
         Statement::Initialise(place, offset, size, items) => {
-            initialise(lowerer, links, none, *place, *offset, *size, items)?;
+            let aggregate = Aggregate {
+                place: *place,
+                offset: *offset,
+                size: *size,
+            };
+            initialise(lowerer, links, none, aggregate, items)?;
             Ok(())
         }
         Statement::Print(place, xs, pieces) => {

@@ -23,6 +23,15 @@ use dae_meaning::Comparison;
 use dae_program::Arm;
 use std::alloc::{AllocError, Global};
 
+/// What the search for the arm where a switch begins goes by: the switch's place, its value, and the variable that gets the
+/// arm's number.
+#[derive(Clone, Copy, PartialEq, Eq, Debug)]
+pub struct Dispatch {
+    pub place: Place,
+    pub value: Operand,
+    pub arm: u32,
+}
+
 /// Whether a label is `default`.
 fn is_default(label: &Option<u32>) -> bool
     ensures { result ≡ has_label None (label.now ∷ []) }
@@ -60,22 +69,24 @@ pub fn default_arm(arms: &[Arm]) -> Result<u32, AllocError>
 /// Where the value equals a label, the search ends, and the arm of this number is the first.
 fn label_branch(
     alloc: Global,
-    place: Place,
-    x: Operand,
-    v: u32,
+    dispatch: Dispatch,
     number: u32,
     label: u32,
 ) -> Result<Statement, AllocError>
-    ensures { IfOk result (λ s. (k : Form) → before s k ≡ label_then place x v number label k) }
+    ensures { IfOk result
+        (λ s. (k : Form)
+        → before s k
+        ≡ label_then dispatch.place dispatch.value dispatch.arm number label k) }
 {
+    let place = dispatch.place;
     let test = Test {
         comparison: Comparison::Equal,
-        left: x,
+        left: dispatch.value,
         right: Operand::Number(label),
     };
     let value = Value::Same(Operand::Number(number));
     let mut found = Vec::new(alloc);
-    found.push(Statement::Simple(place, Item::Assign(v, value)))?;
+    found.push(Statement::Simple(place, Item::Assign(dispatch.arm, value)))?;
     found.push(Statement::Simple(place, Item::Break))?;
     Ok(Statement::If(place, test, found, Vec::new(alloc)))
 }
@@ -84,20 +95,20 @@ fn label_branch(
 fn search_label(
     alloc: Global,
     block: &mut Vec<Statement>,
-    place: Place,
-    x: Operand,
-    v: u32,
+    dispatch: Dispatch,
     number: u32,
     label: &Option<u32>,
 ) -> Result<(), AllocError>
     ensures { IfOk result
         (λ u. (rest : Form)
         → (form_of block.new.items ⨾ rest)
-        ≡ (form_of block.old.items ⨾ search_labels place x v number (label.now ∷ []) rest)) }
+        ≡ (form_of block.old.items
+        ⨾ search_labels dispatch.place dispatch.value dispatch.arm number
+        (label.now ∷ []) rest)) }
 {
     match label {
         Some(label) => {
-            let branch = label_branch(alloc, place, x, v, number, *label)?;
+            let branch = label_branch(alloc, dispatch, number, *label)?;
             block.push(branch)?;
             Ok(())
         }
@@ -109,40 +120,35 @@ fn search_label(
 fn search_labels(
     alloc: Global,
     block: &mut Vec<Statement>,
-    place: Place,
-    x: Operand,
-    v: u32,
+    dispatch: Dispatch,
     number: u32,
     labels: &[Option<u32>],
 ) -> Result<(), AllocError>
     ensures { IfOk result
         (λ u. (rest : Form)
         → (form_of block.new.items ⨾ rest)
-        ≡ (form_of block.old.items ⨾ search_labels place x v number labels.now rest)) }
+        ≡ (form_of block.old.items
+        ⨾ search_labels dispatch.place dispatch.value dispatch.arm number labels.now rest)) }
 {
     for label in labels {
-        search_label(alloc, block, place, x, v, number, label)?;
+        search_label(alloc, block, dispatch, number, label)?;
     }
     Ok(())
 }
 
 /// The search for the first arm, whose number a variable gets.
-pub fn search(
-    alloc: Global,
-    place: Place,
-    x: Operand,
-    v: u32,
-    arms: &[Arm],
-) -> Result<Vec<Statement>, AllocError>
-    ensures { IfOk result (λ block. form_of block.items ≡ search place x v 0 (arms_of arms.now)) }
+pub fn search(alloc: Global, dispatch: Dispatch, arms: &[Arm]) -> Result<Vec<Statement>, AllocError>
+    ensures { IfOk result
+        (λ block. form_of block.items
+        ≡ search dispatch.place dispatch.value dispatch.arm 0 (arms_of arms.now)) }
 {
     let mut block = Vec::new(alloc);
     let mut number = 0;
     for arm in arms {
-        search_labels(alloc, &mut block, place, x, v, number, &arm.labels)?;
+        search_labels(alloc, &mut block, dispatch, number, &arm.labels)?;
         number = one_more(number)?;
     }
-    block.push(Statement::Simple(place, Item::Break))?;
+    block.push(Statement::Simple(dispatch.place, Item::Break))?;
     Ok(block)
 }
 
@@ -177,7 +183,12 @@ pub fn begin_switch(
     let v = lowerer.maker.reserve()?;
     let flag = lowerer.maker.reserve()?;
     let other = default_arm(arms)?;
-    let searching = search(lowerer.alloc, place, x, v, arms)?;
+    let dispatch = Dispatch {
+        place,
+        value: x,
+        arm: v,
+    };
+    let searching = search(lowerer.alloc, dispatch, arms)?;
     let nothing = Vec::new(lowerer.alloc);
     lowerer.maker.item(place, Item::Assign(v, Value::Same(Operand::Number(other))))?;
     lowerer.maker.repeat(place, searching, nothing)?;
