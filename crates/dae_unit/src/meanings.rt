@@ -24,6 +24,14 @@ pub struct Rooms<'r, 'f> {
     pub places: &'r [u32],
 }
 
+/// A file of a program: its number, its parts, and the addresses of its literals.
+#[derive(Clone, Copy)]
+struct JoinedFile<'f> {
+    number: usize,
+    parts: &'f FileParts,
+    literals: &'f [u32],
+}
+
 fn object_place(files: &[TypedFile], rooms: Rooms, file: usize, entity: Entity) -> u32
     requires { IsIndexed files.now rooms.placed }
     ensures { result
@@ -157,14 +165,13 @@ pub fn behind(places: &[u32], count: usize) -> &[u32]
     }
 }
 
+/// What the numbers of a file mean.
 fn links_in(
     alloc: Global,
     files: &[TypedFile],
     rooms: Rooms,
     bodies: NumberedRows,
-    literals: &[u32],
-    file: usize,
-    parts: &FileParts,
+    file: JoinedFile,
 ) -> Result<Links, AllocError>
     requires few { length bodies.rows.now < 2 ^ 32 }
     requires rooms { IsIndexed files.now rooms.placed }
@@ -172,11 +179,14 @@ fn links_in(
     ensures { IfOk result
         (λ links. links
         ≡ links_in files.now rooms.entry.placed.rows.now bodies.entry.rows.now
-        rooms.entry.places.now literals.now file parts.now) }
+        rooms.entry.places.now file.entry.literals.now file.entry.number file.entry.parts.now) }
 {
-    let mut addresses = Vec::from_slice(alloc, literals)?;
-    push_places(&mut addresses, files, rooms, file, parts.objects.as_slice())?;
-    let functions = function_numbers(alloc, files, bodies, file, parts.routines.as_slice())?;
+    let number = file.number;
+    let objects = file.parts.objects.as_slice();
+    let routines = file.parts.routines.as_slice();
+    let mut addresses = Vec::from_slice(alloc, file.literals)?;
+    push_places(&mut addresses, files, rooms, number, objects)?;
+    let functions = function_numbers(alloc, files, bodies, number, routines)?;
     Ok(Links {
         addresses: Items::from_vec(addresses),
         functions: Items::from_vec(functions),
@@ -203,8 +213,12 @@ pub fn links_of(
     for (number, file) in files.iter().enumerate() {
         let parts = file.parts();
         let count = parts.literals.len();
-        let literals = front(rest, count);
-        links.push(links_in(alloc, files, rooms, bodies, literals, number, parts)?)?;
+        let joined = JoinedFile {
+            number,
+            parts,
+            literals: front(rest, count),
+        };
+        links.push(links_in(alloc, files, rooms, bodies, joined)?)?;
         rest = behind(rest, count);
     }
     Ok(links)
