@@ -3,7 +3,7 @@
 ghost use Rattle.std.specs.Prelude.{◌≡◌, ℕ, ◌+◌, ◌<◌, ◌≤◌, ◌^◌, Bool, true, false, List, [], ◌∷◌, ◌++◌, if◌then◌else◌, length, slice_get, not, OnOk, IfOk};
 ghost use Rattle.dae_base.specs.declared.Place.{Place};
 ghost use Rattle.dae_ir.specs.Classes.{classes_of, classes_in};
-ghost use Rattle.dae_ir.specs.Rounds.{Rounds, Jump, Enters, closed, placed, stand, Joins, Closes, Separates};
+ghost use Rattle.dae_ir.specs.Rounds.{Rounds, Jump, closed, placed, stand, Joins, Closes, Separates};
 ghost use Rattle.dae_ir.specs.Streams.{set_of, arguments_in, kept, jump_action, group_of};
 ghost use Rattle.dae_ir.specs.Scope.{TakesArguments};
 ghost use Rattle.dae_ir.specs.declared.form.Item.TheVariants.{Expect};
@@ -201,24 +201,23 @@ fn kept_status(side: Side, operand: Operand) -> Option<Operand>
     }
 }
 
-fn call(
+// The arguments of a call that the side needs.
+fn call_arguments(
     alloc: Global,
     functions: &[Function],
     tables: &[Items<Class>],
-    task: Task,
-    v: u32,
+    side: Side,
     callee: u32,
     operands: &[Operand],
-) -> Result<Action, AllocError>
+) -> Result<Items<Argument>, AllocError>
     requires { TakesArguments (slice_get functions.now callee) (length operands.now) }
     ensures { IfOk result
-        (λ action. action
-        ≡ jump_action (is_a task.side) (classes_of tables.now) (classes_of tables.now task.function)
-        (Enters v callee operands.now)) }
+        (λ list. list
+        ≡ arguments_in (set_of (is_a side) (classes_of tables.now callee)) 1 operands.now) }
 {
     let count = parameters(functions, callee);
-    let list = arguments(alloc, tables, callee as usize, task.side, count, operands)?;
-    Ok(Action::Call(kept_variable(tables, task, v), callee, list))
+    let list = arguments(alloc, tables, callee as usize, side, count, operands)?;
+    Ok(list)
 }
 
 // A check that A decides is a part of the group, and one that E decides ends it.
@@ -248,7 +247,6 @@ fn add_check(
 
 /// What the side does of an item. Of a call it needs to know how many parameters the function has.
 pub fn add_item(
-    alloc: Global,
     x: &mut Stretch,
     functions: &[Function],
     tables: &[Items<Class>],
@@ -286,8 +284,15 @@ pub fn add_item(
         Item::Continue => add_jump(x, tables, task, place, Action::Continue),
         Item::Call(v, callee, operands) => {
             let operands = operands.as_slice();
-            let action = call(alloc, functions, tables, task, *v, *callee, operands)?;
-            add_jump(x, tables, task, place, action)
+            let list = call_arguments(x.alloc, functions, tables, task.side, *callee, operands)?;
+            let variable = kept_variable(tables, task, *v);
+            add_jump(
+                x,
+                tables,
+                task,
+                place,
+                Action::Call(variable, *callee, list),
+            )
         }
         Item::Return(operand) => {
             let result = kept_result(tables, task, *operand);

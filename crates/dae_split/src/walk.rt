@@ -72,7 +72,6 @@ fn put_loop(
 
 #[cycle(walk)]
 fn add_statement(
-    alloc: Global,
     x: &mut Stretch,
     functions: &[Function],
     tables: &[Items<Class>],
@@ -94,7 +93,7 @@ fn add_statement(
 {
     match statement {
         Statement::Simple(place, item) => {
-            add_item(alloc, x, functions, tables, task, *place, item)?;
+            add_item(x, functions, tables, task, *place, item)?;
             Ok(())
         }
         Statement::If(place, test, p, q) => {
@@ -105,8 +104,8 @@ fn add_statement(
                 put(&mut x.steps, plan.tells, mark, region_message(task.side))?;
                 return Ok(());
             }
-            let first = list(alloc, functions, tables, task, plan.outside, p)?;
-            let second = list(alloc, functions, tables, task, plan.outside, q)?;
+            let first = list(x.alloc, functions, tables, task, plan.outside, p)?;
+            let second = list(x.alloc, functions, tables, task, plan.outside, q)?;
             let branch = branch(tables, task, plan.outside, *test);
             put_if(&mut x.steps, mark, branch, first, second)?;
             put(&mut x.steps, plan.tells, mark, region_message(task.side))?;
@@ -120,8 +119,8 @@ fn add_statement(
                 put(&mut x.steps, plan.tells, mark, region_message(task.side))?;
                 return Ok(());
             }
-            let first = list(alloc, functions, tables, task, plan.outside, body)?;
-            let second = list(alloc, functions, tables, task, plan.outside, step)?;
+            let first = list(x.alloc, functions, tables, task, plan.outside, body)?;
+            let second = list(x.alloc, functions, tables, task, plan.outside, step)?;
             put_loop(&mut x.steps, mark, first, second)?;
             put(&mut x.steps, plan.tells, mark, region_message(task.side))?;
             Ok(())
@@ -147,12 +146,13 @@ pub fn list(
         (rounds (classes_of tables.now task.function) task.cap outside (form_of body.now) [])) }
 {
     let mut x = Stretch {
+        alloc,
         steps: Vec::new(alloc),
         group: Vec::new(alloc),
         number: 0,
     };
     for statement in body {
-        add_statement(alloc, &mut x, functions, tables, task, outside, statement)?;
+        add_statement(&mut x, functions, tables, task, outside, statement)?;
     }
     close(&mut x, tables, task)?;
     Ok(x.steps)
