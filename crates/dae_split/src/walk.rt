@@ -1,12 +1,13 @@
 // The steps of lists of statements, and of the lists inside them.
 
-ghost use Rattle.std.specs.Prelude.{◌≡◌, ◌+◌, ◌-◌, ◌<◌, ◌≤◌, ◌^◌, [], OnOk, IfOk};
+ghost use Rattle.std.specs.Prelude.{◌≡◌, ◌+◌, ◌-◌, ◌<◌, ◌≤◌, ◌^◌, OnOk, IfOk};
 ghost use Rattle.dae_ir.specs.Code.{Done, If, Loop};
 ghost use Rattle.dae_ir.specs.Form.{Form, before, form_of};
 ghost use Rattle.dae_ir.specs.Classes.{classes_of};
-ghost use Rattle.dae_ir.specs.Rounds.{decision, rounds};
+ghost use Rattle.dae_ir.specs.Rounds.{decision};
 ghost use Rattle.dae_ir.specs.Streams.{onto};
-ghost use Rattle.dae_split.specs.Making.{is_a, CallsFit, Adds, projected, Makes, region_message, branch_at};
+ghost use Rattle.dae_split.specs.Making.{is_a, CallsFit, Adds, region_message, branch_at};
+ghost use Rattle.dae_split.specs.Stretches.{Extends, list_of, rounds_from};
 
 use crate::classes::has_test;
 use crate::groups::{at, put};
@@ -83,12 +84,9 @@ fn add_statement(
     requires fit { CallsFit functions.now (before statement.now Done) }
     ensures made { OnOk result
         ((k : Form)
-        → Makes (projected outside (is_a task.side) (classes_of tables.now)
-        (classes_of tables.now task.function) task.cap) x.old.steps.items x.old.number
-        x.new.steps.items x.new.number
-        (rounds (classes_of tables.now task.function) task.cap outside k x.new.group.items)
-        (rounds (classes_of tables.now task.function) task.cap outside
-        (before statement.now k) x.old.group.items)) }
+        → Extends outside task tables.now x.old x.new
+        (rounds_from outside task tables.now x.new k)
+        (rounds_from outside task tables.now x.old (before statement.now k))) }
     ensures number { OnOk result (x.new.number ≤ x.old.number + 1) }
 {
     match statement {
@@ -141,9 +139,7 @@ pub fn list(
     requires fit { CallsFit functions.now (form_of body.now) }
     ensures { IfOk result
         (λ steps. onto steps.items Done
-        ≡ projected outside (is_a task.side) (classes_of tables.now)
-        (classes_of tables.now task.function) task.cap 0
-        (rounds (classes_of tables.now task.function) task.cap outside (form_of body.now) [])) }
+        ≡ list_of outside task tables.now (form_of body.now)) }
 {
     let mut x = Stretch {
         alloc,
