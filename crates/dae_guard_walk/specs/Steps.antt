@@ -20,7 +20,8 @@ use Rattle.dae_guard_walk.specs.declared.sides.Outcomes.{Outcomes}
 use Rattle.dae_guard_walk.specs.declared.sides.SideSpot.{SideSpot}
 use Rattle.dae_guard_walk.specs.declared.walking.Spot.{Spot}
 use Rattle.dae_guard_walk.specs.Kinds.{compares, goes_by, order_of, told_by}
-use Rattle.dae_guard_walk.specs.Spots.{AreProper, IsProper, nodes_of, side_of}
+use Rattle.dae_guard.specs.Kept.{AreProper, IsProper}
+use Rattle.dae_guard_walk.specs.Spots.{nodes_of, side_of}
 
 -- a side, and what goes into its queue
 abbrev pub Left : Type 0

@@ -9,14 +9,15 @@ ghost use Rattle.dae_machine.specs.Machine.{code};
 ghost use Rattle.dae_ranges.specs.Ranges.{each};
 ghost use Rattle.dae_guard.specs.Moves.{moved, private};
 ghost use Rattle.dae_guard.specs.Walk.{terms_of};
-ghost use Rattle.dae_guard_walk.specs.Spots.{AreProper, HasRoom, IsProper, QueuesHold, side_of, waiting_of};
+ghost use Rattle.dae_guard.specs.Kept.{AreProper, HasRoom, IsProper, QueuesHold, waiting_of};
+ghost use Rattle.dae_guard_walk.specs.Spots.{side_of};
 ghost use Rattle.dae_guard_walk.specs.Steps.{AreFine, listed, called_of};
 ghost use Rattle.dae_guard_walk.specs.Picks.{ComesOf, afters};
 
-use crate::queues::Queues;
 use crate::sides::{Fields, Outcome, Outcomes, SideSpot, compute, one};
 use dae_base::{Depths, Side, Width};
 use dae_encode::{Form, Inst, QueueUse, decode, form_of, is_shared, queue_use};
+use dae_guard::Queues;
 use dae_image::Image;
 use dae_ranges::{Range, all_fit};
 

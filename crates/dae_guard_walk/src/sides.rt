@@ -5,7 +5,8 @@ ghost use Rattle.dae_ranges.specs.Ranges.{decided, each};
 ghost use Rattle.dae_guard.specs.Nodes.{source, with_range, is_plain};
 ghost use Rattle.dae_guard.specs.Moves.{Jumps, narrowed, on, shape};
 ghost use Rattle.dae_guard_walk.specs.Kinds.{order_of, compares};
-ghost use Rattle.dae_guard_walk.specs.Spots.{AreProper, IsProper, ShiftsOne, side_of};
+ghost use Rattle.dae_guard.specs.Kept.{AreProper, IsProper};
+ghost use Rattle.dae_guard_walk.specs.Spots.{ShiftsOne, side_of};
 ghost use Rattle.dae_guard_walk.specs.Steps.{AreFine, IsFine, computed, listed, left_of, tested_by, told_by_test};
 
 use crate::kinds::{Comparison, Kind, Test, kind_of};

@@ -4,7 +4,8 @@ ghost use Rattle.std.specs.List.{All, list_any};
 ghost use Rattle.dae_guard.specs.Moves.{next_nodes};
 ghost use Rattle.dae_guard.specs.Nodes.{is_covered, is_final, same_counter, registers_within, side_within, covers};
 ghost use Rattle.dae_guard.specs.Walk.{terms_of, walk_start, walk as walk_of};
-ghost use Rattle.dae_guard_walk.specs.Spots.{AreProper, Holds, node_of, nodes_of, side_of, HasRoom};
+ghost use Rattle.dae_guard.specs.Kept.{AreProper, HasRoom};
+ghost use Rattle.dae_guard_walk.specs.Spots.{Holds, node_of, nodes_of, side_of};
 ghost use Rattle.dae_guard_walk.specs.Steps.{AreFine, GoesOn, IsFine, entered_node, left_of, stepped};
 ghost use Rattle.dae_guard_walk.specs.Answers.{AreKnown, BothHold, KnownHolds, walked_of};
 ghost use Rattle.dae_encode.specs.declared.QueueUse.{QueueUse};
@@ -12,11 +13,11 @@ ghost use Rattle.dae_guard_walk.specs.Picks.{node_behind, nodes_after};
 ghost use Rattle.dae_guard_walk.specs.Visits.{IsVisit, WentOn};
 
 use crate::instructions::{Sure, Terms};
-use crate::queues::Queues;
 use crate::sides::{Outcome, SideSpot};
 use dae_base::Side;
 use dae_certificate::{Known, SideNode};
 use dae_encode::QueueUse;
+use dae_guard::Queues;
 use dae_ranges::{Range, within};
 use std::alloc::{AllocError, Global};
 
