@@ -10,7 +10,6 @@ ghost use Rattle.dae_program.specs.Trees.{Done, Initialise, Return};
 ghost use Rattle.dae_program.specs.Views.{statement_then, view, view_settings, view_some, view_statements, arms_of};
 
 use crate::blocks::single;
-use crate::continuing::arms_continue;
 use crate::initialising::{Aggregate, put_all, zero};
 use crate::printing::print;
 use crate::switching::{begin_switch, do_arm, end_switch};
@@ -288,13 +287,12 @@ fn make_switch(
         (MakesWhole
         (switch_on (links_in none links.now) place (arms_of arms.now) x) lowerer.old lowerer.new) }
 {
-    let goes_on = arms_continue(arms);
-    let v = begin_switch(lowerer, place, x, arms, goes_on)?;
+    let switch = begin_switch(lowerer, place, x, arms)?;
     let outer = lowerer.maker.begin_block(lowerer.alloc);
-    make_arms(lowerer, links, none, place, v, arms)?;
+    make_arms(lowerer, links, none, place, switch.arm, arms)?;
     lowerer.maker.item(place, Item::Break)?;
     let body = lowerer.maker.end_block(outer);
-    end_switch(lowerer, place, v, goes_on, body)?;
+    end_switch(lowerer, switch, body)?;
     Ok(())
 }
 

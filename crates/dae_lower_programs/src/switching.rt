@@ -15,6 +15,7 @@ ghost use Rattle.dae_meaning.specs.declared.Comparison.TheVariants.{NotEqual};
 ghost use Rattle.dae_program.specs.Switches.{arm_with, count_arms, has_label};
 
 use crate::blocks::single;
+use crate::continuing::arms_continue;
 use dae_base::Place;
 use dae_ir::{Item, Operand, Statement, Test, Value};
 use dae_lower_expressions::Lowerer;
@@ -30,6 +31,15 @@ pub struct Dispatch {
     pub place: Place,
     pub value: Operand,
     pub arm: u32,
+}
+
+/// A switch between its beginning and its end: its place, the variable that has the number of the arm where it begins, and
+/// whether its arms continue a loop round it.
+#[derive(Clone, Copy, PartialEq, Eq, Debug)]
+pub struct OpenSwitch {
+    pub place: Place,
+    pub arm: u32,
+    pub continues: bool,
 }
 
 /// Whether a label is `default`.
@@ -152,33 +162,34 @@ pub fn search(alloc: Global, dispatch: Dispatch, arms: &[Arm]) -> Result<Vec<Sta
     Ok(block)
 }
 
-/// Nothing has continued the loop outside yet, where the flag says that something may.
-fn clear(lowerer: &mut Lowerer, place: Place, flag: u32, goes_on: bool) -> Result<(), AllocError>
+/// Nothing has continued the loop outside yet, which a variable notes where something may.
+fn clear(lowerer: &mut Lowerer, switch: OpenSwitch, flag: u32) -> Result<(), AllocError>
     ensures { IfOk result
         (MakesWhole
-        (emit (where_so goes_on
-        (one place (Assign flag (Same (Number 0)))))) lowerer.old lowerer.new) }
+        (emit (where_so switch.continues
+        (one switch.place (Assign flag (Same (Number 0)))))) lowerer.old lowerer.new) }
 {
-    if goes_on {
+    if switch.continues {
         let zero = Value::Same(Operand::Number(0));
-        lowerer.maker.item(place, Item::Assign(flag, zero))?;
+        lowerer.maker.item(switch.place, Item::Assign(flag, zero))?;
     }
     Ok(())
 }
 
-/// A switch up to its arms. What is given is the first of two variables, which has the number of the arm where the switch
-/// begins.
+/// A switch up to its arms, with two variables of its own.
 pub fn begin_switch(
     lowerer: &mut Lowerer,
     place: Place,
     x: Operand,
     arms: &[Arm],
-    goes_on: bool,
-) -> Result<u32, AllocError>
-    ensures { IfOk result
-        (MakesWhole
+) -> Result<OpenSwitch, AllocError>
+    ensures made { IfOk result
+        (λ switch. MakesWhole
         (switch_begun place x (arm_with None 0 (arms_of arms.now) (count_arms (arms_of arms.now)))
-        (arms_of arms.now) goes_on) lowerer.old lowerer.new) }
+        (arms_of arms.now) switch.continues) lowerer.old lowerer.new switch.arm) }
+    ensures place { IfOk result (λ switch. switch.place ≡ place) }
+    ensures continues { IfOk result
+        (λ switch. switch.continues ≡ arms_continue (arms_of arms.now)) }
 {
     let v = lowerer.maker.reserve()?;
     let flag = lowerer.maker.reserve()?;
@@ -192,8 +203,13 @@ pub fn begin_switch(
     let nothing = Vec::new(lowerer.alloc);
     lowerer.maker.item(place, Item::Assign(v, Value::Same(Operand::Number(other))))?;
     lowerer.maker.repeat(place, searching, nothing)?;
-    clear(lowerer, place, flag, goes_on)?;
-    Ok(v)
+    let switch = OpenSwitch {
+        place,
+        arm: v,
+        continues: arms_continue(arms),
+    };
+    clear(lowerer, switch, flag)?;
+    Ok(switch)
 }
 
 /// An arm of a number, which is done where the switch begins at that or before.
@@ -222,29 +238,31 @@ pub fn do_arm(
 }
 
 /// What a continue in the arms goes to: it is noted, and the arms are left.
-fn note(alloc: Global, place: Place, flag: u32, goes_on: bool) -> Result<Vec<Statement>, AllocError>
+fn note(alloc: Global, switch: OpenSwitch, flag: u32) -> Result<Vec<Statement>, AllocError>
     ensures { IfOk result
         (λ block. form_of block.items
-        ≡ where_so goes_on (Do place (Assign flag (Same (Number 1))) (one place Break))) }
+        ≡ where_so switch.continues
+        (Do switch.place (Assign flag (Same (Number 1))) (one switch.place Break))) }
 {
     let mut block = Vec::new(alloc);
-    if goes_on {
+    if switch.continues {
         let one = Value::Same(Operand::Number(1));
-        block.push(Statement::Simple(place, Item::Assign(flag, one)))?;
-        block.push(Statement::Simple(place, Item::Break))?;
+        block.push(Statement::Simple(switch.place, Item::Assign(flag, one)))?;
+        block.push(Statement::Simple(switch.place, Item::Break))?;
     }
     Ok(block)
 }
 
 /// Where the arms continued the loop outside, so does what is behind them.
-fn go_on(lowerer: &mut Lowerer, place: Place, flag: u32, goes_on: bool) -> Result<(), AllocError>
+fn go_on(lowerer: &mut Lowerer, switch: OpenSwitch, flag: u32) -> Result<(), AllocError>
     ensures { IfOk result
         (MakesWhole
-        (emit (where_so goes_on
-        (If place (test_of NotEqual (Variable flag) (Number 0))
-        (one place Continue) Done Done))) lowerer.old lowerer.new) }
+        (emit (where_so switch.continues
+        (If switch.place (test_of NotEqual (Variable flag) (Number 0))
+        (one switch.place Continue) Done Done))) lowerer.old lowerer.new) }
 {
-    if goes_on {
+    let place = switch.place;
+    if switch.continues {
         let test = Test {
             comparison: Comparison::NotEqual,
             left: Operand::Variable(flag),
@@ -264,17 +282,17 @@ fn go_on(lowerer: &mut Lowerer, place: Place, flag: u32, goes_on: bool) -> Resul
 /// A switch from its arms on.
 pub fn end_switch(
     lowerer: &mut Lowerer,
-    place: Place,
-    v: u32,
-    goes_on: bool,
+    switch: OpenSwitch,
     body: Vec<Statement>,
 ) -> Result<(), AllocError>
     ensures { IfOk result
-        (MakesWhole (switch_ended place v goes_on (form_of body.items)) lowerer.old lowerer.new) }
+        (MakesWhole
+        (switch_ended switch.place switch.arm switch.continues
+        (form_of body.items)) lowerer.old lowerer.new) }
 {
-    let flag = one_more(v)?;
-    let step = note(lowerer.alloc, place, flag, goes_on)?;
-    lowerer.maker.repeat(place, body, step)?;
-    go_on(lowerer, place, flag, goes_on)?;
+    let flag = one_more(switch.arm)?;
+    let step = note(lowerer.alloc, switch, flag)?;
+    lowerer.maker.repeat(switch.place, body, step)?;
+    go_on(lowerer, switch, flag)?;
     Ok(())
 }
