@@ -9,7 +9,7 @@ ghost use Rattle.dae_lower_maker.specs.Making.{condition_of, spot_of};
 ghost use Rattle.dae_program.specs.Views.{view, view_expressions, view_target};
 
 use crate::assignments::count;
-use crate::leaves::{Part, address, callee, constant, is_copied, is_kept, nonzero, turn};
+use crate::leaves::{Part, address, callee, constant, nonzero, turn};
 use crate::lowerer::Lowerer;
 use dae_base::{Items, LoadKind};
 use dae_ir::{Check, Item, Operand, Statement, Test, Value};
@@ -36,8 +36,7 @@ impl Lowerer {
                 Ok(x)
             }
             Expression::Variable(place, v) => {
-                let flag = self.later.has(*v);
-                let x = self.maker.variable(flag, *place, *v)?;
+                let x = self.maker.variable(&self.later, *place, *v)?;
                 Ok(x)
             }
             Expression::Read(place, kind, checked, a) => {
@@ -122,13 +121,12 @@ impl Lowerer {
             }
             Expression::Update(place, kind, t, operator, a) => {
                 let spot = self.spot(links, none, t)?;
-                let flag = is_copied(&self.later, spot);
                 let lvalue = Lvalue {
                     place: *place,
                     kind: *kind,
                     spot,
                 };
-                let x = self.maker.held(lvalue, flag)?;
+                let x = self.maker.held(&self.later, lvalue)?;
                 let y = self.value(links, none, a)?;
                 let z = self.maker.updated(lvalue, *operator, x, y)?;
                 Ok(z)
@@ -430,8 +428,7 @@ impl Lowerer {
             (target_assignments (view_target t.now)) self.old self.new) }
     {
         let spot = self.spot(links, none, t)?;
-        let flag = is_kept(&self.later, increment.fixity, spot);
-        let z = self.maker.stepped(increment, flag, spot)?;
+        let z = self.maker.stepped(&self.later, increment, spot)?;
         Ok(z)
     }
 

@@ -1,5 +1,6 @@
 -- What a maker has written so far, and how it goes on.
-use Rattle.std.specs.Prelude.{◌≡◌, ℕ, ◌+◌, Bool, List, if◌then◌else◌}
+use Rattle.std.specs.Prelude.{◌≡◌, ℕ, ◌+◌, true, List, if◌then◌else◌}
+use Rattle.dae_ir.specs.Classes.{VariableSet}
 use Rattle.dae_ir.specs.Code.{Done, Do, If}
 use Rattle.dae_ir.specs.Form.{Form, form_of}
 use Rattle.dae_lower_maker.specs.declared.maker.Maker.{Maker}
@@ -18,6 +19,7 @@ use Rattle.dae_lower.specs.Lowering.{Made, only, one, nothing, operated, narrowe
 use Rattle.dae_meaning.specs.declared.Operator.{Operator}
 use Rattle.dae_lower.specs.Lowering as form
 use Rattle.dae_program.specs.Views.{is_prefix}
+use Rattle.dae_program.specs.declared.expressions.Fixity.{Fixity}
 
 -- the form so far, and the next variable
 pub record Written : Type 0 where
@@ -45,9 +47,9 @@ spot_of (spot.Object location) = form.Placed location.checked location.address
 abbrev pub loaded_next : Place → LoadKind → Operand → ℕ → Made Operand
 loaded_next place kind x n = only (one place (Load n kind x)) (Variable n) (n + 1)
 
--- what an assigned place holds, where the flag says whether a variable is copied
-abbrev pub held_in : Lvalue → (flag : Bool) → ℕ → Made Operand
-held_in l flag = form.held l.place l.kind (λ v. flag) (spot_of l.spot)
+-- what an assigned place holds, where these variables are copied
+abbrev pub held_in : VariableSet → Lvalue → ℕ → Made Operand
+held_in copied l = form.held l.place l.kind copied (spot_of l.spot)
 
 -- an assigned place gets an operand and a number
 abbrev pub advanced_in : Lvalue → (change : ℕ) → Operand → ℕ → Made Operand
@@ -73,8 +75,12 @@ updated_in l operator x y n =
 abbrev pub lvalue_of : Increment → Spot → Lvalue
 lvalue_of i spot = record { place = i.place; kind = i.kind; spot = spot }
 
--- one more or less, where the flag says whether the old value is a copy
-abbrev pub stepped_in : Increment → (flag : Bool) → Spot → ℕ → Made Operand
-stepped_in i flag spot n =
-    held_in (lvalue_of i spot) flag n ≫ λ x n. advanced_in (lvalue_of i spot) i.change x n ≫ λ y.
+-- the variables that `++` or `--` copies, where what is still to come assigns these: all, where the old value is given
+abbrev pub copied_by : Fixity → VariableSet → VariableSet
+copied_by fixity later = if is_prefix fixity then later else (λ v. true)
+
+-- one more or less, where what is still to come assigns these variables
+abbrev pub stepped_in : VariableSet → Increment → Spot → ℕ → Made Operand
+stepped_in later i spot n =
+    held_in (copied_by i.fixity later) (lvalue_of i spot) n ≫ λ x n. advanced_in (lvalue_of i spot) i.change x n ≫ λ y.
     nothing (if is_prefix i.fixity then y else x)

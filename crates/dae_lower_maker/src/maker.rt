@@ -1,6 +1,6 @@
 // Statements so far, and single items behind them.
 
-use crate::later::one_more;
+use crate::later::{Later, one_more};
 use dae_base::{Items, LoadKind, Place};
 use dae_ir::{Check, Item, Operand, Statement, Test, Value};
 use dae_meaning::{Comparison, Operator};
@@ -103,15 +103,19 @@ fn is_checked(operator: Operator, y: Operand) -> bool
 }
 
 impl Maker {
-    ghost use Rattle.std.specs.Prelude.{◌+◌, ◌++◌};
+    ghost use Rattle.std.specs.Prelude.{◌+◌, ◌++◌, true};
+    ghost use Rattle.dae_base.specs.Words.{width_of};
     ghost use Rattle.dae_ir.specs.Code.{Done, If, Loop};
     ghost use Rattle.dae_ir.specs.Form.{form_of};
     ghost use Rattle.dae_ir.specs.declared.form.Value.TheVariants.{Holds};
+    ghost use Rattle.dae_ir.specs.declared.form.Check.TheVariants.{Place as Good};
+    ghost use Rattle.dae_ir.specs.declared.form.Item.TheVariants.{Expect};
     ghost use Rattle.dae_lower.specs.Lowering.{checks, emit, fetched, narrowed, one, only, operated};
     ghost use Rattle.dae_lower.specs.Lowering.{put_in, set, variable, Placed};
+    ghost use Rattle.dae_lower_maker.specs.Counting.{counts_of, is_counted};
     ghost use Rattle.dae_lower_maker.specs.Making.{Appends, advanced_in, called_with, condition_of};
-    ghost use Rattle.dae_lower_maker.specs.Making.{forked, held_in, loaded_next, so_far, spot_of};
-    ghost use Rattle.dae_lower_maker.specs.Making.{stepped_in, updated_in};
+    ghost use Rattle.dae_lower_maker.specs.Making.{copied_by, forked, held_in, loaded_next, so_far};
+    ghost use Rattle.dae_lower_maker.specs.Making.{spot_of, stepped_in, updated_in};
 
     /// No statements yet, of a function with so many variables.
     pub fn new(alloc: Global, variables: u32) -> Maker
@@ -186,6 +190,18 @@ impl Maker {
         Ok(z)
     }
 
+    /// The check of an address, where one is due.
+    fn check(&mut self, place: Place, kind: LoadKind, location: Location) -> Result<(), AllocError>
+        ensures { IfOk result
+            (Appends
+            (only (checks location.checked place
+            (Expect (Good (width_of kind) location.address)) Done) tt) self.old self.new) }
+    {
+        let check = Check::Place(kind.width(), location.address);
+        self.item_if(location.checked, place, Item::Expect(check))?;
+        Ok(())
+    }
+
     /// The value of an object in memory, behind a check of its address where one is due.
     pub fn fetched(
         &mut self,
@@ -196,13 +212,8 @@ impl Maker {
         ensures { IfOk result
             (Appends (fetched place kind location.checked location.address) self.old self.new) }
     {
-        let x = location.address;
-        self.item_if(
-            location.checked,
-            place,
-            Item::Expect(Check::Place(kind.width(), x)),
-        )?;
-        let z = self.load(place, kind, x)?;
+        self.check(place, kind, location)?;
+        let z = self.load(place, kind, location.address)?;
         Ok(z)
     }
 
@@ -224,12 +235,21 @@ impl Maker {
         }
     }
 
-    /// A variable's value, in a copy where the flag says so.
-    pub fn variable(&mut self, copied: bool, place: Place, v: u32) -> Result<Operand, AllocError>
-        ensures { IfOk result (Appends (variable copied place v) self.old self.new) }
+    /// A copy of a variable's value.
+    fn copy(&mut self, place: Place, v: u32) -> Result<Operand, AllocError>
+        ensures { IfOk result (Appends (variable true place v) self.old self.new) }
     {
-        if copied {
-            let x = self.set(place, Value::Same(Operand::Variable(v)))?;
+        let x = self.set(place, Value::Same(Operand::Variable(v)))?;
+        Ok(x)
+    }
+
+    /// A variable's value, in a copy where what is still to come assigns it.
+    pub fn variable(&mut self, later: &Later, place: Place, v: u32) -> Result<Operand, AllocError>
+        ensures { IfOk result
+            (Appends (variable (is_counted (counts_of later.now) v) place v) self.old self.new) }
+    {
+        if later.has(v) {
+            let x = self.copy(place, v)?;
             Ok(x)
         } else {
             Ok(Operand::Variable(v))
@@ -248,13 +268,8 @@ impl Maker {
             (Appends
             (put_in place kind (Placed location.checked location.address) y) self.old self.new) }
     {
-        let x = location.address;
-        self.item_if(
-            location.checked,
-            place,
-            Item::Expect(Check::Place(kind.width(), x)),
-        )?;
-        self.item(place, Item::Store(kind.width(), x, y))?;
+        self.check(place, kind, location)?;
+        self.item(place, Item::Store(kind.width(), location.address, y))?;
         Ok(y)
     }
 
@@ -275,13 +290,30 @@ impl Maker {
         }
     }
 
-    /// What is assigned holds this so far. A variable's value is a copy where the flag says so.
-    pub fn held(&mut self, lvalue: Lvalue, flag: bool) -> Result<Operand, AllocError>
-        ensures { IfOk result (Appends (held_in lvalue flag) self.old self.new) }
+    /// What is assigned holds this so far: a variable's value is a copy where what is still to come assigns it.
+    pub fn held(&mut self, later: &Later, lvalue: Lvalue) -> Result<Operand, AllocError>
+        ensures { IfOk result
+            (Appends (held_in (is_counted (counts_of later.now)) lvalue) self.old self.new) }
     {
         match lvalue.spot {
             Spot::Variable(v) => {
-                let x = self.variable(flag, lvalue.place, v)?;
+                let x = self.variable(later, lvalue.place, v)?;
+                Ok(x)
+            }
+            Spot::Object(location) => {
+                let z = self.fetched(lvalue.place, lvalue.kind, location)?;
+                Ok(z)
+            }
+        }
+    }
+
+    /// What is assigned holds this so far: a variable's value is a copy.
+    fn copy_of(&mut self, lvalue: Lvalue) -> Result<Operand, AllocError>
+        ensures { IfOk result (Appends (held_in (λ v. true) lvalue) self.old self.new) }
+    {
+        match lvalue.spot {
+            Spot::Variable(v) => {
+                let x = self.copy(lvalue.place, v)?;
                 Ok(x)
             }
             Spot::Object(location) => {
@@ -320,22 +352,47 @@ impl Maker {
         Ok(result)
     }
 
-    /// What is assigned gets a number more, and the new value is given or the old one, which is a copy where the flag says
-    /// so.
+    /// What `++` or `--` finds: of a variable a copy where it is given, or where what is still to come assigns it.
+    fn old_value(
+        &mut self,
+        later: &Later,
+        fixity: Fixity,
+        lvalue: Lvalue,
+    ) -> Result<Operand, AllocError>
+        ensures { IfOk result
+            (Appends
+            (held_in (copied_by fixity (is_counted (counts_of later.now))) lvalue) self.old
+            self.new) }
+    {
+        match fixity {
+            Fixity::Prefix => {
+                let x = self.held(later, lvalue)?;
+                Ok(x)
+            }
+            Fixity::Postfix => {
+                let x = self.copy_of(lvalue)?;
+                Ok(x)
+            }
+        }
+    }
+
+    /// What is assigned gets a number more, and the new value is given or the old one.
     pub fn stepped(
         &mut self,
+        later: &Later,
         increment: Increment,
-        flag: bool,
         spot: Spot,
     ) -> Result<Operand, AllocError>
-        ensures { IfOk result (Appends (stepped_in increment flag spot) self.old self.new) }
+        ensures { IfOk result
+            (Appends
+            (stepped_in (is_counted (counts_of later.now)) increment spot) self.old self.new) }
     {
         let lvalue = Lvalue {
             place: increment.place,
             kind: increment.kind,
             spot,
         };
-        let x = self.held(lvalue, flag)?;
+        let x = self.old_value(later, increment.fixity, lvalue)?;
         let y = self.advanced(lvalue, increment.change, x)?;
         match increment.fixity {
             Fixity::Prefix => Ok(y),
