@@ -9,9 +9,10 @@ use Rattle.dae_ir.specs.declared.stream.Class.{Class}
 use Rattle.dae_ir.specs.declared.form.Item.{Item}
 use Rattle.dae_ir.specs.declared.stream.Action.{Action}
 use Rattle.dae_ir.specs.declared.stream.Part.{Part}
-use Rattle.dae_split.specs.Making.{is_a, projected, Makes}
+use Rattle.dae_split.specs.Making.{is_a, lies_outside, projected, Makes}
 use Rattle.dae_split.specs.declared.work.Stretch.{Stretch}
 use Rattle.dae_split.specs.declared.work.Task.{Task}
+use Rattle.dae_split.specs.declared.work.Zone.{Zone}
 
 -- the new stretch, before what a side does of the rest, is the old one before what it does of all
 abbrev pub Extends : (outside : Bool) → Task → List (List Class) → (old new : Stretch) → (rest all : Rounds) → Type 0
@@ -33,11 +34,11 @@ StandsAlone t tables old new place action =
     → (r : List Part → Rounds) → Extends outside t tables old new (r new.group.items) (placed_behind t tables old place (Separates jump) r)
 
 -- the rounds of statements, behind the group of a stretch
-abbrev pub rounds_from : (outside : Bool) → Task → List (List Class) → Stretch → Form → Rounds
-rounds_from outside t tables x code = rounds (classes_of tables t.function) t.cap outside code x.group.items
+abbrev pub rounds_from : Zone → Task → List (List Class) → Stretch → Form → Rounds
+rounds_from zone t tables x code = rounds (classes_of tables t.function) t.cap (lies_outside zone) code x.group.items
 
 -- what a side does of a list of statements
-abbrev pub list_of : (outside : Bool) → Task → List (List Class) → Form → Actions
-list_of outside t tables code =
-    projected outside (is_a t.side) (classes_of tables) (classes_of tables t.function) t.cap 0
-    (rounds (classes_of tables t.function) t.cap outside code [])
+abbrev pub list_of : Zone → Task → List (List Class) → Form → Actions
+list_of zone t tables code =
+    projected (lies_outside zone) (is_a t.side) (classes_of tables) (classes_of tables t.function) t.cap 0
+    (rounds (classes_of tables t.function) t.cap (lies_outside zone) code [])

@@ -13,6 +13,13 @@ pub struct Task {
     pub cap: u8,
 }
 
+/// Where statements stand: outside of regions, in code that both processors walk, or inside of one processor's region.
+#[derive(Clone, Copy, PartialEq, Eq, Debug)]
+pub enum Zone {
+    Outside,
+    Region,
+}
+
 /// The steps of a list so far, the group so far, and the number of groups before it.
 #[derive(Drop)]
 pub struct Stretch {
