@@ -2,7 +2,11 @@
 use Rattle.std.specs.Prelude.{◌≡◌, ℕ, ◌<◌, ◌^◌, Bool, List, Option, option_map, replicate, Some, None, [], if◌then◌else◌}
 use Rattle.dae_base.specs.declared.Side.{Side}
 use Rattle.dae_base.specs.declared.Depths.{Depths}
-use Rattle.dae_encode.specs.Processor.{Processor, After}
+use Rattle.dae_base.specs.declared.Queue.{Queue}
+use Rattle.dae_encode.specs.declared.QueueUse.{QueueUse}
+use Rattle.dae_encode.specs.declared.Request.{Request}
+use Rattle.dae_encode.specs.Processor.{Processor, After, request}
+use Rattle.dae_core.specs.Moves.{granted_by}
 use Rattle.dae_core.specs.Queues.{Queues}
 
 -- a processor with its side, whether the image allows copies, and the words of its code
@@ -17,6 +21,14 @@ pub record IsSame (old new : HeldCore) : Type 0 where
   pub side : new.side ≡ old.side
   pub copies : new.copies ≡ old.copies
   pub code : new.code ≡ old.code
+
+-- what a processor's request comes to
+abbrev pub granted_to : {Q : Type 0} → (Q → QueueUse → Bool) → (Q → Queue → Option ℕ) → (Q → QueueUse → ℕ → Q) → HeldCore → Q → Request → Option (After × Q)
+granted_to ready front after c q asks = granted_by ready front after c.side c.processor q asks
+
+-- what a processor asks for its next instruction, with so many bytes of common memory
+abbrev pub asked_next : HeldCore → (memory : ℕ) → Request
+asked_next c memory = request c.copies c.side c.code memory c.processor
 
 -- a processor before its first instruction
 abbrev pub fresh : ℕ → ℕ → Processor

@@ -1,6 +1,9 @@
 -- One step of a processor over the queues that it is given, and what it answers (Smith, "Decoupled Access/Execute Computer
 -- Architectures": a processor waits at an empty or a full queue).
 use Rattle.std.specs.Prelude.{◌≡◌, ℕ, Bool, if◌then◌else◌, List, [], Option, Some, None, option_map, unwrap_or}
+use Rattle.dae_base.specs.Words.{plus, stored, loaded, width_of}
+use Rattle.dae_base.specs.declared.LoadKind.{LoadKind}
+use Rattle.dae_base.specs.declared.Width.{Width}
 use Rattle.dae_base.specs.declared.Side.{Side}
 use Rattle.dae_base.specs.declared.Queue.{Queue}
 use Rattle.dae_base.specs.declared.Queue.TheVariants.{Sa}
@@ -10,7 +13,7 @@ use Rattle.dae_encode.specs.declared.Fault.TheVariants.{Private}
 use Rattle.dae_encode.specs.declared.Request.{Request}
 use Rattle.dae_encode.specs.declared.Request.TheVariants.{Halted, Faulty, Asks}
 use Rattle.dae_encode.specs.Instructions.{form}
-use Rattle.dae_encode.specs.Processor.{Processor, After, finish}
+use Rattle.dae_encode.specs.Processor.{Processor, After, finish, goes_on, is_good_private, is_shared}
 use Rattle.dae_core.specs.declared.CoreAnswer.{CoreAnswer}
 use Rattle.dae_core.specs.declared.CoreAnswer.TheVariants.{Did, Waits, Halted as IsHalted, Faulted}
 
@@ -28,6 +31,19 @@ granted_by ready front after side p q Halted = None
 granted_by ready front after side p q (Faulty fault) = None
 granted_by ready front after side p q (Asks u w i) =
     if ready q u then option_map (λ r. (r, after q u w)) (finish side p u i (form i) (offered_by front q u)) else None
+
+-- what comes of a load and of a store, where this is the address: nothing where it is a bad private one
+abbrev pub after_load : Processor → QueueUse → LoadKind → (rd addr : ℕ) → Option After
+after_load p u kind rd addr =
+    if is_shared u then goes_on p 0 0 (plus p.counter 4)
+    else (if is_good_private p (width_of kind) addr
+    then goes_on p rd (loaded kind addr p.private) (plus p.counter 4) else None)
+
+abbrev pub after_store : Processor → QueueUse → Width → (addr datum : ℕ) → Option After
+after_store p u width addr datum =
+    if is_shared u then goes_on p 0 0 (plus p.counter 4)
+    else (if is_good_private p width addr
+    then Some (record p { counter = plus p.counter 4; private = stored width addr datum p.private }, []) else None)
 
 -- the queue that an access waits for. An instruction without one waits for none
 abbrev pub waits : QueueUse → CoreAnswer

@@ -3,13 +3,13 @@
 ghost use Rattle.std.specs.Prelude.{◌≡◌, ◌≢◌, ℕ, ◌<◌, ◌^◌, Bool, true, false, length, slice_index, Option, None, is_some, IfOk, IfErr, IfSome, Some, [], option_map, slice_get, if◌then◌else◌};
 ghost use Rattle.dae_base.specs.Words.{plus, stored, loaded, width_of};
 ghost use Rattle.dae_encode.specs.Instructions.{form};
-ghost use Rattle.dae_encode.specs.Processor.{held, operand, address, is_good_private, is_shared, goes_on, bad_address, early_fault, put_word, decoded, with_result, called, finish, halts, prints, request};
+ghost use Rattle.dae_encode.specs.Processor.{held, operand, address, is_good_private, is_shared, bad_address, early_fault, put_word, decoded, with_result, called, finish, halts, prints, request};
 ghost use Rattle.dae_core.specs.Codes.{asked, legal_word};
-ghost use Rattle.dae_core.specs.Held.{IsSame, came_to, fresh, said_nothing};
+ghost use Rattle.dae_core.specs.Held.{IsSame, asked_next, came_to, fresh, granted_to, said_nothing};
 ghost use Rattle.dae_encode.specs.declared.Form.TheVariants.{Calls, Computes};
 ghost use Rattle.dae_encode.specs.declared.QueueUse.TheVariants.{Nothing};
 ghost use Rattle.dae_encode.specs.declared.Request.TheVariants.{Faulty};
-ghost use Rattle.dae_core.specs.Moves.{answered_by, granted_by, unprinted, Came, Tells};
+ghost use Rattle.dae_core.specs.Moves.{after_load, after_store, answered_by, unprinted, Came, Tells};
 
 use crate::code::{Legal, legal_words};
 use crate::memory::{load, store};
@@ -346,12 +346,7 @@ impl Core {
     fn finish_load(&mut self, access: QueueUse, kind: LoadKind, rd: u8, addr: u32) -> Option<u32>
         ensures held { IsSame self.old self.new }
         ensures came { came_to self.new.processor (said_nothing (is_some result))
-            ≡ (if is_shared access then goes_on self.old.processor 0 0
-            (plus self.old.processor.counter 4) else
-            (if is_good_private self.old.processor
-            (width_of kind) addr then goes_on self.old.processor rd
-            (loaded kind addr self.old.processor.private)
-            (plus self.old.processor.counter 4) else None)) }
+            ≡ after_load self.old.processor access kind rd addr }
         ensures word { result
             ≡ (if is_shared access then Some addr else
             (if is_good_private self.old.processor (width_of kind) addr then Some
@@ -374,16 +369,7 @@ impl Core {
     fn finish_store(&mut self, access: QueueUse, width: Width, addr: u32, datum: u32) -> Option<u32>
         ensures held { IsSame self.old self.new }
         ensures came { came_to self.new.processor (said_nothing (is_some result))
-            ≡ (if is_shared access
-            then goes_on self.old.processor 0 0 (plus self.old.processor.counter 4)
-            else (if is_good_private self.old.processor width addr
-            then Some (
-              record self.old.processor {
-                counter = plus self.old.processor.counter 4;
-                private = stored width addr datum self.old.processor.private;
-              },
-              [],
-            ) else None)) }
+            ≡ after_store self.old.processor access width addr datum }
         ensures word { IfSome result (λ word. word ≡ addr) }
         ensures none { result ≡ None → self.new ≡ self.old }
     {
@@ -425,8 +411,7 @@ impl Core {
             ≡ answered_by P.is_ready P.front self.old.side self.old.processor ports.old
             (request self.old.copies self.old.side self.old.code memory self.old.processor) }
         ensures told { Tells result
-            (granted_by P.is_ready P.front P.after self.old.side self.old.processor ports.old
-            (request self.old.copies self.old.side self.old.code memory self.old.processor))
+            (granted_to P.is_ready P.front P.after self.old ports.old (asked_next self.old memory))
             self.old.processor ports.old self.new.processor ports.new }
     {
         match self.try_step(memory, ports) {
@@ -441,8 +426,7 @@ impl Core {
         requires { P.can_count ports.old }
         ensures held { IsSame self.old self.new }
         ensures came { Came result
-            (granted_by P.is_ready P.front P.after self.old.side self.old.processor ports.old
-            (request self.old.copies self.old.side self.old.code memory self.old.processor))
+            (granted_to P.is_ready P.front P.after self.old ports.old (asked_next self.old memory))
             self.old.processor ports.old self.new.processor ports.new }
     {
         if self.is_halted() {
@@ -462,7 +446,7 @@ impl Core {
         requires form { legal.now.form ≡ form legal.now.inst }
         ensures held { IsSame self.old self.new }
         ensures came { Came result
-            (granted_by P.is_ready P.front P.after self.old.side self.old.processor ports.old
+            (granted_to P.is_ready P.front P.after self.old ports.old
             (asked self.old.side memory self.old.processor legal.now)) self.old.processor ports.old
             self.new.processor ports.new }
     {
@@ -494,7 +478,7 @@ impl Core {
         requires form { legal.now.form ≡ form legal.now.inst }
         ensures held { IsSame self.old self.new }
         ensures came { Came result
-            (granted_by P.is_ready P.front P.after self.old.side self.old.processor ports.old
+            (granted_to P.is_ready P.front P.after self.old ports.old
             (asked self.old.side memory self.old.processor legal.now)) self.old.processor ports.old
             self.new.processor ports.new }
     {

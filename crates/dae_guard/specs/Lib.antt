@@ -5,3 +5,5 @@ pub mod Moves
 pub mod Walk
 pub mod StandsFor
 pub mod Never
+pub mod Kept
+pub mod Drains

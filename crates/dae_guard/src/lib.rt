@@ -1,11 +1,16 @@
 // Where no run of a pair of codes is stuck, whatever common memory holds. A node stands for many states of the machine; a
 // walk over nodes follows the first pick that is enabled in all of them, from the opened node and from the nodes of a
-// certificate. Where all walks end at final nodes or at nodes of the certificate, the pair can't get stuck.
+// certificate. Where all walks end at final nodes or at nodes of the certificate, the pair can't get stuck. What waits in the
+// queues of a node is here as code keeps it, too.
 #![tactic(auto)]
 
 pub use laws::{one_step_is_sound, walks_guard};
+pub use queues::{Queues, depth_of};
+pub use slots::Slot;
 
 mod laws;
+mod queues;
+mod slots;
 
 use dae_base::Width;
 use dae_ranges::Range;

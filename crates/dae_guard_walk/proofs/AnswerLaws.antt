@@ -29,7 +29,7 @@ use Rattle.dae_guard_walk.specs.declared.walking.Walked.TheVariants.{Ends, Halts
 use Rattle.dae_guard_walk.specs.declared.guarding.GuardAnswer.{GuardAnswer}
 use Rattle.dae_guard_walk.specs.declared.guarding.GuardAnswer.TheVariants.{Yes, Depth, BadLine, NoStep, TooLong, Memory}
 use Rattle.dae_guard_walk.specs.Visits.{IsAnswer, left}
-use Rattle.dae_guard_walk.specs.Spots.{AreProper, IsProper}
+use Rattle.dae_guard.specs.Kept.{AreProper, IsProper}
 use Rattle.dae_guard_walk.specs.Answers.{AreKnown, BothHold, ComesTo, Due, KnownHolds, says, told_of, walked_of}
 use Rattle.dae_guard_walk.proofs.WalkLaws.{no_some}
 use Rattle.dae_guard_walk.proofs.ProperLaws.{proper_any, proper_replicate, proper_zero}

@@ -1,8 +1,6 @@
 mod KindLaws
 mod ProperLaws
 mod ResultLaws
-mod SlotLaws
-mod QueueLaws
 mod SideLaws
 mod InstructionLaws
 mod WalkLaws

@@ -7,7 +7,7 @@ use Rattle.dae_base.specs.declared.LoadKind.{LoadKind}
 use Rattle.dae_base.specs.declared.LoadKind.TheVariants.{I8, U8, I16, U16, I32}
 use Rattle.dae_ranges.specs.declared.Range.{Range}
 use Rattle.dae_ranges.specs.Ranges.{single, any_word, highest, raised, lowered, shifted, scaled, loaded_range}
-use Rattle.dae_guard_walk.specs.Spots.{AreProper, IsProper}
+use Rattle.dae_guard.specs.Kept.{AreProper, IsProper}
 use Rattle.std.proofs.lemmas.List.{get_or-replicate, length-replicate}
 
 pub proper_single : (n : ℕ) → n < 2 ^ 32 → IsProper (single n)

@@ -13,7 +13,8 @@ use Rattle.dae_guard.specs.Moves.{spread}
 use Rattle.dae_guard_walk.specs.declared.kinds.Test.{Test}
 use Rattle.dae_guard_walk.specs.declared.kinds.Test.TheVariants.{Equal, Unequal, Below, NotBelow, SignedBelow, NotSignedBelow}
 use Rattle.dae_guard_walk.specs.Kinds.{compares}
-use Rattle.dae_guard_walk.specs.Spots.{IsProper, ShiftsOne}
+use Rattle.dae_guard.specs.Kept.{IsProper}
+use Rattle.dae_guard_walk.specs.Spots.{ShiftsOne}
 use Rattle.dae_guard_walk.proofs.ProperLaws.{proper_shifted, proper_scaled, or_any}
 
 -- ---- decisions

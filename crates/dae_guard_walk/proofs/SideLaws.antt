@@ -15,7 +15,7 @@ use Rattle.dae_guard.specs.Moves.{shape, test, order, against, narrowed, told, e
 use Rattle.dae_guard_walk.specs.declared.kinds.Comparison.{Comparison}
 use Rattle.dae_guard_walk.specs.declared.sides.Fields.{Fields}
 use Rattle.dae_guard_walk.specs.Kinds.{IsComparison, compares, second_of}
-use Rattle.dae_guard_walk.specs.Spots.{IsProper}
+use Rattle.dae_guard.specs.Kept.{IsProper}
 use Rattle.dae_guard_walk.specs.Steps.{Left, told_of, told_by_test, either_told, tested_by}
 
 -- ---- ranges of registers

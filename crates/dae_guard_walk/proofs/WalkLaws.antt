@@ -16,7 +16,8 @@ use Rattle.dae_guard.specs.Walk.{Walked, Ends, Halts, Passes, after_next, walk, 
 use Rattle.dae_guard.specs.Waiting.{drain_next, fill_al, fill_ld}
 use Rattle.dae_guard.specs.Moves.{After, Terms, by_memory, moved, moved_a, moved_e, next_nodes, or_else}
 use Rattle.dae_guard_walk.specs.declared.walking.Spot.{Spot}
-use Rattle.dae_guard_walk.specs.Spots.{Holds, node_of, nodes_of, served}
+use Rattle.dae_guard.specs.Kept.{served}
+use Rattle.dae_guard_walk.specs.Spots.{Holds, node_of, nodes_of}
 use Rattle.dae_guard_walk.specs.Steps.{GoesOn, Left, entered, entered_node, listed, stepped}
 use Rattle.dae_guard_walk.specs.declared.instructions.Sure.{Sure}
 use Rattle.dae_guard_walk.specs.declared.walking.Walked.{Walked as Kept}

@@ -13,7 +13,7 @@ use Rattle.dae_guard_walk.specs.declared.walking.Walked.{Walked}
 use Rattle.dae_guard_walk.specs.declared.walking.Walked.TheVariants.{Ends, Halts, Passes}
 use Rattle.dae_guard_walk.specs.declared.guarding.GuardAnswer.{GuardAnswer}
 use Rattle.dae_guard_walk.specs.declared.guarding.GuardAnswer.TheVariants.{Yes, Depth, BadLine, NoStep, TooLong, Memory}
-use Rattle.dae_guard_walk.specs.Spots.{AreProper}
+use Rattle.dae_guard.specs.Kept.{AreProper}
 
 -- ---- certificates
 

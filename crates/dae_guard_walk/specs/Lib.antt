@@ -2,6 +2,5 @@ pub mod Kinds
 pub mod Spots
 pub mod Steps
 pub mod Picks
-pub mod Drains
 pub mod Answers
 pub mod Visits

@@ -1,14 +1,15 @@
 -- What an instruction leaves, as the code of the walk keeps it.
-use Rattle.std.specs.Prelude.{◌≡◌, ℕ, Bool, true, false, ◌&&◌, nat_le, ◌==◌, if◌then◌else◌, List, [], ◌∷◌, ◌++◌, map, Option, Some, None, IfSome}
+use Rattle.std.specs.Prelude.{◌≡◌, ℕ, Bool, true, false, ◌&&◌, nat_le, ◌==◌, if◌then◌else◌, List, [], ◌∷◌, ◌++◌, map, Option, Some, None, IfSome, option_map}
 use Rattle.dae_base.specs.declared.Side.{Side}
 use Rattle.dae_base.specs.declared.Side.TheVariants.{A, E}
 use Rattle.dae_base.specs.Words.{plus}
+use Rattle.dae_encode.specs.declared.Inst.{Inst}
 use Rattle.dae_encode.specs.declared.QueueUse.{QueueUse}
 use Rattle.dae_ranges.specs.declared.Range.{Range}
 use Rattle.dae_ranges.specs.Ranges.{single, is_single, decided}
 use Rattle.dae_certificate.specs.declared.SideNode.{SideNode}
 use Rattle.dae_guard.specs.Sets.{Node, Waiting}
-use Rattle.dae_guard.specs.Nodes.{range_at, with_range}
+use Rattle.dae_guard.specs.Nodes.{range_at, source, with_range}
 use Rattle.dae_guard.specs.Waiting.{after_use}
 use Rattle.dae_guard.specs.Moves.{After, Terms, moved_a, moved_e, narrowed, on, or_else}
 use Rattle.dae_guard.specs.Moves as moves
@@ -19,7 +20,8 @@ use Rattle.dae_guard_walk.specs.declared.sides.Outcomes.{Outcomes}
 use Rattle.dae_guard_walk.specs.declared.sides.SideSpot.{SideSpot}
 use Rattle.dae_guard_walk.specs.declared.walking.Spot.{Spot}
 use Rattle.dae_guard_walk.specs.Kinds.{compares, goes_by, order_of, told_by}
-use Rattle.dae_guard_walk.specs.Spots.{AreProper, IsProper, nodes_of, side_of}
+use Rattle.dae_guard.specs.Kept.{AreProper, IsProper}
+use Rattle.dae_guard_walk.specs.Spots.{nodes_of, side_of}
 
 -- a side, and what goes into its queue
 abbrev pub Left : Type 0
@@ -38,6 +40,11 @@ listed o = left_of o.first ∷ second_left o.second
 -- an outcome in the words of the definitions, with its result in the target
 abbrev pub told_of : ℕ → moves.Outcome → Left
 told_of rd o = (on o.counter (with_range rd o.value o.registers), o.value)
+
+-- what an instruction that computes leaves, where it is sure
+abbrev pub computed : Inst → (counter : ℕ) → Fields → (given : Range) → List Range → Option (List Left)
+computed i c f w rs =
+    option_map (map (told_of f.target)) (moves.outcomes_by (moves.shape i) i c f.first f.second (source rs w f.first) (source rs w f.second) rs)
 
 -- what waits after the access, with what goes in
 abbrev pub entered : QueueUse → Waiting → Left → After

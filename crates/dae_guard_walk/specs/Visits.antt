@@ -23,6 +23,11 @@ abbrev pub Visits : Option Walked → walks.Walked → walks.Walked → Type 0
 Visits None whole rest = rest ≡ whole
 Visits (Some w) whole rest = walked_of w ≡ whole
 
+-- a visit leaves a walk of the nodes on the stack after it, or ends the walk of those before it
+abbrev pub IsVisit : Terms → List Known → Option Walked → (before after : List Node) → Type 0
+IsVisit t certificate visited before after =
+    (fuel : ℕ) → Visits visited (walks.walk t certificate (suc fuel) before) (walks.walk t certificate fuel after)
+
 -- what is left of the verdict, from the start of this number on
 abbrev pub left : Terms → List Known → ℕ → Verdict
 left t certificate k = verdict t certificate (suc k) (map known_node (drop k certificate))

@@ -1,26 +1,23 @@
 // What an instruction of a side comes to, where it is sure: legal, its queue ready, its address good, its target and its
 // call single, whatever the words of the ranges are.
-ghost use Rattle.std.specs.Prelude.{◌≡◌, true, ℕ, Some, IfSome, option_map, map, nat_eq, not, ◌==◌, if◌then◌else◌, slice_get, ◌%◌, ◌/◌, None, option_and_then};
+ghost use Rattle.std.specs.Prelude.{◌≡◌, true, IfSome, option_map, nat_eq, not, ◌==◌, if◌then◌else◌, slice_get, ◌%◌, ◌/◌, None, option_and_then};
 ghost use Rattle.dae_base.specs.Budgets.{depth};
 ghost use Rattle.dae_base.specs.Words.{size};
-ghost use Rattle.dae_encode.specs.Instructions.{form};
 ghost use Rattle.dae_encode.specs.Spelling.{decode};
 ghost use Rattle.dae_encode.specs.Processor.{is_shared, is_within};
 ghost use Rattle.dae_machine.specs.Machine.{code};
 ghost use Rattle.dae_ranges.specs.Ranges.{each};
-ghost use Rattle.dae_guard.specs.Sets.{Waiting};
-ghost use Rattle.dae_guard.specs.Moves.{did, moved, private};
-ghost use Rattle.dae_guard.specs.Waiting.{given};
+ghost use Rattle.dae_guard.specs.Moves.{moved, private};
 ghost use Rattle.dae_guard.specs.Walk.{terms_of};
-ghost use Rattle.dae_guard_walk.specs.Spots.{AreProper, HasRoom, IsProper, QueuesHold, side_of, waiting_of};
-ghost use Rattle.dae_guard_walk.specs.Steps.{AreFine, entered, listed, called_of};
-ghost use Rattle.dae_guard_walk.specs.Picks.{afters};
-ghost use Rattle.dae_encode.specs.Uses.{queue_use};
+ghost use Rattle.dae_guard.specs.Kept.{AreProper, HasRoom, IsProper, QueuesHold, waiting_of};
+ghost use Rattle.dae_guard_walk.specs.Spots.{side_of};
+ghost use Rattle.dae_guard_walk.specs.Steps.{AreFine, listed, called_of};
+ghost use Rattle.dae_guard_walk.specs.Picks.{ComesOf, afters};
 
-use crate::queues::Queues;
 use crate::sides::{Fields, Outcome, Outcomes, SideSpot, compute, one};
 use dae_base::{Depths, Side, Width};
 use dae_encode::{Form, Inst, QueueUse, decode, form_of, is_shared, queue_use};
+use dae_guard::Queues;
 use dae_image::Image;
 use dae_ranges::{Range, all_fit};
 
@@ -110,12 +107,8 @@ impl Terms<'_> {
     fn outcomes_by_form(&self, step: Step, from: &SideSpot, inst: &Inst) -> Option<Outcomes>
         requires ranges { AreProper from.now.ranges }
         requires given { IsProper step.given }
-        ensures is { (q : Waiting) → given step.access q ≡ step.given
-            → queue_use (terms_of self.now.image.now self.now.depths).setup.copies step.side
-            (form inst.now) ≡ Some step.access
-            → option_map (λ r. map (entered step.access q) (listed r)) result
-            ≡ did (terms_of self.now.image.now self.now.depths) step.side from.now.ranges
-            step.counter q step.access inst.now (form inst.now) }
+        ensures is { ComesOf (terms_of self.now.image.now self.now.depths) step from.now.ranges
+            inst.now result }
         ensures fine { IfSome result AreFine }
     {
         match form_of(inst) {

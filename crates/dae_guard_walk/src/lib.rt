@@ -7,8 +7,6 @@ pub use guarding::{GuardAnswer, guard};
 mod guarding;
 mod instructions;
 mod kinds;
-mod queues;
 mod results;
 mod sides;
-mod slots;
 mod walking;

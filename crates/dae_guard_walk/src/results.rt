@@ -5,7 +5,8 @@ ghost use Rattle.dae_base.specs.Words.{word};
 ghost use Rattle.dae_ranges.specs.Ranges.{any_word, decided, is_single, raised, single, below, from, highest};
 ghost use Rattle.dae_guard.specs.Moves.{first_kept, result as result_of, second_kept, spread};
 ghost use Rattle.dae_guard_walk.specs.Kinds.{compares, order_of, second_of};
-ghost use Rattle.dae_guard_walk.specs.Spots.{IsProper, ShiftsOne};
+ghost use Rattle.dae_guard.specs.Kept.{IsProper};
+ghost use Rattle.dae_guard_walk.specs.Spots.{ShiftsOne};
 
 use crate::kinds::Test;
 use dae_encode::{Inst, value};

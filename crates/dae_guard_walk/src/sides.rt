@@ -1,12 +1,13 @@
 // A side of a node as the walk keeps it, and what an instruction that computes leaves of it.
-ghost use Rattle.std.specs.Prelude.{◌≡◌, ◌<◌, ℕ, Bool, Some, None, IfSome, option_map, map, if◌then◌else◌, ◌∷◌, [], true, false, nat_eq};
+ghost use Rattle.std.specs.Prelude.{◌≡◌, ◌<◌, ℕ, Bool, Some, None, IfSome, option_map, if◌then◌else◌, ◌∷◌, [], true, false, nat_eq};
 ghost use Rattle.dae_encode.specs.Instructions.{next};
 ghost use Rattle.dae_ranges.specs.Ranges.{decided, each};
 ghost use Rattle.dae_guard.specs.Nodes.{source, with_range, is_plain};
-ghost use Rattle.dae_guard.specs.Moves.{Jumps, narrowed, on, outcomes_by, shape};
+ghost use Rattle.dae_guard.specs.Moves.{Jumps, narrowed, on, shape};
 ghost use Rattle.dae_guard_walk.specs.Kinds.{order_of, compares};
-ghost use Rattle.dae_guard_walk.specs.Spots.{AreProper, IsProper, ShiftsOne, side_of};
-ghost use Rattle.dae_guard_walk.specs.Steps.{AreFine, IsFine, listed, left_of, told_of, tested_by, told_by_test};
+ghost use Rattle.dae_guard.specs.Kept.{AreProper, IsProper};
+ghost use Rattle.dae_guard_walk.specs.Spots.{ShiftsOne, side_of};
+ghost use Rattle.dae_guard_walk.specs.Steps.{AreFine, IsFine, computed, listed, left_of, tested_by, told_by_test};
 
 use crate::kinds::{Comparison, Kind, Test, kind_of};
 use crate::results::{decide, first_kept, result, second_kept, second_of};
@@ -119,9 +120,7 @@ pub fn compute(
     requires given { IsProper given }
     requires shifts { ShiftsOne inst.now (source from.now.ranges given fields.second) }
     ensures is { option_map listed result
-        ≡ option_map (map (told_of fields.target)) (outcomes_by (shape inst.now) inst.now counter
-        fields.first fields.second (source from.now.ranges given fields.first)
-        (source from.now.ranges given fields.second) from.now.ranges) }
+        ≡ computed inst.now counter fields given from.now.ranges }
     ensures fine { IfSome result AreFine }
 {
     let x = from.source(given, fields.first);

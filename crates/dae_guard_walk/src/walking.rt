@@ -1,22 +1,23 @@
 // The walk over nodes from a start.
-ghost use Rattle.std.specs.Prelude.{◌≡◌, IfOk, OnOk, true, false, List, ◌&&◌, option_map, ◌++◌, ◌∷◌, IfSome, ℕ, suc, [], None, ◌||◌, length};
+ghost use Rattle.std.specs.Prelude.{◌≡◌, IfOk, OnOk, true, false, List, ◌&&◌, option_map, ◌++◌, ◌∷◌, IfSome, [], None, ◌||◌, length};
 ghost use Rattle.std.specs.List.{All, list_any};
 ghost use Rattle.dae_guard.specs.Moves.{next_nodes};
 ghost use Rattle.dae_guard.specs.Nodes.{is_covered, is_final, same_counter, registers_within, side_within, covers};
 ghost use Rattle.dae_guard.specs.Walk.{terms_of, walk_start, walk as walk_of};
-ghost use Rattle.dae_guard_walk.specs.Spots.{AreProper, Holds, node_of, nodes_of, side_of, HasRoom};
+ghost use Rattle.dae_guard.specs.Kept.{AreProper, HasRoom};
+ghost use Rattle.dae_guard_walk.specs.Spots.{Holds, node_of, nodes_of, side_of};
 ghost use Rattle.dae_guard_walk.specs.Steps.{AreFine, GoesOn, IsFine, entered_node, left_of, stepped};
 ghost use Rattle.dae_guard_walk.specs.Answers.{AreKnown, BothHold, KnownHolds, walked_of};
 ghost use Rattle.dae_encode.specs.declared.QueueUse.{QueueUse};
-ghost use Rattle.dae_guard_walk.specs.Picks.{nodes_after};
-ghost use Rattle.dae_guard_walk.specs.Visits.{Visits, WentOn};
+ghost use Rattle.dae_guard_walk.specs.Picks.{node_behind, nodes_after};
+ghost use Rattle.dae_guard_walk.specs.Visits.{IsVisit, WentOn};
 
 use crate::instructions::{Sure, Terms};
-use crate::queues::Queues;
 use crate::sides::{Outcome, SideSpot};
 use dae_base::Side;
 use dae_certificate::{Known, SideNode};
 use dae_encode::QueueUse;
+use dae_guard::Queues;
 use dae_ranges::{Range, within};
 use std::alloc::{AllocError, Global};
 
@@ -187,9 +188,8 @@ fn put_both(
     requires fine_too { IsFine second }
     requires ahead { All Holds ahead.old.items }
     ensures is { OnOk result (nodes_of ahead.new.items
-        ≡ entered_node sure.side sure.access (node_of spot) (left_of sure.outcomes.first)
-        ∷ (entered_node sure.side sure.access (node_of spot) (left_of second)
-        ∷ nodes_of ahead.old.items)) }
+        ≡ node_behind sure (node_of spot) sure.outcomes.first
+        ∷ (node_behind sure (node_of spot) second ∷ nodes_of ahead.old.items)) }
     ensures holds { OnOk result (All Holds ahead.new.items) }
 {
     put(twin, sure, second, ahead)?;
@@ -204,8 +204,7 @@ fn put(spot: Spot, sure: Sure, outcome: Outcome, ahead: &mut Vec<Spot>) -> Resul
     requires fine { IsFine outcome }
     requires ahead { All Holds ahead.old.items }
     ensures is { OnOk result (nodes_of ahead.new.items
-        ≡ entered_node sure.side sure.access (node_of spot) (left_of outcome)
-        ∷ nodes_of ahead.old.items) }
+        ≡ node_behind sure (node_of spot) outcome ∷ nodes_of ahead.old.items) }
     ensures holds { OnOk result (All Holds ahead.new.items) }
 {
     let next = spot.after(sure.side, sure.access, outcome)?;
@@ -280,11 +279,9 @@ fn visit(
 ) -> Result<Option<Walked>, AllocError>
     requires ahead { All Holds ahead.old.items }
     requires known { AreKnown certificate.now }
-    ensures is { IfOk result (λ visited. (fuel : ℕ) → Visits visited
-        (walk_of (terms_of terms.now.image.now terms.now.depths) certificate.now (suc fuel)
-        (nodes_of ahead.old.items))
-        (walk_of (terms_of terms.now.image.now terms.now.depths) certificate.now fuel
-        (nodes_of ahead.new.items))) }
+    ensures is { IfOk result (λ visited.
+        IsVisit (terms_of terms.now.image.now terms.now.depths) certificate.now visited
+        (nodes_of ahead.old.items) (nodes_of ahead.new.items)) }
     ensures holds { OnOk result (All Holds ahead.new.items) }
 {
     match take_next(ahead) {
@@ -307,11 +304,9 @@ fn visit_node(
     requires spot { Holds spot }
     requires ahead { All Holds ahead.old.items }
     requires known { AreKnown certificate.now }
-    ensures is { IfOk result (λ visited. (fuel : ℕ) → Visits visited
-        (walk_of (terms_of terms.now.image.now terms.now.depths) certificate.now (suc fuel)
-        (node_of spot ∷ nodes_of ahead.old.items))
-        (walk_of (terms_of terms.now.image.now terms.now.depths) certificate.now fuel
-        (nodes_of ahead.new.items))) }
+    ensures is { IfOk result (λ visited.
+        IsVisit (terms_of terms.now.image.now terms.now.depths) certificate.now visited
+        (node_of spot ∷ nodes_of ahead.old.items) (nodes_of ahead.new.items)) }
     ensures holds { OnOk result (All Holds ahead.new.items) }
 {
     if ends(certificate, &spot) {

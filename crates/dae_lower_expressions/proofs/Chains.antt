@@ -1,14 +1,13 @@
 -- Parts of expressions, one behind the outer.
 use Rattle.std.proofs.Common.{◌≡◌, ℕ, ◌+◌, List, refl, ap, ◌∙◌, subst}
 use Rattle.dae_base.specs.declared.Place.{Place}
-use Rattle.dae_base.specs.declared.LoadKind.{LoadKind}
 use Rattle.dae_ir.specs.Classes.{VariableSet}
 use Rattle.dae_ir.specs.Form.{Form, form_of}
 use Rattle.dae_ir.specs.declared.form.Operand.TheVariants.{Variable}
 use Rattle.dae_ir.specs.declared.form.Statement.{Statement}
-use Rattle.dae_lower.specs.Lowering.{nowhere, Made, Condition, Spot, Local, Placed, ◌≫◌, ◌⨾◌, nothing, skip, emit, or, branches, held}
+use Rattle.dae_lower.specs.Lowering.{nowhere, Made, Condition, ◌≫◌, ◌⨾◌, nothing, skip, emit, or, branches}
 use Rattle.dae_lower_expressions.proofs.Counting.{with_never, part_last, counted_both}
-use Rattle.dae_lower_expressions.specs.Lowered.{State, Lowers, IsBlock, Whole, is_copied}
+use Rattle.dae_lower_expressions.specs.Lowered.{State, Lowers, IsBlock, Whole}
 use Rattle.dae_lower_maker.proofs.Laws.{behind_behind, nothing_written, written_on}
 use Rattle.dae_lower_maker.specs.Counting.{Counts, never, both, is_counted, Changes}
 use Rattle.dae_lower_maker.specs.declared.later.Change.TheVariants.{Add}
@@ -51,11 +50,6 @@ both_lowered f g some others s a b c x y told h k = record {
 -- the same assignments
 pub same_lowered : {Y : Type 0} (f : VariableSet → ℕ → Made Y) (some others : Counts) (a b : State) (y : Y) → some ≡ others → Lowers f some a b y → Lowers f others a b y
 same_lowered f some others a b y e h = subst (λ (c : Counts). Lowers f c a b y) e h
-
--- what an assigned place holds, by its flag
-pub held_by : (place : Place) (kind : LoadKind) (c : VariableSet) (o : Spot) → held place kind (λ v. is_copied c o) o ≡ held place kind c o
-held_by place kind c (Local v) = refl
-held_by place kind c (Placed checked x) = refl
 
 -- ---- branches
 

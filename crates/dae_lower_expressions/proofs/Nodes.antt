@@ -1,5 +1,5 @@
 -- Nodes with branches, and lists of expressions.
-use Rattle.std.proofs.Common.{◌≡◌, ℕ, ◌+◌, Bool, true, false, not, ◌||◌, List, [], ◌∷◌, ◌++◌, if◌then◌else◌, refl, ap, sym, ◌∙◌, subst, append-nil}
+use Rattle.std.proofs.Common.{◌≡◌, ℕ, ◌+◌, Bool, true, false, ◌||◌, List, [], ◌∷◌, ◌++◌, if◌then◌else◌, refl, ap, sym, ◌∙◌, subst, append-nil}
 use Rattle.dae_base.specs.declared.LoadKind.{LoadKind}
 use Rattle.dae_meaning.specs.declared.Operator.{Operator}
 use Rattle.dae_base.specs.declared.Place.{Place}
@@ -13,10 +13,10 @@ use Rattle.dae_ir.specs.declared.form.Operand.TheVariants.{Variable, Number}
 use Rattle.dae_ir.specs.declared.form.Statement.{Statement}
 use Rattle.dae_ir.specs.declared.form.Value.TheVariants.{Same}
 use Rattle.dae_lower.specs.Lowering.{Made, Condition, Links, Spot, Local, Ways, ways, spot, operands, ◌≫◌, nothing, emit, one, or, just, advanced, assigned, assigned_target, assigned_all, branches, chosen, gives, held, isnt_zero, narrowed, operated, put_in, variable}
-use Rattle.dae_lower_expressions.proofs.Chains.{leaf_lowered, nothing_lowered, then_lowered, both_lowered, dropped_lowered, given_lowered, same_lowered, held_by, branched, reserved_lowered}
+use Rattle.dae_lower_expressions.proofs.Chains.{leaf_lowered, nothing_lowered, then_lowered, both_lowered, dropped_lowered, given_lowered, same_lowered, branched, reserved_lowered}
 use Rattle.dae_lower_expressions.proofs.Counting.{never_with, part_last, parts_together, counted_both, assigned_told, all_told}
 use Rattle.dae_lower_expressions.specs.Assignments.{assignments, target_assignments, all_assignments}
-use Rattle.dae_lower_expressions.specs.Lowered.{State, Lowers, Parts, IsBlock, used, chosen_by, is_copied}
+use Rattle.dae_lower_expressions.specs.Lowered.{State, Lowers, Parts, IsBlock, used, chosen_by}
 use Rattle.dae_lower_expressions.specs.declared.leaves.Part.{Part}
 use Rattle.dae_lower_expressions.specs.declared.leaves.Part.TheVariants.{Value, Truth}
 use Rattle.dae_lower_maker.proofs.Laws.{nothing_written, written_on}
@@ -111,45 +111,43 @@ removed_lowered v a b e h = record {
   by = λ rest q. (h rest q, subst (λ (w : Written). Writes (nothing (Local v) a.written.next) a.written w (Local v)) (sym e) (nothing_written a.written (Local v)));
 }
 
-step_flag : (new : Bool) (c : VariableSet) (v : ℕ) → (not new || c v) ≡ (if new then c else or c (just v)) v
-step_flag true c v = refl
-step_flag false c v = sym (ap (λ b. c v || b) (same_number v) ∙ or_true (c v))
+step_flag : (c : VariableSet) (v : ℕ) → true ≡ or c (just v) v
+step_flag c v = sym (ap (λ b. c v || b) (same_number v) ∙ or_true (c v))
 
 -- what a step finds in a place
-step_held : (l : Links) (place : Place) (kind : LoadKind) (t : Target) (c : VariableSet) (n : ℕ) (o : Spot) (new flag : Bool) → o ≡ (spot l t c n).given → flag ≡ (not new || is_copied c o)
-    → held place kind (λ v. flag) o ≡ held place kind (if new then c else or c (assigned_target t)) o
-step_held l place kind (InVariable v) c n o new flag e f =
-    subst (λ (o : Spot). flag ≡ (not new || is_copied c o) → held place kind (λ v. flag) o ≡ held place kind (if new then c else or c (just v)) o) (sym e)
-    (λ f. ap (λ b. variable b place v) (f ∙ step_flag new c v)) f
-step_held l place kind (AtAddress checked a) c n o new flag e f =
-    subst (λ (o : Spot). held place kind (λ v. flag) o ≡ held place kind (if new then c else or c (assigned_target (AtAddress checked a))) o) (sym e) refl
+step_held : (l : Links) (place : Place) (kind : LoadKind) (t : Target) (c : VariableSet) (n : ℕ) (o : Spot) (new : Bool) → o ≡ (spot l t c n).given
+    → held place kind (if new then c else (λ v. true)) o ≡ held place kind (if new then c else or c (assigned_target t)) o
+step_held l place kind t c n o true e = refl
+step_held l place kind (InVariable v) c n o false e =
+    subst (λ (o : Spot). held place kind (λ v. true) o ≡ held place kind (or c (just v)) o) (sym e) (ap (λ b. variable b place v) (step_flag c v))
+step_held l place kind (AtAddress checked a) c n o false e =
+    subst (λ (o : Spot). held place kind (λ v. true) o ≡ held place kind (or c (assigned_target (AtAddress checked a))) o) (sym e) refl
 
-pub step_lowered : (l : Links) (place : Place) (kind : LoadKind) (t : Target) (change : ℕ) (new flag : Bool) (a b c : State) (o : Spot) (z : Operand)
-    → Lowers (spot l t) (target_assignments t) a b o → flag ≡ (not new || is_copied (is_counted b.later) o) → c.later ≡ b.later
-    → Writes (held place kind (λ v. flag) o b.written.next ≫ λ x n. advanced place kind change o x n ≫ λ y. nothing (if new then y else x)) b.written c.written z
+pub step_lowered : (l : Links) (place : Place) (kind : LoadKind) (t : Target) (change : ℕ) (new : Bool) (a b c : State) (o : Spot) (z : Operand)
+    → Lowers (spot l t) (target_assignments t) a b o → c.later ≡ b.later
+    → Writes (held place kind (if new then is_counted b.later else (λ v. true)) o b.written.next ≫ λ x n. advanced place kind change o x n ≫ λ y. nothing (if new then y else x)) b.written c.written z
     → Lowers (ways l (Step place kind t change new)).value (target_assignments t) a c z
-step_lowered l place kind t change new flag a b c o z h f same w = record {
+step_lowered l place kind t change new a b c o z h same w = record {
   by = λ rest q.
       let i = h.by rest q in
-      let set = ap is_counted i.0 in
-      let e = step_held l place kind t (is_counted rest) a.written.next o new flag i.1.given (f ∙ ap (λ c. not new || is_copied c o) set) in (
+      let e = step_held l place kind t (is_counted rest) a.written.next o new i.1.given in (
         same ∙ i.0,
         written_on (spot l t (is_counted rest) a.written.next) (λ o n. held place kind (if new then is_counted rest else or (is_counted rest) (assigned_target t)) o n ≫ λ x n. advanced place kind change o x n ≫ λ y. nothing (if new then y else x)) a.written b.written c.written o z i.1
-            (subst (λ (g : ℕ → Made Operand). Writes (g b.written.next ≫ λ x n. advanced place kind change o x n ≫ λ y. nothing (if new then y else x)) b.written c.written z) e w),
+            (subst (λ (g : ℕ → Made Operand). Writes (g b.written.next ≫ λ x n. advanced place kind change o x n ≫ λ y. nothing (if new then y else x)) b.written c.written z) e
+            (subst (λ (s : Counts). Writes (held place kind (if new then is_counted s else (λ v. true)) o b.written.next ≫ λ x n. advanced place kind change o x n ≫ λ y. nothing (if new then y else x)) b.written c.written z) i.0 w)),
       );
 }
 
-pub update_lowered : (l : Links) (place : Place) (kind : LoadKind) (t : Target) (operator : Operator) (e : Expression) (flag : Bool) (a b c d z : State) (o : Spot) (x y w : Operand)
-    → Lowers (spot l t) (target_assignments t) a b o → flag ≡ is_copied (is_counted b.later) o → c.later ≡ b.later → Writes (held place kind (λ v. flag) o b.written.next) b.written c.written x
+pub update_lowered : (l : Links) (place : Place) (kind : LoadKind) (t : Target) (operator : Operator) (e : Expression) (a b c d z : State) (o : Spot) (x y w : Operand)
+    → Lowers (spot l t) (target_assignments t) a b o → c.later ≡ b.later → Writes (held place kind (is_counted b.later) o b.written.next) b.written c.written x
     → Lowers (ways l e).value (assignments e) c d y → z.later ≡ d.later → Writes (operated place operator x y d.written.next ≫ λ z n. narrowed place kind z n ≫ put_in place kind o) d.written z.written w
     → Lowers (ways l (Update place kind t operator e)).value (both (target_assignments t) (assignments e)) a z w
-update_lowered l place kind t operator e flag a b c d z o x y w h f same k v last r =
+update_lowered l place kind t operator e a b c d z o x y w h same k v last r =
     let back = λ (o : Spot) (x y : Operand) (n : ℕ). operated place operator x y n ≫ λ z n. narrowed place kind z n ≫ put_in place kind o in
-    let flagged = ap (λ (b : Bool). held place kind (λ v. b) o) f ∙ held_by place kind (is_counted b.later) o in
     same_lowered (ways l (Update place kind t operator e)).value (both (target_assignments t) (both never (assignments e))) (both (target_assignments t) (assignments e)) a z w (ap (both (target_assignments t)) (never_with (assignments e)))
     (both_lowered (spot l t) (λ o later n. held place kind (or later (assigned e)) o n ≫ λ x n. (ways l e).value later n ≫ back o x) (target_assignments t) (both never (assignments e)) (assigned e) a b z o w (ap is_counted (never_with (assignments e)) ∙ assigned_told e) h
     (both_lowered (λ later. held place kind later o) (λ x later n. (ways l e).value later n ≫ back o x) never (assignments e) (assigned e) b c z x w (assigned_told e)
-    (leaf_lowered (λ later. held place kind later o) b c x same (subst (λ (g : ℕ → Made Operand). Writes (g b.written.next) b.written c.written x) flagged k))
+    (leaf_lowered (λ later. held place kind later o) b c x same k)
     (then_lowered (ways l e).value (back o x) (assignments e) c d z y w v last r)))
 
 -- ---- effects and conditions by the value

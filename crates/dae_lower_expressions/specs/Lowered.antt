@@ -1,17 +1,20 @@
 -- What a lowerer has written and what is still to come, before and after a part of an expression.
-use Rattle.std.specs.Prelude.{◌≡◌, ℕ, Bool, false, List}
+use Rattle.std.specs.Prelude.{◌≡◌, ℕ, List}
 use Rattle.dae_ir.specs.Classes.{VariableSet}
 use Rattle.dae_ir.specs.Form.{form_of}
 use Rattle.dae_ir.specs.declared.form.Statement.{Statement}
 use Rattle.dae_ir.specs.declared.form.Operand.TheVariants.{Number}
-use Rattle.dae_lower.specs.Lowering.{Made, Links, Ways, Spot, Local, Placed, branches, gives, or, ◌≫◌}
+use Rattle.dae_lower.specs.Lowering.{Made, Links, Ways, branches, gives, or, ◌≫◌}
 use Rattle.dae_base.specs.declared.Place.{Place}
 use Rattle.dae_lower_expressions.specs.declared.lowerer.Lowerer.{Lowerer}
 use Rattle.dae_lower_expressions.specs.declared.leaves.Part.{Part}
 use Rattle.dae_lower_expressions.specs.declared.leaves.Part.TheVariants.{Value, Truth, Effect}
 use Rattle.dae_lower_maker.specs.Counting.{Counts, both, never, is_counted, counts_of}
 use Rattle.dae_lower_maker.specs.Making.{Written, Writes, so_far}
+use Rattle.dae_lower_maker.specs.declared.maker.Increment.{Increment}
 use Rattle.dae_program.specs.Resolved.{address_in, callee_in}
+use Rattle.dae_program.specs.Trees.{Expression, Target, Step}
+use Rattle.dae_program.specs.Views.{is_prefix}
 use Rattle.dae_program.specs.declared.program.Links.{Links as FileLinks}
 use Rattle.std.specs.Prelude.{Some}
 
@@ -54,10 +57,9 @@ used (Value p v) w later n = w.value later n ≫ gives p v
 used (Truth p v) w later n = branches p (w.condition later n) (gives p v (Number 1)) (gives p v (Number 0))
 used Effect w later n = w.effect later n
 
--- whether what an assigned place holds is copied
-abbrev pub is_copied : VariableSet → Spot → Bool
-is_copied c (Local v) = c v
-is_copied c (Placed checked x) = false
+-- `++` or `--` as an expression
+abbrev pub step_of : Increment → Target → Expression
+step_of i t = Step i.place i.kind t i.change (is_prefix i.fixity)
 
 -- a condition, which knows what the parts of its branches assign, and its branches
 abbrev pub chosen_by : Place → Part → (a b c : Ways) → VariableSet → VariableSet → ℕ → Made (Unit {0})

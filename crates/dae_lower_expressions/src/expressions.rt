@@ -4,19 +4,18 @@ ghost use Rattle.std.specs.Prelude.{IfOk};
 ghost use Rattle.dae_lower.specs.Lowering.{operands, spot, ways};
 ghost use Rattle.dae_lower_expressions.specs.Assignments.{all_assignments, assignments};
 ghost use Rattle.dae_lower_expressions.specs.Assignments.{target_assignments};
-ghost use Rattle.dae_lower_expressions.specs.Lowered.{LowersTo, PartsTo, links_in, used};
+ghost use Rattle.dae_lower_expressions.specs.Lowered.{LowersTo, PartsTo, links_in, step_of, used};
 ghost use Rattle.dae_lower_maker.specs.Making.{condition_of, spot_of};
-ghost use Rattle.dae_program.specs.Trees.{Step};
 ghost use Rattle.dae_program.specs.Views.{view, view_expressions, view_target};
 
 use crate::assignments::count;
-use crate::leaves::{Part, address, callee, constant, is_copied, is_kept, nonzero, turn};
+use crate::leaves::{Part, address, callee, constant, nonzero, turn};
 use crate::lowerer::Lowerer;
-use dae_base::{Items, LoadKind, Place};
-use dae_ir::{Check, Item, Operand, Statement, Value};
-use dae_lower_maker::{Change, Condition, Spot, related};
+use dae_base::{Items, LoadKind};
+use dae_ir::{Check, Item, Operand, Statement, Test, Value};
+use dae_lower_maker::{Change, Condition, Increment, Location, Lvalue, Spot, related};
 use dae_meaning::{Comparison, Operator, Spelling};
-use dae_program::{Expression, Links, Target};
+use dae_program::{Expression, Fixity, Links, Target};
 use std::alloc::AllocError;
 
 impl Lowerer {
@@ -37,13 +36,16 @@ impl Lowerer {
                 Ok(x)
             }
             Expression::Variable(place, v) => {
-                let flag = self.later.has(*v);
-                let x = self.maker.variable(flag, *place, *v)?;
+                let x = self.maker.variable(&self.later, *place, *v)?;
                 Ok(x)
             }
             Expression::Read(place, kind, checked, a) => {
                 let x = self.value(links, none, a)?;
-                let z = self.maker.fetched(*place, *kind, *checked, x)?;
+                let location = Location {
+                    address: x,
+                    checked: *checked,
+                };
+                let z = self.maker.fetched(*place, *kind, location)?;
                 Ok(z)
             }
             Expression::Convert(place, kind, a) => {
@@ -53,9 +55,12 @@ impl Lowerer {
             }
             Expression::Not(place, a) => {
                 let x = self.value(links, none, a)?;
-                let z = self
-                    .maker
-                    .compared(*place, Comparison::Equal, false, x, Operand::Number(0))?;
+                let is_zero = Test {
+                    comparison: Comparison::Equal,
+                    left: x,
+                    right: Operand::Number(0),
+                };
+                let z = self.maker.compared(*place, is_zero)?;
                 Ok(z)
             }
             Expression::Binary(place, operator, a, b) => {
@@ -67,7 +72,8 @@ impl Lowerer {
             Expression::Compare(place, comparison, turned, a, b) => {
                 let x = self.value(links, none, a)?;
                 let y = self.value(links, none, b)?;
-                let z = self.maker.compared(*place, *comparison, *turned, x, y)?;
+                let test = related(*comparison, *turned, x, y);
+                let z = self.maker.compared(*place, test)?;
                 Ok(z)
             }
             Expression::And(place, a, b) => {
@@ -105,19 +111,34 @@ impl Lowerer {
             Expression::Assign(place, kind, t, a) => {
                 let spot = self.spot(links, none, t)?;
                 let y = self.value(links, none, a)?;
-                let z = self.maker.put_in(*place, *kind, spot, y)?;
+                let lvalue = Lvalue {
+                    place: *place,
+                    kind: *kind,
+                    spot,
+                };
+                let z = self.maker.put_in(lvalue, y)?;
                 Ok(z)
             }
             Expression::Update(place, kind, t, operator, a) => {
                 let spot = self.spot(links, none, t)?;
-                let flag = is_copied(&self.later, spot);
-                let x = self.maker.held(*place, *kind, flag, spot)?;
+                let lvalue = Lvalue {
+                    place: *place,
+                    kind: *kind,
+                    spot,
+                };
+                let x = self.maker.held(&self.later, lvalue)?;
                 let y = self.value(links, none, a)?;
-                let z = self.maker.updated(*place, *kind, *operator, spot, x, y)?;
+                let z = self.maker.updated(lvalue, *operator, x, y)?;
                 Ok(z)
             }
-            Expression::Step(place, kind, t, change, new) => {
-                let z = self.step(links, none, *place, *kind, t, *change, *new)?;
+            Expression::Step(place, kind, t, change, fixity) => {
+                let increment = Increment {
+                    place: *place,
+                    kind: *kind,
+                    change: *change,
+                    fixity: *fixity,
+                };
+                let z = self.step(links, none, increment, t)?;
                 Ok(z)
             }
             Expression::Call(place, function, xs) => {
@@ -184,7 +205,13 @@ impl Lowerer {
                 Ok(())
             }
             Expression::Step(place, kind, t, change, _) => {
-                self.step(links, none, *place, *kind, t, *change, true)?;
+                let increment = Increment {
+                    place: *place,
+                    kind: *kind,
+                    change: *change,
+                    fixity: Fixity::Prefix,
+                };
+                self.step(links, none, increment, t)?;
                 Ok(())
             }
             Expression::Putchar(place, a) => {
@@ -358,7 +385,10 @@ impl Lowerer {
             }
             Target::Object(checked, a) => {
                 let x = self.value(links, none, a)?;
-                Ok(Spot::Object(*checked, x))
+                Ok(Spot::Object(Location {
+                    address: x,
+                    checked: *checked,
+                }))
             }
         }
     }
@@ -389,20 +419,16 @@ impl Lowerer {
         &mut self,
         links: &Links,
         none: u32,
-        place: Place,
-        kind: LoadKind,
+        increment: Increment,
         t: &Target,
-        change: u32,
-        new: bool,
     ) -> Result<Operand, AllocError>
         ensures { IfOk result
             (LowersTo
-            (ways (links_in none links.now) (Step place kind (view_target t.now) change new)).value
+            (ways (links_in none links.now) (step_of increment (view_target t.now))).value
             (target_assignments (view_target t.now)) self.old self.new) }
     {
         let spot = self.spot(links, none, t)?;
-        let flag = is_kept(&self.later, new, spot);
-        let z = self.maker.stepped(place, kind, change, new, flag, spot)?;
+        let z = self.maker.stepped(&self.later, increment, spot)?;
         Ok(z)
     }
 

@@ -1,20 +1,19 @@
 // Parts of expressions that hold no others.
 
-ghost use Rattle.std.specs.Prelude.{◌≡◌, ◌||◌, not, IfOk, Some};
+ghost use Rattle.std.specs.Prelude.{◌≡◌, IfOk, Some};
 ghost use Rattle.dae_base.specs.Words.{plus};
 ghost use Rattle.dae_ir.specs.Form.{form_of};
 ghost use Rattle.dae_ir.specs.declared.form.Item.TheVariants.{Assign};
 ghost use Rattle.dae_ir.specs.declared.form.Operand.TheVariants.{Number};
 ghost use Rattle.dae_ir.specs.declared.form.Value.TheVariants.{Same};
 ghost use Rattle.dae_lower.specs.Lowering.{isnt_zero, one, turn};
-ghost use Rattle.dae_lower_expressions.specs.Lowered.{is_copied, links_in};
-ghost use Rattle.dae_lower_maker.specs.Counting.{counts_of, is_counted};
-ghost use Rattle.dae_lower_maker.specs.Making.{condition_of, spot_of};
+ghost use Rattle.dae_lower_expressions.specs.Lowered.{links_in};
+ghost use Rattle.dae_lower_maker.specs.Making.{condition_of};
 ghost use Rattle.dae_program.specs.Resolved.{address_in, callee_in};
 
 use dae_base::Place;
-use dae_ir::{Item, Operand, Statement, Value};
-use dae_lower_maker::{Condition, Later, Spot, related};
+use dae_ir::{Item, Operand, Statement, Test, Value};
+use dae_lower_maker::Condition;
 use dae_meaning::Comparison;
 use dae_program::Links;
 use std::alloc::{AllocError, Global};
@@ -54,16 +53,6 @@ pub fn callee(none: u32, links: &Links, function: u32) -> u32
     }
 }
 
-/// Whether what an assigned place holds is copied, since what is to come assigns it.
-pub fn is_copied(later: &Later, spot: Spot) -> bool
-    ensures { result ≡ is_copied (is_counted (counts_of later.now)) (spot_of spot) }
-{
-    match spot {
-        Spot::Variable(v) => later.has(v),
-        Spot::Object(_, _) => false,
-    }
-}
-
 /// A variable gets a number.
 pub fn constant(
     alloc: Global,
@@ -80,19 +69,16 @@ pub fn constant(
     Ok(block)
 }
 
-/// Whether the old value is copied where a place gets a number more: where it is given, or what is to come assigns it.
-pub fn is_kept(later: &Later, new: bool, spot: Spot) -> bool
-    ensures { result ≡ (not new || is_copied (is_counted (counts_of later.now)) (spot_of spot)) }
-{
-    !new || is_copied(later, spot)
-}
-
 /// A number is a condition where it isn't 0.
 pub fn nonzero(x: Operand) -> Condition
     ensures { condition_of result ≡ isnt_zero x }
 {
     Condition {
-        test: related(Comparison::NotEqual, false, x, Operand::Number(0)),
+        test: Test {
+            comparison: Comparison::NotEqual,
+            left: x,
+            right: Operand::Number(0),
+        },
         turned: false,
     }
 }

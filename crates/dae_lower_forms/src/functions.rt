@@ -10,6 +10,7 @@ ghost use Rattle.dae_ir.specs.declared.form.Operand.TheVariants.{Number};
 ghost use Rattle.dae_lower.specs.Lowering.{checks, closed, emit, is_closed, parameters_stored};
 ghost use Rattle.dae_lower_expressions.specs.Lowered.{MakesWhole};
 ghost use Rattle.dae_lower_forms.specs.Functions.{IsFormWith, slot_stored};
+ghost use Rattle.dae_lower_forms.specs.Invocations.{at_startup};
 
 use dae_base::{Items, Place, Text};
 use dae_ir::{Check, Function as FormFunction, Item, Operand, Statement, Value};
@@ -18,6 +19,13 @@ use dae_lower_maker::one_more;
 use dae_lower_programs::make_statements;
 use dae_program::{Function, Links, Program, Slot};
 use std::alloc::{AllocError, Global};
+
+/// How a function is invoked: at the program's startup, as main is, or by calls.
+#[derive(Clone, Copy, PartialEq, Eq, Debug)]
+pub enum Invocation {
+    Startup,
+    Call,
+}
 
 /// A variable is stored in the frame.
 fn store_in(
@@ -121,22 +129,35 @@ fn check_frame(lowerer: &mut Lowerer, place: Place, flag: bool) -> Result<(), Al
     Ok(())
 }
 
-/// Whether the room for a frame is to be checked, which nobody does for main before it begins.
-fn needs_check(is_main: bool, frame: u64) -> bool
-    ensures { result ≡ (is_main && not (nat_eq frame 0)) }
+/// How the function of a number is invoked.
+fn invocation_of(number: u32, main: u32) -> Invocation
+    ensures { at_startup result ≡ nat_eq number main }
 {
-    is_main && frame != 0
+    if number == main {
+        Invocation::Startup
+    } else {
+        Invocation::Call
+    }
+}
+
+/// Whether the room for a frame is to be checked, which no caller does for main before it begins.
+fn needs_check(invocation: Invocation, frame: u64) -> bool
+    ensures { result ≡ (at_startup invocation && not (nat_eq frame 0)) }
+{
+    match invocation {
+        Invocation::Startup => frame != 0,
+        Invocation::Call => false,
+    }
 }
 
 /// The end of main, with status 0, or of another function, which returns 0.
-fn end_of(is_main: bool) -> Item
-    ensures { result ≡ (if is_main then Halt (Number 0) else Return (Number 0)) }
+fn end_of(invocation: Invocation) -> Item
+    ensures { result ≡ (if at_startup invocation then Halt (Number 0) else Return (Number 0)) }
 {
     let zero = Operand::Number(0);
-    if is_main {
-        Item::Halt(zero)
-    } else {
-        Item::Return(zero)
+    match invocation {
+        Invocation::Startup => Item::Halt(zero),
+        Invocation::Call => Item::Return(zero),
     }
 }
 
@@ -153,13 +174,13 @@ fn lower_with(
     alloc: Global,
     links: &Links,
     none: u32,
-    is_main: bool,
+    invocation: Invocation,
     f: &Function,
 ) -> Result<FormFunction, AllocError>
-    ensures { IfOk result (IsFormWith none links.now is_main f.now) }
+    ensures { IfOk result (IsFormWith none links.now (at_startup invocation) f.now) }
 {
     let mut lowerer = Lowerer::new(alloc, f.variables);
-    check_frame(&mut lowerer, f.place, needs_check(is_main, f.frame))?;
+    check_frame(&mut lowerer, f.place, needs_check(invocation, f.frame))?;
     store_parameters(&mut lowerer, f.place, f.parameters.as_slice())?;
     make_statements(&mut lowerer, links, none, f.body.as_slice())?;
     let Lowerer {
@@ -168,7 +189,7 @@ fn lower_with(
         later: _,
     } = lowerer;
     let variables = maker.next();
-    let body = close(maker.into_statements(), f.place, end_of(is_main))?;
+    let body = close(maker.into_statements(), f.place, end_of(invocation))?;
     let name = Text::from_str(alloc, f.name.as_str())?;
     let parameters = counted(f.parameters.len())?;
     Ok(FormFunction {
@@ -191,10 +212,10 @@ fn lower_function(
     requires none { none ≡ length program.now.functions }
     ensures { IfOk result (IsFunctionFormOf program.now number f.now) }
 {
-    let is_main = number == program.main;
+    let invocation = invocation_of(number, program.main);
     match program.links.as_slice().get(f.file as usize) {
         Some(links) => {
-            let g = lower_with(alloc, links, none, is_main, f)?;
+            let g = lower_with(alloc, links, none, invocation, f)?;
             Ok(g)
         }
         None => {
@@ -202,7 +223,7 @@ fn lower_function(
                 addresses: Items::new(alloc),
                 functions: Items::new(alloc),
             };
-            let g = lower_with(alloc, &nothing, none, is_main, f)?;
+            let g = lower_with(alloc, &nothing, none, invocation, f)?;
             Ok(g)
         }
     }

@@ -1,9 +1,12 @@
 -- What a maker has written so far, and how it goes on.
-use Rattle.std.specs.Prelude.{◌≡◌, ℕ, ◌+◌, Bool, List, if◌then◌else◌}
+use Rattle.std.specs.Prelude.{◌≡◌, ℕ, ◌+◌, true, List, if◌then◌else◌}
+use Rattle.dae_ir.specs.Classes.{VariableSet}
 use Rattle.dae_ir.specs.Code.{Done, Do, If}
 use Rattle.dae_ir.specs.Form.{Form, form_of}
 use Rattle.dae_lower_maker.specs.declared.maker.Maker.{Maker}
 use Rattle.dae_lower_maker.specs.declared.maker.Spot.{Spot}
+use Rattle.dae_lower_maker.specs.declared.maker.Lvalue.{Lvalue}
+use Rattle.dae_lower_maker.specs.declared.maker.Increment.{Increment}
 use Rattle.dae_lower_maker.specs.declared.maker.Condition.{Condition}
 use Rattle.dae_lower_maker.specs.declared.maker.Spot.TheVariants as spot
 use Rattle.dae_base.specs.declared.LoadKind.{LoadKind}
@@ -15,6 +18,8 @@ use Rattle.dae_ir.specs.declared.form.Operand.TheVariants.{Variable}
 use Rattle.dae_lower.specs.Lowering.{Made, only, one, nothing, operated, narrowed, ◌⨾◌, ◌≫◌}
 use Rattle.dae_meaning.specs.declared.Operator.{Operator}
 use Rattle.dae_lower.specs.Lowering as form
+use Rattle.dae_program.specs.Views.{is_prefix}
+use Rattle.dae_program.specs.declared.expressions.Fixity.{Fixity}
 
 -- the form so far, and the next variable
 pub record Written : Type 0 where
@@ -36,19 +41,19 @@ Appends made old new y = Writes (made old.next) (so_far old) (so_far new) y
 
 abbrev pub spot_of : Spot → form.Spot
 spot_of (spot.Variable v) = form.Local v
-spot_of (spot.Object checked x) = form.Placed checked x
+spot_of (spot.Object location) = form.Placed location.checked location.address
 
 -- a load into the next variable
 abbrev pub loaded_next : Place → LoadKind → Operand → ℕ → Made Operand
 loaded_next place kind x n = only (one place (Load n kind x)) (Variable n) (n + 1)
 
--- what an assigned place holds, where the flag says whether a variable is copied
-abbrev pub held_in : Place → LoadKind → Bool → Spot → ℕ → Made Operand
-held_in place kind flag spot = form.held place kind (λ v. flag) (spot_of spot)
+-- what an assigned place holds, where these variables are copied
+abbrev pub held_in : VariableSet → Lvalue → ℕ → Made Operand
+held_in copied l = form.held l.place l.kind copied (spot_of l.spot)
 
 -- an assigned place gets an operand and a number
-abbrev pub advanced_in : Place → LoadKind → (change : ℕ) → Spot → Operand → ℕ → Made Operand
-advanced_in place kind change spot x = form.advanced place kind change (spot_of spot) x
+abbrev pub advanced_in : Lvalue → (change : ℕ) → Operand → ℕ → Made Operand
+advanced_in l change x = form.advanced l.place l.kind change (spot_of l.spot) x
 
 abbrev pub condition_of : Condition → form.Condition
 condition_of c = record { test = c.test; turned = c.turned }
@@ -62,11 +67,20 @@ abbrev pub called_with : Place → (function : ℕ) → List Operand → ℕ →
 called_with place f xs n = only (Do place (Expect (Room f)) (one place (Call n f xs))) (Variable n) (n + 1)
 
 -- an assigned place gets the result of an operation on what it held and an operand, narrowed to its type
-abbrev pub updated_in : Place → LoadKind → Operator → Spot → (x y : Operand) → ℕ → Made Operand
-updated_in place kind operator spot x y n =
-    operated place operator x y n ≫ λ z n. narrowed place kind z n ≫ form.put_in place kind (spot_of spot)
+abbrev pub updated_in : Lvalue → Operator → (x y : Operand) → ℕ → Made Operand
+updated_in l operator x y n =
+    operated l.place operator x y n ≫ λ z n. narrowed l.place l.kind z n ≫ form.put_in l.place l.kind (spot_of l.spot)
 
--- one more or less, where the flag says whether the old value is a copy
-abbrev pub stepped_in : Place → LoadKind → (change : ℕ) → (new flag : Bool) → Spot → ℕ → Made Operand
-stepped_in place kind change new flag spot n =
-    held_in place kind flag spot n ≫ λ x n. advanced_in place kind change spot x n ≫ λ y. nothing (if new then y else x)
+-- what `++` or `--` assigns
+abbrev pub lvalue_of : Increment → Spot → Lvalue
+lvalue_of i spot = record { place = i.place; kind = i.kind; spot = spot }
+
+-- the variables that `++` or `--` copies, where what is still to come assigns these: all, where the old value is given
+abbrev pub copied_by : Fixity → VariableSet → VariableSet
+copied_by fixity later = if is_prefix fixity then later else (λ v. true)
+
+-- one more or less, where what is still to come assigns these variables
+abbrev pub stepped_in : VariableSet → Increment → Spot → ℕ → Made Operand
+stepped_in later i spot n =
+    held_in (copied_by i.fixity later) (lvalue_of i spot) n ≫ λ x n. advanced_in (lvalue_of i spot) i.change x n ≫ λ y.
+    nothing (if is_prefix i.fixity then y else x)

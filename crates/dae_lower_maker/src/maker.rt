@@ -1,9 +1,10 @@
 // Statements so far, and single items behind them.
 
-use crate::later::one_more;
+use crate::later::{Later, one_more};
 use dae_base::{Items, LoadKind, Place};
 use dae_ir::{Check, Item, Operand, Statement, Test, Value};
 use dae_meaning::{Comparison, Operator};
+use dae_program::Fixity;
 use std::alloc::{AllocError, Global};
 
 /// The statements so far, and the next variable that isn't used yet.
@@ -13,11 +14,35 @@ pub struct Maker {
     next: u32,
 }
 
-/// What is assigned: a variable, or the object at an address, which may have to be checked.
+/// Where an object lies in memory: its address, and whether that has to be checked.
+#[derive(Clone, Copy, PartialEq, Eq, Debug)]
+pub struct Location {
+    pub address: Operand,
+    pub checked: bool,
+}
+
+/// What is assigned: a variable, or an object in memory.
 #[derive(Clone, Copy, PartialEq, Eq, Debug)]
 pub enum Spot {
     Variable(u32),
-    Object(bool, Operand),
+    Object(Location),
+}
+
+/// What an operator assigns, once its address is known: the place of the operator, the type, and where it is.
+#[derive(Clone, Copy, PartialEq, Eq, Debug)]
+pub struct Lvalue {
+    pub place: Place,
+    pub kind: LoadKind,
+    pub spot: Spot,
+}
+
+/// An operator `++` or `--`: its place, the type of its operand, the number that it adds, and where it stands.
+#[derive(Clone, Copy, PartialEq, Eq, Debug)]
+pub struct Increment {
+    pub place: Place,
+    pub kind: LoadKind,
+    pub change: u32,
+    pub fixity: Fixity,
 }
 
 /// A test that decides by holding, or by not holding.
@@ -78,15 +103,19 @@ fn is_checked(operator: Operator, y: Operand) -> bool
 }
 
 impl Maker {
-    ghost use Rattle.std.specs.Prelude.{◌+◌, ◌++◌};
+    ghost use Rattle.std.specs.Prelude.{◌+◌, ◌++◌, true};
+    ghost use Rattle.dae_base.specs.Words.{width_of};
     ghost use Rattle.dae_ir.specs.Code.{Done, If, Loop};
     ghost use Rattle.dae_ir.specs.Form.{form_of};
     ghost use Rattle.dae_ir.specs.declared.form.Value.TheVariants.{Holds};
+    ghost use Rattle.dae_ir.specs.declared.form.Check.TheVariants.{Place as Good};
+    ghost use Rattle.dae_ir.specs.declared.form.Item.TheVariants.{Expect};
     ghost use Rattle.dae_lower.specs.Lowering.{checks, emit, fetched, narrowed, one, only, operated};
     ghost use Rattle.dae_lower.specs.Lowering.{put_in, set, variable, Placed};
+    ghost use Rattle.dae_lower_maker.specs.Counting.{counts_of, is_counted};
     ghost use Rattle.dae_lower_maker.specs.Making.{Appends, advanced_in, called_with, condition_of};
-    ghost use Rattle.dae_lower_maker.specs.Making.{forked, held_in, loaded_next, so_far, spot_of};
-    ghost use Rattle.dae_lower_maker.specs.Making.{stepped_in, updated_in};
+    ghost use Rattle.dae_lower_maker.specs.Making.{copied_by, forked, held_in, loaded_next, so_far};
+    ghost use Rattle.dae_lower_maker.specs.Making.{spot_of, stepped_in, updated_in};
 
     /// No statements yet, of a function with so many variables.
     pub fn new(alloc: Global, variables: u32) -> Maker
@@ -161,18 +190,30 @@ impl Maker {
         Ok(z)
     }
 
-    /// The value of the object at an address, behind a check where the flag says so.
+    /// The check of an address, where one is due.
+    fn check(&mut self, place: Place, kind: LoadKind, location: Location) -> Result<(), AllocError>
+        ensures { IfOk result
+            (Appends
+            (only (checks location.checked place
+            (Expect (Good (width_of kind) location.address)) Done) tt) self.old self.new) }
+    {
+        let check = Check::Place(kind.width(), location.address);
+        self.item_if(location.checked, place, Item::Expect(check))?;
+        Ok(())
+    }
+
+    /// The value of an object in memory, behind a check of its address where one is due.
     pub fn fetched(
         &mut self,
         place: Place,
         kind: LoadKind,
-        checked: bool,
-        x: Operand,
+        location: Location,
     ) -> Result<Operand, AllocError>
-        ensures { IfOk result (Appends (fetched place kind checked x) self.old self.new) }
+        ensures { IfOk result
+            (Appends (fetched place kind location.checked location.address) self.old self.new) }
     {
-        self.item_if(checked, place, Item::Expect(Check::Place(kind.width(), x)))?;
-        let z = self.load(place, kind, x)?;
+        self.check(place, kind, location)?;
+        let z = self.load(place, kind, location.address)?;
         Ok(z)
     }
 
@@ -194,149 +235,176 @@ impl Maker {
         }
     }
 
-    /// A variable's value, in a copy where the flag says so.
-    pub fn variable(&mut self, copied: bool, place: Place, v: u32) -> Result<Operand, AllocError>
-        ensures { IfOk result (Appends (variable copied place v) self.old self.new) }
+    /// A copy of a variable's value.
+    fn copy(&mut self, place: Place, v: u32) -> Result<Operand, AllocError>
+        ensures { IfOk result (Appends (variable true place v) self.old self.new) }
     {
-        if copied {
-            let x = self.set(place, Value::Same(Operand::Variable(v)))?;
+        let x = self.set(place, Value::Same(Operand::Variable(v)))?;
+        Ok(x)
+    }
+
+    /// A variable's value, in a copy where what is still to come assigns it.
+    pub fn variable(&mut self, later: &Later, place: Place, v: u32) -> Result<Operand, AllocError>
+        ensures { IfOk result
+            (Appends (variable (is_counted (counts_of later.now) v) place v) self.old self.new) }
+    {
+        if later.has(v) {
+            let x = self.copy(place, v)?;
             Ok(x)
         } else {
             Ok(Operand::Variable(v))
         }
     }
 
-    /// Stores a word at an address, behind a check where the flag says so.
+    /// Stores a word in memory, behind a check of its address where one is due.
     fn store(
         &mut self,
         place: Place,
         kind: LoadKind,
-        checked: bool,
-        x: Operand,
+        location: Location,
         y: Operand,
     ) -> Result<Operand, AllocError>
-        ensures { IfOk result (Appends (put_in place kind (Placed checked x) y) self.old self.new) }
+        ensures { IfOk result
+            (Appends
+            (put_in place kind (Placed location.checked location.address) y) self.old self.new) }
     {
-        self.item_if(checked, place, Item::Expect(Check::Place(kind.width(), x)))?;
-        self.item(place, Item::Store(kind.width(), x, y))?;
+        self.check(place, kind, location)?;
+        self.item(place, Item::Store(kind.width(), location.address, y))?;
         Ok(y)
     }
 
     /// What is assigned gets a value, which is given.
-    pub fn put_in(
-        &mut self,
-        place: Place,
-        kind: LoadKind,
-        spot: Spot,
-        y: Operand,
-    ) -> Result<Operand, AllocError>
-        ensures { IfOk result (Appends (put_in place kind (spot_of spot) y) self.old self.new) }
+    pub fn put_in(&mut self, lvalue: Lvalue, y: Operand) -> Result<Operand, AllocError>
+        ensures { IfOk result
+            (Appends (put_in lvalue.place lvalue.kind (spot_of lvalue.spot) y) self.old self.new) }
     {
-        match spot {
+        match lvalue.spot {
             Spot::Variable(v) => {
-                self.item(place, Item::Assign(v, Value::Same(y)))?;
+                self.item(lvalue.place, Item::Assign(v, Value::Same(y)))?;
                 Ok(y)
             }
-            Spot::Object(checked, x) => {
-                let z = self.store(place, kind, checked, x, y)?;
+            Spot::Object(location) => {
+                let z = self.store(lvalue.place, lvalue.kind, location, y)?;
                 Ok(z)
             }
         }
     }
 
-    /// What an assigned place holds. A variable's value is a copy where the flag says so.
-    pub fn held(
-        &mut self,
-        place: Place,
-        kind: LoadKind,
-        flag: bool,
-        spot: Spot,
-    ) -> Result<Operand, AllocError>
-        ensures { IfOk result (Appends (held_in place kind flag spot) self.old self.new) }
+    /// What is assigned holds this so far: a variable's value is a copy where what is still to come assigns it.
+    pub fn held(&mut self, later: &Later, lvalue: Lvalue) -> Result<Operand, AllocError>
+        ensures { IfOk result
+            (Appends (held_in (is_counted (counts_of later.now)) lvalue) self.old self.new) }
     {
-        match spot {
+        match lvalue.spot {
             Spot::Variable(v) => {
-                let x = self.variable(flag, place, v)?;
+                let x = self.variable(later, lvalue.place, v)?;
                 Ok(x)
             }
-            Spot::Object(checked, x) => {
-                let z = self.fetched(place, kind, checked, x)?;
+            Spot::Object(location) => {
+                let z = self.fetched(lvalue.place, lvalue.kind, location)?;
+                Ok(z)
+            }
+        }
+    }
+
+    /// What is assigned holds this so far: a variable's value is a copy.
+    fn copy_of(&mut self, lvalue: Lvalue) -> Result<Operand, AllocError>
+        ensures { IfOk result (Appends (held_in (λ v. true) lvalue) self.old self.new) }
+    {
+        match lvalue.spot {
+            Spot::Variable(v) => {
+                let x = self.copy(lvalue.place, v)?;
+                Ok(x)
+            }
+            Spot::Object(location) => {
+                let z = self.fetched(lvalue.place, lvalue.kind, location)?;
                 Ok(z)
             }
         }
     }
 
     /// What is assigned gets an operand and a number, narrowed to its type.
-    pub fn advanced(
-        &mut self,
-        place: Place,
-        kind: LoadKind,
-        change: u32,
-        spot: Spot,
-        x: Operand,
-    ) -> Result<Operand, AllocError>
-        ensures { IfOk result (Appends (advanced_in place kind change spot x) self.old self.new) }
+    fn advanced(&mut self, lvalue: Lvalue, change: u32, x: Operand) -> Result<Operand, AllocError>
+        ensures { IfOk result (Appends (advanced_in lvalue change x) self.old self.new) }
     {
         let z = self.set(
-            place,
+            lvalue.place,
             Value::Binary(Operator::Add, x, Operand::Number(change)),
         )?;
-        let w = self.narrowed(place, kind, z)?;
-        let y = self.put_in(place, kind, spot, w)?;
+        let w = self.narrowed(lvalue.place, lvalue.kind, z)?;
+        let y = self.put_in(lvalue, w)?;
         Ok(y)
     }
 
     /// What is assigned gets the result of an operation on what it held and an operand, narrowed to its type.
     pub fn updated(
         &mut self,
-        place: Place,
-        kind: LoadKind,
+        lvalue: Lvalue,
         operator: Operator,
-        spot: Spot,
         x: Operand,
         y: Operand,
     ) -> Result<Operand, AllocError>
-        ensures { IfOk result
-            (Appends (updated_in place kind operator spot x y) self.old self.new) }
+        ensures { IfOk result (Appends (updated_in lvalue operator x y) self.old self.new) }
     {
-        let z = self.operated(place, operator, x, y)?;
-        let w = self.narrowed(place, kind, z)?;
-        let result = self.put_in(place, kind, spot, w)?;
+        let z = self.operated(lvalue.place, operator, x, y)?;
+        let w = self.narrowed(lvalue.place, lvalue.kind, z)?;
+        let result = self.put_in(lvalue, w)?;
         Ok(result)
     }
 
-    /// What is assigned gets a number more, and the new value is given or the old one, which is a copy where the flag says
-    /// so.
+    /// What `++` or `--` finds: of a variable a copy where it is given, or where what is still to come assigns it.
+    fn old_value(
+        &mut self,
+        later: &Later,
+        fixity: Fixity,
+        lvalue: Lvalue,
+    ) -> Result<Operand, AllocError>
+        ensures { IfOk result
+            (Appends
+            (held_in (copied_by fixity (is_counted (counts_of later.now))) lvalue) self.old
+            self.new) }
+    {
+        match fixity {
+            Fixity::Prefix => {
+                let x = self.held(later, lvalue)?;
+                Ok(x)
+            }
+            Fixity::Postfix => {
+                let x = self.copy_of(lvalue)?;
+                Ok(x)
+            }
+        }
+    }
+
+    /// What is assigned gets a number more, and the new value is given or the old one.
     pub fn stepped(
         &mut self,
-        place: Place,
-        kind: LoadKind,
-        change: u32,
-        new: bool,
-        flag: bool,
+        later: &Later,
+        increment: Increment,
         spot: Spot,
     ) -> Result<Operand, AllocError>
         ensures { IfOk result
-            (Appends (stepped_in place kind change new flag spot) self.old self.new) }
+            (Appends
+            (stepped_in (is_counted (counts_of later.now)) increment spot) self.old self.new) }
     {
-        let x = self.held(place, kind, flag, spot)?;
-        let y = self.advanced(place, kind, change, spot, x)?;
-        Ok(if new { y } else { x })
+        let lvalue = Lvalue {
+            place: increment.place,
+            kind: increment.kind,
+            spot,
+        };
+        let x = self.old_value(later, increment.fixity, lvalue)?;
+        let y = self.advanced(lvalue, increment.change, x)?;
+        match increment.fixity {
+            Fixity::Prefix => Ok(y),
+            Fixity::Postfix => Ok(x),
+        }
     }
 
-    /// 1 where the comparison of two operands holds, and else 0. The flag says that they are compared the other way round.
-    pub fn compared(
-        &mut self,
-        place: Place,
-        comparison: Comparison,
-        turned: bool,
-        x: Operand,
-        y: Operand,
-    ) -> Result<Operand, AllocError>
-        ensures { IfOk result
-            (Appends (set place (Holds (related comparison turned x y))) self.old self.new) }
+    /// 1 where a test holds, and else 0.
+    pub fn compared(&mut self, place: Place, test: Test) -> Result<Operand, AllocError>
+        ensures { IfOk result (Appends (set place (Holds test)) self.old self.new) }
     {
-        let z = self.set(place, Value::Holds(related(comparison, turned, x, y)))?;
+        let z = self.set(place, Value::Holds(test))?;
         Ok(z)
     }
 

@@ -15,6 +15,14 @@ use dae_meaning::{Comparison, Operator};
 use dae_program::{Links, Setting};
 use std::alloc::{AllocError, Global};
 
+/// An aggregate in the frame that is initialised: the statement's place, its offset and its size in bytes.
+#[derive(Clone, Copy, PartialEq, Eq, Debug)]
+pub struct Aggregate {
+    pub place: Place,
+    pub offset: u32,
+    pub size: u32,
+}
+
 /// A turn of zeroing so many bytes: the byte of an index behind a base becomes 0, unless all have.
 fn zero_turn(
     alloc: Global,
@@ -45,21 +53,24 @@ fn zero_turn(
     Ok(block)
 }
 
-/// So many bytes from an offset in the frame on become 0. What is given is the first of three variables, which is for
-/// addresses.
-pub fn zero(lowerer: &mut Lowerer, place: Place, offset: u32, size: u32) -> Result<u32, AllocError>
+/// The bytes of an aggregate become 0. What is given is the first of three variables, which is for addresses.
+pub fn zero(lowerer: &mut Lowerer, aggregate: Aggregate) -> Result<u32, AllocError>
     ensures { IfOk result
-        (MakesWhole (λ n. only (zeros place offset size n) n (n + 3)) lowerer.old lowerer.new) }
+        (MakesWhole
+        (λ n. only (zeros aggregate.place aggregate.offset aggregate.size n) n (n + 3)) lowerer.old
+        lowerer.new) }
 {
+    let place = aggregate.place;
     let address = lowerer.maker.reserve()?;
     let index = lowerer.maker.reserve()?;
     let base = lowerer.maker.reserve()?;
-    let body = zero_turn(lowerer.alloc, place, size, address, index, base)?;
+    let body = zero_turn(lowerer.alloc, place, aggregate.size, address, index, base)?;
     let step = go_up(lowerer.alloc, place, index)?;
     let zero = Value::Same(Operand::Number(0));
-    lowerer
-        .maker
-        .item(place, Item::Assign(base, Value::FrameAddress(offset)))?;
+    lowerer.maker.item(
+        place,
+        Item::Assign(base, Value::FrameAddress(aggregate.offset)),
+    )?;
     lowerer.maker.item(place, Item::Assign(index, zero))?;
     lowerer.maker.repeat(place, body, step)?;
     Ok(address)

@@ -10,8 +10,7 @@ ghost use Rattle.dae_program.specs.Trees.{Done, Initialise, Return};
 ghost use Rattle.dae_program.specs.Views.{statement_then, view, view_settings, view_some, view_statements, arms_of};
 
 use crate::blocks::single;
-use crate::continuing::arms_continue;
-use crate::initialising::{put_all, zero};
+use crate::initialising::{Aggregate, put_all, zero};
 use crate::printing::print;
 use crate::switching::{begin_switch, do_arm, end_switch};
 use dae_base::Place;
@@ -124,18 +123,17 @@ fn initialise(
     lowerer: &mut Lowerer,
     links: &Links,
     none: u32,
-    place: Place,
-    offset: u32,
-    size: u32,
+    aggregate: Aggregate,
     items: &[Setting],
 ) -> Result<(), AllocError>
     ensures { IfOk result
         (MakesWhole
         (statements (links_in none links.now)
-        (Initialise place offset size (view_settings items.now) Done)) lowerer.old lowerer.new) }
+        (Initialise aggregate.place aggregate.offset aggregate.size
+        (view_settings items.now) Done)) lowerer.old lowerer.new) }
 {
-    let v = zero(lowerer, place, offset, size)?;
-    put_all(lowerer, links, none, place, v, items)?;
+    let v = zero(lowerer, aggregate)?;
+    put_all(lowerer, links, none, aggregate.place, v, items)?;
     Ok(())
 }
 
@@ -201,7 +199,12 @@ fn make_statement(
             Ok(())
         }
         Statement::Initialise(place, offset, size, items) => {
-            initialise(lowerer, links, none, *place, *offset, *size, items)?;
+            let aggregate = Aggregate {
+                place: *place,
+                offset: *offset,
+                size: *size,
+            };
+            initialise(lowerer, links, none, aggregate, items)?;
             Ok(())
         }
         Statement::Print(place, xs, pieces) => {
@@ -284,13 +287,12 @@ fn make_switch(
         (MakesWhole
         (switch_on (links_in none links.now) place (arms_of arms.now) x) lowerer.old lowerer.new) }
 {
-    let goes_on = arms_continue(arms);
-    let v = begin_switch(lowerer, place, x, arms, goes_on)?;
+    let switch = begin_switch(lowerer, place, x, arms)?;
     let outer = lowerer.maker.begin_block(lowerer.alloc);
-    make_arms(lowerer, links, none, place, v, arms)?;
+    make_arms(lowerer, links, none, place, switch.arm, arms)?;
     lowerer.maker.item(place, Item::Break)?;
     let body = lowerer.maker.end_block(outer);
-    end_switch(lowerer, place, v, goes_on, body)?;
+    end_switch(lowerer, switch, body)?;
     Ok(())
 }
 

@@ -15,6 +15,7 @@ ghost use Rattle.dae_meaning.specs.declared.Comparison.TheVariants.{NotEqual};
 ghost use Rattle.dae_program.specs.Switches.{arm_with, count_arms, has_label};
 
 use crate::blocks::single;
+use crate::continuing::arms_continue;
 use dae_base::Place;
 use dae_ir::{Item, Operand, Statement, Test, Value};
 use dae_lower_expressions::Lowerer;
@@ -22,6 +23,24 @@ use dae_lower_maker::{Condition, one_more};
 use dae_meaning::Comparison;
 use dae_program::Arm;
 use std::alloc::{AllocError, Global};
+
+/// What the search for the arm where a switch begins goes by: the switch's place, its value, and the variable that gets the
+/// arm's number.
+#[derive(Clone, Copy, PartialEq, Eq, Debug)]
+pub struct Dispatch {
+    pub place: Place,
+    pub value: Operand,
+    pub arm: u32,
+}
+
+/// A switch between its beginning and its end: its place, the variable that has the number of the arm where it begins, and
+/// whether its arms continue a loop round it.
+#[derive(Clone, Copy, PartialEq, Eq, Debug)]
+pub struct OpenSwitch {
+    pub place: Place,
+    pub arm: u32,
+    pub continues: bool,
+}
 
 /// Whether a label is `default`.
 fn is_default(label: &Option<u32>) -> bool
@@ -60,22 +79,24 @@ pub fn default_arm(arms: &[Arm]) -> Result<u32, AllocError>
 /// Where the value equals a label, the search ends, and the arm of this number is the first.
 fn label_branch(
     alloc: Global,
-    place: Place,
-    x: Operand,
-    v: u32,
+    dispatch: Dispatch,
     number: u32,
     label: u32,
 ) -> Result<Statement, AllocError>
-    ensures { IfOk result (λ s. (k : Form) → before s k ≡ label_then place x v number label k) }
+    ensures { IfOk result
+        (λ s. (k : Form)
+        → before s k
+        ≡ label_then dispatch.place dispatch.value dispatch.arm number label k) }
 {
+    let place = dispatch.place;
     let test = Test {
         comparison: Comparison::Equal,
-        left: x,
+        left: dispatch.value,
         right: Operand::Number(label),
     };
     let value = Value::Same(Operand::Number(number));
     let mut found = Vec::new(alloc);
-    found.push(Statement::Simple(place, Item::Assign(v, value)))?;
+    found.push(Statement::Simple(place, Item::Assign(dispatch.arm, value)))?;
     found.push(Statement::Simple(place, Item::Break))?;
     Ok(Statement::If(place, test, found, Vec::new(alloc)))
 }
@@ -84,20 +105,20 @@ fn label_branch(
 fn search_label(
     alloc: Global,
     block: &mut Vec<Statement>,
-    place: Place,
-    x: Operand,
-    v: u32,
+    dispatch: Dispatch,
     number: u32,
     label: &Option<u32>,
 ) -> Result<(), AllocError>
     ensures { IfOk result
         (λ u. (rest : Form)
         → (form_of block.new.items ⨾ rest)
-        ≡ (form_of block.old.items ⨾ search_labels place x v number (label.now ∷ []) rest)) }
+        ≡ (form_of block.old.items
+        ⨾ search_labels dispatch.place dispatch.value dispatch.arm number
+        (label.now ∷ []) rest)) }
 {
     match label {
         Some(label) => {
-            let branch = label_branch(alloc, place, x, v, number, *label)?;
+            let branch = label_branch(alloc, dispatch, number, *label)?;
             block.push(branch)?;
             Ok(())
         }
@@ -109,80 +130,86 @@ fn search_label(
 fn search_labels(
     alloc: Global,
     block: &mut Vec<Statement>,
-    place: Place,
-    x: Operand,
-    v: u32,
+    dispatch: Dispatch,
     number: u32,
     labels: &[Option<u32>],
 ) -> Result<(), AllocError>
     ensures { IfOk result
         (λ u. (rest : Form)
         → (form_of block.new.items ⨾ rest)
-        ≡ (form_of block.old.items ⨾ search_labels place x v number labels.now rest)) }
+        ≡ (form_of block.old.items
+        ⨾ search_labels dispatch.place dispatch.value dispatch.arm number labels.now rest)) }
 {
     for label in labels {
-        search_label(alloc, block, place, x, v, number, label)?;
+        search_label(alloc, block, dispatch, number, label)?;
     }
     Ok(())
 }
 
 /// The search for the first arm, whose number a variable gets.
-pub fn search(
-    alloc: Global,
-    place: Place,
-    x: Operand,
-    v: u32,
-    arms: &[Arm],
-) -> Result<Vec<Statement>, AllocError>
-    ensures { IfOk result (λ block. form_of block.items ≡ search place x v 0 (arms_of arms.now)) }
+pub fn search(alloc: Global, dispatch: Dispatch, arms: &[Arm]) -> Result<Vec<Statement>, AllocError>
+    ensures { IfOk result
+        (λ block. form_of block.items
+        ≡ search dispatch.place dispatch.value dispatch.arm 0 (arms_of arms.now)) }
 {
     let mut block = Vec::new(alloc);
     let mut number = 0;
     for arm in arms {
-        search_labels(alloc, &mut block, place, x, v, number, &arm.labels)?;
+        search_labels(alloc, &mut block, dispatch, number, &arm.labels)?;
         number = one_more(number)?;
     }
-    block.push(Statement::Simple(place, Item::Break))?;
+    block.push(Statement::Simple(dispatch.place, Item::Break))?;
     Ok(block)
 }
 
-/// Nothing has continued the loop outside yet, where the flag says that something may.
-fn clear(lowerer: &mut Lowerer, place: Place, flag: u32, goes_on: bool) -> Result<(), AllocError>
+/// Nothing has continued the loop outside yet, which a variable notes where something may.
+fn clear(lowerer: &mut Lowerer, switch: OpenSwitch, flag: u32) -> Result<(), AllocError>
     ensures { IfOk result
         (MakesWhole
-        (emit (where_so goes_on
-        (one place (Assign flag (Same (Number 0)))))) lowerer.old lowerer.new) }
+        (emit (where_so switch.continues
+        (one switch.place (Assign flag (Same (Number 0)))))) lowerer.old lowerer.new) }
 {
-    if goes_on {
+    if switch.continues {
         let zero = Value::Same(Operand::Number(0));
-        lowerer.maker.item(place, Item::Assign(flag, zero))?;
+        lowerer.maker.item(switch.place, Item::Assign(flag, zero))?;
     }
     Ok(())
 }
 
-/// A switch up to its arms. What is given is the first of two variables, which has the number of the arm where the switch
-/// begins.
+/// A switch up to its arms, with two variables of its own.
 pub fn begin_switch(
     lowerer: &mut Lowerer,
     place: Place,
     x: Operand,
     arms: &[Arm],
-    goes_on: bool,
-) -> Result<u32, AllocError>
-    ensures { IfOk result
-        (MakesWhole
+) -> Result<OpenSwitch, AllocError>
+    ensures made { IfOk result
+        (λ switch. MakesWhole
         (switch_begun place x (arm_with None 0 (arms_of arms.now) (count_arms (arms_of arms.now)))
-        (arms_of arms.now) goes_on) lowerer.old lowerer.new) }
+        (arms_of arms.now) switch.continues) lowerer.old lowerer.new switch.arm) }
+    ensures place { IfOk result (λ switch. switch.place ≡ place) }
+    ensures continues { IfOk result
+        (λ switch. switch.continues ≡ arms_continue (arms_of arms.now)) }
 {
     let v = lowerer.maker.reserve()?;
     let flag = lowerer.maker.reserve()?;
     let other = default_arm(arms)?;
-    let searching = search(lowerer.alloc, place, x, v, arms)?;
+    let dispatch = Dispatch {
+        place,
+        value: x,
+        arm: v,
+    };
+    let searching = search(lowerer.alloc, dispatch, arms)?;
     let nothing = Vec::new(lowerer.alloc);
     lowerer.maker.item(place, Item::Assign(v, Value::Same(Operand::Number(other))))?;
     lowerer.maker.repeat(place, searching, nothing)?;
-    clear(lowerer, place, flag, goes_on)?;
-    Ok(v)
+    let switch = OpenSwitch {
+        place,
+        arm: v,
+        continues: arms_continue(arms),
+    };
+    clear(lowerer, switch, flag)?;
+    Ok(switch)
 }
 
 /// An arm of a number, which is done where the switch begins at that or before.
@@ -211,29 +238,31 @@ pub fn do_arm(
 }
 
 /// What a continue in the arms goes to: it is noted, and the arms are left.
-fn note(alloc: Global, place: Place, flag: u32, goes_on: bool) -> Result<Vec<Statement>, AllocError>
+fn note(alloc: Global, switch: OpenSwitch, flag: u32) -> Result<Vec<Statement>, AllocError>
     ensures { IfOk result
         (λ block. form_of block.items
-        ≡ where_so goes_on (Do place (Assign flag (Same (Number 1))) (one place Break))) }
+        ≡ where_so switch.continues
+        (Do switch.place (Assign flag (Same (Number 1))) (one switch.place Break))) }
 {
     let mut block = Vec::new(alloc);
-    if goes_on {
+    if switch.continues {
         let one = Value::Same(Operand::Number(1));
-        block.push(Statement::Simple(place, Item::Assign(flag, one)))?;
-        block.push(Statement::Simple(place, Item::Break))?;
+        block.push(Statement::Simple(switch.place, Item::Assign(flag, one)))?;
+        block.push(Statement::Simple(switch.place, Item::Break))?;
     }
     Ok(block)
 }
 
 /// Where the arms continued the loop outside, so does what is behind them.
-fn go_on(lowerer: &mut Lowerer, place: Place, flag: u32, goes_on: bool) -> Result<(), AllocError>
+fn go_on(lowerer: &mut Lowerer, switch: OpenSwitch, flag: u32) -> Result<(), AllocError>
     ensures { IfOk result
         (MakesWhole
-        (emit (where_so goes_on
-        (If place (test_of NotEqual (Variable flag) (Number 0))
-        (one place Continue) Done Done))) lowerer.old lowerer.new) }
+        (emit (where_so switch.continues
+        (If switch.place (test_of NotEqual (Variable flag) (Number 0))
+        (one switch.place Continue) Done Done))) lowerer.old lowerer.new) }
 {
-    if goes_on {
+    let place = switch.place;
+    if switch.continues {
         let test = Test {
             comparison: Comparison::NotEqual,
             left: Operand::Variable(flag),
@@ -253,17 +282,17 @@ fn go_on(lowerer: &mut Lowerer, place: Place, flag: u32, goes_on: bool) -> Resul
 /// A switch from its arms on.
 pub fn end_switch(
     lowerer: &mut Lowerer,
-    place: Place,
-    v: u32,
-    goes_on: bool,
+    switch: OpenSwitch,
     body: Vec<Statement>,
 ) -> Result<(), AllocError>
     ensures { IfOk result
-        (MakesWhole (switch_ended place v goes_on (form_of body.items)) lowerer.old lowerer.new) }
+        (MakesWhole
+        (switch_ended switch.place switch.arm switch.continues
+        (form_of body.items)) lowerer.old lowerer.new) }
 {
-    let flag = one_more(v)?;
-    let step = note(lowerer.alloc, place, flag, goes_on)?;
-    lowerer.maker.repeat(place, body, step)?;
-    go_on(lowerer, place, flag, goes_on)?;
+    let flag = one_more(switch.arm)?;
+    let step = note(lowerer.alloc, switch, flag)?;
+    lowerer.maker.repeat(switch.place, body, step)?;
+    go_on(lowerer, switch, flag)?;
     Ok(())
 }

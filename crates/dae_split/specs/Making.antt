@@ -20,6 +20,8 @@ use Rattle.dae_ir.specs.declared.stream.Action.TheVariants.{Tell, Hear}
 use Rattle.dae_ir.specs.declared.stream.Branch.{Branch}
 use Rattle.dae_ir.specs.declared.stream.Branch.TheVariants.{Silent}
 use Rattle.dae_ir.specs.declared.stream.Step.{Step}
+use Rattle.dae_split.specs.declared.work.Zone.{Zone}
+use Rattle.dae_split.specs.declared.work.Zone.TheVariants.{Outside, Region}
 
 abbrev pub is_a : Side → Bool
 is_a A = true
@@ -62,6 +64,11 @@ test_of false c t = not (is_by_a c.s t)
 -- code may stand in a region of the side, inside of a loop of the region or not
 abbrev pub fits : Bool → Classes → Bool → Form → Bool
 fits by_a c inside code = every (item_of by_a c) (test_of by_a c) code && stays inside code
+
+-- whether a zone is outside of regions
+abbrev pub lies_outside : Zone → Bool
+lies_outside Outside = true
+lies_outside Region = false
 
 -- whose region it is, by side
 abbrev pub by_side : Option Side → Option Bool

@@ -3,12 +3,13 @@
 ghost use Rattle.std.specs.Prelude.{◌≡◌, ℕ, ◌+◌, ◌<◌, ◌≤◌, ◌^◌, Bool, true, false, List, [], ◌∷◌, ◌++◌, if◌then◌else◌, length, slice_get, not, OnOk, IfOk};
 ghost use Rattle.dae_base.specs.declared.Place.{Place};
 ghost use Rattle.dae_ir.specs.Classes.{classes_of, classes_in};
-ghost use Rattle.dae_ir.specs.Rounds.{Rounds, Jump, Enters, closed, placed, stand, Joins, Closes, Separates};
-ghost use Rattle.dae_ir.specs.Streams.{set_of, arguments_in, kept, jump_action, group_of};
+ghost use Rattle.dae_ir.specs.Rounds.{Rounds, closed, Joins, Closes};
+ghost use Rattle.dae_ir.specs.Streams.{set_of, arguments_in, kept, group_of};
 ghost use Rattle.dae_ir.specs.Scope.{TakesArguments};
 ghost use Rattle.dae_ir.specs.declared.form.Item.TheVariants.{Expect};
 ghost use Rattle.dae_ir.specs.declared.stream.Part.{Part};
-ghost use Rattle.dae_split.specs.Making.{is_a, ArgumentsFit, Adds, projected, Makes};
+ghost use Rattle.dae_split.specs.Making.{is_a, ArgumentsFit, Adds};
+ghost use Rattle.dae_split.specs.Stretches.{Extends, StandsAlone, placed_behind, placed_item};
 
 use crate::classes::{has_check, needs};
 use crate::groups::{put, put_group};
@@ -43,9 +44,7 @@ pub fn close(x: &mut Stretch, tables: &[Items<Class>], task: Task) -> Result<(),
     requires { x.old.number < 2 ^ 63 }
     ensures made { OnOk result
         ((outside : Bool) (k : Rounds)
-        → Makes (projected outside (is_a task.side) (classes_of tables.now)
-        (classes_of tables.now task.function) task.cap) x.old.steps.items x.old.number
-        x.new.steps.items x.new.number k (closed x.old.group.items k)) }
+        → Extends outside task tables.now x.old x.new k (closed x.old.group.items k)) }
     ensures group { OnOk result (x.new.group.items ≡ []) }
     ensures number { OnOk result (x.new.number ≤ x.old.number + 1) }
 {
@@ -64,11 +63,8 @@ fn add_part(
     requires { x.old.number < 2 ^ 63 }
     ensures made { OnOk result
         ((outside : Bool) (place : Place) (r : List Part → Rounds)
-        → Makes (projected outside (is_a task.side) (classes_of tables.now)
-        (classes_of tables.now task.function) task.cap) x.old.steps.items x.old.number
-        x.new.steps.items x.new.number (r x.new.group.items)
-        (placed (classes_of tables.now task.function) task.cap x.old.group.items place
-        (Joins part) r)) }
+        → Extends outside task tables.now x.old x.new (r x.new.group.items)
+        (placed_behind task tables.now x.old place (Joins part) r)) }
     ensures number { OnOk result (x.new.number ≤ x.old.number + 1) }
 {
     if is_full(tables, task.function, task.cap, &x.group, &part) {
@@ -90,11 +86,8 @@ fn add_last(
     requires { x.old.number < 2 ^ 63 }
     ensures made { OnOk result
         ((outside : Bool) (place : Place) (r : List Part → Rounds)
-        → Makes (projected outside (is_a task.side) (classes_of tables.now)
-        (classes_of tables.now task.function) task.cap) x.old.steps.items x.old.number
-        x.new.steps.items x.new.number (r x.new.group.items)
-        (placed (classes_of tables.now task.function) task.cap x.old.group.items place
-        (Closes last) r)) }
+        → Extends outside task tables.now x.old x.new (r x.new.group.items)
+        (placed_behind task tables.now x.old place (Closes last) r)) }
     ensures number { OnOk result (x.new.number ≤ x.old.number + 1) }
 {
     end_group(x, tables, task, last)?;
@@ -110,15 +103,7 @@ fn add_jump(
     action: Action,
 ) -> Result<(), AllocError>
     requires { x.old.number < 2 ^ 63 }
-    ensures made { OnOk result
-        ((outside : Bool) (jump : Jump)
-        → jump_action (is_a task.side) (classes_of tables.now)
-        (classes_of tables.now task.function) jump ≡ action → (r : List Part → Rounds)
-        → Makes (projected outside (is_a task.side) (classes_of tables.now)
-        (classes_of tables.now task.function) task.cap) x.old.steps.items x.old.number
-        x.new.steps.items x.new.number (r x.new.group.items)
-        (placed (classes_of tables.now task.function) task.cap x.old.group.items place
-        (Separates jump) r)) }
+    ensures made { OnOk result (StandsAlone task tables.now x.old x.new place action) }
     ensures number { OnOk result (x.new.number ≤ x.old.number + 1) }
 {
     close(x, tables, task)?;
@@ -201,24 +186,23 @@ fn kept_status(side: Side, operand: Operand) -> Option<Operand>
     }
 }
 
-fn call(
+// The arguments of a call that the side needs.
+fn call_arguments(
     alloc: Global,
     functions: &[Function],
     tables: &[Items<Class>],
-    task: Task,
-    v: u32,
+    side: Side,
     callee: u32,
     operands: &[Operand],
-) -> Result<Action, AllocError>
+) -> Result<Items<Argument>, AllocError>
     requires { TakesArguments (slice_get functions.now callee) (length operands.now) }
     ensures { IfOk result
-        (λ action. action
-        ≡ jump_action (is_a task.side) (classes_of tables.now) (classes_of tables.now task.function)
-        (Enters v callee operands.now)) }
+        (λ list. list
+        ≡ arguments_in (set_of (is_a side) (classes_of tables.now callee)) 1 operands.now) }
 {
     let count = parameters(functions, callee);
-    let list = arguments(alloc, tables, callee as usize, task.side, count, operands)?;
-    Ok(Action::Call(kept_variable(tables, task, v), callee, list))
+    let list = arguments(alloc, tables, callee as usize, side, count, operands)?;
+    Ok(list)
 }
 
 // A check that A decides is a part of the group, and one that E decides ends it.
@@ -232,11 +216,8 @@ fn add_check(
     requires { x.old.number < 2 ^ 63 }
     ensures made { OnOk result
         ((outside : Bool) (r : List Part → Rounds)
-        → Makes (projected outside (is_a task.side) (classes_of tables.now)
-        (classes_of tables.now task.function) task.cap) x.old.steps.items x.old.number
-        x.new.steps.items x.new.number (r x.new.group.items)
-        (placed (classes_of tables.now task.function) task.cap x.old.group.items place
-        (stand (classes_of tables.now task.function) place (Expect check)) r)) }
+        → Extends outside task tables.now x.old x.new (r x.new.group.items)
+        (placed_item task tables.now x.old place (Expect check) r)) }
     ensures number { OnOk result (x.new.number ≤ x.old.number + 1) }
 {
     if has_check(tables, task.function, check) {
@@ -248,7 +229,6 @@ fn add_check(
 
 /// What the side does of an item. Of a call it needs to know how many parameters the function has.
 pub fn add_item(
-    alloc: Global,
     x: &mut Stretch,
     functions: &[Function],
     tables: &[Items<Class>],
@@ -260,11 +240,8 @@ pub fn add_item(
     requires fit { ArgumentsFit functions.now item.now }
     ensures made { OnOk result
         ((outside : Bool) (r : List Part → Rounds)
-        → Makes (projected outside (is_a task.side) (classes_of tables.now)
-        (classes_of tables.now task.function) task.cap) x.old.steps.items x.old.number
-        x.new.steps.items x.new.number (r x.new.group.items)
-        (placed (classes_of tables.now task.function) task.cap x.old.group.items place
-        (stand (classes_of tables.now task.function) place item.now) r)) }
+        → Extends outside task tables.now x.old x.new (r x.new.group.items)
+        (placed_item task tables.now x.old place item.now r)) }
     ensures number { OnOk result (x.new.number ≤ x.old.number + 1) }
 {
     match item {
@@ -286,8 +263,15 @@ pub fn add_item(
         Item::Continue => add_jump(x, tables, task, place, Action::Continue),
         Item::Call(v, callee, operands) => {
             let operands = operands.as_slice();
-            let action = call(alloc, functions, tables, task, *v, *callee, operands)?;
-            add_jump(x, tables, task, place, action)
+            let list = call_arguments(x.alloc, functions, tables, task.side, *callee, operands)?;
+            let variable = kept_variable(tables, task, *v);
+            add_jump(
+                x,
+                tables,
+                task,
+                place,
+                Action::Call(variable, *callee, list),
+            )
         }
         Item::Return(operand) => {
             let result = kept_result(tables, task, *operand);

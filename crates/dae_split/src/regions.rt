@@ -8,10 +8,10 @@ ghost use Rattle.dae_ir.specs.Form.{Form, before, form_of};
 ghost use Rattle.dae_ir.specs.Classes.{classes_of};
 ghost use Rattle.dae_ir.specs.Rounds.{region, is_jump};
 ghost use Rattle.dae_ir.specs.Streams.{has_loop};
-ghost use Rattle.dae_split.specs.Making.{is_a, item_of, test_of, fits, by_side, stands_in, is_outside, tells_in};
+ghost use Rattle.dae_split.specs.Making.{is_a, item_of, test_of, fits, by_side, lies_outside, stands_in, is_outside, tells_in};
 
 use crate::classes::{class, has_test};
-use crate::work::Task;
+use crate::work::{Task, Zone};
 use dae_base::{Items, Side};
 use dae_ir::{Class, Item, Statement, Test};
 
@@ -144,60 +144,65 @@ fn some_has_loop(statements: &[Statement]) -> bool
 fn region(
     tables: &[Items<Class>],
     function: usize,
-    outside: bool,
+    zone: Zone,
     statement: &Statement,
 ) -> Option<Side>
     ensures { by_side result
-        ≡ region outside (classes_of tables.now function) (before statement.now Done) }
+        ≡ region (lies_outside zone) (classes_of tables.now function)
+        (before statement.now Done) }
 {
-    if !outside {
-        return None;
+    match zone {
+        Zone::Region => None,
+        Zone::Outside => {
+            if statement_fits(tables, function, Side::A, false, statement) {
+                return Some(Side::A);
+            }
+            if statement_fits(tables, function, Side::E, false, statement) {
+                return Some(Side::E);
+            }
+            None
+        }
     }
-    if statement_fits(tables, function, Side::A, false, statement) {
-        return Some(Side::A);
-    }
-    if statement_fits(tables, function, Side::E, false, statement) {
-        return Some(Side::E);
-    }
-    None
 }
 
-/// What an If or a Loop becomes in a stream: whether it stands there, whether what is in it is outside of regions, and
-/// whether a message follows it.
+/// What an If or a Loop becomes in a stream: whether it stands there, where what is in it stands, and whether a message
+/// follows it.
 #[derive(Clone, Copy)]
 pub struct Plan {
     pub stands: bool,
-    pub outside: bool,
+    pub zone: Zone,
     pub tells: bool,
 }
 
 /// What a side does of an If or a Loop that stands outside of regions or inside.
-pub fn plan_of(tables: &[Items<Class>], task: Task, outside: bool, statement: &Statement) -> Plan
+pub fn plan_of(tables: &[Items<Class>], task: Task, zone: Zone, statement: &Statement) -> Plan
     ensures stands { result.stands
         ≡ stands_in (is_a task.side)
-        (region outside (classes_of tables.now task.function) (before statement.now Done)) }
-    ensures outside { result.outside
-        ≡ is_outside outside
-        (region outside (classes_of tables.now task.function) (before statement.now Done)) }
+        (region (lies_outside zone) (classes_of tables.now task.function)
+        (before statement.now Done)) }
+    ensures outside { lies_outside result.zone
+        ≡ is_outside (lies_outside zone)
+        (region (lies_outside zone) (classes_of tables.now task.function)
+        (before statement.now Done)) }
     ensures tells { result.tells
         ≡ tells_in
-        (region outside (classes_of tables.now task.function) (before statement.now Done))
-        (before statement.now Done) }
+        (region (lies_outside zone) (classes_of tables.now task.function)
+        (before statement.now Done)) (before statement.now Done) }
 {
-    match region(tables, task.function, outside, statement) {
+    match region(tables, task.function, zone, statement) {
         None => Plan {
             stands: true,
-            outside,
+            zone,
             tells: false,
         },
         Some(Side::A) => Plan {
             stands: matches!(task.side, Side::A),
-            outside: false,
+            zone: Zone::Region,
             tells: has_loop(statement),
         },
         Some(Side::E) => Plan {
             stands: matches!(task.side, Side::E),
-            outside: false,
+            zone: Zone::Region,
             tells: false,
         },
     }

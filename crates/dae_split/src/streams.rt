@@ -8,7 +8,7 @@ ghost use Rattle.dae_ir.specs.Scope.{IsScoped};
 ghost use Rattle.dae_split.specs.Making.{is_a, CallsFit, AllCallsFit};
 
 use crate::walk::list;
-use crate::work::Task;
+use crate::work::{Task, Zone};
 use dae_base::{Items, Side, Text};
 use dae_ir::{Class, Function, Ir, Pair, Stream, StreamFunction};
 use std::alloc::{AllocError, Global};
@@ -32,7 +32,7 @@ fn split_function(
         functions,
         tables,
         task,
-        true,
+        Zone::Outside,
         function.body.as_slice(),
     )?;
     Ok(StreamFunction {

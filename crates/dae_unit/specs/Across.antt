@@ -66,5 +66,16 @@ same_within_files zero f g behind m n = false
 same_within_files (suc k) f g behind m n =
     shape_across (same_within_files k f g) f g behind (shape_of (tables_of f) m) (shape_of (tables_of g) n)
 
+-- the members of two structures, two structures, and two shapes are the same, as far as so many levels of what they are
+-- made of tell
+abbrev pub members_within : ℕ → FileParts → FileParts → (m n : ℕ) → Bool
+members_within k f g m n = same_members (same_within_files k f g false) f g (members_of (tables_of f) m) (members_of (tables_of g) n)
+
+abbrev pub structures_within : ℕ → FileParts → FileParts → (behind : Bool) → (m n : ℕ) → Bool
+structures_within k f g behind m n = same_structure (same_within_files k f g false) f g behind m n
+
+abbrev pub shapes_within : ℕ → FileParts → FileParts → (behind : Bool) → (x y : Shape) → Bool
+shapes_within k f g behind x y = shape_across (same_within_files k f g) f g behind x y
+
 unfoldable pub same_across : FileParts → FileParts → ℕ → ℕ → Bool
 same_across f g m n = same_within_files (length f.shapes) f g false m n

@@ -6,8 +6,6 @@ pub mod Placing
 pub mod Meanings
 pub mod Identities
 pub mod Later
-pub mod Contents
 pub mod Joining
 pub mod Outlines
-pub mod Joined
 pub mod Parameters

@@ -1,10 +1,10 @@
 // The same type in two files.
 
 ghost use Rattle.std.specs.List.{AllByRecursion};
-ghost use Rattle.std.specs.Prelude.{◌≡◌, ◌&&◌, ℕ, suc, ◌+◌, ◌<◌, ◌≤◌, ◌∷◌, ◌++◌, [], IfOk, MatchOption, OnOk, length, filter, option_copied, slice_get, is_some, false};
+ghost use Rattle.std.specs.Prelude.{◌≡◌, ◌&&◌, ℕ, suc, ◌+◌, ◌<◌, ◌≤◌, ◌∷◌, ◌++◌, [], IfOk, MatchOption, OnOk, length, filter, option_copied, slice_get, is_some};
 ghost use Rattle.dae_types_kinds.specs.Types.{counts_agree, layout_of, shape_of};
-ghost use Rattle.dae_types_typed.specs.Sound.{bytes_of, is_member_of, members_of, tables_of};
-ghost use Rattle.dae_unit.specs.Across.{same_tag, tag_of, same_members, same_structure, same_plain, shape_across, same_within_files, same_across};
+ghost use Rattle.dae_types_typed.specs.Sound.{bytes_of, is_member_of, tables_of};
+ghost use Rattle.dae_unit.specs.Across.{same_tag, tag_of, members_within, structures_within, shapes_within, same_plain, same_within_files, same_across};
 ghost use Rattle.dae_unit.specs.Couples.{AreEnclosed, AreKnown, IsFound, IsNotedOther, agree_within, all_agree, all_hold, cost, depth_of, goals_at, goes_on, shape_in, weight};
 ghost use Rattle.dae_unit.specs.declared.couples.Task.TheVariants.{Compare};
 
@@ -166,9 +166,7 @@ fn push_members(
     ensures same { IfOk result
         (λ agree. (k : ℕ) → (agree && all_agree k f.now g.now parts.new.items)
         ≡ (all_agree k f.now g.now parts.old.items
-        && same_members (same_within_files k f.now g.now false) f.now g.now
-        (members_of (tables_of f.now) structures.0)
-        (members_of (tables_of g.now) structures.1))) }
+        && members_within k f.now g.now structures.0 structures.1)) }
     ensures few { OnOk result
         (length parts.new.items ≤ length parts.old.items + length f.now.components) }
 {
@@ -202,8 +200,7 @@ fn push_structures(
     ensures same { IfOk result
         (λ agree. (k : ℕ) → (agree && all_agree k f.now g.now parts.new.items)
         ≡ (all_agree k f.now g.now parts.old.items
-        && same_structure (same_within_files k f.now g.now false) f.now g.now behind
-        structures.0 structures.1)) }
+        && structures_within k f.now g.now behind structures.0 structures.1)) }
     ensures few { OnOk result
         (length parts.new.items ≤ length parts.old.items + length f.now.components) }
 {
@@ -231,7 +228,7 @@ fn push_shapes(
     ensures same { IfOk result
         (λ agree. (k : ℕ) → (agree && all_agree k f.now g.now parts.new.items)
         ≡ (all_agree k f.now g.now parts.old.items
-        && shape_across (same_within_files k f.now g.now) f.now g.now behind shapes.0 shapes.1)) }
+        && shapes_within k f.now g.now behind shapes.0 shapes.1)) }
     ensures few { OnOk result
         (length parts.new.items ≤ length parts.old.items + (length f.now.components + 2)) }
 {

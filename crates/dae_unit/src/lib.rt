@@ -1,24 +1,26 @@
-// Several typed files joined to one program: which sets of files join, where their objects and literals stand, and what the
-// numbers of each file mean (C90 5.1.1.1, 6.1.2.2 and 6.7).
+// Which sets of typed files join to one program, and the first cause why others don't: what their objects and functions
+// are to each other, and whether their types are the same (C90 5.1.1.1, 6.1.2.2, 6.1.2.6 and 6.7).
 #![tactic(auto)]
 
+pub use across::shape_of;
+pub use causes::cause_by;
+pub use clashes::{is_main, type_in};
 pub use errors::{Clash, JoinError};
-pub use joining::{ProgramParts, join_parts};
+pub use givers::add_identity;
+pub use identities::Identity;
 pub use laws::outlines_tell_causes;
-pub use rows::FileRow;
+pub use linkage::{external_name, refers, same_name};
+pub use numbers::{NumberedRows, number_of, numbers_of};
+pub use rows::{FileRow, rows_of};
 
 mod across;
 mod causes;
 mod clashes;
-mod contents;
 mod couples;
 mod errors;
 mod givers;
 mod identities;
-mod joining;
 mod laws;
 mod linkage;
-mod meanings;
 mod numbers;
-mod placing;
 mod rows;

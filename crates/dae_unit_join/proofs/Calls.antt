@@ -24,7 +24,7 @@ use Rattle.dae_unit.specs.declared.rows.FileRow.{FileRow}
 use Rattle.dae_unit.specs.Across.{same_across}
 use Rattle.dae_unit.specs.Linkage.{entity_of, refers, is_one, external_name, rows_of}
 use Rattle.dae_unit.specs.Meanings.{body_row, bodies_of, functions_from, function_number, number_from, links_of}
-use Rattle.dae_unit.specs.Joined.{placed_in, places_in}
+use Rattle.dae_unit_join.specs.Joined.{placed_in, places_in}
 use Rattle.dae_unit_join.proofs.Among.{Among, among_any, all_among, passes_among}
 use Rattle.dae_unit_join.proofs.Bodies.{paired, paired_at, has_body, routine_among, body_named, routine_defined, HasDeclaration, declared_routine}
 use Rattle.dae_unit_join.proofs.Causes.{HasNoCause}

@@ -7,7 +7,7 @@ use Rattle.dae_program.specs.declared.program.Links.{Links}
 use Rattle.dae_program.specs.declared.statements.Setting.{Setting}
 use Rattle.dae_types_typed.specs.declared.files.Datum.{Datum}
 use Rattle.dae_types_typed.specs.declared.files.FileParts.{FileParts}
-use Rattle.dae_unit.specs.Contents.{word_of, set_at, set_all, objects_set, addresses_in, files_set, literals_behind, all_behind, content_of}
+use Rattle.dae_unit_join.specs.Contents.{word_of, set_at, set_all, objects_set, addresses_in, files_set, literals_behind, all_behind, content_of}
 use Rattle.dae_unit.specs.Placing.{first_place}
 use Rattle.dae_unit_join.proofs.Rooms.{literals_bytes, files_bytes}
 

@@ -5,7 +5,7 @@ use Rattle.dae_base.proofs.Laws.{all_by_place}
 use Rattle.dae_program.specs.Resolved.{address_in}
 use Rattle.dae_types_typed.specs.Sound.{IsSound}
 use Rattle.dae_unit.specs.Meanings.{bodies_of, links_of}
-use Rattle.dae_unit.specs.Joined.{placed_in, places_in}
+use Rattle.dae_unit_join.specs.Joined.{placed_in, places_in}
 use Rattle.dae_unit_join.specs.Promise.{HaveParameters, JoinedHaveParameters}
 use Rattle.dae_unit_join.proofs.Causes.{no_cause}
 use Rattle.dae_unit_join.proofs.Room.{have_room}

@@ -17,3 +17,7 @@ mod Calls
 mod Sound
 mod Counts
 pub mod Whole
+pub mod Behind
+mod Counted
+mod Examples
+mod Small

@@ -19,7 +19,7 @@ use Rattle.dae_unit.specs.Across.{same_across}
 use Rattle.dae_unit.specs.Linkage.{entity_of, is_one, rows_of}
 use Rattle.dae_unit.specs.Placing.{is_same, layout_of_row, rooms_of, end_from, data_end, frames_begin}
 use Rattle.dae_unit.specs.Meanings.{number_from, object_place, bodies_of, links_in, links_of}
-use Rattle.dae_unit.specs.Joined.{placed_in, places_in}
+use Rattle.dae_unit_join.specs.Joined.{placed_in, places_in}
 use Rattle.dae_unit_join.proofs.Among.{any_among, among_any, all_among, among_get}
 use Rattle.dae_unit_join.proofs.Causes.{HasNoCause}
 use Rattle.dae_unit_join.proofs.Layouts.{AreAlike, alike, types_alike, incomplete_empty}

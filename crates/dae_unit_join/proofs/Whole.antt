@@ -17,14 +17,14 @@ use Rattle.dae_types_typed.specs.declared.files.FileParts.{FileParts}
 use Rattle.dae_types_typed.specs.declared.files.TypedFunction.{TypedFunction}
 use Rattle.dae_types_typed.specs.Linkage.{is_reference, same_name}
 use Rattle.dae_types_typed.specs.Sound.{tables_of, is_called_main, is_sound_function, is_ready_function, function_at, IsSound}
-use Rattle.dae_unit.specs.declared.joining.ProgramParts.{ProgramParts}
+use Rattle.dae_unit_join.specs.declared.parts.ProgramParts.{ProgramParts}
 use Rattle.dae_unit.specs.declared.rows.FileRow.{FileRow}
 use Rattle.dae_unit.specs.Linkage.{entity_of, is_definition, external_name, rows_of}
 use Rattle.dae_unit.specs.Clashes.{is_main}
-use Rattle.dae_unit.specs.Contents.{content_of}
+use Rattle.dae_unit_join.specs.Contents.{content_of}
 use Rattle.dae_unit.specs.Meanings.{body_row, bodies_of, function_of, functions_from, main_from, links_of}
 use Rattle.dae_unit.specs.Placing.{rooms_of, end_from, frames_begin}
-use Rattle.dae_unit.specs.Joined.{placed_in, places_in, objects_end, Joins}
+use Rattle.dae_unit_join.specs.Joined.{placed_in, places_in, objects_end, Joins}
 use Rattle.dae_unit_join.specs.Promise.{IsLawful}
 use Rattle.dae_unit_join.proofs.Among.{Among, any_among, among_any, all_among, passes_among}
 use Rattle.dae_unit_join.proofs.Bodies.{IsBody, ArePaired, paired, paired_at, has_body}

@@ -1,1 +1,3 @@
+pub mod Contents
+pub mod Joined
 pub mod Promise

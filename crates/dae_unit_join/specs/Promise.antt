@@ -6,8 +6,8 @@ use Rattle.dae_program.specs.Lawful.{is_lawful}
 use Rattle.dae_types_typed.specs.declared.files.FileParts.{FileParts}
 use Rattle.dae_types_typed.specs.Sound.{IsSound}
 use Rattle.dae_unit.specs.Parameters.{HasParameters}
-use Rattle.dae_unit.specs.declared.joining.ProgramParts.{ProgramParts}
-use Rattle.dae_unit.specs.Joined.{Joins}
+use Rattle.dae_unit_join.specs.declared.parts.ProgramParts.{ProgramParts}
+use Rattle.dae_unit_join.specs.Joined.{Joins}
 
 abbrev pub IsLawful : (memory : ℕ) → ProgramParts → Type 0
 IsLawful memory p = is_lawful memory p.frames p.content p.links p.functions p.main ≡ true

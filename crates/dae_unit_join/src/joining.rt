@@ -3,13 +3,14 @@
 ghost use Rattle.std.specs.Prelude.{◌≤◌, ◌^◌, IfOk, IfErr};
 ghost use Rattle.std.specs.List.{All, AllByRecursion};
 ghost use Rattle.dae_types_typed.specs.Sound.{IsSound};
-ghost use Rattle.dae_unit.specs.Joined.{IsRefused};
+ghost use Rattle.dae_unit_join.specs.Joined.{IsRefused};
 ghost use Rattle.dae_unit_join.specs.Promise.{HaveParameters, IsJoinedTo};
 
 use crate::joined_have_parameters;
+use crate::parts::join_parts;
 use dae_program::Program;
 use dae_types_typed::TypedFile;
-use dae_unit::{JoinError, join_parts};
+use dae_unit::JoinError;
 use std::alloc::Global;
 
 // No file has a broken rule.

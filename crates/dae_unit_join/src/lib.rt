@@ -1,9 +1,14 @@
-// Several typed files joined to one program that is lawful (C90 5.1.1.1, 6.1.2.2 and 6.7).
+// Several typed files joined to one program that is lawful: where their objects and literals stand, what the numbers of each
+// file mean, and what the memory holds (C90 5.1.1.1, 6.1.2.2 and 6.7).
 #![tactic(auto)]
 
 pub use joining::join;
 
+mod contents;
 mod joining;
+mod meanings;
+mod parts;
+mod placing;
 
 ghost use Rattle.dae_unit_join.specs.Promise.{JoinedHaveParameters, JoinedIsLawful};
 

@@ -1,5 +1,5 @@
 use Rattle.std.proofs.Common.{sym, subst}
-use Rattle.dae_guard_walk.specs.Spots.{IsProper}
+use Rattle.dae_guard.specs.Kept.{IsProper}
 use Rattle.dae_guard_walk.proofs.ProperLaws.{proper_replicate, proper_zero}
 use Rattle.dae_guard_walk.proofs.guarding.opened_side.Goals as goal
 

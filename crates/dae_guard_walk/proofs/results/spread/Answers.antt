@@ -3,7 +3,7 @@ use Rattle.std.proofs.lemmas.Int.{to_z-of_z}
 use mir.Val.{SFits}
 use mir.Syntax.{w32}
 use Rattle.dae_base.specs.Words.{word}
-use Rattle.dae_guard_walk.specs.Spots.{IsProper}
+use Rattle.dae_guard.specs.Kept.{IsProper}
 use Rattle.dae_guard_walk.proofs.ProperLaws.{proper_any}
 use Rattle.dae_guard_walk.proofs.ResultLaws.{addi_by, slli_by, andi_by, spread_addi, spread_add, spread_slli, spread_andi, spread_jalr, spread_other}
 use Rattle.dae_guard_walk.proofs.results.spread.Goals as goal

@@ -2,7 +2,7 @@ use Rattle.std.proofs.Common.{◌≡◌, ◌∙◌, sym, ap}
 use Rattle.std.proofs.lemmas.List.Folds.{list_any_at}
 use Rattle.dae_guard.specs.Nodes.{covers}
 use Rattle.dae_guard_walk.specs.Spots.{node_of}
-use Rattle.dae_guard_walk.proofs.SlotLaws.{any_more_at}
+use Rattle.dae_guard.proofs.LawsOfSlots.{any_more_at}
 use Rattle.dae_guard_walk.proofs.WalkLaws.{none_of_all}
 use Rattle.dae_guard_walk.proofs.walking.any_covers.Goals as goal
 

@@ -3,7 +3,8 @@ use Rattle.std.specs.List.{All}
 use Rattle.std.proofs.lemmas.List.Elements.{All-push}
 use Rattle.dae_guard.specs.Walk.{terms_of}
 use Rattle.dae_guard.specs.Moves.{next_nodes}
-use Rattle.dae_guard_walk.specs.Spots.{Holds, IsMade, node_of, nodes_of, served, waiting_of}
+use Rattle.dae_guard.specs.Kept.{IsMade, served, waiting_of}
+use Rattle.dae_guard_walk.specs.Spots.{Holds, node_of, nodes_of}
 use Rattle.dae_guard_walk.specs.Steps.{stepped}
 use Rattle.dae_guard_walk.proofs.WalkLaws.{goes_so, next_served, next_steps, nodes_more, with_waiting}
 use Rattle.dae_guard_walk.proofs.walking.go_on.Goals as goal

@@ -8,6 +8,7 @@ use Rattle.dae_ir.specs.declared.form.Operand.TheVariants.{Number}
 use Rattle.dae_lower.specs.Lowering.{checks, closed, emit, parameters_stored, statements, ◌≫◌}
 use Rattle.dae_lower_expressions.specs.Lowered.{Whole, links_in, state_of}
 use Rattle.dae_lower_forms.proofs.Wholes.{code_closed, parts_written}
+use Rattle.dae_lower_forms.specs.Invocations.{at_startup}
 use Rattle.dae_program.specs.Views.{view_statements}
 use Rattle.dae_program.specs.declared.program.Slot.{Slot}
 use Rattle.dae_program.specs.declared.statements.Statement.{Statement}
@@ -17,7 +18,7 @@ pub returns : goal.returns
 returns c =
     let f = c.args.f.now in
     let l = links_in c.args.none c.args.links.now in
-    let flag = c.args.is_main && not (nat_eq f.frame 0) in
+    let flag = at_startup c.args.invocation && not (nat_eq f.frame 0) in
     let first = parameters_stored f.place f.parameters 1 in
     let second = statements l (view_statements f.body) in
     let a = state_of c.new-lowerer.result in
@@ -34,6 +35,6 @@ returns c =
       variables = c.next-variables.ensures ∙ w.next;
       frame = refl;
       body = ap form_of c.from_vec.ensures
-          ∙ code_closed f.place flag (if c.args.is_main then Halt (Number 0) else Return (Number 0)) (λ (n : ℕ). first n ≫ λ x. second) f.variables e (form_of c.into_statements.result.items) (form_of c.in_ok-body.body.items) w c.into_statements.ensures
+          ∙ code_closed f.place flag (if at_startup c.args.invocation then Halt (Number 0) else Return (Number 0)) (λ (n : ℕ). first n ≫ λ x. second) f.variables e (form_of c.into_statements.result.items) (form_of c.in_ok-body.body.items) w c.into_statements.ensures
           (subst (λ (item : Item). form_of c.in_ok-body.body.items ≡ closed f.place item (form_of c.into_statements.result.items)) c.end_of.ensures c.in_ok-body.ensures);
     }

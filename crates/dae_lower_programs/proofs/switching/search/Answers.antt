@@ -4,10 +4,10 @@ use Rattle.dae_lower_programs.proofs.Searching.{Asks, all_searched, first_search
 use Rattle.dae_lower_programs.proofs.switching.search.Goals as goal
 
 pub loop-arm-init : goal.loop-arm-init
-loop-arm-init c = first_searched c.args.place c.args.x c.args.v c.args.arms.now c.new-block.result.items c.new-block.ensures.items
+loop-arm-init c = first_searched c.args.dispatch.place c.args.dispatch.value c.args.dispatch.arm c.args.arms.now c.new-block.result.items c.new-block.ensures.items
 
 pub loop-arm-preserved : goal.loop-arm-preserved
-loop-arm-preserved c = next_searched c.args.place c.args.x c.args.v c.args.arms.now c.loop-arm.arm-index c.loop-arm.number _ (form_of c.loop-arm.block.items) (form_of c.search_labels.new.block.items) c.arm-item.result c.loop-arm-test.true c.arm-item.is c.in_ok-number.ensures c.loop-arm.invariant (subst (λ (labels : List (Option ℕ)). Asks c.args.place c.args.x c.args.v c.loop-arm.number labels (form_of c.loop-arm.block.items) (form_of c.search_labels.new.block.items)) c.deref.ensures.value c.in_ok-search_labels.ensures)
+loop-arm-preserved c = next_searched c.args.dispatch.place c.args.dispatch.value c.args.dispatch.arm c.args.arms.now c.loop-arm.arm-index c.loop-arm.number _ (form_of c.loop-arm.block.items) (form_of c.search_labels.new.block.items) c.arm-item.result c.loop-arm-test.true c.arm-item.is c.in_ok-number.ensures c.loop-arm.invariant (subst (λ (labels : List (Option ℕ)). Asks c.args.dispatch.place c.args.dispatch.value c.args.dispatch.arm c.loop-arm.number labels (form_of c.loop-arm.block.items) (form_of c.search_labels.new.block.items)) c.deref.ensures.value c.in_ok-search_labels.ensures)
 
 pub returns : goal.returns
-returns c = all_searched c.args.place c.args.x c.args.v c.args.arms.now c.loop-arm.arm-index c.loop-arm.number c.loop-arm.block.items c.push.new.self.items c.loop-arm-test.false c.in_ok-push.ensures.items c.loop-arm.invariant
+returns c = all_searched c.args.dispatch.place c.args.dispatch.value c.args.dispatch.arm c.args.arms.now c.loop-arm.arm-index c.loop-arm.number c.loop-arm.block.items c.push.new.self.items c.loop-arm-test.false c.in_ok-push.ensures.items c.loop-arm.invariant

@@ -19,7 +19,7 @@ use Rattle.dae_lower_expressions.specs.declared.leaves.Part.TheVariants.{Value, 
 use Rattle.dae_lower_maker.specs.Making.{called_with, spot_of, so_far}
 use Rattle.dae_lower_maker.proofs.Laws.{item_given, nothing_written, written_on}
 use Rattle.dae_program.specs.Resolved.{address_in, callee_in}
-use Rattle.dae_program.specs.Views.{view, view_target, view_expressions}
+use Rattle.dae_program.specs.Views.{is_prefix, view, view_target, view_expressions}
 use Rattle.dae_lower_expressions.proofs.lowerer.Lowerer.+lower.Goals as goal
 
 pub value-returns-in-Number : goal.value-returns-in-Number
@@ -36,7 +36,7 @@ value-returns-in_ok-x-in-Frame t c =
 
 pub value-returns-in_ok-x-in-Variable : goal.value-returns-in_ok-x-in-Variable
 value-returns-in_ok-x-in-Variable t c =
-    rw (c.in-Variable.is) (leaf_lowered (λ later. variable (later c.in-Variable.v) c.in-Variable.place c.in-Variable.v) _ _ _ refl (rw (c.has-flag.ensures) at (c.in_ok-x-in-Variable.ensures)))
+    rw (c.in-Variable.is) (leaf_lowered (λ later. variable (later c.in-Variable.v) c.in-Variable.place c.in-Variable.v) _ _ _ refl c.in_ok-x-in-Variable.ensures)
 
 pub value-returns-in_ok-z-in-Read : goal.value-returns-in_ok-z-in-Read
 value-returns-in_ok-z-in-Read t c =
@@ -58,7 +58,7 @@ value-returns-in_ok-z-in-Binary t c =
 pub value-returns-in_ok-z-in-Compare : goal.value-returns-in_ok-z-in-Compare
 value-returns-in_ok-z-in-Compare t c =
     rw (c.in-Compare.is, ← c.deref-in-Compare.ensures, ← c.deref-in-Compare-2.ensures) (both_lowered (ways (links_in c.args.none c.args.links.now) (view c.deref-in-Compare.result.now)).value (λ x later n. (ways (links_in c.args.none c.args.links.now) (view c.deref-in-Compare-2.result.now)).value later n ≫ (λ y. set c.in-Compare.place (Holds (related c.in-Compare.comparison c.in-Compare.turned x y)))) _ _ (assigned (view c.deref-in-Compare-2.result.now)) _ _ _ _ _ (assigned_told (view c.deref-in-Compare-2.result.now)) c.in_ok-x-in-Compare.ensures
-    (then_lowered (ways (links_in c.args.none c.args.links.now) (view c.deref-in-Compare-2.result.now)).value ((λ y. set c.in-Compare.place (Holds (related c.in-Compare.comparison c.in-Compare.turned c.in_ok-x-in-Compare.x y)))) _ _ _ _ _ _ c.in_ok-y-in-Compare.ensures refl c.in_ok-z-in-Compare.ensures))
+    (then_lowered (ways (links_in c.args.none c.args.links.now) (view c.deref-in-Compare-2.result.now)).value ((λ y. set c.in-Compare.place (Holds (related c.in-Compare.comparison c.in-Compare.turned c.in_ok-x-in-Compare.x y)))) _ _ _ _ _ _ c.in_ok-y-in-Compare.ensures refl (rw (c.related-test.ensures) at (c.in_ok-z-in-Compare.ensures))))
 
 pub value-returns-in_ok-branch-in-And : goal.value-returns-in_ok-branch-in-And
 value-returns-in_ok-branch-in-And t c =
@@ -87,7 +87,7 @@ value-returns-in_ok-z-in-Assign t c =
 
 pub value-returns-in_ok-z-in-Update : goal.value-returns-in_ok-z-in-Update
 value-returns-in_ok-z-in-Update t c =
-    rw (c.in-Update.is, ← c.deref-in-Update.ensures) (update_lowered (links_in c.args.none c.args.links.now) c.in-Update.place c.in-Update.kind (view_target c.in-Update.t) c.in-Update.operator (view c.deref-in-Update.result.now) _ _ _ _ _ _ _ _ _ _ c.in_ok-spot-in-Update.ensures c.is_copied-flag.ensures refl c.in_ok-x-in-Update.ensures c.in_ok-y-in-Update.ensures refl c.in_ok-z-in-Update.ensures)
+    rw (c.in-Update.is, ← c.deref-in-Update.ensures) (update_lowered (links_in c.args.none c.args.links.now) c.in-Update.place c.in-Update.kind (view_target c.in-Update.t) c.in-Update.operator (view c.deref-in-Update.result.now) _ _ _ _ _ _ _ _ _ c.in_ok-spot-in-Update.ensures refl c.in_ok-x-in-Update.ensures c.in_ok-y-in-Update.ensures refl c.in_ok-z-in-Update.ensures)
 
 pub value-returns-in_ok-z-in-Step : goal.value-returns-in_ok-z-in-Step
 value-returns-in_ok-z-in-Step t c =
@@ -285,7 +285,7 @@ spot-returns-in_ok-x-in-Object t c =
 
 pub step-returns : goal.step-returns
 step-returns t c =
-    step_lowered (links_in c.args.none c.args.links.now) c.args.place c.args.kind (view_target c.args.t.now) c.args.change c.args.new _ _ _ _ _ _ c.in_ok-spot.ensures c.is_kept-flag.ensures refl c.in_ok-z.ensures
+    step_lowered (links_in c.args.none c.args.links.now) c.args.increment.place c.args.increment.kind (view_target c.args.t.now) c.args.increment.change (is_prefix c.args.increment.fixity) _ _ _ _ _ c.in_ok-spot.ensures refl c.in_ok-z.ensures
 
 pub part-returns-in_ok-item-in-Value : goal.part-returns-in_ok-item-in-Value
 part-returns-in_ok-item-in-Value t c =

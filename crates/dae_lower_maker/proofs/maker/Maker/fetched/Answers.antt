@@ -7,4 +7,4 @@ use Rattle.dae_lower_maker.proofs.Rows.{checked_written}
 use Rattle.dae_lower_maker.proofs.maker.Maker.fetched.Goals as goal
 
 pub returns : goal.returns
-returns c = checked_written c.args.checked c.args.place (Expect (Place (width_of c.args.kind) c.args.x)) (λ n. Load n c.args.kind c.args.x) c.args.self.now.next (so_far c.args.self.now) (so_far c.item_if.new.self) (so_far c.load.new.self) _ _ refl (rw (c.width.ensures) at (c.in_ok-item_if.ensures)) c.in_ok-z.ensures
+returns c = checked_written c.args.location.checked c.args.place (Expect (Place (width_of c.args.kind) c.args.location.address)) (λ n. Load n c.args.kind c.args.location.address) c.args.self.now.next (so_far c.args.self.now) (so_far c.check.new.self) (so_far c.load.new.self) _ _ refl c.in_ok-check.ensures c.in_ok-z.ensures

@@ -6,4 +6,4 @@ use Rattle.dae_lower_maker.proofs.Rows.{checked_item}
 use Rattle.dae_lower_maker.proofs.maker.Maker.store.Goals as goal
 
 pub returns : goal.returns
-returns c = checked_item c.args.checked c.args.place (Expect (Place (width_of c.args.kind) c.args.x)) (Store (width_of c.args.kind) c.args.x c.args.y) (so_far c.args.self.now) (so_far c.item_if.new.self) (so_far c.item.new.self) _ _ c.args.y (rw (c.width.ensures) at (c.in_ok-item_if.ensures)) (rw (c.width-2.ensures) at (c.in_ok-item.ensures))
+returns c = checked_item c.args.location.checked c.args.place (Expect (Place (width_of c.args.kind) c.args.location.address)) (Store (width_of c.args.kind) c.args.location.address c.args.y) (so_far c.args.self.now) (so_far c.check.new.self) (so_far c.item.new.self) _ _ c.args.y c.in_ok-check.ensures (rw (c.width.ensures) at (c.in_ok-item.ensures))

@@ -1,7 +1,0 @@
-use Rattle.std.proofs.Common.{◌≡◌, length, []}
-use Rattle.dae_unit.specs.Meanings.{functions_from}
-use Rattle.dae_unit.proofs.meanings.functions_of.Given as goal
-
-abbrev pub invariant-loop-file : goal.invariant-loop-file
-invariant-loop-file l =
-    record { items : l.functions.items ≡ functions_from [] 0 l.yielded; number : l.number ≡ length l.yielded }
