@@ -15,7 +15,7 @@ use crate::lowerer::Lowerer;
 use dae_base::{Items, LoadKind, Place};
 use dae_ir::{Check, Item, Operand, Statement, Value};
 use dae_lower_maker::{Change, Condition, Spot, related};
-use dae_meaning::{Comparison, Operator, Spelling};
+use dae_meaning::{Comparison, Spelling};
 use dae_program::{Expression, Links, Target};
 use std::alloc::AllocError;
 
