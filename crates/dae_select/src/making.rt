@@ -51,10 +51,3 @@ pub struct PlacedBranch {
     pub place: Place,
     pub branch: Branch,
 }
-
-/// A branch, and whether its first list is empty.
-#[derive(Clone, Copy)]
-pub struct Fork {
-    pub branch: Branch,
-    pub empty: bool,
-}

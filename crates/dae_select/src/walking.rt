@@ -18,6 +18,7 @@ ghost use Rattle.dae_select.specs.Growing.{first_test, bottom_of, words_behind, 
 ghost use Rattle.dae_select_walks.specs.declared.Standing.TheVariants.{Settled as IsSettled};
 ghost use Rattle.dae_select.specs.declared.making.PlacedBranch.{PlacedBranch as ATest};
 ghost use Rattle.dae_select.specs.Makings.{plan_by, variables_by, IsSound};
+ghost use Rattle.dae_select_walks.specs.Edges.{is_then};
 ghost use Rattle.dae_select_walks.specs.Homes.{home_in};
 ghost use Rattle.dae_select.specs.Tables.{AreNear};
 
@@ -31,7 +32,7 @@ use crate::counting::is_near;
 use crate::fetching::{home_of, move_code};
 use crate::growing::GrowingCode;
 use crate::jumping::{back_branch, branch_code, jump_back, jump_over, jump_words, past_code};
-use crate::making::{Around, Exits, Fork, Making, Onward, PlacedBranch};
+use crate::making::{Around, Exits, Making, Onward, PlacedBranch};
 use crate::pairing::{late_code, standing_between, taking_code};
 use dae_base::{LoadKind, Place};
 use dae_encode::Inst;
@@ -40,7 +41,7 @@ use dae_select_facts::{
     Known, all_before, facts_at_turn, facts_behind_turn, facts_in_list, facts_past_if, only_leaves,
 };
 use dae_select_live::{LiveSet, live_at_turn, live_before_action, live_with_branch};
-use dae_select_walks::{Home, Need, Standing};
+use dae_select_walks::{Edge, Home, Need, Standing};
 use std::alloc::{AllocError, Global};
 
 /// What is at the front of a queue goes to a variable.
@@ -219,35 +220,54 @@ fn put_past(
     code.put_before(block.as_slice())
 }
 
-/// The block of a branch: to the last `behind` words, over a first list. Where that is empty, to the last `rest` words, over
-/// the second one.
-fn put_branch(
+/// The block of a branch that goes on to the last `end` words along an edge.
+fn put_branch_along(
     code: &mut GrowingCode,
     making: &Making,
-    place: Place,
-    fork: Fork,
-    rest: usize,
-    behind: usize,
+    test: PlacedBranch,
+    edge: Edge,
+    end: usize,
 ) -> Result<(), AllocError>
     requires { IsSound making.now }
     ensures { OnOk result (code.new
-        ≡ in_front (acting place (branch_code (home_in making.now.homes.now) making.now.short
-        fork.branch fork.empty (length code.old.code - (if fork.empty then rest else behind))))
-        code.old) }
+        ≡ in_front (acting test.place (branch_code (home_in making.now.homes.now) making.now.short
+        test.branch (is_then edge) (length code.old.code - end))) code.old) }
 {
     let mut block = Vec::new(making.alloc);
-    let end = if fork.empty { rest } else { behind };
     let words = code.len().saturating_sub(end);
     let short = making.short;
     branch_code(
         &mut block,
         making.homes,
         short,
-        fork.branch,
-        fork.empty,
+        test.branch,
+        edge,
         words as u64,
     )?;
-    code.put_action(place, block.as_slice())
+    code.put_action(test.place, block.as_slice())
+}
+
+/// The block of a branch: to the last `behind` words, over a first list. Where that is empty, to the last `rest` words, over
+/// the second one.
+fn put_branch(
+    code: &mut GrowingCode,
+    making: &Making,
+    test: PlacedBranch,
+    first: &[Step],
+    rest: usize,
+    behind: usize,
+) -> Result<(), AllocError>
+    requires { IsSound making.now }
+    ensures { OnOk result (code.new
+        ≡ in_front (acting test.place (branch_code (home_in making.now.homes.now) making.now.short
+        test.branch (does_nothing (actions_of first.now)) (length code.old.code
+        - (if does_nothing (actions_of first.now) then rest else behind)))) code.old) }
+{
+    if does_nothing(first) {
+        put_branch_along(code, making, test, Edge::Then, rest)
+    } else {
+        put_branch_along(code, making, test, Edge::Else, behind)
+    }
 }
 
 fn is_told(branch: Branch) -> bool
@@ -317,7 +337,7 @@ fn words_behind(making: &Making, test: Option<PlacedBranch>) -> Result<u64, Allo
     match test {
         None => Ok(u64::from(jump_words(making.short))),
         Some(test) => {
-            let block = back_branch(making.alloc, making.homes, test.branch, true, 0)?;
+            let block = back_branch(making.alloc, making.homes, test.branch, 0)?;
             Ok(block.len() as u64)
         }
     }
@@ -401,7 +421,7 @@ fn put_bottom_loop(
         ≡ turned (home_in making.now.homes.now) making.now.short (Some test) body step code.old) }
 {
     let words = body.len() as u64 + step.len() as u64;
-    let block = back_branch(making.alloc, making.homes, test.branch, true, words)?;
+    let block = back_branch(making.alloc, making.homes, test.branch, words)?;
     code.put_action(test.place, block.as_slice())?;
     code.put_code(step)?;
     code.put_code(body)?;
@@ -513,17 +533,17 @@ fn step_code(
         }
         Step::If(mark, branch, p, q) => {
             let rest = code.len();
-            let in_second = facts_in_list(making.alloc, *branch, false, around.known)?;
+            let in_second = facts_in_list(making.alloc, *branch, Edge::Else, around.known)?;
             let second = list_code(code, making, in_second, q, next.copy(making.alloc)?, exits)?;
             let behind = code.len();
             put_past(code, making, p, q, rest)?;
-            let in_first = facts_in_list(making.alloc, *branch, true, around.known)?;
+            let in_first = facts_in_list(making.alloc, *branch, Edge::Then, around.known)?;
             let first = list_code(code, making, in_first, p, next, exits)?;
-            let fork = Fork {
+            let test = PlacedBranch {
+                place: mark.place,
                 branch: *branch,
-                empty: does_nothing(p),
             };
-            put_branch(code, making, mark.place, fork, rest, behind)?;
+            put_branch(code, making, test, p, rest, behind)?;
             live_with_branch(*branch, first, &second)
         }
         Step::Loop(_, body, step) => {
@@ -534,12 +554,11 @@ fn step_code(
             let mut again = GrowingCode::new(making.alloc);
             let set = turn.copy(making.alloc)?;
             let facts = loop_facts(making, body, step, test, around.known)?;
-            let at_step = facts.at_step;
+            let LoopFacts { at_step, in_tail } = facts;
             let step_live = list_code(&mut again, making, at_step, step, set, &step_exits)?;
             let body_exits = exits_of_body(making, next, &step_live, again.len(), words)?;
             let mut turned = GrowingCode::new(making.alloc);
             let tail = behind_test(body, test);
-            let in_tail = facts.in_tail;
             list_code(&mut turned, making, in_tail, tail, step_live, &body_exits)?;
             put_loop(code, making, test, turned, again)?;
             Ok(turn)

@@ -1,4 +1,4 @@
-use Rattle.std.proofs.Common.{◌≡◌, ℕ, suc, sym, ◌+◌, ◌-◌, ◌*◌, ◌<◌, Bool, ◌||◌, List, length, refl, ap, ◌∙◌, subst, arith}
+use Rattle.std.proofs.Common.{◌≡◌, ℕ, suc, sym, ◌+◌, ◌-◌, ◌*◌, ◌<◌, ◌||◌, List, length, refl, ap, ◌∙◌, subst, arith}
 use Rattle.std.specs.Prelude.{Option, is_some, drop, if◌then◌else◌}
 use Rattle.std.proofs.lemmas.Result.{IfOk-weaker}
 use Rattle.dae_ir.specs.Streams.{actions_of}
@@ -113,10 +113,9 @@ step_code-returns-in_ok-put_branch-in-If t c =
     let past : List Step → List Step → ℕ → Grown = λ y z n. in_front (glue (past_code S (does_nothing (actions_of y) || does_nothing (actions_of z)) (length c1.code - n))) c1 in
     let e2 = c.in_ok-put_past-in-If.ensures ∙ ap (λ (y : List Step). past y c.deref-in-If-2.result.now c.len-rest.result) c.deref-in-If.ensures.value ∙ ap (λ (z : List Step). past i.p.items z c.len-rest.result) c.deref-in-If-2.ensures.value
     ∙ ap (λ (n : ℕ). past i.p.items i.q.items n) c.len-rest.ensures in
-    let none = c.does_nothing.ensures ∙ ap (λ (l : List Step). does_nothing (actions_of l)) c.deref-in-If-4.ensures.value in
-    let led : (ℕ → Home) → Bool → ℕ → ℕ → Grown = λ home y n o. in_front (acting i.mark.place (branch_code home S i.branch y (length c3.code - (if y then n else o)))) c3 in
-    let e4 = c.in_ok-put_branch-in-If.ensures ∙ ap (λ (home : ℕ → Home). led home c.does_nothing.result c.len-rest.result c.len-behind.result) c.requires.sound.homes ∙ ap (λ (y : Bool). led (P.home f) y c.len-rest.result c.len-behind.result) none
-    ∙ ap (λ (n : ℕ). led (P.home f) (does_nothing (actions_of i.p.items)) n c.len-behind.result) c.len-rest.ensures ∙ ap (λ (n : ℕ). led (P.home f) (does_nothing (actions_of i.p.items)) (length a.code.now.code) n) c.len-behind.ensures in
+    let led : (ℕ → Home) → List Step → ℕ → ℕ → Grown = λ home l n o. in_front (acting i.mark.place (branch_code home S i.branch (does_nothing (actions_of l)) (length c3.code - (if does_nothing (actions_of l) then n else o)))) c3 in
+    let e4 = c.in_ok-put_branch-in-If.ensures ∙ ap (λ (home : ℕ → Home). led home c.deref-in-If-4.result.now c.len-rest.result c.len-behind.result) c.requires.sound.homes ∙ ap (λ (l : List Step). led (P.home f) l c.len-rest.result c.len-behind.result) c.deref-in-If-4.ensures.value
+    ∙ ap (λ (n : ℕ). led (P.home f) i.p.items n c.len-behind.result) c.len-rest.ensures ∙ ap (λ (n : ℕ). led (P.home f) i.p.items (length a.code.now.code) n) c.len-behind.ensures in
     IfOk-weaker c.live_with_branch.result _ _ (λ set h. branched S P V f x a.around.now.need (facts_by a.around.now.known.now) a.around.now.before a.around.now.after a.step.now i.mark i.branch i.p i.q a.code.now a.next set first second c1 c2 c3 c.put_branch.new.code i.is q' e2 p e4 h) c.live_with_branch.ensures
 
 pub list_code-index-told-requires : goal.list_code-index-told-requires
