@@ -4,4 +4,5 @@ pub mod Growing
 pub mod Grown
 pub mod Counting
 pub mod Fronts
+pub mod Jumps
 pub mod Makings

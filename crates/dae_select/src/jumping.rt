@@ -4,8 +4,9 @@ ghost use Rattle.std.specs.Prelude.{◌≡◌, ℕ, ◌+◌, ◌*◌, ◌++◌, 
 ghost use Rattle.dae_encode.specs.declared.Inst.TheVariants.{Jal};
 ghost use Rattle.dae_select_blocks.specs.Blocks.{near_offset, jump_by, jump_words, jump_over, jump_back, enter_code};
 ghost use Rattle.dae_select_blocks.specs.Blocks.{source, against_zero, immediate_of, branch_inst, opposite, one_way, goes_code, back_offset};
-ghost use Rattle.dae_select_blocks.specs.Code.{past_code, told_by, branch_by, branch_code, back_branch};
+ghost use Rattle.dae_select_blocks.specs.Code.{told_by, branch_by, branch_code, back_branch};
 ghost use Rattle.dae_select.specs.Fronts.{IsFront};
+ghost use Rattle.dae_select.specs.Jumps.{is_jal};
 ghost use Rattle.dae_select_walks.specs.Edges.{is_then};
 ghost use Rattle.dae_select_walks.specs.Homes.{home_in};
 ghost use Rattle.dae_select.specs.Tables.{AreNear};
@@ -47,54 +48,58 @@ fn jump_near(code: &mut Vec<Inst>, bytes: u32) -> Result<(), AllocError>
     code.extend_from_slice(&[Inst::Jal(0, near_offset(bytes))])
 }
 
+/// The form of the jumps within a function: JAL alone, which reaches 2 ^ 18 words either way, or AUIPC and JALR, which reach all.
+#[derive(Clone, Copy)]
+pub enum JumpForm {
+    Near,
+    Far,
+}
+
 /// The words of a jump within a function.
-pub fn jump_words(short: bool) -> u8
-    ensures words { result ≡ jump_words short }
+pub fn jump_words(form: JumpForm) -> u8
+    ensures words { result ≡ jump_words (is_jal form) }
     ensures few { result ≤ 2 }
 {
-    if short { 1 } else { 2 }
+    match form {
+        JumpForm::Near => 1,
+        JumpForm::Far => 2,
+    }
 }
 
 /// A jump over so many words and so many more.
 #[tactic(auto, using(crate::proofs::Distances::jump_of, crate::proofs::Distances::near_of))]
-pub fn jump_over(code: &mut Vec<Inst>, short: bool, words: u64, more: u64) -> Result<(), AllocError>
-    ensures { OnOk result (code.new.items ≡ code.old.items ++ jump_over short (words + more)) }
+pub fn jump_over(
+    code: &mut Vec<Inst>,
+    form: JumpForm,
+    words: u64,
+    more: u64,
+) -> Result<(), AllocError>
+    ensures { OnOk result (code.new.items ≡ code.old.items
+        ++ jump_over (is_jal form) (words + more)) }
 {
     let distance = words % WORDS + more % WORDS;
-    if short {
-        jump_near(code, 4 * ((distance + 1) % WORDS) as u32)
-    } else {
-        jump_by(code, 4 * ((distance + 2) % WORDS) as u32)
+    match form {
+        JumpForm::Near => jump_near(code, 4 * ((distance + 1) % WORDS) as u32),
+        JumpForm::Far => jump_by(code, 4 * ((distance + 2) % WORDS) as u32),
     }
 }
 
 /// A jump back by so many words and so many more.
 #[tactic(auto, using(crate::proofs::Distances::jump_of, crate::proofs::Distances::near_of))]
-pub fn jump_back(code: &mut Vec<Inst>, short: bool, words: u64, more: u64) -> Result<(), AllocError>
-    ensures { OnOk result (code.new.items ≡ code.old.items ++ jump_back short (words + more)) }
+pub fn jump_back(
+    code: &mut Vec<Inst>,
+    form: JumpForm,
+    words: u64,
+    more: u64,
+) -> Result<(), AllocError>
+    ensures { OnOk result (code.new.items ≡ code.old.items
+        ++ jump_back (is_jal form) (words + more)) }
 {
     let distance = (words % WORDS + more % WORDS) % WORDS;
     let bytes = 4 * ((WORDS - distance) % WORDS) as u32;
-    if short {
-        jump_near(code, bytes)
-    } else {
-        jump_by(code, bytes)
-    }
-}
-
-/// What leads behind a second list, from the end of a first one, where neither is empty.
-pub fn past_code(
-    code: &mut Vec<Inst>,
-    short: bool,
-    none: bool,
-    words: u64,
-) -> Result<(), AllocError>
-    ensures { OnOk result (code.new.items ≡ code.old.items ++ past_code short none words) }
-{
-    if none {
-        Ok(())
-    } else {
-        jump_over(code, short, words, 0)
+    match form {
+        JumpForm::Near => jump_near(code, bytes),
+        JumpForm::Far => jump_by(code, bytes),
     }
 }
 
@@ -150,22 +155,22 @@ fn one_way(edge: Edge, relation: Comparison) -> Comparison
 /// jump that the opposite branch leads over.
 fn goes_code(
     code: &mut Vec<Inst>,
-    short: bool,
+    form: JumpForm,
     relation: Comparison,
     first: u8,
     second: u8,
     words: u64,
 ) -> Result<(), AllocError>
     ensures { OnOk result (code.new.items ≡ code.old.items
-        ++ goes_code short relation first second words) }
+        ++ goes_code (is_jal form) relation first second words) }
 {
     if words < 1000 {
         let offset = 4 * (words as i32 + 1);
         code.extend_from_slice(&[branch_inst(relation, first, second, offset)])
     } else {
-        let offset = 4 * (i32::from(jump_words(short)) + 1);
+        let offset = 4 * (i32::from(jump_words(form)) + 1);
         code.push(branch_inst(opposite(relation), first, second, offset))?;
-        jump_over(code, short, words, 0)
+        jump_over(code, form, words, 0)
     }
 }
 
@@ -282,14 +287,14 @@ fn branch_front(
 pub fn branch_code(
     code: &mut Vec<Inst>,
     homes: &[Home],
-    short: bool,
+    form: JumpForm,
     branch: Branch,
     edge: Edge,
     words: u64,
 ) -> Result<(), AllocError>
     requires { AreNear homes.now }
     ensures { OnOk result (code.new.items ≡ code.old.items
-        ++ branch_code (home_in homes.now) short branch (is_then edge) words) }
+        ++ branch_code (home_in homes.now) (is_jal form) branch (is_then edge) words) }
 {
     let compared = branch_front(code, homes, branch, edge)?;
     let Compared {
@@ -297,7 +302,7 @@ pub fn branch_code(
         first,
         second,
     } = compared;
-    goes_code(code, short, relation, first, second, words)
+    goes_code(code, form, relation, first, second, words)
 }
 
 /// The offset of a branch back by so many words.

@@ -17,7 +17,7 @@ ghost use Rattle.dae_select.specs.Growing.{IsCodeOf, IsStepCode, IsTakenBy, IsTa
 ghost use Rattle.dae_select.specs.Growing.{first_test, bottom_of, words_behind, turned, IsNearTurn, facts_in_tail};
 ghost use Rattle.dae_select_walks.specs.declared.Standing.TheVariants.{Settled as IsSettled};
 ghost use Rattle.dae_select.specs.declared.making.PlacedBranch.{PlacedBranch as ATest};
-ghost use Rattle.dae_select.specs.Makings.{plan_by, variables_by, IsSound};
+ghost use Rattle.dae_select.specs.Makings.{plan_by, variables_by, by_jal, IsSound};
 ghost use Rattle.dae_select_walks.specs.Edges.{is_then};
 ghost use Rattle.dae_select_walks.specs.Homes.{home_in};
 ghost use Rattle.dae_select.specs.Tables.{AreNear};
@@ -31,7 +31,7 @@ use crate::checking::{check_code, placed_code};
 use crate::counting::is_near;
 use crate::fetching::{home_of, move_code};
 use crate::growing::GrowingCode;
-use crate::jumping::{back_branch, branch_code, jump_back, jump_over, jump_words, past_code};
+use crate::jumping::{back_branch, branch_code, jump_back, jump_over, jump_words};
 use crate::making::{Around, Exits, Making, Onward, PlacedBranch};
 use crate::pairing::{late_code, standing_between, taking_code};
 use dae_base::{LoadKind, Place};
@@ -104,8 +104,8 @@ fn action_code(
     ensures { OnOk result (code.new.items ≡ code.old.items
         ++ action_code (plan_by making.now) (variables_by making.now) making.now.function
         action.now (member onward.now.next.now)
-        (jump_over making.now.short (ahead + onward.now.exits.now.leaves))
-        (jump_over making.now.short (ahead + onward.now.exits.now.skips))) }
+        (jump_over (by_jal making.now) (ahead + onward.now.exits.now.leaves))
+        (jump_over (by_jal making.now) (ahead + onward.now.exits.now.skips))) }
 {
     let homes = making.homes;
     let side = making.layouts.side;
@@ -125,8 +125,8 @@ fn action_code(
         Action::Tell(operand) => move_code(code, homes, 29, *operand),
         Action::Hear => hear_code(code, side),
         Action::Stop(status) => stop_code(code, side, homes, *status),
-        Action::Break => jump_over(code, making.short, ahead, onward.exits.leaves),
-        Action::Continue => jump_over(code, making.short, ahead, onward.exits.skips),
+        Action::Break => jump_over(code, making.jumps, ahead, onward.exits.leaves),
+        Action::Continue => jump_over(code, making.jumps, ahead, onward.exits.skips),
         Action::Call(result, callee, arguments) => {
             let callee = Callee {
                 result: *result,
@@ -152,8 +152,8 @@ fn block_code(
     ensures { OnOk result (code.new.items ≡ code.old.items
         ++ block_code (plan_by making.now) (variables_by making.now) making.now.function
         around.now.need around.now.before action.now around.now.after (member onward.now.next.now)
-        (jump_over making.now.short (ahead + onward.now.exits.now.leaves))
-        (jump_over making.now.short (ahead + onward.now.exits.now.skips))) }
+        (jump_over (by_jal making.now) (ahead + onward.now.exits.now.leaves))
+        (jump_over (by_jal making.now) (ahead + onward.now.exits.now.skips))) }
 {
     match (around.before, around.after) {
         (Standing::Late(_, value), _) => late_code(code, making.homes, action, value),
@@ -184,8 +184,8 @@ fn put_action(
         ≡ in_front (acting place (block_code (plan_by making.now)
         (variables_by making.now) making.now.function around.now.need around.now.before action.now
         around.now.after (member onward.now.next.now)
-        (jump_over making.now.short (length code.old.code + onward.now.exits.now.leaves))
-        (jump_over making.now.short (length code.old.code + onward.now.exits.now.skips))))
+        (jump_over (by_jal making.now) (length code.old.code + onward.now.exits.now.leaves))
+        (jump_over (by_jal making.now) (length code.old.code + onward.now.exits.now.skips))))
         code.old) }
 {
     let mut block = Vec::new(making.alloc);
@@ -209,14 +209,16 @@ fn put_past(
     rest: usize,
 ) -> Result<(), AllocError>
     ensures { OnOk result (code.new
-        ≡ in_front (glue (past_code making.now.short
+        ≡ in_front (glue (past_code (by_jal making.now)
         (does_nothing (actions_of first.now) || does_nothing (actions_of second.now))
         (length code.old.code - rest))) code.old) }
 {
+    if does_nothing(first) || does_nothing(second) {
+        return Ok(());
+    }
     let mut block = Vec::new(making.alloc);
     let words = code.len().saturating_sub(rest);
-    let none = does_nothing(first) || does_nothing(second);
-    past_code(&mut block, making.short, none, words as u64)?;
+    jump_over(&mut block, making.jumps, words as u64, 0)?;
     code.put_before(block.as_slice())
 }
 
@@ -230,16 +232,15 @@ fn put_branch_along(
 ) -> Result<(), AllocError>
     requires { IsSound making.now }
     ensures { OnOk result (code.new
-        ≡ in_front (acting test.place (branch_code (home_in making.now.homes.now) making.now.short
+        ≡ in_front (acting test.place (branch_code (home_in making.now.homes.now) (by_jal making.now)
         test.branch (is_then edge) (length code.old.code - end))) code.old) }
 {
     let mut block = Vec::new(making.alloc);
     let words = code.len().saturating_sub(end);
-    let short = making.short;
     branch_code(
         &mut block,
         making.homes,
-        short,
+        making.jumps,
         test.branch,
         edge,
         words as u64,
@@ -259,7 +260,7 @@ fn put_branch(
 ) -> Result<(), AllocError>
     requires { IsSound making.now }
     ensures { OnOk result (code.new
-        ≡ in_front (acting test.place (branch_code (home_in making.now.homes.now) making.now.short
+        ≡ in_front (acting test.place (branch_code (home_in making.now.homes.now) (by_jal making.now)
         test.branch (does_nothing (actions_of first.now)) (length code.old.code
         - (if does_nothing (actions_of first.now) then rest else behind)))) code.old) }
 {
@@ -331,11 +332,11 @@ fn behind_test(body: &[Step], test: Option<PlacedBranch>) -> &[Step]
 fn words_behind(making: &Making, test: Option<PlacedBranch>) -> Result<u64, AllocError>
     requires { IsSound making.now }
     ensures words { IfOk result (λ words. words
-        ≡ words_behind (home_in making.now.homes.now) making.now.short test) }
+        ≡ words_behind (home_in making.now.homes.now) (by_jal making.now) test) }
     ensures few { IfOk result (λ words. words ≤ 12) }
 {
     match test {
-        None => Ok(u64::from(jump_words(making.short))),
+        None => Ok(u64::from(jump_words(making.jumps))),
         Some(test) => {
             let block = back_branch(making.alloc, making.homes, test.branch, 0)?;
             Ok(block.len() as u64)
@@ -393,12 +394,12 @@ fn put_top_loop(
     step: GrowingCode,
 ) -> Result<(), AllocError>
     ensures { OnOk result (code.new
-        ≡ turned (home_in making.now.homes.now) making.now.short None body step code.old) }
+        ≡ turned (home_in making.now.homes.now) (by_jal making.now) None body step code.old) }
 {
     let mut block = Vec::new(making.alloc);
     jump_back(
         &mut block,
-        making.short,
+        making.jumps,
         body.len() as u64,
         step.len() as u64,
     )?;
@@ -418,7 +419,7 @@ fn put_bottom_loop(
     requires sound { IsSound making.now }
     requires near { length body.code + length step.code ≤ 900 }
     ensures { OnOk result (code.new
-        ≡ turned (home_in making.now.homes.now) making.now.short (Some test) body step code.old) }
+        ≡ turned (home_in making.now.homes.now) (by_jal making.now) (Some test) body step code.old) }
 {
     let words = body.len() as u64 + step.len() as u64;
     let block = back_branch(making.alloc, making.homes, test.branch, words)?;
@@ -426,7 +427,7 @@ fn put_bottom_loop(
     code.put_code(step)?;
     code.put_code(body)?;
     let mut over = Vec::new(making.alloc);
-    jump_over(&mut over, making.short, words, 0)?;
+    jump_over(&mut over, making.jumps, words, 0)?;
     code.put_before(over.as_slice())
 }
 
@@ -441,7 +442,7 @@ fn put_loop(
     requires sound { IsSound making.now }
     requires near { IsNearTurn test body step }
     ensures { OnOk result (code.new
-        ≡ turned (home_in making.now.homes.now) making.now.short test body step code.old) }
+        ≡ turned (home_in making.now.homes.now) (by_jal making.now) test body step code.old) }
 {
     match test {
         None => put_top_loop(code, making, body, step),
@@ -520,7 +521,7 @@ fn step_code(
     requires sound { IsSound making.now }
     requires taken { IsTakenByStep around.now.after step.now }
     ensures { IfOk result (λ set.
-        IsStepCode making.now.short (plan_by making.now) (variables_by making.now)
+        IsStepCode (by_jal making.now) (plan_by making.now) (variables_by making.now)
         making.now.function around.now.need (facts_by around.now.known.now)
         around.now.before around.now.after exits.now step.now code.old next code.new set) }
 {
@@ -578,7 +579,7 @@ pub fn list_code(
 ) -> Result<LiveSet, AllocError>
     requires { IsSound making.now }
     ensures { IfOk result (λ set.
-        IsCodeOf making.now.short (plan_by making.now)
+        IsCodeOf (by_jal making.now) (plan_by making.now)
         (variables_by making.now) making.now.function IsSettled (facts_by known) code.old
         exits.now.leaves exits.now.skips (ways
         (member next) (member exits.now.leaves_live) (member exits.now.skips_live))
