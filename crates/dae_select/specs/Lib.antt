@@ -6,3 +6,4 @@ pub mod Counting
 pub mod Fronts
 pub mod Jumps
 pub mod Makings
+pub mod Walking

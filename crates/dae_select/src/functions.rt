@@ -1,6 +1,6 @@
 // The code of a whole function.
 
-ghost use Rattle.std.specs.Prelude.{◌≡◌, ℕ, length, IfOk, OnOk};
+ghost use Rattle.std.specs.Prelude.{◌≡◌, length, IfOk, OnOk};
 ghost use Rattle.dae_select_walks.specs.Live.{live, nowhere};
 ghost use Rattle.dae_select_walks.specs.Facts.{unknown};
 ghost use Rattle.dae_select_live.specs.Members.{member};

@@ -1,6 +1,6 @@
 // Transfers: jumps over instructions and back, the way into a function, and branches.
 
-ghost use Rattle.std.specs.Prelude.{◌≡◌, ℕ, ◌+◌, ◌*◌, ◌++◌, ◌∷◌, [], ◌<◌, ◌≤◌, ◌^◌, true, OnOk, IfOk};
+ghost use Rattle.std.specs.Prelude.{◌≡◌, ◌+◌, ◌*◌, ◌++◌, ◌∷◌, [], ◌<◌, ◌≤◌, ◌^◌, true, OnOk, IfOk};
 ghost use Rattle.dae_encode.specs.declared.Inst.TheVariants.{Jal};
 ghost use Rattle.dae_select_blocks.specs.Blocks.{near_offset, jump_by, jump_words, jump_over, jump_back, enter_code};
 ghost use Rattle.dae_select_blocks.specs.Blocks.{source, against_zero, immediate_of, branch_inst, opposite, one_way, goes_code, back_offset};
@@ -234,9 +234,9 @@ fn told_front(
     edge: Edge,
 ) -> Result<Compared, AllocError>
     requires { AreNear homes.now }
-    ensures { IfOk result (λ compared. IsFront (told_by
+    ensures { IfOk result (λ c. IsFront (told_by
         (immediate_of test.comparison test.right) (home_in homes.now)) test (is_then edge)
-        code.old.items code.new.items compared.relation compared.first compared.second) }
+        code.old.items code.new.items c.relation c.first c.second) }
 {
     match immediate_of(test.comparison, test.right) {
         None => {
@@ -263,8 +263,8 @@ fn branch_front(
     edge: Edge,
 ) -> Result<Compared, AllocError>
     requires { AreNear homes.now }
-    ensures { IfOk result (λ compared. IsFront (branch_by (home_in homes.now)) branch
-        (is_then edge) code.old.items code.new.items compared.relation compared.first compared.second) }
+    ensures { IfOk result (λ c. IsFront (branch_by (home_in homes.now)) branch
+        (is_then edge) code.old.items code.new.items c.relation c.first c.second) }
 {
     match branch {
         Branch::Silent(test) => {

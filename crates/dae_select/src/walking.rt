@@ -1,10 +1,7 @@
 // The code of structured actions, from the last to the first: what a transfer leads over is there before it.
 
-ghost use Rattle.std.specs.Prelude.{◌≡◌, ℕ, ◌+◌, ◌-◌, ◌++◌, [], ◌<◌, ◌≤◌, ◌^◌, List, Bool, true, length, drop, not, ◌&&◌, ◌||◌, if◌then◌else◌, None, Some, is_some, IfOk, OnOk};
-ghost use Rattle.dae_encode.specs.declared.Inst.{Inst as AnInst};
-ghost use Rattle.dae_ir.specs.Classes.{VariableSet};
-ghost use Rattle.dae_ir.specs.Streams.{Actions, actions_of, step_onto};
-ghost use Rattle.dae_select_walks.specs.Live.{ways, is};
+ghost use Rattle.std.specs.Prelude.{◌≡◌, ◌+◌, ◌-◌, ◌++◌, ◌<◌, ◌≤◌, ◌^◌, true, length, drop, ◌&&◌, ◌||◌, if◌then◌else◌, None, Some, is_some, IfOk, OnOk};
+ghost use Rattle.dae_ir.specs.Streams.{actions_of};
 ghost use Rattle.dae_select_walks.specs.Facts.{facts_at_turn, facts_at_step};
 ghost use Rattle.dae_select_facts.specs.Knowns.{facts_by};
 ghost use Rattle.dae_select_live.specs.Members.{member};
@@ -13,11 +10,11 @@ ghost use Rattle.dae_select_blocks.specs.Code.{action_code, block_code, call_cod
 ghost use Rattle.dae_select_blocks.specs.Code.{does_nothing, past_code, leaves_first};
 ghost use Rattle.dae_select_walks.specs.Compiled.{is_told};
 ghost use Rattle.dae_select.specs.Grown.{glue, acting, in_front};
-ghost use Rattle.dae_select.specs.Growing.{IsCodeOf, IsStepCode, IsTakenBy, IsTakenByStep};
+ghost use Rattle.dae_select.specs.Growing.{IsTakenBy, IsTakenByStep};
 ghost use Rattle.dae_select.specs.Growing.{first_test, bottom_of, words_behind, turned, IsNearTurn, facts_in_tail};
-ghost use Rattle.dae_select_walks.specs.declared.Standing.TheVariants.{Settled as IsSettled};
 ghost use Rattle.dae_select.specs.declared.making.PlacedBranch.{PlacedBranch as ATest};
-ghost use Rattle.dae_select.specs.Makings.{plan_by, variables_by, by_jal, IsSound};
+ghost use Rattle.dae_select.specs.Makings.{by_jal, IsSound};
+ghost use Rattle.dae_select.specs.Walking.{called_by, action_by, block_by, branch_to, IsStepBy, IsListBy};
 ghost use Rattle.dae_select_walks.specs.Edges.{is_then};
 ghost use Rattle.dae_select_walks.specs.Homes.{home_in};
 ghost use Rattle.dae_select.specs.Tables.{AreNear};
@@ -82,9 +79,7 @@ fn called_code(
 ) -> Result<(), AllocError>
     requires { IsSound making.now }
     ensures { OnOk result (code.new.items ≡ code.old.items
-        ++ call_code (plan_by making.now) (variables_by making.now) making.now.function
-        callee.result callee.function arguments.now (λ u.
-        member live.now u && not (is callee.result u))) }
+        ++ called_by making.now callee arguments.now (member live.now)) }
 {
     let mut kept = live.copy(making.alloc)?;
     kept.remove_known(callee.result);
@@ -102,10 +97,7 @@ fn action_code(
 ) -> Result<(), AllocError>
     requires { IsSound making.now }
     ensures { OnOk result (code.new.items ≡ code.old.items
-        ++ action_code (plan_by making.now) (variables_by making.now) making.now.function
-        action.now (member onward.now.next.now)
-        (jump_over (by_jal making.now) (ahead + onward.now.exits.now.leaves))
-        (jump_over (by_jal making.now) (ahead + onward.now.exits.now.skips))) }
+        ++ action_by making.now action.now onward.now ahead) }
 {
     let homes = making.homes;
     let side = making.layouts.side;
@@ -150,10 +142,7 @@ fn block_code(
     requires sound { IsSound making.now }
     requires taken { IsTakenBy around.now.after action.now }
     ensures { OnOk result (code.new.items ≡ code.old.items
-        ++ block_code (plan_by making.now) (variables_by making.now) making.now.function
-        around.now.need around.now.before action.now around.now.after (member onward.now.next.now)
-        (jump_over (by_jal making.now) (ahead + onward.now.exits.now.leaves))
-        (jump_over (by_jal making.now) (ahead + onward.now.exits.now.skips))) }
+        ++ block_by making.now around.now action.now onward.now ahead) }
 {
     match (around.before, around.after) {
         (Standing::Late(_, value), _) => late_code(code, making.homes, action, value),
@@ -181,12 +170,8 @@ fn put_action(
     requires sound { IsSound making.now }
     requires taken { IsTakenBy around.now.after action.now }
     ensures { OnOk result (code.new
-        ≡ in_front (acting place (block_code (plan_by making.now)
-        (variables_by making.now) making.now.function around.now.need around.now.before action.now
-        around.now.after (member onward.now.next.now)
-        (jump_over (by_jal making.now) (length code.old.code + onward.now.exits.now.leaves))
-        (jump_over (by_jal making.now) (length code.old.code + onward.now.exits.now.skips))))
-        code.old) }
+        ≡ in_front (acting place (block_by making.now around.now action.now onward.now
+        (length code.old.code))) code.old) }
 {
     let mut block = Vec::new(making.alloc);
     let ahead = code.len() as u64;
@@ -232,8 +217,8 @@ fn put_branch_along(
 ) -> Result<(), AllocError>
     requires { IsSound making.now }
     ensures { OnOk result (code.new
-        ≡ in_front (acting test.place (branch_code (home_in making.now.homes.now) (by_jal making.now)
-        test.branch (is_then edge) (length code.old.code - end))) code.old) }
+        ≡ in_front (branch_to making.now test (is_then edge) (length code.old.code - end))
+        code.old) }
 {
     let mut block = Vec::new(making.alloc);
     let words = code.len().saturating_sub(end);
@@ -260,9 +245,9 @@ fn put_branch(
 ) -> Result<(), AllocError>
     requires { IsSound making.now }
     ensures { OnOk result (code.new
-        ≡ in_front (acting test.place (branch_code (home_in making.now.homes.now) (by_jal making.now)
-        test.branch (does_nothing (actions_of first.now)) (length code.old.code
-        - (if does_nothing (actions_of first.now) then rest else behind)))) code.old) }
+        ≡ in_front (branch_to making.now test (does_nothing (actions_of first.now))
+        (length code.old.code - (if does_nothing (actions_of first.now) then rest else behind)))
+        code.old) }
 {
     if does_nothing(first) {
         put_branch_along(code, making, test, Edge::Then, rest)
@@ -419,7 +404,8 @@ fn put_bottom_loop(
     requires sound { IsSound making.now }
     requires near { length body.code + length step.code ≤ 900 }
     ensures { OnOk result (code.new
-        ≡ turned (home_in making.now.homes.now) (by_jal making.now) (Some test) body step code.old) }
+        ≡ turned (home_in making.now.homes.now) (by_jal making.now) (Some test) body step
+        code.old) }
 {
     let words = body.len() as u64 + step.len() as u64;
     let block = back_branch(making.alloc, making.homes, test.branch, words)?;
@@ -520,10 +506,8 @@ fn step_code(
 ) -> Result<LiveSet, AllocError>
     requires sound { IsSound making.now }
     requires taken { IsTakenByStep around.now.after step.now }
-    ensures { IfOk result (λ set.
-        IsStepCode (by_jal making.now) (plan_by making.now) (variables_by making.now)
-        making.now.function around.now.need (facts_by around.now.known.now)
-        around.now.before around.now.after exits.now step.now code.old next code.new set) }
+    ensures { IfOk result (λ set. IsStepBy making.now around.now exits.now step.now code.old next
+        code.new set) }
 {
     match step {
         Step::Act(mark, action) => {
@@ -578,12 +562,8 @@ pub fn list_code(
     exits: &Exits,
 ) -> Result<LiveSet, AllocError>
     requires { IsSound making.now }
-    ensures { IfOk result (λ set.
-        IsCodeOf (by_jal making.now) (plan_by making.now)
-        (variables_by making.now) making.now.function IsSettled (facts_by known) code.old
-        exits.now.leaves exits.now.skips (ways
-        (member next) (member exits.now.leaves_live) (member exits.now.skips_live))
-        (actions_of steps.now) code.new set) }
+    ensures { IfOk result (λ set. IsListBy making.now known exits.now steps.now code.old next
+        code.new set) }
 {
     let all = all_before(making.alloc, making.layouts.memory, known, steps)?;
     let mut set = next;
