@@ -7,7 +7,7 @@ ghost use Rattle.dae_alias.specs.Stretches as spec;
 use crate::addresses::{Base, SymAddr};
 use dae_ir::{Operand, Value};
 use dae_meaning::Operator;
-use std::alloc::{AllocError, Global};
+use std::alloc::AllocError;
 
 /// A variable was set, and has this symbolic address since.
 #[derive(Clone, Copy)]

@@ -12,7 +12,7 @@ use dae_base::Items;
 use dae_ir::{Stream, StreamFunction};
 use dae_regalloc::allocate;
 use dae_select::{FunctionLayout, Layouts};
-use std::alloc::{AllocError, Global};
+use std::alloc::Global;
 
 /// The words that a private frame has besides the slots.
 const KEPT_WORDS: u32 = 19;

@@ -1,5 +1,5 @@
 -- Blocks whose registers are plain: they use no queue.
-use Rattle.std.proofs.Common.{◌≡◌, ℕ, ◌+◌, ◌-◌, ◌*◌, ◌%◌, ◌^◌, ◌<◌, Bool, true, false, ◌&&◌, List, [], ◌∷◌, ◌++◌, Option, Some, None, arith, pos, refl, sym, ap, ◌∙◌, subst, append_assoc, ℤ}
+use Rattle.std.proofs.Common.{◌≡◌, ℕ, ◌+◌, ◌-◌, ◌*◌, ◌%◌, ◌^◌, ◌<◌, Bool, true, false, List, [], ◌∷◌, ◌++◌, Option, Some, None, arith, pos, refl, sym, ap, ◌∙◌, subst, append_assoc, ℤ}
 use Rattle.std.specs.Prelude.{nat_lt, if◌then◌else◌, nat_eq, ℤ}
 use Rattle.std.specs.List.{AllByRecursion}
 use Rattle.std.proofs.lemmas.Bool.Decides.{nat_tests}
@@ -26,8 +26,9 @@ use Rattle.dae_select_walks.specs.Homes.{IsHome, is_home_register, slot_at, kept
 use Rattle.dae_select_walks.specs.Agrees.{Plan}
 use Rattle.dae_select_walks.specs.declared.Home.{Home}
 use Rattle.dae_select_walks.specs.declared.Home.TheVariants.{Register, Slot}
-use Rattle.dae_select_blocks.specs.Blocks.{upper, lower, is_immediate, more_code, less_code, number_code, load_code, store_code, register_or, source, fetch_home, fetch, move_code, keep, operation_code, exponent, power_code, immediate_code, commutes, exchanged_code, behind_or, combine_registers, binary_code, extend_code, compare_code, takes_number, compare_number_code, tell_number_code, compare_registers, compare_operands, test_code, value_code, system_code, stop_code, jump_by, enter_code, arguments_code, waits_at, is_register, save_code, restore_code, deeper_code, back_code, result_code, leave_code, jump_words, jump_over, jump_back, branch_inst, opposite, goes_by, goes_code}
-use Rattle.dae_select_blocks.specs.Code.{some_below, filtered, home_registers, registers_in, call_code, entry_code, start_code, finish_code, past_code}
+use Rattle.dae_select_blocks.specs.Blocks.{upper, lower, is_immediate, more_code, less_code, number_code, load_code, store_code, register_or, source, fetch_home, fetch, move_code, keep, operation_code, exponent, power_code, immediate_code, commutes, exchanged_code, behind_or, combine_registers, binary_code, extend_code, compare_code, takes_number, compare_number_code, tell_number_code, compare_registers, compare_operands, test_code, value_code, system_code, stop_code, jump_by, enter_code, arguments_code, waits_at, save_code, restore_code, deeper_code, back_code, result_code, leave_code, jump_words, jump_over, jump_back, branch_inst, opposite, goes_by, goes_code}
+use Rattle.dae_select_blocks.specs.Code.{call_code, entry_code, start_code, finish_code, past_code}
+use Rattle.dae_select_blocks.proofs.LawsOfBlocks.{AreBelowQueues, live_registers}
 use Rattle.dae_link_uses.proofs.Access.{IsPlain}
 
 abbrev pub AllPlain : List Inst → Type 0
@@ -320,30 +321,11 @@ module _ (n : ℕ) (home : ℕ → Home) (good : (v : ℕ) → IsHome n (home v)
 
 -- ---- calls
 
-abbrev AreRegisters : List ℕ → Type 0
-AreRegisters rs = AllByRecursion (λ (r : ℕ). r < 28) rs
-
-filtered_registers : (f : ℕ → Bool) (rs : List ℕ) → AreRegisters rs → AreRegisters (filtered f rs)
-filtered_registers f [] h = tt
-filtered_registers f (r ∷ rs) h = by (f r) (filtered_registers f rs h.1)
-  where
-    by : (b : Bool) → AreRegisters (filtered f rs) → AreRegisters (if b then r ∷ filtered f rs else filtered f rs)
-    by true more = (h.0, more)
-    by false more = more
-
-all_registers : AreRegisters home_registers
-all_registers = (omega arith, (omega arith, (omega arith, (omega arith, (omega arith, (omega arith, (omega arith, (omega arith, (omega arith, (omega arith, (omega arith, (omega arith, (omega arith, (omega arith, (omega arith, (omega arith, (omega arith, (omega arith, tt))))))))))))))))))
-
-live_registers : (plan : Plan) (n f : ℕ) (live : VariableSet) → AreRegisters (registers_in (plan.home f) n live)
-unfolding registers_in
-live_registers plan n f live =
-    filtered_registers (λ (r : ℕ). some_below n (λ v. live v && is_register r (plan.home f v))) home_registers all_registers
-
-save_plain : (rs : List ℕ) → AreRegisters rs → AllPlain (save_code rs)
+save_plain : (rs : List ℕ) → AreBelowQueues rs → AllPlain (save_code rs)
 save_plain [] h = tt
 save_plain (r ∷ rs) h = plain_append _ _ (store_plain r (kept_at r) h.0) (save_plain rs h.1)
 
-restore_plain : (rs : List ℕ) → AreRegisters rs → AllPlain (restore_code rs)
+restore_plain : (rs : List ℕ) → AreBelowQueues rs → AllPlain (restore_code rs)
 restore_plain [] h = tt
 restore_plain (r ∷ rs) h = plain_append _ _ (load_plain r (kept_at r) h.0) (restore_plain rs h.1)
 

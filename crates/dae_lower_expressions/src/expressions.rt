@@ -14,7 +14,7 @@ use crate::lowerer::Lowerer;
 use dae_base::{Items, LoadKind};
 use dae_ir::{Check, Item, Operand, Statement, Test, Value};
 use dae_lower_maker::{Change, Condition, Increment, Location, Lvalue, Spot, related};
-use dae_meaning::{Comparison, Operator, Spelling};
+use dae_meaning::{Comparison, Spelling};
 use dae_program::{Expression, Fixity, Links, Target};
 use std::alloc::AllocError;
 

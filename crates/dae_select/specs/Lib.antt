@@ -4,4 +4,6 @@ pub mod Growing
 pub mod Grown
 pub mod Counting
 pub mod Fronts
+pub mod Jumps
 pub mod Makings
+pub mod Walking

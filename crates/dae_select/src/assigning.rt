@@ -1,7 +1,7 @@
 // The code of values: of what an action sets a variable to.
 
 ghost use Rattle.std.specs.Prelude.{◌≡◌, ◌++◌, OnOk};
-ghost use Rattle.dae_select_blocks.specs.Blocks.{operation_code, combine_registers, binary_code, extend_code, compare_code, compare_registers, compare_operands, test_code, frame_code, value_code, register_or, keep};
+ghost use Rattle.dae_select_blocks.specs.Blocks.{operation_code, combine_registers, binary_code, extend_code, compare_code, compare_registers, test_code, frame_code, value_code, register_or, keep};
 ghost use Rattle.dae_select_walks.specs.Homes.{home_in};
 ghost use Rattle.dae_select.specs.Tables.{AreNear};
 

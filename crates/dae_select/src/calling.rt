@@ -1,9 +1,9 @@
 // The blocks of calls and returns, and the code that a function begins with.
 
-ghost use Rattle.std.specs.Prelude.{◌≡◌, ℕ, ◌+◌, ◌++◌, ◌∷◌, [], ◌<◌, ◌^◌, ◌%◌, Bool, ◌&&◌, nat_lt, length, slice_index, IfOk, OnOk};
+ghost use Rattle.std.specs.Prelude.{◌≡◌, ◌+◌, ◌++◌, ◌<◌, ◌^◌, ◌%◌, ◌&&◌, nat_lt, IfOk, OnOk};
 ghost use Rattle.dae_select_blocks.specs.Blocks.{waits_at, arguments_code, argument_code, is_register, save_code, restore_code, deeper_code, back_code, result_code, leave_code};
 ghost use Rattle.dae_select_blocks.specs.Code.{some_below, filtered, registers_in, call_code, entry_code};
-ghost use Rattle.dae_select.specs.Layouts.{is_a, plan_of, AreSmall};
+ghost use Rattle.dae_select.specs.Layouts.{plan_of, AreSmall};
 ghost use Rattle.dae_select.specs.Makings.{plan_by, variables_by, IsSound};
 ghost use Rattle.dae_select_walks.specs.Live.{with_all};
 ghost use Rattle.dae_select.specs.Tables.{IsNear, AreNear};

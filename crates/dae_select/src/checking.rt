@@ -1,6 +1,6 @@
 // The blocks of checks.
 
-ghost use Rattle.std.specs.Prelude.{◌≡◌, ℕ, ◌+◌, ◌-◌, ◌++◌, ◌∷◌, [], ◌<◌, ◌^◌, nat_lt, if◌then◌else◌, OnOk};
+ghost use Rattle.std.specs.Prelude.{◌≡◌, ◌+◌, ◌-◌, ◌++◌, ◌<◌, OnOk};
 ghost use Rattle.dae_select_blocks.specs.Blocks.{fail_code, over, align_code, bounds_code, room_code, place_code, zero_code, depth_code, frames_room_code, call_room_code, frame_room_code, check_code};
 ghost use Rattle.dae_select_blocks.specs.Code.{placed_code};
 ghost use Rattle.dae_select.specs.Layouts.{is_a};

@@ -7,7 +7,9 @@ ghost use Rattle.dae_ir.specs.Streams.{actions_of, step_onto};
 ghost use Rattle.dae_select_blocks.specs.Sizes.{one_call, most_words_in, is_short};
 ghost use Rattle.dae_select_blocks.specs.Code.{is_near};
 ghost use Rattle.dae_select.specs.Counting.{capped};
+ghost use Rattle.dae_select.specs.Jumps.{is_jal};
 
+use crate::jumping::JumpForm;
 use dae_ir::{Action, Step};
 
 /// Code that may have so many words is no longer short.
@@ -56,11 +58,22 @@ fn list_words(steps: &[Step]) -> u64
     words
 }
 
-/// Whether jumps in the code of a function are short.
-pub fn is_short(body: &[Step]) -> bool
+/// Whether JAL reaches over the code of a function in any case.
+fn is_short(body: &[Step]) -> bool
     ensures { result ≡ is_short (actions_of body.now) }
 {
     list_words(body) < LONG
+}
+
+/// The form of the jumps in the code of a function.
+pub fn jumps_in(body: &[Step]) -> JumpForm
+    ensures { is_jal result ≡ is_short (actions_of body.now) }
+{
+    if is_short(body) {
+        JumpForm::Near
+    } else {
+        JumpForm::Far
+    }
 }
 
 /// Whether a branch reaches back over a loop's body and its step in any case.

@@ -1,20 +1,19 @@
 // The code of a whole function.
 
-ghost use Rattle.std.specs.Prelude.{◌≡◌, ℕ, length, IfOk, OnOk};
+ghost use Rattle.std.specs.Prelude.{◌≡◌, length, IfOk, OnOk};
 ghost use Rattle.dae_select_walks.specs.Live.{live, nowhere};
 ghost use Rattle.dae_select_walks.specs.Facts.{unknown};
 ghost use Rattle.dae_select_live.specs.Members.{member};
 ghost use Rattle.dae_select_walks.specs.declared.Standing.TheVariants.{Settled as IsSettled};
 ghost use Rattle.dae_ir.specs.Streams.{actions_of};
 ghost use Rattle.dae_select_blocks.specs.Code.{entry_code, function_code};
-ghost use Rattle.dae_select_blocks.specs.Sizes.{is_short};
 ghost use Rattle.dae_select.specs.Grown.{no_code};
 ghost use Rattle.dae_select.specs.Growing.{marked_code, function_places};
 ghost use Rattle.dae_select.specs.Layouts.{plan_of, variables_of, AreSmall};
-ghost use Rattle.dae_select.specs.Makings.{plan_by, variables_by, IsSound};
+ghost use Rattle.dae_select.specs.Makings.{plan_by, variables_by, by_jal, IsSound};
 
 use crate::calling::{entry_code, leave_code};
-use crate::counting::is_short;
+use crate::counting::jumps_in;
 use crate::growing::{GrowingCode, PlacedWord};
 use crate::layouts::Layouts;
 use crate::making::{Exits, Making};
@@ -30,7 +29,7 @@ fn body_code(code: &mut GrowingCode, making: &Making, body: &[Step]) -> Result<L
     requires sound { IsSound making.now }
     requires empty { code.old ≡ no_code }
     ensures code { OnOk result (code.new
-        ≡ marked_code making.now.short (plan_by making.now) (variables_by making.now)
+        ≡ marked_code (by_jal making.now) (plan_by making.now) (variables_by making.now)
         making.now.function IsSettled unknown (actions_of body.now) nowhere 0 0) }
     ensures live { IfOk result (λ set. member set ≡ live (actions_of body.now) nowhere) }
 {
@@ -78,7 +77,7 @@ pub fn function_code(
         layouts,
         function,
         homes,
-        short: is_short(body),
+        jumps: jumps_in(body),
     };
     let mut actions = GrowingCode::new(alloc);
     let live = body_code(&mut actions, &making, body)?;

@@ -1,11 +1,13 @@
 // Transfers: jumps over instructions and back, the way into a function, and branches.
 
-ghost use Rattle.std.specs.Prelude.{◌≡◌, ℕ, ◌+◌, ◌*◌, ◌++◌, ◌∷◌, [], ◌<◌, ◌≤◌, ◌^◌, OnOk, IfOk};
+ghost use Rattle.std.specs.Prelude.{◌≡◌, ◌+◌, ◌*◌, ◌++◌, ◌∷◌, [], ◌<◌, ◌≤◌, ◌^◌, true, OnOk, IfOk};
 ghost use Rattle.dae_encode.specs.declared.Inst.TheVariants.{Jal};
 ghost use Rattle.dae_select_blocks.specs.Blocks.{near_offset, jump_by, jump_words, jump_over, jump_back, enter_code};
 ghost use Rattle.dae_select_blocks.specs.Blocks.{source, against_zero, immediate_of, branch_inst, opposite, one_way, goes_code, back_offset};
-ghost use Rattle.dae_select_blocks.specs.Code.{past_code, told_by, branch_by, branch_code, back_branch};
+ghost use Rattle.dae_select_blocks.specs.Code.{told_by, branch_by, branch_code, back_branch};
 ghost use Rattle.dae_select.specs.Fronts.{IsFront};
+ghost use Rattle.dae_select.specs.Jumps.{is_jal};
+ghost use Rattle.dae_select_walks.specs.Edges.{is_then};
 ghost use Rattle.dae_select_walks.specs.Homes.{home_in};
 ghost use Rattle.dae_select.specs.Tables.{AreNear};
 
@@ -15,7 +17,7 @@ use crate::numbers::{takes_number, tell_number};
 use dae_encode::Inst;
 use dae_ir::{Branch, Operand, Test};
 use dae_meaning::Comparison;
-use dae_select_walks::Home;
+use dae_select_walks::{Edge, Home};
 use std::alloc::{AllocError, Global};
 
 /// As many words as the bytes of all addresses are.
@@ -46,54 +48,58 @@ fn jump_near(code: &mut Vec<Inst>, bytes: u32) -> Result<(), AllocError>
     code.extend_from_slice(&[Inst::Jal(0, near_offset(bytes))])
 }
 
+/// The form of the jumps within a function: JAL alone, which reaches 2 ^ 18 words either way, or AUIPC and JALR, which reach all.
+#[derive(Clone, Copy)]
+pub enum JumpForm {
+    Near,
+    Far,
+}
+
 /// The words of a jump within a function.
-pub fn jump_words(short: bool) -> u8
-    ensures words { result ≡ jump_words short }
+pub fn jump_words(form: JumpForm) -> u8
+    ensures words { result ≡ jump_words (is_jal form) }
     ensures few { result ≤ 2 }
 {
-    if short { 1 } else { 2 }
+    match form {
+        JumpForm::Near => 1,
+        JumpForm::Far => 2,
+    }
 }
 
 /// A jump over so many words and so many more.
 #[tactic(auto, using(crate::proofs::Distances::jump_of, crate::proofs::Distances::near_of))]
-pub fn jump_over(code: &mut Vec<Inst>, short: bool, words: u64, more: u64) -> Result<(), AllocError>
-    ensures { OnOk result (code.new.items ≡ code.old.items ++ jump_over short (words + more)) }
+pub fn jump_over(
+    code: &mut Vec<Inst>,
+    form: JumpForm,
+    words: u64,
+    more: u64,
+) -> Result<(), AllocError>
+    ensures { OnOk result (code.new.items ≡ code.old.items
+        ++ jump_over (is_jal form) (words + more)) }
 {
     let distance = words % WORDS + more % WORDS;
-    if short {
-        jump_near(code, 4 * ((distance + 1) % WORDS) as u32)
-    } else {
-        jump_by(code, 4 * ((distance + 2) % WORDS) as u32)
+    match form {
+        JumpForm::Near => jump_near(code, 4 * ((distance + 1) % WORDS) as u32),
+        JumpForm::Far => jump_by(code, 4 * ((distance + 2) % WORDS) as u32),
     }
 }
 
 /// A jump back by so many words and so many more.
 #[tactic(auto, using(crate::proofs::Distances::jump_of, crate::proofs::Distances::near_of))]
-pub fn jump_back(code: &mut Vec<Inst>, short: bool, words: u64, more: u64) -> Result<(), AllocError>
-    ensures { OnOk result (code.new.items ≡ code.old.items ++ jump_back short (words + more)) }
+pub fn jump_back(
+    code: &mut Vec<Inst>,
+    form: JumpForm,
+    words: u64,
+    more: u64,
+) -> Result<(), AllocError>
+    ensures { OnOk result (code.new.items ≡ code.old.items
+        ++ jump_back (is_jal form) (words + more)) }
 {
     let distance = (words % WORDS + more % WORDS) % WORDS;
     let bytes = 4 * ((WORDS - distance) % WORDS) as u32;
-    if short {
-        jump_near(code, bytes)
-    } else {
-        jump_by(code, bytes)
-    }
-}
-
-/// What leads behind a second list, from the end of a first one, where neither is empty.
-pub fn past_code(
-    code: &mut Vec<Inst>,
-    short: bool,
-    none: bool,
-    words: u64,
-) -> Result<(), AllocError>
-    ensures { OnOk result (code.new.items ≡ code.old.items ++ past_code short none words) }
-{
-    if none {
-        Ok(())
-    } else {
-        jump_over(code, short, words, 0)
+    match form {
+        JumpForm::Near => jump_near(code, bytes),
+        JumpForm::Far => jump_by(code, bytes),
     }
 }
 
@@ -135,32 +141,36 @@ fn opposite(relation: Comparison) -> Comparison
     }
 }
 
-fn one_way(way: bool, relation: Comparison) -> Comparison
-    ensures { result ≡ one_way way relation }
+/// What holds along an edge of a test of this comparison.
+fn one_way(edge: Edge, relation: Comparison) -> Comparison
+    ensures { result ≡ one_way (is_then edge) relation }
 {
-    if way { relation } else { opposite(relation) }
+    match edge {
+        Edge::Then => relation,
+        Edge::Else => opposite(relation),
+    }
 }
 
 /// Where two registers compare so, on to what stands so many words ahead: by a branch where one reaches it, and else by a
 /// jump that the opposite branch leads over.
 fn goes_code(
     code: &mut Vec<Inst>,
-    short: bool,
+    form: JumpForm,
     relation: Comparison,
     first: u8,
     second: u8,
     words: u64,
 ) -> Result<(), AllocError>
     ensures { OnOk result (code.new.items ≡ code.old.items
-        ++ goes_code short relation first second words) }
+        ++ goes_code (is_jal form) relation first second words) }
 {
     if words < 1000 {
         let offset = 4 * (words as i32 + 1);
         code.extend_from_slice(&[branch_inst(relation, first, second, offset)])
     } else {
-        let offset = 4 * (i32::from(jump_words(short)) + 1);
+        let offset = 4 * (i32::from(jump_words(form)) + 1);
         code.push(branch_inst(opposite(relation), first, second, offset))?;
-        jump_over(code, short, words, 0)
+        jump_over(code, form, words, 0)
     }
 }
 
@@ -172,14 +182,14 @@ struct Compared {
     second: u8,
 }
 
-/// The operands of a test, which are in their registers: where the test holds, or just where not.
-fn compared_operands(homes: &[Home], test: Test, way: bool) -> Compared
-    ensures relation { result.relation ≡ one_way way test.comparison }
+/// The operands of a test, which are in their registers, as they compare along an edge.
+fn compared_operands(homes: &[Home], test: Test, edge: Edge) -> Compared
+    ensures relation { result.relation ≡ one_way (is_then edge) test.comparison }
     ensures first { result.first ≡ source (home_in homes.now) 5 test.left }
     ensures second { result.second ≡ source (home_in homes.now) 6 test.right }
 {
     Compared {
-        relation: one_way(way, test.comparison),
+        relation: one_way(edge, test.comparison),
         first: source(homes, 5, test.left),
         second: source(homes, 6, test.right),
     }
@@ -215,29 +225,29 @@ fn immediate_of(comparison: Comparison, operand: Operand) -> Option<u32>
     }
 }
 
-/// What comes before the branch where a test is told: it goes on elsewhere where its operands compare so, which are still in
-/// their registers, or else x7 with 0.
+/// What comes before the branch where a test is told: along the edge it goes on elsewhere where its operands compare so, which
+/// are still in their registers, or else x7 with 0.
 fn told_front(
     code: &mut Vec<Inst>,
     homes: &[Home],
     test: Test,
-    way: bool,
+    edge: Edge,
 ) -> Result<Compared, AllocError>
     requires { AreNear homes.now }
-    ensures { IfOk result (λ compared. IsFront (told_by
-        (immediate_of test.comparison test.right) (home_in homes.now)) test way code.old.items
-        code.new.items compared.relation compared.first compared.second) }
+    ensures { IfOk result (λ c. IsFront (told_by
+        (immediate_of test.comparison test.right) (home_in homes.now)) test (is_then edge)
+        code.old.items code.new.items c.relation c.first c.second) }
 {
     match immediate_of(test.comparison, test.right) {
         None => {
             test_code(code, homes, 29, test)?;
-            Ok(compared_operands(homes, test, way))
+            Ok(compared_operands(homes, test, edge))
         }
         Some(number) => {
             fetch(code, homes, 5, test.left)?;
             tell_number(code, test.comparison, source(homes, 5, test.left), number)?;
             Ok(Compared {
-                relation: one_way(way, against_zero(test.comparison)),
+                relation: one_way(edge, against_zero(test.comparison)),
                 first: 7,
                 second: 0,
             })
@@ -245,28 +255,27 @@ fn told_front(
     }
 }
 
-/// What comes before the branch itself: it goes on elsewhere where two registers compare so, which is where the test holds, or
-/// where a number other than 0 is heard, or just where not.
+/// What comes before the branch itself: along the edge it goes on elsewhere where two registers compare so.
 fn branch_front(
     code: &mut Vec<Inst>,
     homes: &[Home],
     branch: Branch,
-    way: bool,
+    edge: Edge,
 ) -> Result<Compared, AllocError>
     requires { AreNear homes.now }
-    ensures { IfOk result (λ compared. IsFront (branch_by (home_in homes.now)) branch way
-        code.old.items code.new.items compared.relation compared.first compared.second) }
+    ensures { IfOk result (λ c. IsFront (branch_by (home_in homes.now)) branch
+        (is_then edge) code.old.items code.new.items c.relation c.first c.second) }
 {
     match branch {
         Branch::Silent(test) => {
             fetch(code, homes, 5, test.left)?;
             fetch(code, homes, 6, test.right)?;
-            Ok(compared_operands(homes, test, way))
+            Ok(compared_operands(homes, test, edge))
         }
-        Branch::Tells(test) => told_front(code, homes, test, way),
+        Branch::Tells(test) => told_front(code, homes, test, edge),
         Branch::Hears => {
             Ok(Compared {
-                relation: one_way(way, Comparison::NotEqual),
+                relation: one_way(edge, Comparison::NotEqual),
                 first: 29,
                 second: 0,
             })
@@ -274,27 +283,26 @@ fn branch_front(
     }
 }
 
-/// The block of a branch: on to what stands so many words ahead of its end where its test holds, or where a number other than
-/// 0 is heard, or just where not.
+/// The block of a branch: along the edge it goes on to what stands so many words ahead of its end.
 pub fn branch_code(
     code: &mut Vec<Inst>,
     homes: &[Home],
-    short: bool,
+    form: JumpForm,
     branch: Branch,
-    way: bool,
+    edge: Edge,
     words: u64,
 ) -> Result<(), AllocError>
     requires { AreNear homes.now }
     ensures { OnOk result (code.new.items ≡ code.old.items
-        ++ branch_code (home_in homes.now) short branch way words) }
+        ++ branch_code (home_in homes.now) (is_jal form) branch (is_then edge) words) }
 {
-    let compared = branch_front(code, homes, branch, way)?;
+    let compared = branch_front(code, homes, branch, edge)?;
     let Compared {
         relation,
         first,
         second,
     } = compared;
-    goes_code(code, short, relation, first, second, words)
+    goes_code(code, form, relation, first, second, words)
 }
 
 /// The offset of a branch back by so many words.
@@ -305,21 +313,20 @@ fn back_offset(words: u64) -> i32
     -4 * words as i32
 }
 
-/// The block of a branch back to what stands so many words before it.
+/// The block of a branch that goes back where its test holds, to what stands so many words before it.
 pub fn back_branch(
     alloc: Global,
     homes: &[Home],
     branch: Branch,
-    way: bool,
     words: u64,
 ) -> Result<Vec<Inst>, AllocError>
     requires near { AreNear homes.now }
     requires words { words ≤ 900 }
     ensures { IfOk result (λ block. block.items
-        ≡ back_branch (home_in homes.now) branch way words) }
+        ≡ back_branch (home_in homes.now) branch true words) }
 {
     let mut block = Vec::new(alloc);
-    let compared = branch_front(&mut block, homes, branch, way)?;
+    let compared = branch_front(&mut block, homes, branch, Edge::Then)?;
     let distance = words + block.len() as u64;
     let Compared {
         relation,

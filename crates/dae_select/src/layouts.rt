@@ -1,9 +1,9 @@
 // What is settled before the code of a side is made.
 
-ghost use Rattle.std.specs.Prelude.{◌≡◌, ℕ, slice_get};
-ghost use Rattle.dae_select.specs.Layouts.{is_a, homes_at, variables_at, entry_at, frame_at, plan_of, variables_of, AreSmall};
+ghost use Rattle.std.specs.Prelude.{◌≡◌};
+ghost use Rattle.dae_select.specs.Layouts.{plan_of, variables_of, AreSmall};
 ghost use Rattle.dae_select.specs.Tables.{AreNear};
-ghost use Rattle.dae_select_walks.specs.Homes.{frame_words, home_in};
+ghost use Rattle.dae_select_walks.specs.Homes.{home_in};
 
 use crate::fetching::home_of;
 use dae_base::{Items, Side};

@@ -1,5 +1,6 @@
 // What the code of a function is made from.
 
+use crate::jumping::JumpForm;
 use crate::layouts::Layouts;
 use dae_base::Place;
 use dae_ir::Branch;
@@ -8,15 +9,15 @@ use dae_select_live::LiveSet;
 use dae_select_walks::{Home, Need, Standing};
 use std::alloc::Global;
 
-/// What the code of a function is made from: what is settled of its side, its number, the homes of its variables, and whether
-/// jumps in it are short.
+/// What the code of a function is made from: what is settled of its side, its number, the homes of its variables, and the form
+/// of the jumps in it.
 #[derive(Drop)]
 pub struct Making<'l> {
     pub alloc: Global,
     pub layouts: &'l Layouts,
     pub function: u32,
     pub homes: &'l [Home],
-    pub short: bool,
+    pub jumps: JumpForm,
 }
 
 /// Where a Break goes and a Continue: what is live there, and how many words lie between the end of the code and there.
@@ -50,11 +51,4 @@ pub struct Around<'k> {
 pub struct PlacedBranch {
     pub place: Place,
     pub branch: Branch,
-}
-
-/// A branch, and whether its first list is empty.
-#[derive(Clone, Copy)]
-pub struct Fork {
-    pub branch: Branch,
-    pub empty: bool,
 }

@@ -1,10 +1,7 @@
 // The code of structured actions, from the last to the first: what a transfer leads over is there before it.
 
-ghost use Rattle.std.specs.Prelude.{◌≡◌, ℕ, ◌+◌, ◌-◌, ◌++◌, [], ◌<◌, ◌≤◌, ◌^◌, List, Bool, true, length, drop, not, ◌&&◌, ◌||◌, if◌then◌else◌, None, Some, is_some, IfOk, OnOk};
-ghost use Rattle.dae_encode.specs.declared.Inst.{Inst as AnInst};
-ghost use Rattle.dae_ir.specs.Classes.{VariableSet};
-ghost use Rattle.dae_ir.specs.Streams.{Actions, actions_of, step_onto};
-ghost use Rattle.dae_select_walks.specs.Live.{ways, is};
+ghost use Rattle.std.specs.Prelude.{◌≡◌, ◌+◌, ◌-◌, ◌++◌, ◌<◌, ◌≤◌, ◌^◌, true, length, drop, ◌&&◌, ◌||◌, if◌then◌else◌, None, Some, is_some, IfOk, OnOk};
+ghost use Rattle.dae_ir.specs.Streams.{actions_of};
 ghost use Rattle.dae_select_walks.specs.Facts.{facts_at_turn, facts_at_step};
 ghost use Rattle.dae_select_facts.specs.Knowns.{facts_by};
 ghost use Rattle.dae_select_live.specs.Members.{member};
@@ -13,11 +10,12 @@ ghost use Rattle.dae_select_blocks.specs.Code.{action_code, block_code, call_cod
 ghost use Rattle.dae_select_blocks.specs.Code.{does_nothing, past_code, leaves_first};
 ghost use Rattle.dae_select_walks.specs.Compiled.{is_told};
 ghost use Rattle.dae_select.specs.Grown.{glue, acting, in_front};
-ghost use Rattle.dae_select.specs.Growing.{IsCodeOf, IsStepCode, IsTakenBy, IsTakenByStep};
+ghost use Rattle.dae_select.specs.Growing.{IsTakenBy, IsTakenByStep};
 ghost use Rattle.dae_select.specs.Growing.{first_test, bottom_of, words_behind, turned, IsNearTurn, facts_in_tail};
-ghost use Rattle.dae_select_walks.specs.declared.Standing.TheVariants.{Settled as IsSettled};
 ghost use Rattle.dae_select.specs.declared.making.PlacedBranch.{PlacedBranch as ATest};
-ghost use Rattle.dae_select.specs.Makings.{plan_by, variables_by, IsSound};
+ghost use Rattle.dae_select.specs.Makings.{by_jal, IsSound};
+ghost use Rattle.dae_select.specs.Walking.{called_by, action_by, block_by, branch_to, IsStepBy, IsListBy};
+ghost use Rattle.dae_select_walks.specs.Edges.{is_then};
 ghost use Rattle.dae_select_walks.specs.Homes.{home_in};
 ghost use Rattle.dae_select.specs.Tables.{AreNear};
 
@@ -30,8 +28,8 @@ use crate::checking::{check_code, placed_code};
 use crate::counting::is_near;
 use crate::fetching::{home_of, move_code};
 use crate::growing::GrowingCode;
-use crate::jumping::{back_branch, branch_code, jump_back, jump_over, jump_words, past_code};
-use crate::making::{Around, Exits, Fork, Making, Onward, PlacedBranch};
+use crate::jumping::{back_branch, branch_code, jump_back, jump_over, jump_words};
+use crate::making::{Around, Exits, Making, Onward, PlacedBranch};
 use crate::pairing::{late_code, standing_between, taking_code};
 use dae_base::{LoadKind, Place};
 use dae_encode::Inst;
@@ -40,7 +38,7 @@ use dae_select_facts::{
     Known, all_before, facts_at_turn, facts_behind_turn, facts_in_list, facts_past_if, only_leaves,
 };
 use dae_select_live::{LiveSet, live_at_turn, live_before_action, live_with_branch};
-use dae_select_walks::{Home, Need, Standing};
+use dae_select_walks::{Edge, Home, Need, Standing};
 use std::alloc::{AllocError, Global};
 
 /// What is at the front of a queue goes to a variable.
@@ -81,9 +79,7 @@ fn called_code(
 ) -> Result<(), AllocError>
     requires { IsSound making.now }
     ensures { OnOk result (code.new.items ≡ code.old.items
-        ++ call_code (plan_by making.now) (variables_by making.now) making.now.function
-        callee.result callee.function arguments.now (λ u.
-        member live.now u && not (is callee.result u))) }
+        ++ called_by making.now callee arguments.now (member live.now)) }
 {
     let mut kept = live.copy(making.alloc)?;
     kept.remove_known(callee.result);
@@ -101,10 +97,7 @@ fn action_code(
 ) -> Result<(), AllocError>
     requires { IsSound making.now }
     ensures { OnOk result (code.new.items ≡ code.old.items
-        ++ action_code (plan_by making.now) (variables_by making.now) making.now.function
-        action.now (member onward.now.next.now)
-        (jump_over making.now.short (ahead + onward.now.exits.now.leaves))
-        (jump_over making.now.short (ahead + onward.now.exits.now.skips))) }
+        ++ action_by making.now action.now onward.now ahead) }
 {
     let homes = making.homes;
     let side = making.layouts.side;
@@ -124,8 +117,8 @@ fn action_code(
         Action::Tell(operand) => move_code(code, homes, 29, *operand),
         Action::Hear => hear_code(code, side),
         Action::Stop(status) => stop_code(code, side, homes, *status),
-        Action::Break => jump_over(code, making.short, ahead, onward.exits.leaves),
-        Action::Continue => jump_over(code, making.short, ahead, onward.exits.skips),
+        Action::Break => jump_over(code, making.jumps, ahead, onward.exits.leaves),
+        Action::Continue => jump_over(code, making.jumps, ahead, onward.exits.skips),
         Action::Call(result, callee, arguments) => {
             let callee = Callee {
                 result: *result,
@@ -149,10 +142,7 @@ fn block_code(
     requires sound { IsSound making.now }
     requires taken { IsTakenBy around.now.after action.now }
     ensures { OnOk result (code.new.items ≡ code.old.items
-        ++ block_code (plan_by making.now) (variables_by making.now) making.now.function
-        around.now.need around.now.before action.now around.now.after (member onward.now.next.now)
-        (jump_over making.now.short (ahead + onward.now.exits.now.leaves))
-        (jump_over making.now.short (ahead + onward.now.exits.now.skips))) }
+        ++ block_by making.now around.now action.now onward.now ahead) }
 {
     match (around.before, around.after) {
         (Standing::Late(_, value), _) => late_code(code, making.homes, action, value),
@@ -180,12 +170,8 @@ fn put_action(
     requires sound { IsSound making.now }
     requires taken { IsTakenBy around.now.after action.now }
     ensures { OnOk result (code.new
-        ≡ in_front (acting place (block_code (plan_by making.now)
-        (variables_by making.now) making.now.function around.now.need around.now.before action.now
-        around.now.after (member onward.now.next.now)
-        (jump_over making.now.short (length code.old.code + onward.now.exits.now.leaves))
-        (jump_over making.now.short (length code.old.code + onward.now.exits.now.skips))))
-        code.old) }
+        ≡ in_front (acting place (block_by making.now around.now action.now onward.now
+        (length code.old.code))) code.old) }
 {
     let mut block = Vec::new(making.alloc);
     let ahead = code.len() as u64;
@@ -208,15 +194,43 @@ fn put_past(
     rest: usize,
 ) -> Result<(), AllocError>
     ensures { OnOk result (code.new
-        ≡ in_front (glue (past_code making.now.short
+        ≡ in_front (glue (past_code (by_jal making.now)
         (does_nothing (actions_of first.now) || does_nothing (actions_of second.now))
         (length code.old.code - rest))) code.old) }
 {
+    if does_nothing(first) || does_nothing(second) {
+        return Ok(());
+    }
     let mut block = Vec::new(making.alloc);
     let words = code.len().saturating_sub(rest);
-    let none = does_nothing(first) || does_nothing(second);
-    past_code(&mut block, making.short, none, words as u64)?;
+    jump_over(&mut block, making.jumps, words as u64, 0)?;
     code.put_before(block.as_slice())
+}
+
+/// The block of a branch that goes on to the last `end` words along an edge.
+fn put_branch_along(
+    code: &mut GrowingCode,
+    making: &Making,
+    test: PlacedBranch,
+    edge: Edge,
+    end: usize,
+) -> Result<(), AllocError>
+    requires { IsSound making.now }
+    ensures { OnOk result (code.new
+        ≡ in_front (branch_to making.now test (is_then edge) (length code.old.code - end))
+        code.old) }
+{
+    let mut block = Vec::new(making.alloc);
+    let words = code.len().saturating_sub(end);
+    branch_code(
+        &mut block,
+        making.homes,
+        making.jumps,
+        test.branch,
+        edge,
+        words as u64,
+    )?;
+    code.put_action(test.place, block.as_slice())
 }
 
 /// The block of a branch: to the last `behind` words, over a first list. Where that is empty, to the last `rest` words, over
@@ -224,30 +238,22 @@ fn put_past(
 fn put_branch(
     code: &mut GrowingCode,
     making: &Making,
-    place: Place,
-    fork: Fork,
+    test: PlacedBranch,
+    first: &[Step],
     rest: usize,
     behind: usize,
 ) -> Result<(), AllocError>
     requires { IsSound making.now }
     ensures { OnOk result (code.new
-        ≡ in_front (acting place (branch_code (home_in making.now.homes.now) making.now.short
-        fork.branch fork.empty (length code.old.code - (if fork.empty then rest else behind))))
+        ≡ in_front (branch_to making.now test (does_nothing (actions_of first.now))
+        (length code.old.code - (if does_nothing (actions_of first.now) then rest else behind)))
         code.old) }
 {
-    let mut block = Vec::new(making.alloc);
-    let end = if fork.empty { rest } else { behind };
-    let words = code.len().saturating_sub(end);
-    let short = making.short;
-    branch_code(
-        &mut block,
-        making.homes,
-        short,
-        fork.branch,
-        fork.empty,
-        words as u64,
-    )?;
-    code.put_action(place, block.as_slice())
+    if does_nothing(first) {
+        put_branch_along(code, making, test, Edge::Then, rest)
+    } else {
+        put_branch_along(code, making, test, Edge::Else, behind)
+    }
 }
 
 fn is_told(branch: Branch) -> bool
@@ -311,13 +317,13 @@ fn behind_test(body: &[Step], test: Option<PlacedBranch>) -> &[Step]
 fn words_behind(making: &Making, test: Option<PlacedBranch>) -> Result<u64, AllocError>
     requires { IsSound making.now }
     ensures words { IfOk result (λ words. words
-        ≡ words_behind (home_in making.now.homes.now) making.now.short test) }
+        ≡ words_behind (home_in making.now.homes.now) (by_jal making.now) test) }
     ensures few { IfOk result (λ words. words ≤ 12) }
 {
     match test {
-        None => Ok(u64::from(jump_words(making.short))),
+        None => Ok(u64::from(jump_words(making.jumps))),
         Some(test) => {
-            let block = back_branch(making.alloc, making.homes, test.branch, true, 0)?;
+            let block = back_branch(making.alloc, making.homes, test.branch, 0)?;
             Ok(block.len() as u64)
         }
     }
@@ -373,12 +379,12 @@ fn put_top_loop(
     step: GrowingCode,
 ) -> Result<(), AllocError>
     ensures { OnOk result (code.new
-        ≡ turned (home_in making.now.homes.now) making.now.short None body step code.old) }
+        ≡ turned (home_in making.now.homes.now) (by_jal making.now) None body step code.old) }
 {
     let mut block = Vec::new(making.alloc);
     jump_back(
         &mut block,
-        making.short,
+        making.jumps,
         body.len() as u64,
         step.len() as u64,
     )?;
@@ -398,15 +404,16 @@ fn put_bottom_loop(
     requires sound { IsSound making.now }
     requires near { length body.code + length step.code ≤ 900 }
     ensures { OnOk result (code.new
-        ≡ turned (home_in making.now.homes.now) making.now.short (Some test) body step code.old) }
+        ≡ turned (home_in making.now.homes.now) (by_jal making.now) (Some test) body step
+        code.old) }
 {
     let words = body.len() as u64 + step.len() as u64;
-    let block = back_branch(making.alloc, making.homes, test.branch, true, words)?;
+    let block = back_branch(making.alloc, making.homes, test.branch, words)?;
     code.put_action(test.place, block.as_slice())?;
     code.put_code(step)?;
     code.put_code(body)?;
     let mut over = Vec::new(making.alloc);
-    jump_over(&mut over, making.short, words, 0)?;
+    jump_over(&mut over, making.jumps, words, 0)?;
     code.put_before(over.as_slice())
 }
 
@@ -421,7 +428,7 @@ fn put_loop(
     requires sound { IsSound making.now }
     requires near { IsNearTurn test body step }
     ensures { OnOk result (code.new
-        ≡ turned (home_in making.now.homes.now) making.now.short test body step code.old) }
+        ≡ turned (home_in making.now.homes.now) (by_jal making.now) test body step code.old) }
 {
     match test {
         None => put_top_loop(code, making, body, step),
@@ -499,10 +506,8 @@ fn step_code(
 ) -> Result<LiveSet, AllocError>
     requires sound { IsSound making.now }
     requires taken { IsTakenByStep around.now.after step.now }
-    ensures { IfOk result (λ set.
-        IsStepCode making.now.short (plan_by making.now) (variables_by making.now)
-        making.now.function around.now.need (facts_by around.now.known.now)
-        around.now.before around.now.after exits.now step.now code.old next code.new set) }
+    ensures { IfOk result (λ set. IsStepBy making.now around.now exits.now step.now code.old next
+        code.new set) }
 {
     match step {
         Step::Act(mark, action) => {
@@ -513,17 +518,17 @@ fn step_code(
         }
         Step::If(mark, branch, p, q) => {
             let rest = code.len();
-            let in_second = facts_in_list(making.alloc, *branch, false, around.known)?;
+            let in_second = facts_in_list(making.alloc, *branch, Edge::Else, around.known)?;
             let second = list_code(code, making, in_second, q, next.copy(making.alloc)?, exits)?;
             let behind = code.len();
             put_past(code, making, p, q, rest)?;
-            let in_first = facts_in_list(making.alloc, *branch, true, around.known)?;
+            let in_first = facts_in_list(making.alloc, *branch, Edge::Then, around.known)?;
             let first = list_code(code, making, in_first, p, next, exits)?;
-            let fork = Fork {
+            let test = PlacedBranch {
+                place: mark.place,
                 branch: *branch,
-                empty: does_nothing(p),
             };
-            put_branch(code, making, mark.place, fork, rest, behind)?;
+            put_branch(code, making, test, p, rest, behind)?;
             live_with_branch(*branch, first, &second)
         }
         Step::Loop(_, body, step) => {
@@ -534,12 +539,11 @@ fn step_code(
             let mut again = GrowingCode::new(making.alloc);
             let set = turn.copy(making.alloc)?;
             let facts = loop_facts(making, body, step, test, around.known)?;
-            let at_step = facts.at_step;
+            let LoopFacts { at_step, in_tail } = facts;
             let step_live = list_code(&mut again, making, at_step, step, set, &step_exits)?;
             let body_exits = exits_of_body(making, next, &step_live, again.len(), words)?;
             let mut turned = GrowingCode::new(making.alloc);
             let tail = behind_test(body, test);
-            let in_tail = facts.in_tail;
             list_code(&mut turned, making, in_tail, tail, step_live, &body_exits)?;
             put_loop(code, making, test, turned, again)?;
             Ok(turn)
@@ -558,12 +562,8 @@ pub fn list_code(
     exits: &Exits,
 ) -> Result<LiveSet, AllocError>
     requires { IsSound making.now }
-    ensures { IfOk result (λ set.
-        IsCodeOf making.now.short (plan_by making.now)
-        (variables_by making.now) making.now.function IsSettled (facts_by known) code.old
-        exits.now.leaves exits.now.skips (ways
-        (member next) (member exits.now.leaves_live) (member exits.now.skips_live))
-        (actions_of steps.now) code.new set) }
+    ensures { IfOk result (λ set. IsListBy making.now known exits.now steps.now code.old next
+        code.new set) }
 {
     let all = all_before(making.alloc, making.layouts.memory, known, steps)?;
     let mut set = next;

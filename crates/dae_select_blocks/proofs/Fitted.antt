@@ -36,34 +36,38 @@ use Rattle.dae_select_blocks.specs.Sizes.{most_words_in, is_short}
 use Rattle.dae_select_blocks.proofs.Sizes.{code_length, tail_length}
 use Rattle.dae_select_blocks.proofs.Lengths.{before_short}
 
--- ---- registers of variables
+-- ---- registers of variables: none of them stands for a queue
 
-abbrev AreRegisters : List ℕ → Type 0
-AreRegisters rs = AllByRecursion (λ (r : ℕ). r < 32) rs
+abbrev pub AreBelowQueues : List ℕ → Type 0
+AreBelowQueues rs = AllByRecursion (λ (r : ℕ). r < 28) rs
 
-pub filtered_registers : (f : ℕ → Bool) (rs : List ℕ) → AreRegisters rs → AreRegisters (filtered f rs)
+filtered_registers : (f : ℕ → Bool) (rs : List ℕ) → AreBelowQueues rs → AreBelowQueues (filtered f rs)
 filtered_registers f [] h = tt
 filtered_registers f (r ∷ rs) h = by (f r) (filtered_registers f rs h.1)
   where
-    by : (b : Bool) → AreRegisters (filtered f rs) → AreRegisters (if b then r ∷ filtered f rs else filtered f rs)
+    by : (b : Bool) → AreBelowQueues (filtered f rs) → AreBelowQueues (if b then r ∷ filtered f rs else filtered f rs)
     by true more = (h.0, more)
     by false more = more
 
-pub all_registers : AreRegisters home_registers
+all_registers : AreBelowQueues home_registers
 all_registers = (omega arith, (omega arith, (omega arith, (omega arith, (omega arith, (omega arith, (omega arith, (omega arith, (omega arith, (omega arith, (omega arith, (omega arith, (omega arith, (omega arith, (omega arith, (omega arith, (omega arith, (omega arith, tt))))))))))))))))))
 
-live_registers : (plan : Plan) (n f : ℕ) (live : VariableSet) → AreRegisters (registers_in (plan.home f) n live)
+pub live_registers : (plan : Plan) (n f : ℕ) (live : VariableSet) → AreBelowQueues (registers_in (plan.home f) n live)
 unfolding registers_in
 live_registers plan n f live =
     filtered_registers (λ (r : ℕ). some_below n (λ v. live v && is_register r (plan.home f v))) home_registers all_registers
 
-save_fits : (rs : List ℕ) → AreRegisters rs → AllFit (save_code rs)
+save_fits : (rs : List ℕ) → AreBelowQueues rs → AllFit (save_code rs)
 save_fits [] h = tt
-save_fits (r ∷ rs) h = fit_append _ _ (store_fits r (kept_at r) h.0) (save_fits rs h.1)
+save_fits (r ∷ rs) h =
+    let below : r < 28 = h.0 in
+    fit_append _ _ (store_fits r (kept_at r) (omega arith)) (save_fits rs h.1)
 
-restore_fits : (rs : List ℕ) → AreRegisters rs → AllFit (restore_code rs)
+restore_fits : (rs : List ℕ) → AreBelowQueues rs → AllFit (restore_code rs)
 restore_fits [] h = tt
-restore_fits (r ∷ rs) h = fit_append _ _ (load_fits r (kept_at r) h.0) (restore_fits rs h.1)
+restore_fits (r ∷ rs) h =
+    let below : r < 28 = h.0 in
+    fit_append _ _ (load_fits r (kept_at r) (omega arith)) (restore_fits rs h.1)
 
 sub_fits : (t x y : ℕ) → t < 32 → x < 32 → y < 32 → InRange (Sub t x y)
 unfolding InRange layout

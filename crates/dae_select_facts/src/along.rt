@@ -2,15 +2,16 @@
 
 ghost use Rattle.std.specs.Prelude.{◌≡◌, IfOk};
 ghost use Rattle.dae_ir.specs.Streams.{actions_of};
-ghost use Rattle.dae_select_walks.specs.Facts.{tells_within};
+ghost use Rattle.dae_select_walks.specs.Facts.{needed, tells_within};
 ghost use Rattle.dae_select_facts.specs.Knowns.{facts_by};
 ghost use Rattle.dae_select_facts.specs.Along.{facts_after, need_of_step, IsBefore, AreBefore};
 
-use crate::bounds::need_within;
+use crate::bounds::{is_aligned, is_good};
 use crate::known::{Known, facts_behind, operand_bounds, unknown};
 use crate::through::{facts_past_if, facts_past_loop};
+use dae_base::Width;
 use dae_ir::{Action, Check, Step};
-use dae_select_walks::{Fact, Need};
+use dae_select_walks::{Bounds, Fact, Need};
 use std::alloc::{AllocError, Global};
 
 /// What is known behind a step.
@@ -55,6 +56,20 @@ pub fn tells_within(count: u32, steps: &[Step]) -> bool
     }
 }
 
+/// What is needed of the test of an address within bounds, behind which these come: less where they soon tell a message.
+fn need_within(memory: u32, width: Width, bounds: Bounds, rest: &[Step]) -> Need
+    ensures { result ≡ needed memory (tells_within 24 (actions_of rest.now)) width bounds }
+{
+    let told = tells_within(24, rest);
+    if told && is_good(memory, width, bounds) {
+        Need::Nothing
+    } else if is_aligned(width, bounds) {
+        Need::Ends
+    } else {
+        Need::All
+    }
+}
+
 /// What is needed of the block of a step, behind which these come.
 pub fn need_of(memory: u32, known: &Known, step: &Step, rest: &[Step]) -> Need
     ensures { result
@@ -63,7 +78,7 @@ pub fn need_of(memory: u32, known: &Known, step: &Step, rest: &[Step]) -> Need
     match step {
         Step::Act(_, Action::Probe(Check::Place(width, operand))) => {
             let bounds = operand_bounds(known, *operand);
-            need_within(memory, tells_within(24, rest), *width, bounds)
+            need_within(memory, *width, bounds, rest)
         }
         Step::Act(_, _) | Step::If(_, _, _, _) | Step::Loop(_, _, _) => Need::All,
     }

@@ -3,11 +3,11 @@
 ghost use Rattle.std.specs.Prelude.{◌≡◌};
 ghost use Rattle.dae_select_walks.specs.Facts.{is_bounded, aligned_to, single, lesser, greater};
 ghost use Rattle.dae_select_walks.specs.Facts.{added, subtracted, multiplied, combined_bounds};
-ghost use Rattle.dae_select_walks.specs.Facts.{says_nothing, is_aligned, is_good, needed, passed_bounds, is_inside};
+ghost use Rattle.dae_select_walks.specs.Facts.{says_nothing, is_aligned, is_good, passed_bounds, is_inside};
 
 use dae_base::Width;
 use dae_meaning::Operator;
-use dae_select_walks::{Bounds, Need};
+use dae_select_walks::Bounds;
 
 /// The bounds of which only a width is known that divides.
 pub fn aligned_to(width: Width) -> Bounds
@@ -135,30 +135,19 @@ pub fn says_nothing(bounds: Bounds) -> bool
     bounds.low == 0 && !is_bounded(bounds) && bounds.aligned.bytes() == 1
 }
 
-fn is_aligned(width: Width, bounds: Bounds) -> bool
+/// Whether each word in these bounds is a multiple of the bytes of the width.
+pub fn is_aligned(width: Width, bounds: Bounds) -> bool
     ensures { result ≡ is_aligned width bounds }
 {
     width.bytes() <= bounds.aligned.bytes()
 }
 
-fn is_good(memory: u32, width: Width, bounds: Bounds) -> bool
+/// Whether each word in these bounds is good for an access of the width, with so many bytes of memory.
+pub fn is_good(memory: u32, width: Width, bounds: Bounds) -> bool
     ensures { result ≡ is_good memory width bounds }
 {
     let end = u64::from(bounds.high) + u64::from(width.bytes());
     is_aligned(width, bounds) && 16 <= bounds.low && is_bounded(bounds) && end <= u64::from(memory)
-}
-
-/// What is needed of the test of an address within bounds, behind which a message is told or not.
-pub fn need_within(memory: u32, told: bool, width: Width, bounds: Bounds) -> Need
-    ensures { result ≡ needed memory told width bounds }
-{
-    if told && is_good(memory, width, bounds) {
-        Need::Nothing
-    } else if is_aligned(width, bounds) {
-        Need::Ends
-    } else {
-        Need::All
-    }
 }
 
 /// The bounds of an address that has passed its test.

@@ -1,6 +1,7 @@
 // What a branch tells of the variables that it compares.
 
 ghost use Rattle.std.specs.Prelude.{◌≡◌, ◌-◌, ◌^◌, ◌&&◌, [], nat_lt, if◌then◌else◌};
+ghost use Rattle.dae_select_walks.specs.Edges.{is_then};
 ghost use Rattle.dae_select_walks.specs.Facts.{is_bounded, at_most, test_facts, branch_facts};
 ghost use Rattle.dae_select_facts.specs.Knowns.{facts_by, listed};
 
@@ -8,7 +9,7 @@ use crate::bounds::is_bounded;
 use crate::known::{Known, operand_bounds};
 use dae_ir::{Branch, Operand, Test};
 use dae_meaning::Comparison;
-use dae_select_walks::{Bounds, Fact};
+use dae_select_walks::{Bounds, Edge, Fact};
 
 /// Words below it are the same as signed ones.
 pub const HALF: u32 = 1 << 31;
@@ -90,32 +91,32 @@ fn most_signed(operand: Operand, one: Bounds, other: Bounds) -> Option<Fact>
     }
 }
 
-/// What a test tells where it holds, or where it doesn't.
-fn test_fact(test: Test, way: bool, known: &Known) -> Option<Fact>
-    ensures { listed result ≡ test_facts test way (facts_by known.now) }
+/// What a test tells along an edge.
+fn test_fact(test: Test, edge: Edge, known: &Known) -> Option<Fact>
+    ensures { listed result ≡ test_facts test (is_then edge) (facts_by known.now) }
 {
     let left = operand_bounds(known, test.left);
     let right = operand_bounds(known, test.right);
-    match (test.comparison, way) {
-        (Comparison::LessUnsigned, true) => less_unsigned(test.left, left, right),
-        (Comparison::LessUnsigned, false) => most_unsigned(test.right, right, left),
-        (Comparison::AtLeastUnsigned, true) => most_unsigned(test.right, right, left),
-        (Comparison::AtLeastUnsigned, false) => less_unsigned(test.left, left, right),
-        (Comparison::LessSigned, true) => less_signed(test.left, left, right),
-        (Comparison::LessSigned, false) => most_signed(test.right, right, left),
-        (Comparison::AtLeastSigned, true) => most_signed(test.right, right, left),
-        (Comparison::AtLeastSigned, false) => less_signed(test.left, left, right),
+    match (test.comparison, edge) {
+        (Comparison::LessUnsigned, Edge::Then) => less_unsigned(test.left, left, right),
+        (Comparison::LessUnsigned, Edge::Else) => most_unsigned(test.right, right, left),
+        (Comparison::AtLeastUnsigned, Edge::Then) => most_unsigned(test.right, right, left),
+        (Comparison::AtLeastUnsigned, Edge::Else) => less_unsigned(test.left, left, right),
+        (Comparison::LessSigned, Edge::Then) => less_signed(test.left, left, right),
+        (Comparison::LessSigned, Edge::Else) => most_signed(test.right, right, left),
+        (Comparison::AtLeastSigned, Edge::Then) => most_signed(test.right, right, left),
+        (Comparison::AtLeastSigned, Edge::Else) => less_signed(test.left, left, right),
         (Comparison::Equal, _) | (Comparison::NotEqual, _) => None,
     }
 }
 
-/// What a branch tells where it goes this way.
-pub fn branch_fact(branch: Branch, way: bool, known: &Known) -> Option<Fact>
-    ensures { listed result ≡ branch_facts branch way (facts_by known.now) }
+/// What a branch tells along an edge.
+pub fn branch_fact(branch: Branch, edge: Edge, known: &Known) -> Option<Fact>
+    ensures { listed result ≡ branch_facts branch (is_then edge) (facts_by known.now) }
 {
     match branch {
-        Branch::Silent(test) => test_fact(test, way, known),
-        Branch::Tells(test) => test_fact(test, way, known),
+        Branch::Silent(test) => test_fact(test, edge, known),
+        Branch::Tells(test) => test_fact(test, edge, known),
         Branch::Hears => None,
     }
 }

@@ -2,6 +2,7 @@
 
 ghost use Rattle.std.specs.Prelude.{◌≡◌, ℕ, true, List, ◌++◌, Some, IfOk, OnOk};
 ghost use Rattle.dae_ir.specs.Streams.{Actions, actions_of, step_onto};
+ghost use Rattle.dae_select_walks.specs.Edges.{is_then};
 ghost use Rattle.dae_select_walks.specs.Facts.{Facts, at_begin, all_of, branch_facts};
 ghost use Rattle.dae_select_walks.specs.Facts.{is_set, in_either, less, kept, facts_past_if};
 ghost use Rattle.dae_select_walks.specs.Facts.{facts_past_loop, facts_behind_turn};
@@ -17,7 +18,7 @@ use crate::sets::{list_sets, only_leaves, push_unset, push_unset_by_both};
 use crate::tested::{HALF, branch_fact};
 use dae_base::Width;
 use dae_ir::{Action, Branch, Operand, Step, Test};
-use dae_select_walks::{Bounds, Fact};
+use dae_select_walks::{Bounds, Edge, Fact};
 use std::alloc::{AllocError, Global};
 
 /// What is known where a list begins.
@@ -39,18 +40,18 @@ fn push_fact(facts: &mut Vec<Fact>, fact: Option<Fact>) -> Result<(), AllocError
     Ok(())
 }
 
-/// Where a list of an If begins.
+/// Where the list of an If begins that an edge leads to.
 pub fn facts_in_list(
     alloc: Global,
     branch: Branch,
-    way: bool,
+    edge: Edge,
     known: &Known,
 ) -> Result<Known, AllocError>
-    ensures { IfOk result (λ new. facts_by new ≡ at_begin (branch_facts branch way
+    ensures { IfOk result (λ new. facts_by new ≡ at_begin (branch_facts branch (is_then edge)
         (facts_by known.now) ++ all_of (facts_by known.now))) }
 {
     let mut outer = Vec::new(alloc);
-    push_fact(&mut outer, branch_fact(branch, way, known))?;
+    push_fact(&mut outer, branch_fact(branch, edge, known))?;
     outer.extend_from_slice(known.inner.as_slice())?;
     outer.extend_from_slice(known.outer.as_slice())?;
     Ok(at_begin(alloc, outer))
@@ -65,7 +66,7 @@ fn past_first(alloc: Global, branch: Branch, p: &[Step], known: &Known) -> Resul
         })) }
 {
     let mut told = Vec::new(alloc);
-    push_fact(&mut told, branch_fact(branch, true, known))?;
+    push_fact(&mut told, branch_fact(branch, Edge::Then, known))?;
     told.extend_from_slice(known.outer.as_slice())?;
     let mut outer = Vec::new(alloc);
     push_unset(alloc, &mut outer, told.as_slice(), p)?;

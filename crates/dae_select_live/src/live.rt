@@ -1,10 +1,11 @@
 // What is live before actions.
 
-ghost use Rattle.std.specs.Prelude.{◌≡◌, ℕ, IfOk};
+ghost use Rattle.std.specs.Prelude.{◌≡◌, IfOk};
 ghost use Rattle.dae_ir.specs.Classes.{VariableSet};
-ghost use Rattle.dae_ir.specs.Streams.{Actions, actions_of, step_onto};
-ghost use Rattle.dae_select_walks.specs.Live.{ways, live, before, after, turn, none, with_all, decided};
+ghost use Rattle.dae_ir.specs.Streams.{actions_of};
+ghost use Rattle.dae_select_walks.specs.Live.{ways, live, before, after, turn, with_all, decided};
 ghost use Rattle.dae_select_live.specs.Members.{member};
+ghost use Rattle.dae_select_live.specs.Before.{IsLiveBefore};
 
 use crate::LiveSet;
 use crate::reads::{add_action, add_branch, set_by};
@@ -69,9 +70,7 @@ fn live_before_step(
     leaves: &LiveSet,
     skips: &LiveSet,
 ) -> Result<LiveSet, AllocError>
-    ensures { IfOk result (λ set. (k : Actions) (n : VariableSet)
-        → live k (ways n (member leaves.now) (member skips.now)) ≡ member next → member set
-        ≡ live (step_onto step.now k) (ways n (member leaves.now) (member skips.now))) }
+    ensures { IfOk result (λ set. IsLiveBefore step.now next leaves.now skips.now set) }
 {
     match step {
         Step::Act(_, action) => live_before_action(alloc, action, next, leaves, skips),

@@ -1,6 +1,6 @@
 // What an action or a branch reads, and what an action sets.
 
-ghost use Rattle.std.specs.Prelude.{◌≡◌, ℕ, OnOk};
+ghost use Rattle.std.specs.Prelude.{◌≡◌, OnOk};
 ghost use Rattle.dae_select_walks.specs.Live.{with_all, in_operand, in_option, in_test, in_value, in_check, in_arguments, reads, sets, is, decided};
 ghost use Rattle.dae_select_live.specs.Members.{member};
 

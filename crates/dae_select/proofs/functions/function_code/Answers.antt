@@ -26,7 +26,7 @@ returns-clause-code c =
     let entry : VariableSet → List Inst = λ l. entry_code P V f l in
     let first = c.in_ok-entry_code.ensures ∙ ap (λ (l : List Inst). l ++ entry (member c.in_ok-live.live)) c.new-code.ensures.items ∙ ap entry c.in_ok-live.ensures.live in
     let middle = c.as_slice.ensures.value ∙ c.into_vec.ensures ∙ ap (λ (g : Grown). g.code) c.in_ok-live.ensures.code
-    ∙ ap (λ (b : Bool). (marked_code b P V f Settled unknown (actions_of a.body.now) nowhere 0 0).code) c.is_short.ensures ∙ same_code (is_short (actions_of a.body.now)) P V f Settled unknown (actions_of a.body.now) nowhere 0 0 in
+    ∙ ap (λ (b : Bool). (marked_code b P V f Settled unknown (actions_of a.body.now) nowhere 0 0).code) c.jumps_in.ensures ∙ same_code (is_short (actions_of a.body.now)) P V f Settled unknown (actions_of a.body.now) nowhere 0 0 in
     c.in_ok-leave_code.ensures ∙ ap (λ (home : ℕ → Home). c.extend_from_slice.new.self.items ++ last home) c.homes-homes.ensures.homes
     ∙ ap (λ (l : List Inst). l ++ last (P.home f)) (c.in_ok-extend_from_slice.ensures.items ∙ ap (λ (l : List Inst). l ++ c.as_slice.result.now) first ∙ ap (λ (l : List Inst). entry (live (actions_of a.body.now) nowhere) ++ l) middle)
     ∙ append_assoc (entry (live (actions_of a.body.now) nowhere)) (code_of (is_short (actions_of a.body.now)) P V f Settled unknown (actions_of a.body.now) nowhere 0 0) (last (P.home f))
@@ -50,5 +50,5 @@ returns-clause-places c =
     let l = c.len-entry.ensures in
     let long : c.len-entry.result ≡ length c.entry_code.new.code.items = omega arith in
     c.in_ok-places.ensures ∙ ap (λ (g : Grown). from_front (c.len-entry.result + length g.code) g.places) c.in_ok-live.ensures.code
-    ∙ ap (λ (b : Bool). (let g = marked_code b P V f Settled unknown (actions_of a.body.now) nowhere 0 0 in from_front (c.len-entry.result + length g.code) g.places)) c.is_short.ensures
+    ∙ ap (λ (b : Bool). (let g = marked_code b P V f Settled unknown (actions_of a.body.now) nowhere 0 0 in from_front (c.len-entry.result + length g.code) g.places)) c.jumps_in.ensures
     ∙ ap (λ (n : ℕ). from_front (n + length actions.code) actions.places) (long ∙ ap length first)

@@ -1,4 +1,4 @@
-use Rattle.std.proofs.Common.{◌≡◌, ℕ, suc, sym, ◌+◌, ◌-◌, ◌*◌, ◌<◌, Bool, ◌||◌, List, length, refl, ap, ◌∙◌, subst, arith}
+use Rattle.std.proofs.Common.{◌≡◌, ℕ, suc, sym, ◌+◌, ◌-◌, ◌*◌, ◌<◌, ◌||◌, List, length, refl, ap, ◌∙◌, subst, arith}
 use Rattle.std.specs.Prelude.{Option, is_some, drop, if◌then◌else◌}
 use Rattle.std.proofs.lemmas.Result.{IfOk-weaker}
 use Rattle.dae_ir.specs.Streams.{actions_of}
@@ -15,7 +15,7 @@ use Rattle.dae_select_facts.specs.Knowns.{facts_by}
 use Rattle.dae_select_facts.specs.Along.{facts_after, facts_at, IsBefore}
 use Rattle.dae_select_facts.proofs.LawsOfFacts.{facts_next}
 use Rattle.dae_select.specs.Growing.{bottom_of, words_behind, turned, facts_in_tail, IsCodeOf, step_before, standing_before}
-use Rattle.dae_select.specs.Makings.{plan_by, variables_by}
+use Rattle.dae_select.specs.Makings.{plan_by, variables_by, by_jal}
 use Rattle.dae_select.proofs.Sizes.{deepest, first_in_if, second_in_if, first_in_loop, second_in_loop, list_below, rest_below, step_below}
 use Rattle.dae_select.proofs.Stacked.{acted, branched, near_turn, looped, none_done, one_more, moved_code, before_is, stands_at_end, stands_before, taken_behind}
 use Rattle.dae_select.proofs.walking.+code.Goals as goal
@@ -49,7 +49,7 @@ step_code-list_code-requires-in-Loop-2 t c =
 pub step_code-put_loop-requires-clause-near : goal.step_code-put_loop-requires-clause-near
 step_code-put_loop-requires-clause-near t c =
     let a = c.args in let i = c.in-Loop in
-    let m = a.making.now in let S = m.short in let P = plan_by m in let V = variables_by m in let f = m.function in
+    let m = a.making.now in let S = by_jal m in let P = plan_by m in let V = variables_by m in let f = m.function in
     let test = c.bottom_of-test.result in
     let begins = c.in_ok-turn-in-Loop.turn in let again = c.in_ok-step_live-in-Loop.step_live in let set = c.in_ok-list_code-in-Loop.field-0 in
     let s = c.in_ok-step_exits-in-Loop in let b = c.in_ok-body_exits-in-Loop in
@@ -68,7 +68,7 @@ step_code-put_loop-requires-clause-near t c =
 pub step_code-returns-in_ok-put_loop-in-Loop : goal.step_code-returns-in_ok-put_loop-in-Loop
 step_code-returns-in_ok-put_loop-in-Loop t c =
     let a = c.args in let i = c.in-Loop in
-    let m = a.making.now in let S = m.short in let P = plan_by m in let V = variables_by m in let f = m.function in let x = a.exits.now in
+    let m = a.making.now in let S = by_jal m in let P = plan_by m in let V = variables_by m in let f = m.function in let x = a.exits.now in
     let test = c.bottom_of-test.result in let words = c.in_ok-words-in-Loop.words in
     let begins = c.in_ok-turn-in-Loop.turn in let again = c.in_ok-step_live-in-Loop.step_live in let set = c.in_ok-list_code-in-Loop.field-0 in
     let s = c.in_ok-step_exits-in-Loop in let b = c.in_ok-body_exits-in-Loop in
@@ -98,12 +98,12 @@ step_code-returns-in_ok-put_loop-in-Loop t c =
 pub step_code-returns-in_ok-put_action-in-Act : goal.step_code-returns-in_ok-put_action-in-Act
 step_code-returns-in_ok-put_action-in-Act t c =
     let a = c.args in let m = a.making.now in let i = c.in-Act in
-    IfOk-weaker c.live_before_action.result _ _ (λ set h. acted m.short (plan_by m) (variables_by m) m.function a.exits.now a.around.now.need (facts_by a.around.now.known.now) a.step.now i.mark i.action a.around.now.before a.around.now.after a.code.now a.next c.put_action.new.code set i.is c.in_ok-put_action-in-Act.ensures h) c.live_before_action.ensures
+    IfOk-weaker c.live_before_action.result _ _ (λ set h. acted (by_jal m) (plan_by m) (variables_by m) m.function a.exits.now a.around.now.need (facts_by a.around.now.known.now) a.step.now i.mark i.action a.around.now.before a.around.now.after a.code.now a.next c.put_action.new.code set i.is c.in_ok-put_action-in-Act.ensures h) c.live_before_action.ensures
 
 pub step_code-returns-in_ok-put_branch-in-If : goal.step_code-returns-in_ok-put_branch-in-If
 step_code-returns-in_ok-put_branch-in-If t c =
     let a = c.args in let i = c.in-If in
-    let m = a.making.now in let S = m.short in let P = plan_by m in let V = variables_by m in let f = m.function in let x = a.exits.now in
+    let m = a.making.now in let S = by_jal m in let P = plan_by m in let V = variables_by m in let f = m.function in let x = a.exits.now in
     let first = c.in_ok-first-in-If.first in let second = c.in_ok-second-in-If.second in
     let c1 = c.list_code.new.code in let c2 = c.put_past.new.code in let c3 = c.list_code-in-If.new.code in
     let told = facts_by a.around.now.known.now in
@@ -113,10 +113,9 @@ step_code-returns-in_ok-put_branch-in-If t c =
     let past : List Step → List Step → ℕ → Grown = λ y z n. in_front (glue (past_code S (does_nothing (actions_of y) || does_nothing (actions_of z)) (length c1.code - n))) c1 in
     let e2 = c.in_ok-put_past-in-If.ensures ∙ ap (λ (y : List Step). past y c.deref-in-If-2.result.now c.len-rest.result) c.deref-in-If.ensures.value ∙ ap (λ (z : List Step). past i.p.items z c.len-rest.result) c.deref-in-If-2.ensures.value
     ∙ ap (λ (n : ℕ). past i.p.items i.q.items n) c.len-rest.ensures in
-    let none = c.does_nothing.ensures ∙ ap (λ (l : List Step). does_nothing (actions_of l)) c.deref-in-If-4.ensures.value in
-    let led : (ℕ → Home) → Bool → ℕ → ℕ → Grown = λ home y n o. in_front (acting i.mark.place (branch_code home S i.branch y (length c3.code - (if y then n else o)))) c3 in
-    let e4 = c.in_ok-put_branch-in-If.ensures ∙ ap (λ (home : ℕ → Home). led home c.does_nothing.result c.len-rest.result c.len-behind.result) c.requires.sound.homes ∙ ap (λ (y : Bool). led (P.home f) y c.len-rest.result c.len-behind.result) none
-    ∙ ap (λ (n : ℕ). led (P.home f) (does_nothing (actions_of i.p.items)) n c.len-behind.result) c.len-rest.ensures ∙ ap (λ (n : ℕ). led (P.home f) (does_nothing (actions_of i.p.items)) (length a.code.now.code) n) c.len-behind.ensures in
+    let led : (ℕ → Home) → List Step → ℕ → ℕ → Grown = λ home l n o. in_front (acting i.mark.place (branch_code home S i.branch (does_nothing (actions_of l)) (length c3.code - (if does_nothing (actions_of l) then n else o)))) c3 in
+    let e4 = c.in_ok-put_branch-in-If.ensures ∙ ap (λ (home : ℕ → Home). led home c.deref-in-If-4.result.now c.len-rest.result c.len-behind.result) c.requires.sound.homes ∙ ap (λ (l : List Step). led (P.home f) l c.len-rest.result c.len-behind.result) c.deref-in-If-4.ensures.value
+    ∙ ap (λ (n : ℕ). led (P.home f) i.p.items n c.len-behind.result) c.len-rest.ensures ∙ ap (λ (n : ℕ). led (P.home f) i.p.items (length a.code.now.code) n) c.len-behind.ensures in
     IfOk-weaker c.live_with_branch.result _ _ (λ set h. branched S P V f x a.around.now.need (facts_by a.around.now.known.now) a.around.now.before a.around.now.after a.step.now i.mark i.branch i.p i.q a.code.now a.next set first second c1 c2 c3 c.put_branch.new.code i.is q' e2 p e4 h) c.live_with_branch.ensures
 
 pub list_code-index-told-requires : goal.list_code-index-told-requires
@@ -141,7 +140,7 @@ pub list_code-loop-index-init : goal.list_code-loop-index-init
 list_code-loop-index-init t c =
     let a = c.args in
     let x = ways (member a.next) (member a.exits.now.leaves_live) (member a.exits.now.skips_live) in (
-      none_done a.making.now.short (plan_by a.making.now) (variables_by a.making.now) a.making.now.function Settled (facts_at a.making.now.layouts.now.memory (facts_by a.known) a.steps.now (length a.steps.now)) a.steps.now a.code.now a.exits.now.leaves a.exits.now.skips a.next (member a.exits.now.leaves_live) (member a.exits.now.skips_live),
+      none_done (by_jal a.making.now) (plan_by a.making.now) (variables_by a.making.now) a.making.now.function Settled (facts_at a.making.now.layouts.now.memory (facts_by a.known) a.steps.now (length a.steps.now)) a.steps.now a.code.now a.exits.now.leaves a.exits.now.skips a.next (member a.exits.now.leaves_live) (member a.exits.now.skips_live),
       stands_at_end a.steps.now (step_before a.steps.now (length a.steps.now)) x,
     )
 
@@ -158,12 +157,12 @@ list_code-loop-index-preserved t c =
     let back : j ≡ suc (j - 1) = omega arith in
     let next : facts_at memory begin a.steps.now j ≡ facts_after memory s known =
     ap (facts_at memory begin a.steps.now) back ∙ facts_next memory begin a.steps.now (j - 1) s (omega arith) c.index-steps-index.is in
-    let so_far = subst (λ (m : Facts). IsCodeOf a.making.now.short (plan_by a.making.now) (variables_by a.making.now) a.making.now.function c.loop-index.after m a.code.now a.exits.now.leaves a.exits.now.skips x k c.loop-index.code c.loop-index.set) next c.loop-index.invariant.0 in
+    let so_far = subst (λ (m : Facts). IsCodeOf (by_jal a.making.now) (plan_by a.making.now) (variables_by a.making.now) a.making.now.function c.loop-index.after m a.code.now a.exits.now.leaves a.exits.now.skips x k c.loop-index.code c.loop-index.set) next c.loop-index.invariant.0 in
     let test : IsBefore memory known s k told.need (facts_by told.known) =
     subst (λ (n : ℕ). IsBefore memory known s (actions_of (drop n a.steps.now)) told.need (facts_by told.known)) (sym back)
     (c.in_ok-all.ensures.each (j - 1) s told (omega arith) c.index-steps-index.is c.index-told.ensures) in
     let stood = c.loop-index.invariant.1 ∙ ap (λ (o : Option Step). standing_before o k x) (before_is a.steps.now j s (omega arith) (omega arith) c.index-steps-index.is) in (
-      one_more a.making.now.short (plan_by a.making.now) (variables_by a.making.now) a.making.now.function a.exits.now known told.need (facts_by told.known) a.steps.now j s a.code.now c.loop-index.code c.loop-index.set c.step_code.new.code c.in_ok-set.set (member a.next)
+      one_more (by_jal a.making.now) (plan_by a.making.now) (variables_by a.making.now) a.making.now.function a.exits.now known told.need (facts_by told.known) a.steps.now j s a.code.now c.loop-index.code c.loop-index.set c.step_code.new.code c.in_ok-set.set (member a.next)
           c.standing_between-before.result c.loop-index.after (omega arith) (omega arith) c.index-steps-index.is stood so_far test c.in_ok-set.ensures,
       stands_before a.steps.now j s c.loop-index.set x c.standing_between-before.result c.loop-index.after (omega arith) (omega arith) c.index-steps-index.is stood so_far.live c.standing_between-before.ensures,
     )
