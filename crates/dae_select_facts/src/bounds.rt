@@ -1,12 +1,11 @@
-// The bounds of words: of results, and whether an address within them passes its test.
+// The bounds of words: of sums, differences and products, and whether an address within them passes its test.
 
 ghost use Rattle.std.specs.Prelude.{◌≡◌};
 ghost use Rattle.dae_select_walks.specs.Facts.{is_bounded, aligned_to, single, lesser, greater};
-ghost use Rattle.dae_select_walks.specs.Facts.{added, subtracted, multiplied, combined_bounds};
+ghost use Rattle.dae_select_walks.specs.Facts.{added, subtracted, multiplied};
 ghost use Rattle.dae_select_walks.specs.Facts.{says_nothing, is_aligned, is_good, needed, passed_bounds, is_inside};
 
 use dae_base::Width;
-use dae_meaning::Operator;
 use dae_select_walks::{Bounds, Need};
 
 /// The bounds of which only a width is known that divides.
@@ -55,7 +54,8 @@ fn lesser_width(one: Width, other: Width) -> Width
     }
 }
 
-fn greater_width(one: Width, other: Width) -> Width
+/// The width that both divide where either does.
+pub fn greater_width(one: Width, other: Width) -> Width
     ensures { result ≡ greater one other }
 {
     match (one, other) {
@@ -66,7 +66,8 @@ fn greater_width(one: Width, other: Width) -> Width
     }
 }
 
-fn sum_bounds(one: Bounds, other: Bounds) -> Bounds
+/// The bounds of a sum.
+pub fn sum_bounds(one: Bounds, other: Bounds) -> Bounds
     ensures { result ≡ added one other }
 {
     let aligned = lesser_width(one.aligned, other.aligned);
@@ -83,7 +84,8 @@ fn sum_bounds(one: Bounds, other: Bounds) -> Bounds
     }
 }
 
-fn difference_bounds(one: Bounds, other: Bounds) -> Bounds
+/// The bounds of a difference.
+pub fn difference_bounds(one: Bounds, other: Bounds) -> Bounds
     ensures { result ≡ subtracted one other }
 {
     let aligned = lesser_width(one.aligned, other.aligned);
@@ -98,7 +100,8 @@ fn difference_bounds(one: Bounds, other: Bounds) -> Bounds
     }
 }
 
-fn product_bounds(one: Bounds, other: Bounds) -> Bounds
+/// The bounds of a product.
+pub fn product_bounds(one: Bounds, other: Bounds) -> Bounds
     ensures { result ≡ multiplied one other }
 {
     let aligned = greater_width(one.aligned, other.aligned);
@@ -113,18 +116,6 @@ fn product_bounds(one: Bounds, other: Bounds) -> Bounds
         }
     } else {
         aligned_to(aligned)
-    }
-}
-
-/// The bounds of a result.
-pub fn combined_bounds(operator: Operator, one: Bounds, other: Bounds) -> Bounds
-    ensures { result ≡ combined_bounds operator one other }
-{
-    match operator {
-        Operator::Add => sum_bounds(one, other),
-        Operator::Subtract => difference_bounds(one, other),
-        Operator::Multiply => product_bounds(one, other),
-        _ => aligned_to(Width::B1),
     }
 }
 

@@ -6,8 +6,8 @@ ghost use Rattle.dae_select_walks.specs.Facts.{value_bounds, just, less, fact_of
 ghost use Rattle.dae_select_walks.specs.Facts.{with_bounds, refined, facts_behind};
 ghost use Rattle.dae_select_facts.specs.Knowns.{facts_by};
 
-use crate::bounds::{aligned_to, combined_bounds, passed_bounds, says_nothing, single};
-use dae_base::Width;
+use crate::bounds::{passed_bounds, says_nothing, single};
+use crate::results::{any, combined_bounds, extended_bounds, flag_bounds};
 use dae_ir::{Action, Check, Operand, Value};
 use dae_select_walks::{Bounds, Fact};
 use std::alloc::{AllocError, Global};
@@ -35,7 +35,7 @@ fn bounds_among(facts: &[Fact], variable: u32, otherwise: Bounds) -> Bounds
 pub fn bounds_in(known: &Known, variable: u32) -> Bounds
     ensures { result ≡ bounds_in (facts_by known.now) variable }
 {
-    let outer = bounds_among(known.outer.as_slice(), variable, aligned_to(Width::B1));
+    let outer = bounds_among(known.outer.as_slice(), variable, any());
     bounds_among(known.inner.as_slice(), variable, outer)
 }
 
@@ -57,7 +57,9 @@ fn value_bounds(known: &Known, value: Value) -> Bounds
             let one = operand_bounds(known, left);
             combined_bounds(operator, one, operand_bounds(known, right))
         }
-        Value::Extended(_, _) | Value::Holds(_) | Value::FrameAddress(_) => aligned_to(Width::B1),
+        Value::Extended(kind, operand) => extended_bounds(kind, operand_bounds(known, operand)),
+        Value::Holds(_) => flag_bounds(),
+        Value::FrameAddress(_) => any(),
     }
 }
 
@@ -143,16 +145,14 @@ pub fn facts_behind(
             with_bounds(alloc, known, *variable, bounds)
         }
         Action::Own(variable, _, _) | Action::Receive(variable) | Action::Accept(variable) => {
-            with_bounds(alloc, known, *variable, aligned_to(Width::B1))
+            with_bounds(alloc, known, *variable, any())
         }
         Action::Probe(Check::Place(width, Operand::Variable(variable))) => {
             let bounds = passed_bounds(memory, *width, bounds_in(&known, *variable));
             refine(alloc, known, *variable, bounds)
         }
         Action::Call(None, _, _) => Ok(known),
-        Action::Call(Some(variable), _, _) => {
-            with_bounds(alloc, known, *variable, aligned_to(Width::B1))
-        }
+        Action::Call(Some(variable), _, _) => { with_bounds(alloc, known, *variable, any()) }
         _ => Ok(known),
     }
 }

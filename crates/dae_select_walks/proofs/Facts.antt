@@ -1,14 +1,18 @@
 -- Behind an action holds what its definition says is known there, and an address in good bounds passes its test.
-use Rattle.std.proofs.Common.{◌≡◌, ℕ, zero, suc, ◌+◌, ◌-◌, ◌*◌, ◌/◌, ◌%◌, ◌^◌, ◌≤◌, ◌<◌, Bool, true, false, not, ◌&&◌, ◌||◌, List, [], ◌∷◌, ◌++◌, Option, Some, None, length, refl, ap, ◌∙◌, subst, arith, mul_assoc, mul_comm}
-use Rattle.std.specs.Prelude.{nat_eq, nat_lt, nat_le, take, if◌then◌else◌}
+use Rattle.std.proofs.Common.{◌≡◌, ℕ, zero, suc, ◌+◌, ◌-◌, ◌*◌, ◌/◌, ◌%◌, ◌^◌, ◌≤◌, ◌<◌, Bool, true, false, not, ◌&&◌, ◌||◌, List, [], ◌∷◌, ◌++◌, Option, Some, None, length, refl, sym, ap, ◌∙◌, subst, arith, mul_assoc, mul_comm}
+use Rattle.std.specs.Prelude.{nat_eq, nat_lt, nat_le, take, if◌then◌else◌, bit_and, int_div, int_rem}
+use Rattle.std.specs.Int.{int_shr}
 use Rattle.std.proofs.lemmas.Bool.Decides.{nat_tests}
 use Rattle.std.proofs.lemmas.Bool.{and_parts}
-use Rattle.std.proofs.Math.Nat.{mul-le-mul_left}
+use Rattle.std.proofs.Math.Nat.{le_trans, mod-le, mul-le-mul_left}
+use Rattle.std.proofs.lemmas.Nat.{mod_below, and_le_l, and_le_r, pow_pos}
 use Rattle.dae_base.specs.declared.Width.{Width}
 use Rattle.dae_base.specs.declared.Width.TheVariants.{B1, B2, B4}
-use Rattle.dae_base.specs.Words.{plus, minus, times, size}
+use Rattle.dae_base.specs.declared.LoadKind.{LoadKind}
+use Rattle.dae_base.specs.declared.LoadKind.TheVariants.{I8, U8, I16, U16, I32}
+use Rattle.dae_base.specs.Words.{plus, minus, times, size, word, signed, extended}
 use Rattle.dae_ir.specs.Classes.{VariableSet}
-use Rattle.dae_ir.specs.Form.{Program, value, computed, fault}
+use Rattle.dae_ir.specs.Form.{Program, value, computed, fault, holds}
 use Rattle.dae_ir.specs.Deeds.{Went, Halts, probed, trapped, deed}
 use Rattle.dae_ir.specs.declared.form.Operand.{Operand}
 use Rattle.dae_ir.specs.declared.form.Operand.TheVariants.{Variable, Number}
@@ -18,7 +22,7 @@ use Rattle.dae_ir.specs.declared.form.Check.TheVariants.{Place, Zero, Room, Fram
 use Rattle.dae_ir.specs.declared.stream.Action.{Action}
 use Rattle.dae_ir.specs.declared.stream.Action.TheVariants.{Set as Compute, Issue, Own, Receive, Address, Datum, Offer, Accept, Emit, Probe, Tell, Hear, Stop, Break, Continue, Call, Return}
 use Rattle.dae_meaning.specs.Worlds.{World}
-use Rattle.dae_meaning.specs.Operations.{combined, misplaced}
+use Rattle.dae_meaning.specs.Operations.{combined, misplaced, ones}
 use Rattle.dae_meaning.specs.Variables.{Env, put}
 use Rattle.dae_meaning.specs.declared.Operator.{Operator}
 use Rattle.dae_meaning.specs.declared.Operator.TheVariants.{Add, Subtract, Multiply, DivideSigned, DivideUnsigned, RemainderSigned, RemainderUnsigned, And, Or, Xor, ShiftLeft, ShiftRightSigned, ShiftRightUnsigned}
@@ -26,7 +30,8 @@ use Rattle.dae_select_walks.specs.declared.Bounds.{Bounds}
 use Rattle.dae_select_walks.specs.declared.Fact.{Fact}
 use Rattle.dae_ir.specs.declared.stream.Argument.{Argument}
 use Rattle.dae_select_walks.specs.Compiled.{with_result}
-use Rattle.dae_select_walks.specs.Facts.{LiesIn, is_bounded, aligned_to, any, alignment, lesser, greater, added, subtracted, multiplied, combined_bounds, AllLie, bounds_among, less, Facts, Hold, bounds_in, operand_bounds, value_bounds, says_nothing, fact_of, just, with_bounds, refined, is_aligned, is_good, passed_bounds, facts_behind, LeavesOnly}
+use Rattle.dae_select_walks.specs.Facts.{LiesIn, is_bounded, aligned_to, any, alignment, single, lesser, greater, added, subtracted, multiplied, is_single, is_small, quotient_bounds, remainder_bounds, conjunction_bounds, combined_bounds, low_bounds, kept_bounds, extended_bounds, flag_bounds, AllLie, bounds_among, less, Facts, Hold, bounds_in, operand_bounds, value_bounds, says_nothing, fact_of, just, with_bounds, refined, is_aligned, is_good, passed_bounds, facts_behind, LeavesOnly}
+use Rattle.dae_select_walks.proofs.Words.{none_below, below_most, not_zero, less_quotient, positive_quotient, positive_remainder, positive_shift, by_one, first_divides, second_divides, byte_stays, half_stays, byte_divides, half_divides}
 
 -- ---- what divides a word
 
@@ -156,21 +161,167 @@ multiplied_is a b x y h k =
     record { low = omega arith; high = λ z. omega arith; aligned = i })
     (λ e. aligned_only (greater a.aligned b.aligned) (times x y) i)
 
+single_is : (n : ℕ) → LiesIn (single n) n
+single_is n = record { low = omega arith; high = λ e. omega arith; aligned = alignment_is n }
+
+-- the one word that lies in them
+number_is : (b : Bounds) (y : ℕ) → LiesIn b y → is_single b ≡ true → y ≡ b.low
+number_is b y h e =
+    let both = and_parts (is_bounded b) (nat_eq b.low b.high) e in
+    let same : b.low ≡ b.high = (let t = both.1 in grind (arith, nat_tests)) in
+    let low = h.low in let high = h.high both.0 in omega arith
+
+some_word : (b : Bounds) (y : ℕ) → LiesIn b y → nat_lt 0 b.low ≡ true → 0 < y
+some_word b y h e = let least : 0 < b.low = grind (arith, nat_tests) in let low = h.low in omega arith
+
+-- bounds that are at most n hold only words that are
+within_most : (n : ℕ) (b : Bounds) (x : ℕ) → n < 2 ^ 32 - 1 → LiesIn b x → nat_le b.high n ≡ true → x ≤ n
+within_most n b x few h e =
+    let top : b.high ≤ n = grind (arith, nat_tests) in
+    let bounded : is_bounded b ≡ true = (let l : b.high < 2 ^ 32 - 1 = omega arith in grind (arith, nat_tests)) in
+    let less = h.high bounded in omega arith
+
+-- words that are known to be below 2 ^ 31
+pub small_word : (b : Bounds) (x : ℕ) → LiesIn b x → is_small b ≡ true → x < 2 ^ 31
+small_word b x h e =
+    let less : b.high < 2 ^ 31 = grind (arith, nat_tests) in
+    let bounded : is_bounded b ≡ true = (let l : b.high < 2 ^ 32 - 1 = omega arith in grind (arith, nat_tests)) in
+    let top = h.high bounded in omega arith
+
+pub bounded_small : (b : Bounds) → is_small b ≡ true → is_bounded b ≡ true
+bounded_small b e = let less : b.high < 2 ^ 31 = grind (arith, nat_tests) in let l : b.high < 2 ^ 32 - 1 = omega arith in grind (arith, nat_tests)
+
+quotient_is : (a : Bounds) (x n : ℕ) → 0 < n → is_bounded a ≡ true → LiesIn a x → LiesIn (quotient_bounds a n) (x / n)
+quotient_is a x n some bounded h = record { low = less_quotient a.low x n some h.low; high = λ e. less_quotient x a.high n some (h.high bounded); aligned = by_one (x / n) }
+
+remainder_is : (a b : Bounds) (x y : ℕ) → 0 < y → is_bounded b ≡ true → LiesIn a x → LiesIn b y → LiesIn (remainder_bounds a b) (x % y)
+remainder_is a b x y some bounded h k = record { low = none_below (x % y); high = most (nat_lt a.high b.high); aligned = by_one (x % y) }
+  where
+    most : (c : Bool) → nat_lt (if c then a.high else b.high - 1) (2 ^ 32 - 1) ≡ true → x % y ≤ (if c then a.high else b.high - 1)
+    most true small = le_trans (mod-le x y) (h.high small)
+    most false small = below_most (x % y) y b.high (mod_below x y some) (k.high bounded)
+
+conjunction_is : (a b : Bounds) (x y : ℕ) → LiesIn a x → LiesIn b y → LiesIn (conjunction_bounds a b) (bit_and x y)
+conjunction_is a b x y h k = record {
+  low = none_below (bit_and x y);
+  high = most (nat_lt a.high b.high);
+  aligned = both_aligned a.aligned b.aligned (bit_and x y) (first_divides a.aligned x y h.aligned) (second_divides b.aligned x y k.aligned);
+}
+  where
+    most : (c : Bool) → nat_lt (if c then a.high else b.high) (2 ^ 32 - 1) ≡ true → bit_and x y ≤ (if c then a.high else b.high)
+    most true small = le_trans (and_le_l x y) (h.high small)
+    most false small = le_trans (and_le_r x y) (k.high small)
+
+-- of what isn't done by 0
+not_by_zero : (b : Bounds) (y p q : ℕ) → 0 < y → LiesIn b q → LiesIn b (if nat_eq y 0 then p else q)
+not_by_zero b y p q some h = subst (λ (c : Bool). LiesIn b (if c then p else q)) (sym (not_zero y some)) h
+
+unsigned_quotient_is : (a b : Bounds) (x y : ℕ) → LiesIn a x → LiesIn b y → LiesIn (combined_bounds DivideUnsigned a b) (if nat_eq y 0 then ones else x / y)
+unsigned_quotient_is a b x y h k =
+    either ((is_bounded a && is_single b) && nat_lt 0 b.low) (quotient_bounds a b.low) any (if nat_eq y 0 then ones else x / y)
+    (λ e.
+    let one = and_parts (is_bounded a && is_single b) (nat_lt 0 b.low) e in
+    let two = and_parts (is_bounded a) (is_single b) one.0 in
+    let some = some_word b y k one.1 in
+    not_by_zero (quotient_bounds a b.low) y ones (x / y) some (subst (λ (n : ℕ). LiesIn (quotient_bounds a n) (x / y)) (number_is b y k two.1) (quotient_is a x y some two.0 h)))
+    (λ e. any_word (if nat_eq y 0 then ones else x / y))
+
+signed_quotient_is : (a b : Bounds) (x y : ℕ) → LiesIn a x → LiesIn b y → LiesIn (combined_bounds DivideSigned a b) (if nat_eq y 0 then ones else word (int_div (signed x) (signed y)))
+signed_quotient_is a b x y h k =
+    either (((is_small a && is_small b) && is_single b) && nat_lt 0 b.low) (quotient_bounds a b.low) any (if nat_eq y 0 then ones else word (int_div (signed x) (signed y)))
+    (λ e.
+    let one = and_parts ((is_small a && is_small b) && is_single b) (nat_lt 0 b.low) e in
+    let two = and_parts (is_small a && is_small b) (is_single b) one.0 in
+    let three = and_parts (is_small a) (is_small b) two.0 in
+    let some = some_word b y k one.1 in
+    let plain = subst (λ (n : ℕ). LiesIn (quotient_bounds a n) (x / y)) (number_is b y k two.1) (quotient_is a x y some (bounded_small a three.0) h) in
+    not_by_zero (quotient_bounds a b.low) y ones (word (int_div (signed x) (signed y))) some
+    (subst (λ (n : ℕ). LiesIn (quotient_bounds a b.low) n) (sym (positive_quotient x y (small_word a x h three.0) (small_word b y k three.1))) plain))
+    (λ e. any_word (if nat_eq y 0 then ones else word (int_div (signed x) (signed y))))
+
+unsigned_remainder_is : (a b : Bounds) (x y : ℕ) → LiesIn a x → LiesIn b y → LiesIn (combined_bounds RemainderUnsigned a b) (if nat_eq y 0 then x else x % y)
+unsigned_remainder_is a b x y h k =
+    either (is_bounded b && nat_lt 0 b.low) (remainder_bounds a b) any (if nat_eq y 0 then x else x % y)
+    (λ e.
+    let one = and_parts (is_bounded b) (nat_lt 0 b.low) e in
+    let some = some_word b y k one.1 in
+    not_by_zero (remainder_bounds a b) y x (x % y) some (remainder_is a b x y some one.0 h k))
+    (λ e. any_word (if nat_eq y 0 then x else x % y))
+
+signed_remainder_is : (a b : Bounds) (x y : ℕ) → LiesIn a x → LiesIn b y → LiesIn (combined_bounds RemainderSigned a b) (if nat_eq y 0 then x else word (int_rem (signed x) (signed y)))
+signed_remainder_is a b x y h k =
+    either ((is_small a && is_small b) && nat_lt 0 b.low) (remainder_bounds a b) any (if nat_eq y 0 then x else word (int_rem (signed x) (signed y)))
+    (λ e.
+    let one = and_parts (is_small a && is_small b) (nat_lt 0 b.low) e in
+    let two = and_parts (is_small a) (is_small b) one.0 in
+    let some = some_word b y k one.1 in
+    not_by_zero (remainder_bounds a b) y x (word (int_rem (signed x) (signed y))) some
+    (subst (λ (n : ℕ). LiesIn (remainder_bounds a b) n) (sym (positive_remainder x y (small_word a x h two.0) (small_word b y k two.1))) (remainder_is a b x y some (bounded_small b two.1) h k)))
+    (λ e. any_word (if nat_eq y 0 then x else word (int_rem (signed x) (signed y))))
+
+left_shift_is : (a b : Bounds) (x y : ℕ) → LiesIn a x → LiesIn b y → LiesIn (combined_bounds ShiftLeft a b) (times x (2 ^ (y % 32)))
+left_shift_is a b x y h k =
+    either (is_single b) (multiplied a (single (2 ^ (b.low % 32)))) any (times x (2 ^ (y % 32)))
+    (λ e. subst (λ (n : ℕ). LiesIn (multiplied a (single (2 ^ (n % 32)))) (times x (2 ^ (y % 32)))) (number_is b y k e)
+    (multiplied_is a (single (2 ^ (y % 32))) x (2 ^ (y % 32)) h (single_is (2 ^ (y % 32)))))
+    (λ e. any_word (times x (2 ^ (y % 32))))
+
+unsigned_shift_is : (a b : Bounds) (x y : ℕ) → LiesIn a x → LiesIn b y → LiesIn (combined_bounds ShiftRightUnsigned a b) (x / 2 ^ (y % 32))
+unsigned_shift_is a b x y h k =
+    either (is_bounded a && is_single b) (quotient_bounds a (2 ^ (b.low % 32))) any (x / 2 ^ (y % 32))
+    (λ e.
+    let one = and_parts (is_bounded a) (is_single b) e in
+    subst (λ (n : ℕ). LiesIn (quotient_bounds a (2 ^ (n % 32))) (x / 2 ^ (y % 32))) (number_is b y k one.1) (quotient_is a x (2 ^ (y % 32)) (pow_pos (y % 32)) one.0 h))
+    (λ e. any_word (x / 2 ^ (y % 32)))
+
+signed_shift_is : (a b : Bounds) (x y : ℕ) → LiesIn a x → LiesIn b y → LiesIn (combined_bounds ShiftRightSigned a b) (word (int_shr (signed x) (y % 32)))
+signed_shift_is a b x y h k =
+    either (is_small a && is_single b) (quotient_bounds a (2 ^ (b.low % 32))) any (word (int_shr (signed x) (y % 32)))
+    (λ e.
+    let one = and_parts (is_small a) (is_single b) e in
+    let plain = quotient_is a x (2 ^ (y % 32)) (pow_pos (y % 32)) (bounded_small a one.0) h in
+    subst (λ (n : ℕ). LiesIn (quotient_bounds a (2 ^ (b.low % 32))) n) (sym (positive_shift x (y % 32) (small_word a x h one.0)))
+    (subst (λ (n : ℕ). LiesIn (quotient_bounds a (2 ^ (n % 32))) (x / 2 ^ (y % 32))) (number_is b y k one.1) plain))
+    (λ e. any_word (word (int_shr (signed x) (y % 32))))
+
 combined_is : (o : Operator) (a b : Bounds) (x y : ℕ) → LiesIn a x → LiesIn b y → LiesIn (combined_bounds o a b) (combined o x y)
 unfolding combined
 combined_is Add a b x y h k = added_is a b x y h k
 combined_is Subtract a b x y h k = subtracted_is a b x y h k
 combined_is Multiply a b x y h k = multiplied_is a b x y h k
-combined_is DivideSigned a b x y h k = any_word _
-combined_is DivideUnsigned a b x y h k = any_word _
-combined_is RemainderSigned a b x y h k = any_word _
-combined_is RemainderUnsigned a b x y h k = any_word _
-combined_is And a b x y h k = any_word _
+combined_is DivideSigned a b x y h k = signed_quotient_is a b x y h k
+combined_is DivideUnsigned a b x y h k = unsigned_quotient_is a b x y h k
+combined_is RemainderSigned a b x y h k = signed_remainder_is a b x y h k
+combined_is RemainderUnsigned a b x y h k = unsigned_remainder_is a b x y h k
+combined_is And a b x y h k = conjunction_is a b x y h k
 combined_is Or a b x y h k = any_word _
 combined_is Xor a b x y h k = any_word _
-combined_is ShiftLeft a b x y h k = any_word _
-combined_is ShiftRightSigned a b x y h k = any_word _
-combined_is ShiftRightUnsigned a b x y h k = any_word _
+combined_is ShiftLeft a b x y h k = left_shift_is a b x y h k
+combined_is ShiftRightSigned a b x y h k = signed_shift_is a b x y h k
+combined_is ShiftRightUnsigned a b x y h k = unsigned_shift_is a b x y h k
+
+-- ---- extended words
+
+kept_is : (n : ℕ) (b : Bounds) (x y : ℕ) → n < 2 ^ 32 - 1 → LiesIn b x → (x ≤ n → y ≡ x) → LiesIn (kept_bounds n b) y
+kept_is n b x y few h same =
+    either (nat_le b.high n) b any y (λ e. subst (λ (z : ℕ). LiesIn b z) (sym (same (within_most n b x few h e))) h) (λ e. any_word y)
+
+low_is : (n : ℕ) (b : Bounds) (x y : ℕ) → n < 2 ^ 32 - 1 → LiesIn b x → (x ≤ n → y ≡ x) → y ≤ n → y % size b.aligned ≡ 0 → LiesIn (low_bounds n b) y
+low_is n b x y few h same most divides =
+    either (nat_le b.high n) b (record { low = 0; high = n; aligned = b.aligned }) y
+    (λ e. subst (λ (z : ℕ). LiesIn b z) (sym (same (within_most n b x few h e))) h)
+    (λ e. record { low = none_below y; high = λ z. most; aligned = divides })
+
+extended_is : (kind : LoadKind) (b : Bounds) (x : ℕ) → LiesIn b x → LiesIn (extended_bounds kind b) (extended kind x)
+extended_is I8 b x h = kept_is (2 ^ 7 - 1) b x (extended I8 x) (omega arith) h (λ small. byte_stays x small)
+extended_is U8 b x h = low_is (2 ^ 8 - 1) b x (x % 2 ^ 8) (omega arith) h (λ small. omega (arith, small)) (omega arith) (byte_divides b.aligned x h.aligned)
+extended_is I16 b x h = kept_is (2 ^ 15 - 1) b x (extended I16 x) (omega arith) h (λ small. half_stays x small)
+extended_is U16 b x h = low_is (2 ^ 16 - 1) b x (x % 2 ^ 16) (omega arith) h (λ small. omega (arith, small)) (omega arith) (half_divides b.aligned x h.aligned)
+extended_is I32 b x h = h
+
+flag_is : (c : Bool) → LiesIn flag_bounds (if c then 1 else 0)
+flag_is true = record { low = omega arith; high = λ e. omega arith; aligned = omega arith }
+flag_is false = record { low = omega arith; high = λ e. omega arith; aligned = omega arith }
 
 -- ---- facts
 
@@ -187,13 +338,13 @@ known_is facts env v h = among_is facts.inner env v (bounds_among facts.outer v 
 
 pub operand_is : (facts : Facts) (env : Env) (x : Operand) → Hold facts env → LiesIn (operand_bounds facts x) (value x env)
 operand_is facts env (Variable v) h = known_is facts env v h
-operand_is facts env (Number n) h = record { low = omega arith; high = λ e. omega arith; aligned = alignment_is n }
+operand_is facts env (Number n) h = single_is n
 
 value_is : (facts : Facts) (frame : ℕ) (env : Env) (x : Value) → Hold facts env → LiesIn (value_bounds facts x) (computed x frame env)
 value_is facts frame env (Same x) h = operand_is facts env x h
-value_is facts frame env (Extended kind x) h = any_word _
+value_is facts frame env (Extended kind x) h = extended_is kind (operand_bounds facts x) (value x env) (operand_is facts env x h)
 value_is facts frame env (Binary o x y) h = combined_is o (operand_bounds facts x) (operand_bounds facts y) (value x env) (value y env) (operand_is facts env x h) (operand_is facts env y h)
-value_is facts frame env (Holds test) h = any_word _
+value_is facts frame env (Holds test) h = flag_is (holds test env)
 value_is facts frame env (FrameAddress offset) h = any_word _
 
 pub lie_both : (xs ys : List Fact) (env : Env) → AllLie xs env → AllLie ys env → AllLie (xs ++ ys) env

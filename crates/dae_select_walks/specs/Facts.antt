@@ -1,13 +1,15 @@
 -- What is known of the words that variables hold, as far as the actions before them in a list tell: a test of a place needs no
 -- code where the address is known to pass it, and none of its alignment where that is known.
-use Rattle.std.specs.Prelude.{◌≡◌, ℕ, suc, ◌+◌, ◌-◌, ◌*◌, ◌%◌, ◌^◌, ◌≤◌, nat_eq, nat_lt, nat_le, Bool, true, false, not, ◌&&◌, ◌||◌, if◌then◌else◌, List, [], ◌∷◌, ◌++◌, take, Option, Some, None}
+use Rattle.std.specs.Prelude.{◌≡◌, ℕ, suc, ◌+◌, ◌-◌, ◌*◌, ◌/◌, ◌%◌, ◌^◌, ◌≤◌, nat_eq, nat_lt, nat_le, Bool, true, false, not, ◌&&◌, ◌||◌, if◌then◌else◌, List, [], ◌∷◌, ◌++◌, take, Option, Some, None}
 use Rattle.dae_base.specs.declared.Width.{Width}
 use Rattle.dae_base.specs.declared.Width.TheVariants.{B1, B2, B4}
+use Rattle.dae_base.specs.declared.LoadKind.{LoadKind}
+use Rattle.dae_base.specs.declared.LoadKind.TheVariants.{I8, U8, I16, U16, I32}
 use Rattle.dae_base.specs.Words.{size}
 use Rattle.dae_ir.specs.declared.form.Operand.{Operand}
 use Rattle.dae_ir.specs.declared.form.Operand.TheVariants.{Variable, Number}
 use Rattle.dae_ir.specs.declared.form.Value.{Value}
-use Rattle.dae_ir.specs.declared.form.Value.TheVariants.{Same, Binary}
+use Rattle.dae_ir.specs.declared.form.Value.TheVariants.{Same, Extended, Binary, Holds}
 use Rattle.dae_ir.specs.declared.form.Check.TheVariants.{Place}
 use Rattle.dae_ir.specs.declared.stream.Action.{Action}
 use Rattle.dae_ir.specs.declared.stream.Action.TheVariants.{Set as Compute, Own, Receive, Accept, Probe, Tell, Break, Continue, Return, Call}
@@ -23,7 +25,7 @@ use Rattle.dae_meaning.specs.declared.Comparison.TheVariants.{LessSigned, LessUn
 use Rattle.dae_select_walks.specs.Live.{sets}
 use Rattle.dae_meaning.specs.Variables.{Env}
 use Rattle.dae_meaning.specs.declared.Operator.{Operator}
-use Rattle.dae_meaning.specs.declared.Operator.TheVariants.{Add, Subtract, Multiply}
+use Rattle.dae_meaning.specs.declared.Operator.TheVariants.{Add, Subtract, Multiply, DivideSigned, DivideUnsigned, RemainderSigned, RemainderUnsigned, And, ShiftLeft, ShiftRightSigned, ShiftRightUnsigned}
 use Rattle.dae_select_walks.specs.declared.Bounds.{Bounds}
 use Rattle.dae_select_walks.specs.declared.Fact.{Fact}
 use Rattle.dae_select_walks.specs.declared.Need.{Need}
@@ -82,11 +84,58 @@ multiplied a b =
     then record { low = a.low * b.low; high = a.high * b.high; aligned = greater a.aligned b.aligned }
     else aligned_to (greater a.aligned b.aligned)
 
+-- only one word lies in these
+abbrev pub is_single : Bounds → Bool
+is_single b = is_bounded b && nat_eq b.low b.high
+
+-- signed words below 2 ^ 31 are divided and shifted as numbers
+abbrev pub is_small : Bounds → Bool
+is_small b = nat_lt b.high (2 ^ 31)
+
+-- of a quotient by a number, of a remainder by words above 0, and of a conjunction, which is at most either operand
+abbrev pub quotient_bounds : Bounds → ℕ → Bounds
+quotient_bounds a n = record { low = a.low / n; high = a.high / n; aligned = B1 }
+
+abbrev pub remainder_bounds : Bounds → Bounds → Bounds
+remainder_bounds a b = record { low = 0; high = if nat_lt a.high b.high then a.high else b.high - 1; aligned = B1 }
+
+abbrev pub conjunction_bounds : Bounds → Bounds → Bounds
+conjunction_bounds a b = record { low = 0; high = if nat_lt a.high b.high then a.high else b.high; aligned = greater a.aligned b.aligned }
+
+-- a shift by a number is a product or a quotient
 abbrev pub combined_bounds : Operator → Bounds → Bounds → Bounds
 combined_bounds Add a b = added a b
 combined_bounds Subtract a b = subtracted a b
 combined_bounds Multiply a b = multiplied a b
+combined_bounds DivideUnsigned a b = if (is_bounded a && is_single b) && nat_lt 0 b.low then quotient_bounds a b.low else any
+combined_bounds DivideSigned a b = if ((is_small a && is_small b) && is_single b) && nat_lt 0 b.low then quotient_bounds a b.low else any
+combined_bounds RemainderUnsigned a b = if is_bounded b && nat_lt 0 b.low then remainder_bounds a b else any
+combined_bounds RemainderSigned a b = if (is_small a && is_small b) && nat_lt 0 b.low then remainder_bounds a b else any
+combined_bounds And a b = conjunction_bounds a b
+combined_bounds ShiftLeft a b = if is_single b then multiplied a (single (2 ^ (b.low % 32))) else any
+combined_bounds ShiftRightUnsigned a b = if is_bounded a && is_single b then quotient_bounds a (2 ^ (b.low % 32)) else any
+combined_bounds ShiftRightSigned a b = if is_small a && is_single b then quotient_bounds a (2 ^ (b.low % 32)) else any
 combined_bounds operator a b = any
+
+-- the low bits of a word, which are at most n: they are the word itself where that is so small
+abbrev pub low_bounds : ℕ → Bounds → Bounds
+low_bounds n b = if nat_le b.high n then b else record { low = 0; high = n; aligned = b.aligned }
+
+-- where the word is at most n, it stays as it is
+abbrev pub kept_bounds : ℕ → Bounds → Bounds
+kept_bounds n b = if nat_le b.high n then b else any
+
+-- of a word's low bits, extended as a load of this kind does it
+abbrev pub extended_bounds : LoadKind → Bounds → Bounds
+extended_bounds I8 b = kept_bounds (2 ^ 7 - 1) b
+extended_bounds U8 b = low_bounds (2 ^ 8 - 1) b
+extended_bounds I16 b = kept_bounds (2 ^ 15 - 1) b
+extended_bounds U16 b = low_bounds (2 ^ 16 - 1) b
+extended_bounds I32 b = b
+
+-- of whether a test holds
+abbrev pub flag_bounds : Bounds
+flag_bounds = record { low = 0; high = 1; aligned = B1 }
 
 -- ---- facts
 
@@ -127,6 +176,8 @@ operand_bounds facts (Number n) = single n
 
 abbrev pub value_bounds : Facts → Value → Bounds
 value_bounds facts (Same x) = operand_bounds facts x
+value_bounds facts (Extended kind x) = extended_bounds kind (operand_bounds facts x)
+value_bounds facts (Holds t) = flag_bounds
 value_bounds facts (Binary operator x y) = combined_bounds operator (operand_bounds facts x) (operand_bounds facts y)
 value_bounds facts value = any
 
