@@ -6,9 +6,9 @@ ghost use Rattle.dae_select_walks.specs.Facts.{value_bounds, just, less, fact_of
 ghost use Rattle.dae_select_walks.specs.Facts.{with_bounds, refined, facts_behind};
 ghost use Rattle.dae_select_facts.specs.Knowns.{facts_by};
 
-use crate::bounds::{passed_bounds, says_nothing, single};
-use crate::results::{any, combined_bounds, extended_bounds, flag_bounds};
+use crate::bounds::{passed_bounds, says_nothing};
 use dae_ir::{Action, Check, Operand, Value};
+use dae_select_bounds::{any, combined_bounds, extended_bounds, flag_bounds, single};
 use dae_select_walks::{Bounds, Fact};
 use std::alloc::{AllocError, Global};
 

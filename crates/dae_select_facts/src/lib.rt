@@ -10,7 +10,6 @@ pub use through::{facts_at_turn, facts_behind_turn, facts_in_list, facts_past_if
 mod along;
 mod bounds;
 mod known;
-mod results;
 mod sets;
 mod tested;
 mod through;

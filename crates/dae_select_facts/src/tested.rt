@@ -4,10 +4,10 @@ ghost use Rattle.std.specs.Prelude.{◌≡◌, ◌-◌, ◌^◌, ◌&&◌, [], n
 ghost use Rattle.dae_select_walks.specs.Facts.{is_bounded, at_most, test_facts, branch_facts};
 ghost use Rattle.dae_select_facts.specs.Knowns.{facts_by, listed};
 
-use crate::bounds::is_bounded;
 use crate::known::{Known, operand_bounds};
 use dae_ir::{Branch, Operand, Test};
 use dae_meaning::Comparison;
+use dae_select_bounds::is_bounded;
 use dae_select_walks::{Bounds, Fact};
 
 /// Words below it are the same as signed ones.
