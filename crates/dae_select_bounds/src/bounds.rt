@@ -1,8 +1,8 @@
-// The bounds of numbers, sums, differences and products.
+// The bounds of numbers, sums, differences and products, and of what two bounds tell together.
 
 ghost use Rattle.std.specs.Prelude.{◌≡◌};
 ghost use Rattle.dae_select_walks.specs.Facts.{is_bounded, aligned_to, single, lesser, greater};
-ghost use Rattle.dae_select_walks.specs.Facts.{added, subtracted, multiplied};
+ghost use Rattle.dae_select_walks.specs.Facts.{added, subtracted, multiplied, closer};
 
 use dae_base::Width;
 use dae_select_walks::Bounds;
@@ -115,5 +115,24 @@ pub fn product_bounds(one: Bounds, other: Bounds) -> Bounds
         }
     } else {
         aligned_to(aligned)
+    }
+}
+
+/// Both of two bounds.
+pub fn closer(one: Bounds, other: Bounds) -> Bounds
+    ensures { result ≡ closer one other }
+{
+    Bounds {
+        low: if one.low < other.low {
+            other.low
+        } else {
+            one.low
+        },
+        high: if one.high < other.high {
+            one.high
+        } else {
+            other.high
+        },
+        aligned: greater_width(one.aligned, other.aligned),
     }
 }

@@ -18,9 +18,9 @@ fn at_most(operand: Operand, bounds: Bounds, most: u32) -> Option<Fact>
     ensures { listed result ≡ at_most operand bounds most }
 {
     match operand {
-        Operand::Variable(variable) => Some(Fact {
+        Operand::Variable(variable) => Some(Fact::Within(
             variable,
-            bounds: Bounds {
+            Bounds {
                 low: bounds.low,
                 high: if bounds.high < most {
                     bounds.high
@@ -29,7 +29,7 @@ fn at_most(operand: Operand, bounds: Bounds, most: u32) -> Option<Fact>
                 },
                 aligned: bounds.aligned,
             },
-        }),
+        )),
         Operand::Number(_) => None,
     }
 }

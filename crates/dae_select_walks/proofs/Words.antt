@@ -1,15 +1,15 @@
--- Quotients, remainders, shifts and conjunctions of plain words, and their low bits.
-use Rattle.std.proofs.Common.{◌≡◌, ℕ, ◌+◌, ◌-◌, ◌/◌, ◌%◌, ◌^◌, ◌≤◌, ◌<◌, ℤ, pos, Bool, true, false, refl, ap, ◌∙◌, subst, arith}
+-- Quotients, remainders, shifts and conjunctions of plain words, their low bits, and sums and products modulo 2 ^ 32.
+use Rattle.std.proofs.Common.{◌≡◌, ℕ, ◌+◌, ◌-◌, ◌*◌, ◌/◌, ◌%◌, ◌^◌, ◌≤◌, ◌<◌, ℤ, pos, Bool, true, false, refl, sym, ap, ◌∙◌, subst, arith}
 use Rattle.std.specs.Prelude.{nat_eq, nat_lt, if◌then◌else◌, bit_and, int_div, int_rem}
 use Rattle.std.specs.Int.{int_shr}
 use Rattle.std.specs.Int.Bits.{and_zero_l}
-use Rattle.std.proofs.Math.Nat.{div-le_self, div-mul-le_self, le_trans, mod-le}
-use Rattle.std.proofs.lemmas.Nat.{and_mod, and_comm, le-div}
+use Rattle.std.proofs.Math.Nat.{add_assoc, add_comm, add-mod, add-mod-mod, add-mul, div-le_self, div-mul-le_self, le_trans, mod-add-mod, mod-le, mod-mod, mul_assoc, mul_comm}
+use Rattle.std.proofs.lemmas.Nat.{and_mod, and_comm, le-div, mod_below, mul-mod, mul-mod_first}
 use Rattle.std.proofs.lemmas.Bool.Decides.{nat_tests}
 use Rattle.dae_base.specs.declared.Width.{Width}
 use Rattle.dae_base.specs.declared.Width.TheVariants.{B1, B2, B4}
 use Rattle.dae_base.specs.declared.LoadKind.TheVariants.{I8, I16}
-use Rattle.dae_base.specs.Words.{size, word, signed, extended}
+use Rattle.dae_base.specs.Words.{size, plus, times, word, signed, extended}
 
 -- ---- orders
 
@@ -19,6 +19,9 @@ none_below n = omega arith
 -- what is below a number of which a bound is known
 pub below_most : (r y n : ℕ) → r < y → y ≤ n → r ≤ n - 1
 below_most r y n h k = omega arith
+
+pub below_all : (x n : ℕ) → x ≤ n → n < 2 ^ 32 - 1 → x < 2 ^ 32
+below_all x n h k = omega arith
 
 pub not_zero : (y : ℕ) → 0 < y → nat_eq y 0 ≡ false
 not_zero y h = grind (arith, nat_tests)
@@ -85,3 +88,42 @@ pub half_divides : (w : Width) (x : ℕ) → x % size w ≡ 0 → x % 2 ^ 16 % s
 half_divides B1 x i = omega arith
 half_divides B2 x i = omega (arith, i)
 half_divides B4 x i = omega (arith, i)
+
+-- ---- modulo 2 ^ 32
+
+pub one_times : (n : ℕ) → n % 2 ^ 32 ≡ (1 * n + 0) % 2 ^ 32
+one_times n = omega arith
+
+pub none_times : (n e : ℕ) → n % 2 ^ 32 ≡ (0 * e + n) % 2 ^ 32
+none_times n e = omega arith
+
+pub times_small : (x y : ℕ) → times x y < 2 ^ 32
+times_small x y = mod_below (x * y) (2 ^ 32) (omega arith)
+
+pub plus_swapped : (x y : ℕ) → plus x y ≡ plus y x
+plus_swapped x y = ap (λ (n : ℕ). n % 2 ^ 32) (add_comm x y)
+
+pub times_swapped : (x y : ℕ) → times x y ≡ times y x
+times_swapped x y = ap (λ (n : ℕ). n % 2 ^ 32) (mul_comm x y)
+
+-- numbers below 2 ^ 32 that agree modulo it are the same
+pub same_word : (x y : ℕ) → x < 2 ^ 32 → y < 2 ^ 32 → x % 2 ^ 32 ≡ y % 2 ^ 32 → x ≡ y
+same_word x y h k e = omega arith
+
+-- a sum with what agrees with k
+pub sum_along : (n m k t o : ℕ) → n % 2 ^ 32 ≡ (t + o) % 2 ^ 32 → m % 2 ^ 32 ≡ k % 2 ^ 32 → plus n m % 2 ^ 32 ≡ (t + plus o k) % 2 ^ 32
+sum_along n m k t o h i =
+    mod-mod (n + m) (2 ^ 32) ∙ add-mod n m (2 ^ 32) ∙ ap (λ (x : ℕ). (x + m % 2 ^ 32) % 2 ^ 32) h ∙ ap (λ (x : ℕ). ((t + o) % 2 ^ 32 + x) % 2 ^ 32) i
+    ∙ sym (add-mod (t + o) k (2 ^ 32)) ∙ ap (λ (x : ℕ). x % 2 ^ 32) (add_assoc t o k) ∙ sym (add-mod-mod t (o + k) (2 ^ 32))
+
+spread : (s e o k : ℕ) → (s * e + o) * k ≡ s * k * e + o * k
+spread s e o k =
+    add-mul (s * e) o k ∙ ap (λ (x : ℕ). x + o * k) (mul_assoc s e k ∙ ap (λ (x : ℕ). s * x) (mul_comm e k) ∙ sym (mul_assoc s k e))
+
+-- a product with what agrees with k
+pub product_along : (n m k s e o : ℕ) → n % 2 ^ 32 ≡ (s * e + o) % 2 ^ 32 → m % 2 ^ 32 ≡ k % 2 ^ 32 → times n m % 2 ^ 32 ≡ (times s k * e + times o k) % 2 ^ 32
+product_along n m k s e o h i =
+    mod-mod (n * m) (2 ^ 32) ∙ mul-mod n m (2 ^ 32) ∙ ap (λ (x : ℕ). (x * (m % 2 ^ 32)) % 2 ^ 32) h ∙ ap (λ (x : ℕ). ((s * e + o) % 2 ^ 32 * x) % 2 ^ 32) i
+    ∙ sym (mul-mod (s * e + o) k (2 ^ 32)) ∙ ap (λ (x : ℕ). x % 2 ^ 32) (spread s e o k)
+    ∙ sym (mod-add-mod (s * k * e) (2 ^ 32) (o * k)) ∙ ap (λ (x : ℕ). (x + o * k) % 2 ^ 32) (sym (mul-mod_first (s * k) e (2 ^ 32)))
+    ∙ mod-add-mod (times s k * e) (2 ^ 32) (o * k) ∙ sym (add-mod-mod (times s k * e) (o * k) (2 ^ 32))
