@@ -1,15 +1,15 @@
 // What is known in the lists of an If and a Loop, and behind them.
 
-ghost use Rattle.std.specs.Prelude.{◌≡◌, ℕ, true, List, ◌++◌, Some, IfOk, OnOk};
+ghost use Rattle.std.specs.Prelude.{◌≡◌, true, ◌++◌, Some, IfOk, OnOk};
 ghost use Rattle.dae_ir.specs.Streams.{Actions, actions_of, step_onto};
-ghost use Rattle.dae_select_walks.specs.Facts.{Facts, at_begin, all_of, branch_facts};
+ghost use Rattle.dae_select_walks.specs.Facts.{at_begin, all_of, branch_facts};
 ghost use Rattle.dae_select_walks.specs.Facts.{is_set, in_either, less, kept, facts_past_if};
 ghost use Rattle.dae_select_walks.specs.Facts.{facts_past_loop, facts_behind_turn};
-ghost use Rattle.dae_select_walks.specs.Facts.{grows, counter_in, counter_of, counters, guessed};
+ghost use Rattle.dae_select_walks.specs.Facts.{grows, counter_of, counters, guessed};
 ghost use Rattle.dae_select_walks.specs.Facts.{behind_straight, bounds_in, is_said, say};
 ghost use Rattle.dae_select_walks.specs.Facts.{holds_on, facts_at_turn};
 ghost use Rattle.dae_select_facts.specs.Knowns.{facts_by, listed};
-ghost use Rattle.dae_select_facts.specs.Turns.{facts_if, straight_on, guess_or};
+ghost use Rattle.dae_select_facts.specs.Turns.{facts_if, straight_on, IsCounterIn};
 
 use crate::bounds::is_inside;
 use crate::known::{Known, bounds_in, facts_behind};
@@ -157,10 +157,7 @@ pub fn facts_behind_turn(alloc: Global, body: &[Step], turn: &Known) -> Result<K
 
 /// The variable that is compared, where the step sets it and the body doesn't.
 fn counter_in(operand: Operand, body: &[Step], step: &[Step]) -> Option<u32>
-    ensures { (vs : List ℕ) (facts : Facts)
-        → counters (counter_in operand ++ vs) (actions_of body.now) (actions_of step.now) facts
-        ≡ guess_or result facts
-        (counters vs (actions_of body.now) (actions_of step.now) facts) }
+    ensures { IsCounterIn operand (actions_of body.now) (actions_of step.now) result }
 {
     match operand {
         Operand::Number(_) => None,
