@@ -16,7 +16,8 @@ use Rattle.dae_ir.specs.declared.stream.Step.TheVariants as step
 use Rattle.dae_select_live.proofs.Laws.{onto_if, onto_loop}
 use Rattle.dae_select_walks.specs.Live.{sets, none}
 use Rattle.dae_select_walks.specs.declared.Fact.{Fact}
-use Rattle.dae_select_walks.specs.Facts.{is_set, in_either, less, only_leaves}
+use Rattle.dae_select_walks.specs.declared.Fact.TheVariants.{Within, Equals}
+use Rattle.dae_select_walks.specs.Facts.{is_set, in_either, is_about, less, only_leaves}
 
 pub sets_if : (s : Step) (m : Mark) (b : Branch) (p q : Vec Step Global) (k : Actions) (v : ℕ) → s ≡ step.If m b p q
     → is_set (step_onto s k) v ≡ ((is_set (actions_of p.items) v || is_set (actions_of q.items) v) || is_set k v)
@@ -78,10 +79,14 @@ all_added steps i old new le so_far v = ap (λ (l : List Step). is_set (actions_
 -- ---- facts of variables that aren't in a set
 
 -- with the same variables in it
+about_same : (s t : VariableSet) (f : Fact) → ((v : ℕ) → s v ≡ t v) → is_about s f ≡ is_about t f
+about_same s t (Within v b) e = e v
+about_same s t (Equals v x) e = ap (λ (c : Bool). c || s x.base) (e v) ∙ ap (λ (c : Bool). t v || c) (e x.base)
+
 pub less_same : (s t : VariableSet) (facts : List Fact) → ((v : ℕ) → s v ≡ t v) → less s facts ≡ less t facts
 less_same s t [] e = refl
 less_same s t (f ∷ fs) e =
-    ap (λ (b : Bool). if b then less s fs else f ∷ less s fs) (e f.variable) ∙ ap (λ (l : List Fact). if t f.variable then l else f ∷ l) (less_same s t fs e)
+    ap (λ (b : Bool). if b then less s fs else f ∷ less s fs) (about_same s t f e) ∙ ap (λ (l : List Fact). if is_about t f then l else f ∷ l) (less_same s t fs e)
 
 pub less_none : (s : VariableSet) (xs facts : List Fact) → length facts ≡ 0 → xs ≡ xs ++ less s facts
 less_none s xs [] e = sym (append-nil xs)

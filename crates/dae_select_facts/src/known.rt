@@ -1,15 +1,23 @@
 // What is known of variables at a place of a list, and behind an action.
 
 ghost use Rattle.std.specs.Prelude.{◌≡◌, ◌++◌, IfOk, OnOk};
-ghost use Rattle.dae_select_walks.specs.Facts.{unknown, bounds_among, bounds_in, operand_bounds};
-ghost use Rattle.dae_select_walks.specs.Facts.{value_bounds, just, less, fact_of, latest, any};
-ghost use Rattle.dae_select_walks.specs.Facts.{with_bounds, refined, facts_behind};
+ghost use Rattle.dae_select_walks.specs.Facts.{unknown, gives_bounds, fact_bounds, bounds_among};
+ghost use Rattle.dae_select_walks.specs.Facts.{bounds_in, operand_bounds, affine_in, operand_affine};
+ghost use Rattle.dae_select_walks.specs.Facts.{some_bounds, equal_in, equal_bounds, result_affine};
+ghost use Rattle.dae_select_walks.specs.Facts.{value_bounds, affine_of, just, is_about, less};
+ghost use Rattle.dae_select_walks.specs.Facts.{fact_of, latest, any, with_bounds, with_affine};
+ghost use Rattle.dae_select_walks.specs.Facts.{refined, facts_behind, result_bounds};
 ghost use Rattle.dae_select_facts.specs.Knowns.{facts_by};
 
-use crate::bounds::{aligned_to, combined_bounds, passed_bounds, says_nothing, single};
-use dae_base::Width;
+use crate::affine::{affine_among, equal_among, own_word, push_affine};
+use crate::bounds::{passed_bounds, says_nothing};
 use dae_ir::{Action, Check, Operand, Value};
-use dae_select_walks::{Bounds, Fact};
+use dae_meaning::Operator;
+use dae_select_bounds::{
+    any, closer, combined_affine, combined_bounds, difference_affine, extended_bounds, flag_bounds,
+    is_bounded, single,
+};
+use dae_select_walks::{Affine, Bounds, Fact};
 use std::alloc::{AllocError, Global};
 
 /// What is known at a place of a list: what was known where the list begins, of variables that it hasn't set, and what its
@@ -20,13 +28,31 @@ pub struct Known {
     pub inner: Vec<Fact>,
 }
 
+fn gives_bounds(variable: u32, fact: Fact) -> bool
+    ensures { result ≡ gives_bounds variable fact }
+{
+    match fact {
+        Fact::Within(other, _) => other == variable,
+        Fact::Equals(_, _) => false,
+    }
+}
+
+fn fact_bounds(fact: Fact) -> Bounds
+    ensures { result ≡ fact_bounds fact }
+{
+    match fact {
+        Fact::Within(_, bounds) => bounds,
+        Fact::Equals(_, _) => any(),
+    }
+}
+
 /// The first bounds that are told of a variable.
 fn bounds_among(facts: &[Fact], variable: u32, otherwise: Bounds) -> Bounds
     ensures { result ≡ bounds_among facts.now variable otherwise }
 {
     for fact in facts {
-        if fact.variable == variable {
-            return fact.bounds;
+        if gives_bounds(variable, *fact) {
+            return fact_bounds(*fact);
         }
     }
     otherwise
@@ -35,7 +61,7 @@ fn bounds_among(facts: &[Fact], variable: u32, otherwise: Bounds) -> Bounds
 pub fn bounds_in(known: &Known, variable: u32) -> Bounds
     ensures { result ≡ bounds_in (facts_by known.now) variable }
 {
-    let outer = bounds_among(known.outer.as_slice(), variable, aligned_to(Width::B1));
+    let outer = bounds_among(known.outer.as_slice(), variable, any());
     bounds_among(known.inner.as_slice(), variable, outer)
 }
 
@@ -48,16 +74,107 @@ pub fn operand_bounds(known: &Known, operand: Operand) -> Bounds
     }
 }
 
+fn affine_in(known: &Known, variable: u32) -> Affine
+    ensures { result ≡ affine_in (facts_by known.now) variable }
+{
+    let outer = affine_among(known.outer.as_slice(), variable, own_word(variable));
+    affine_among(known.inner.as_slice(), variable, outer)
+}
+
+fn operand_affine(known: &Known, operand: Operand) -> Affine
+    ensures { result ≡ operand_affine (facts_by known.now) operand }
+{
+    match operand {
+        Operand::Variable(variable) => affine_in(known, variable),
+        Operand::Number(number) => Affine {
+            scale: 0,
+            base: 0,
+            offset: number,
+        },
+    }
+}
+
+/// The bounds of a word that equals a variable's.
+fn some_bounds(known: &Known, variable: Option<u32>) -> Bounds
+    ensures { result ≡ some_bounds (facts_by known.now) variable }
+{
+    match variable {
+        None => any(),
+        Some(variable) => {
+            let bounds = bounds_in(known, variable);
+            if is_bounded(bounds) { bounds } else { any() }
+        }
+    }
+}
+
+fn equal_in(known: &Known, affine: Affine) -> Option<u32>
+    ensures { result ≡ equal_in (facts_by known.now) affine }
+{
+    let outer = equal_among(known.outer.as_slice(), affine, None);
+    equal_among(known.inner.as_slice(), affine, outer)
+}
+
+/// What is told of variables that equal an affine word.
+fn equal_bounds(known: &Known, affine: Option<Affine>) -> Bounds
+    ensures { result ≡ equal_bounds (facts_by known.now) affine }
+{
+    match affine {
+        None => any(),
+        Some(affine) => some_bounds(known, equal_in(known, affine)),
+    }
+}
+
+/// The affine word that an operation computes.
+fn result_affine(known: &Known, operator: Operator, left: Operand, right: Operand) -> Option<Affine>
+    ensures { result ≡ result_affine (facts_by known.now) operator left right }
+{
+    let one = operand_affine(known, left);
+    match operator {
+        Operator::Subtract => difference_affine(one, right),
+        _ => combined_affine(operator, one, operand_affine(known, right)),
+    }
+}
+
+/// The bounds of an operation's result: by those of its operands, and by what is told of variables that equal it.
+fn result_bounds(known: &Known, operator: Operator, left: Operand, right: Operand) -> Bounds
+    ensures { result ≡ result_bounds (facts_by known.now) operator left right }
+{
+    let one = operand_bounds(known, left);
+    let bounds = combined_bounds(operator, one, operand_bounds(known, right));
+    let affine = result_affine(known, operator, left, right);
+    closer(bounds, equal_bounds(known, affine))
+}
+
+/// The affine word that a value computes.
+fn affine_of(known: &Known, value: Value) -> Option<Affine>
+    ensures { result ≡ affine_of (facts_by known.now) value }
+{
+    match value {
+        Value::Same(operand) => Some(operand_affine(known, operand)),
+        Value::Binary(operator, left, right) => result_affine(known, operator, left, right),
+        Value::Extended(_, _) | Value::Holds(_) | Value::FrameAddress(_) => None,
+    }
+}
+
 fn value_bounds(known: &Known, value: Value) -> Bounds
     ensures { result ≡ value_bounds (facts_by known.now) value }
 {
     match value {
         Value::Same(operand) => operand_bounds(known, operand),
-        Value::Binary(operator, left, right) => {
-            let one = operand_bounds(known, left);
-            combined_bounds(operator, one, operand_bounds(known, right))
-        }
-        Value::Extended(_, _) | Value::Holds(_) | Value::FrameAddress(_) => aligned_to(Width::B1),
+        Value::Binary(operator, left, right) => result_bounds(known, operator, left, right),
+        Value::Extended(kind, operand) => extended_bounds(kind, operand_bounds(known, operand)),
+        Value::Holds(_) => flag_bounds(),
+        Value::FrameAddress(_) => any(),
+    }
+}
+
+/// Whether a fact is of a variable.
+fn is_of(variable: u32, fact: Fact) -> bool
+    ensures { result ≡ is_about (just variable) fact }
+{
+    match fact {
+        Fact::Within(other, _) => other == variable,
+        Fact::Equals(other, affine) => other == variable || affine.base == variable,
     }
 }
 
@@ -66,7 +183,7 @@ fn push_less(kept: &mut Vec<Fact>, facts: &[Fact], variable: u32) -> Result<(), 
     ensures { OnOk result (kept.new.items ≡ kept.old.items ++ less (just variable) facts.now) }
 {
     for fact in facts {
-        if fact.variable != variable {
+        if !is_of(variable, *fact) {
             kept.push(*fact)?;
         }
     }
@@ -84,10 +201,10 @@ fn latest(
 {
     let mut new = Vec::new(alloc);
     if !says_nothing(bounds) {
-        new.push(Fact { variable, bounds })?;
+        new.push(Fact::Within(variable, bounds))?;
     }
     push_less(&mut new, facts, variable)?;
-    new.truncate(32);
+    new.truncate(64);
     Ok(new)
 }
 
@@ -106,11 +223,35 @@ fn with_bounds(
     Ok(Known { outer, inner })
 }
 
+/// A variable that was set equals an affine word.
+fn with_affine(
+    alloc: Global,
+    known: Known,
+    variable: u32,
+    affine: Option<Affine>,
+) -> Result<Known, AllocError>
+    ensures { IfOk result (λ new. facts_by new ≡ with_affine variable affine (facts_by known)) }
+{
+    let mut inner = Vec::new(alloc);
+    push_affine(&mut inner, variable, affine)?;
+    inner.extend_from_slice(known.inner.as_slice())?;
+    inner.truncate(64);
+    Ok(Known {
+        outer: known.outer,
+        inner,
+    })
+}
+
 /// More is known of a variable.
 fn refine(alloc: Global, known: Known, variable: u32, bounds: Bounds) -> Result<Known, AllocError>
     ensures { IfOk result (λ new. facts_by new ≡ refined variable bounds (facts_by known)) }
 {
-    let inner = latest(alloc, variable, bounds, known.inner.as_slice())?;
+    let mut inner = Vec::new(alloc);
+    if !says_nothing(bounds) {
+        inner.push(Fact::Within(variable, bounds))?;
+    }
+    inner.extend_from_slice(known.inner.as_slice())?;
+    inner.truncate(64);
     Ok(Known {
         outer: known.outer,
         inner,
@@ -140,19 +281,19 @@ pub fn facts_behind(
     match action {
         Action::Set(variable, value) => {
             let bounds = value_bounds(&known, *value);
-            with_bounds(alloc, known, *variable, bounds)
+            let affine = affine_of(&known, *value);
+            let next = with_bounds(alloc, known, *variable, bounds)?;
+            with_affine(alloc, next, *variable, affine)
         }
         Action::Own(variable, _, _) | Action::Receive(variable) | Action::Accept(variable) => {
-            with_bounds(alloc, known, *variable, aligned_to(Width::B1))
+            with_bounds(alloc, known, *variable, any())
         }
         Action::Probe(Check::Place(width, Operand::Variable(variable))) => {
             let bounds = passed_bounds(memory, *width, bounds_in(&known, *variable));
             refine(alloc, known, *variable, bounds)
         }
         Action::Call(None, _, _) => Ok(known),
-        Action::Call(Some(variable), _, _) => {
-            with_bounds(alloc, known, *variable, aligned_to(Width::B1))
-        }
+        Action::Call(Some(variable), _, _) => { with_bounds(alloc, known, *variable, any()) }
         _ => Ok(known),
     }
 }

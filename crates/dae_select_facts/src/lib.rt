@@ -7,6 +7,7 @@ pub use known::{Known, unknown};
 pub use sets::only_leaves;
 pub use through::{facts_at_turn, facts_behind_turn, facts_in_list, facts_past_if};
 
+mod affine;
 mod along;
 mod bounds;
 mod known;

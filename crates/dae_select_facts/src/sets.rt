@@ -2,7 +2,7 @@
 
 ghost use Rattle.std.specs.Prelude.{◌≡◌, ℕ, ◌||◌, ◌++◌, IfOk, OnOk};
 ghost use Rattle.dae_ir.specs.Streams.{Actions, actions_of, step_onto};
-ghost use Rattle.dae_select_walks.specs.Facts.{is_set, in_either, less, only_leaves};
+ghost use Rattle.dae_select_walks.specs.Facts.{is_set, in_either, is_about, less, only_leaves};
 ghost use Rattle.dae_select_walks.specs.Live.{sets};
 ghost use Rattle.dae_select_live.specs.Members.{member};
 
@@ -79,13 +79,23 @@ fn add_sets(set: &mut LiveSet, steps: &[Step]) -> Result<(), AllocError>
     Ok(())
 }
 
+/// Whether a fact is of a variable in a set.
+fn is_about(set: &LiveSet, fact: Fact) -> bool
+    ensures { result ≡ is_about (member set.now) fact }
+{
+    match fact {
+        Fact::Within(variable, _) => set.contains(variable),
+        Fact::Equals(variable, affine) => set.contains(variable) || set.contains(affine.base),
+    }
+}
+
 /// The facts of variables that aren't in a set come behind others.
 fn push_others(kept: &mut Vec<Fact>, facts: &[Fact], set: &LiveSet) -> Result<(), AllocError>
     ensures { OnOk result (kept.new.items
         ≡ kept.old.items ++ less (member set.now) facts.now) }
 {
     for fact in facts {
-        if !set.contains(fact.variable) {
+        if !is_about(set, *fact) {
             kept.push(*fact)?;
         }
     }

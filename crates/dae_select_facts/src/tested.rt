@@ -5,10 +5,10 @@ ghost use Rattle.dae_select_walks.specs.Edges.{is_then};
 ghost use Rattle.dae_select_walks.specs.Facts.{is_bounded, at_most, test_facts, branch_facts};
 ghost use Rattle.dae_select_facts.specs.Knowns.{facts_by, listed};
 
-use crate::bounds::is_bounded;
 use crate::known::{Known, operand_bounds};
 use dae_ir::{Branch, Operand, Test};
 use dae_meaning::Comparison;
+use dae_select_bounds::is_bounded;
 use dae_select_walks::{Bounds, Edge, Fact};
 
 /// Words below it are the same as signed ones.
@@ -19,9 +19,9 @@ fn at_most(operand: Operand, bounds: Bounds, most: u32) -> Option<Fact>
     ensures { listed result ≡ at_most operand bounds most }
 {
     match operand {
-        Operand::Variable(variable) => Some(Fact {
+        Operand::Variable(variable) => Some(Fact::Within(
             variable,
-            bounds: Bounds {
+            Bounds {
                 low: bounds.low,
                 high: if bounds.high < most {
                     bounds.high
@@ -30,7 +30,7 @@ fn at_most(operand: Operand, bounds: Bounds, most: u32) -> Option<Fact>
                 },
                 aligned: bounds.aligned,
             },
-        }),
+        )),
         Operand::Number(_) => None,
     }
 }

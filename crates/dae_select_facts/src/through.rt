@@ -1,16 +1,16 @@
 // What is known in the lists of an If and a Loop, and behind them.
 
-ghost use Rattle.std.specs.Prelude.{◌≡◌, ℕ, true, List, ◌++◌, Some, IfOk, OnOk};
+ghost use Rattle.std.specs.Prelude.{◌≡◌, true, ◌++◌, Some, IfOk, OnOk};
 ghost use Rattle.dae_ir.specs.Streams.{Actions, actions_of, step_onto};
 ghost use Rattle.dae_select_walks.specs.Edges.{is_then};
-ghost use Rattle.dae_select_walks.specs.Facts.{Facts, at_begin, all_of, branch_facts};
+ghost use Rattle.dae_select_walks.specs.Facts.{at_begin, all_of, branch_facts};
 ghost use Rattle.dae_select_walks.specs.Facts.{is_set, in_either, less, kept, facts_past_if};
 ghost use Rattle.dae_select_walks.specs.Facts.{facts_past_loop, facts_behind_turn};
-ghost use Rattle.dae_select_walks.specs.Facts.{grows, counter_in, counter_of, counters, guessed};
-ghost use Rattle.dae_select_walks.specs.Facts.{behind_straight, bounds_in, is_inside, says, say};
+ghost use Rattle.dae_select_walks.specs.Facts.{grows, counter_of, counters, guessed};
+ghost use Rattle.dae_select_walks.specs.Facts.{behind_straight, bounds_in, is_said, say};
 ghost use Rattle.dae_select_walks.specs.Facts.{holds_on, facts_at_turn};
 ghost use Rattle.dae_select_facts.specs.Knowns.{facts_by, listed};
-ghost use Rattle.dae_select_facts.specs.Turns.{facts_if, straight_on, guess_or};
+ghost use Rattle.dae_select_facts.specs.Turns.{facts_if, straight_on, IsCounterIn};
 
 use crate::bounds::is_inside;
 use crate::known::{Known, bounds_in, facts_behind};
@@ -158,10 +158,7 @@ pub fn facts_behind_turn(alloc: Global, body: &[Step], turn: &Known) -> Result<K
 
 /// The variable that is compared, where the step sets it and the body doesn't.
 fn counter_in(operand: Operand, body: &[Step], step: &[Step]) -> Option<u32>
-    ensures { (vs : List ℕ) (facts : Facts)
-        → counters (counter_in operand ++ vs) (actions_of body.now) (actions_of step.now) facts
-        ≡ guess_or result facts
-        (counters vs (actions_of body.now) (actions_of step.now) facts) }
+    ensures { IsCounterIn operand (actions_of body.now) (actions_of step.now) result }
 {
     match operand {
         Operand::Number(_) => None,
@@ -181,14 +178,14 @@ fn growing_fact(variable: u32, known: &Known) -> Option<Fact>
 {
     let bounds = bounds_in(known, variable);
     if bounds.high < HALF {
-        Some(Fact {
+        Some(Fact::Within(
             variable,
-            bounds: Bounds {
+            Bounds {
                 low: bounds.low,
                 high: HALF - 1,
                 aligned: Width::B1,
             },
-        })
+        ))
     } else {
         None
     }
@@ -289,10 +286,13 @@ fn turn_with(
     Ok(at_begin(alloc, outer))
 }
 
-fn says(known: &Known, fact: Fact) -> bool
-    ensures { result ≡ is_inside (bounds_in (facts_by known.now) fact.variable) fact.bounds }
+fn is_said(known: &Known, fact: Fact) -> bool
+    ensures { result ≡ is_said (facts_by known.now) fact }
 {
-    is_inside(bounds_in(known, fact.variable), fact.bounds)
+    match fact {
+        Fact::Within(variable, bounds) => is_inside(bounds_in(known, variable), bounds),
+        Fact::Equals(_, _) => false,
+    }
 }
 
 /// Whether a guess that holds before a turn holds behind the step.
@@ -310,7 +310,7 @@ fn stays(
     let begin = facts_behind_turn(alloc, body, turn)?;
     match behind_straight(alloc, memory, begin, step)? {
         None => Ok(false),
-        Some(end) => Ok(says(&end, guess)),
+        Some(end) => Ok(is_said(&end, guess)),
     }
 }
 
@@ -329,7 +329,7 @@ pub fn facts_at_turn(
         None => turn_with(alloc, None, body, step, known),
         Some(guess) => {
             let turn = turn_with(alloc, Some(guess), body, step, known)?;
-            if says(known, guess) && stays(alloc, memory, body, step, &turn, guess)? {
+            if is_said(known, guess) && stays(alloc, memory, body, step, &turn, guess)? {
                 Ok(turn)
             } else {
                 turn_with(alloc, None, body, step, known)

@@ -15,8 +15,9 @@ use Rattle.dae_ir.specs.declared.stream.Branch.{Branch}
 use Rattle.dae_meaning.specs.Variables.{Env}
 use Rattle.dae_select_walks.specs.declared.Bounds.{Bounds}
 use Rattle.dae_select_walks.specs.declared.Fact.{Fact}
+use Rattle.dae_select_walks.specs.declared.Fact.TheVariants.{Within, Equals}
 use Rattle.dae_select_walks.specs.Live.{sets}
-use Rattle.dae_select_walks.specs.Facts.{LiesIn, is_bounded, AllLie, less, Facts, Hold, bounds_in, just, facts_behind, is_aligned, is_set, in_either, at_begin, all_of, kept, branch_facts, facts_in_first, facts_in_second, only_leaves, facts_past_if, facts_behind_turn, guessed, behind_straight, is_inside, says, say, holds_on, checked_guess, facts_past_loop, Outs, outs, Entails, FactsGo}
+use Rattle.dae_select_walks.specs.Facts.{LiesIn, is_bounded, Lies, AllLie, is_about, less, Facts, Hold, bounds_in, just, facts_behind, is_aligned, is_set, in_either, at_begin, all_of, kept, branch_facts, facts_in_first, facts_in_second, only_leaves, facts_past_if, facts_behind_turn, guessed, behind_straight, is_inside, is_said, says, say, holds_on, checked_guess, facts_past_loop, Outs, outs, Entails, FactsGo}
 use Rattle.dae_select_walks.proofs.Facts.{lie_both, lie_less, known_is, of_wider}
 
 -- ---- lists of facts
@@ -25,20 +26,32 @@ lie_parts : (xs ys : List Fact) (env : Env) → AllLie (xs ++ ys) env → AllLie
 lie_parts [] ys env h = (tt, h)
 lie_parts (x ∷ xs) ys env h = let rest = lie_parts xs ys env h.1 in ((h.0, rest.0), rest.1)
 
+neither : (b c : Bool) → (b || c) ≡ false → (b ≡ false) × (c ≡ false)
+neither true c e = absurd cc
+neither false c e = (refl, e)
+
+not_either : (b c : Bool) → b ≡ false → c ≡ false → (b || c) ≡ false
+not_either true c e f = absurd cc
+not_either false c e f = f
+
+about_more : (s t : VariableSet) → ((v : ℕ) → t v ≡ false → s v ≡ false) → (x : Fact) → is_about t x ≡ false → is_about s x ≡ false
+about_more s t only (Within v b) e = only v e
+about_more s t only (Equals v x) e = let two = neither (t v) (t x.base) e in not_either (s v) (s x.base) (only v two.0) (only x.base two.1)
+
 -- where less is dropped, more holds
 less_more : (s t : VariableSet) → ((v : ℕ) → t v ≡ false → s v ≡ false) → (xs : List Fact) (env : Env) → AllLie (less s xs) env → AllLie (less t xs) env
 less_more s t only [] env h = tt
-less_more s t only (x ∷ xs) env h = by (s x.variable) (t x.variable) refl refl h (less_more s t only xs env)
+less_more s t only (x ∷ xs) env h = by (is_about s x) (is_about t x) refl refl h (less_more s t only xs env)
   where
-    by : (b c : Bool) → s x.variable ≡ b → t x.variable ≡ c → AllLie (if b then less s xs else x ∷ less s xs) env → (AllLie (less s xs) env → AllLie (less t xs) env) → AllLie (if c then less t xs else x ∷ less t xs) env
+    by : (b c : Bool) → is_about s x ≡ b → is_about t x ≡ c → AllLie (if b then less s xs else x ∷ less s xs) env → (AllLie (less s xs) env → AllLie (less t xs) env) → AllLie (if c then less t xs else x ∷ less t xs) env
     by true true e f h k = k h
     by false true e f h k = k h.1
-    by true false e f h k = let same : false ≡ true = sym (only x.variable f) ∙ e in absurd cc
+    by true false e f h k = let same : false ≡ true = sym (about_more s t only x f) ∙ e in absurd cc
     by false false e f h k = (h.0, k h.1)
 
 less_parts : (s : VariableSet) (xs ys : List Fact) (env : Env) → AllLie (less s (xs ++ ys)) env → AllLie (less s xs) env × AllLie (less s ys) env
 less_parts s [] ys env h = (tt, h)
-less_parts s (x ∷ xs) ys env h = by (s x.variable) h (less_parts s xs ys env)
+less_parts s (x ∷ xs) ys env h = by (is_about s x) h (less_parts s xs ys env)
   where
     by : (b : Bool) → AllLie (if b then less s (xs ++ ys) else x ∷ less s (xs ++ ys)) env → (AllLie (less s (xs ++ ys)) env → AllLie (less s xs) env × AllLie (less s ys) env)
         → AllLie (if b then less s xs else x ∷ less s xs) env × AllLie (less s ys) env
@@ -48,19 +61,15 @@ less_parts s (x ∷ xs) ys env h = by (s x.variable) h (less_parts s xs ys env)
 -- dropped one set after the other
 less_twice : (s t u : VariableSet) → ((v : ℕ) → u v ≡ false → (s v ≡ false) × (t v ≡ false)) → (xs : List Fact) (env : Env) → AllLie (less t (less s xs)) env → AllLie (less u xs) env
 less_twice s t u only [] env h = tt
-less_twice s t u only (x ∷ xs) env h = by (s x.variable) (t x.variable) (u x.variable) refl refl refl h (less_twice s t u only xs env)
+less_twice s t u only (x ∷ xs) env h = by (is_about s x) (is_about t x) (is_about u x) refl refl refl h (less_twice s t u only xs env)
   where
-    by : (b c d : Bool) → s x.variable ≡ b → t x.variable ≡ c → u x.variable ≡ d → AllLie (less t (if b then less s xs else x ∷ less s xs)) env → (AllLie (less t (less s xs)) env → AllLie (less u xs) env) → AllLie (if d then less u xs else x ∷ less u xs) env
+    by : (b c d : Bool) → is_about s x ≡ b → is_about t x ≡ c → is_about u x ≡ d → AllLie (less t (if b then less s xs else x ∷ less s xs)) env → (AllLie (less t (less s xs)) env → AllLie (less u xs) env) → AllLie (if d then less u xs else x ∷ less u xs) env
     by true c true e f g h k = k h
-    by true c false e f g h k = let same : false ≡ true = sym (only x.variable g).0 ∙ e in absurd cc
+    by true c false e f g h k = let same : false ≡ true = sym (about_more s u (λ v i. (only v i).0) x g) ∙ e in absurd cc
     by false true true e f g h k = k (subst (λ (z : Bool). AllLie (if z then less t (less s xs) else x ∷ less t (less s xs)) env) f h)
-    by false true false e f g h k = let same : false ≡ true = sym (only x.variable g).1 ∙ f in absurd cc
+    by false true false e f g h k = let same : false ≡ true = sym (about_more t u (λ v i. (only v i).1) x g) ∙ f in absurd cc
     by false false true e f g h k = k (subst (λ (z : Bool). AllLie (if z then less t (less s xs) else x ∷ less t (less s xs)) env) f h).1
     by false false false e f g h k = (let two = subst (λ (z : Bool). AllLie (if z then less t (less s xs) else x ∷ less t (less s xs)) env) f h in (two.0, k two.1))
-
-neither : (b c : Bool) → (b || c) ≡ false → (b ≡ false) × (c ≡ false)
-neither true c e = absurd cc
-neither false c e = (refl, e)
 
 -- ---- where code goes on
 
@@ -85,7 +94,7 @@ begins facts env h = record { outer = h; inner = tt }
 
 less_both : (s : VariableSet) (xs ys : List Fact) (env : Env) → AllLie (less s xs) env → AllLie (less s ys) env → AllLie (less s (xs ++ ys)) env
 less_both s [] ys env h k = k
-less_both s (x ∷ xs) ys env h k = by (s x.variable) h (λ l. less_both s xs ys env l k)
+less_both s (x ∷ xs) ys env h k = by (is_about s x) h (λ l. less_both s xs ys env l k)
   where
     by : (b : Bool) → AllLie (if b then less s xs else x ∷ less s xs) env → (AllLie (less s xs) env → AllLie (less s (xs ++ ys)) env) → AllLie (if b then less s (xs ++ ys) else x ∷ less s (xs ++ ys)) env
     by true h k = k h
@@ -100,10 +109,6 @@ past c b p q facts =
 
 only_set : (p q k : Actions) (v : ℕ) → (is_set p v || (is_set q v || is_set k v)) ≡ false → (is_set p v ≡ false) × (is_set q v ≡ false) × (is_set k v ≡ false)
 only_set p q k v e = let one = neither (is_set p v) (is_set q v || is_set k v) e in let two = neither (is_set q v) (is_set k v) one.1 in (one.0, two.0, two.1)
-
-not_either : (b c : Bool) → b ≡ false → c ≡ false → (b || c) ≡ false
-not_either true c e f = absurd cc
-not_either false c e f = f
 
 -- an If's first list reaches behind it
 past_first : (c : Bool) (b : Branch) (p q : Actions) (known : Facts) → Reaches (less (is_set p) (branch_facts b true known ++ all_of known)) (past c b p q known)
@@ -168,11 +173,14 @@ inside_is a b n e h =
         let n1 = h.high parts.0 in
         let less : a.high ≤ b.high = (let t = parts.1 in grind (arith, nat_tests)) in omega arith
 
+said_is : (facts : Facts) (fact : Fact) (env : Env) → is_said facts fact ≡ true → Hold facts env → Lies fact env
+said_is facts (Within v b) env e h = inside_is (bounds_in facts v) b (env v) e (known_is facts env v h)
+said_is facts (Equals v x) env e h = absurd cc
+
 says_is : (facts : Facts) (rest : List Fact) (env : Env) → says facts rest ≡ true → Hold facts env → AllLie rest env
 says_is facts [] env e h = tt
 says_is facts (fact ∷ rest) env e h =
-    let two = and_parts (is_inside (bounds_in facts fact.variable) fact.bounds) (says facts rest) e in
-    (inside_is (bounds_in facts fact.variable) fact.bounds (env fact.variable) two.0 (known_is facts env fact.variable h), says_is facts rest env two.1 h)
+    let two = and_parts (is_said facts fact) (says facts rest) e in (said_is facts fact env two.0 h, says_is facts rest env two.1 h)
 
 -- ---- actions alone
 

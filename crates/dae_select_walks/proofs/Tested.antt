@@ -1,5 +1,5 @@
 -- What a test tells of its operands holds where it goes that way.
-use Rattle.std.proofs.Common.{◌≡◌, ℕ, ◌+◌, ◌-◌, ◌≤◌, ◌<◌, ◌^◌, Bool, true, false, not, ◌&&◌, List, [], ◌++◌, refl, sym, ◌∙◌, arith, pos}
+use Rattle.std.proofs.Common.{◌≡◌, ℕ, ◌+◌, ◌-◌, ◌≤◌, ◌<◌, ◌^◌, Bool, true, false, not, ◌&&◌, List, [], ◌++◌, refl, sym, ◌∙◌, arith}
 use Rattle.std.specs.Prelude.{nat_lt, if◌then◌else◌, int_lt}
 use Rattle.std.proofs.lemmas.Bool.Decides.{nat_tests}
 use Rattle.std.proofs.lemmas.Bool.{and_parts}
@@ -17,7 +17,8 @@ use Rattle.dae_meaning.specs.declared.Comparison.TheVariants.{Equal, NotEqual, L
 use Rattle.dae_select_walks.specs.declared.Bounds.{Bounds}
 use Rattle.dae_select_walks.specs.declared.Fact.{Fact}
 use Rattle.dae_select_walks.specs.Facts.{LiesIn, is_bounded, AllLie, Facts, Hold, operand_bounds, at_begin, all_of, at_most, compared_facts, test_facts, branch_facts}
-use Rattle.dae_select_walks.proofs.Facts.{lie_both, operand_is}
+use Rattle.dae_select_walks.proofs.Facts.{small_word, bounded_small, lie_both, operand_is}
+use Rattle.dae_select_walks.proofs.Words.{signed_small}
 
 most_holds : (x : Operand) (b : Bounds) (n : ℕ) (env : Env) → LiesIn b (value x env) → value x env ≤ n → AllLie (at_most x b n) env
 most_holds (Number m) b n env h less = tt
@@ -26,9 +27,6 @@ most_holds (Variable v) b n env h less = (record { low = h.low; high = by (nat_l
     by : (c : Bool) → (c ≡ true → b.high < n) → nat_lt (if c then b.high else n) (2 ^ 32 - 1) ≡ true → env v ≤ (if c then b.high else n)
     by true i small = h.high small
     by false i small = less
-
-signed_small : (v : ℕ) → v < 2 ^ 31 → signed v ≡ pos v
-signed_small v l = let e : nat_lt v (2 ^ 31) ≡ true = grind (arith, nat_tests) in rw e refl
 
 -- signed words below 2 ^ 31 are in the order of their numbers
 signed_order : (v w : ℕ) → v < 2 ^ 31 → w < 2 ^ 31 → int_lt (signed v) (signed w) ≡ nat_lt v w
@@ -46,18 +44,8 @@ not_false : (c : Bool) → not c ≡ true → c ≡ false
 not_false true e = absurd cc
 not_false false e = refl
 
--- words that are known to be below 2 ^ 31
-small_word : (b : Bounds) (n : ℕ) → LiesIn b n → nat_lt b.high (2 ^ 31) ≡ true → n < 2 ^ 31
-small_word b n h e =
-    let less : b.high < 2 ^ 31 = grind (arith, nat_tests) in
-    let bounded : is_bounded b ≡ true = (let l : b.high < 2 ^ 32 - 1 = omega arith in grind (arith, nat_tests)) in
-    let top = h.high bounded in omega arith
-
 lesser_lies : (x : Operand) (a b : Bounds) (y : ℕ) (env : Env) → LiesIn a (value x env) → LiesIn b y → is_bounded b ≡ true → value x env < y → AllLie (at_most x a (b.high - 1)) env
 lesser_lies x a b y env h k bounded less = let top = k.high bounded in most_holds x a (b.high - 1) env h (omega arith)
-
-bounded_small : (b : Bounds) → nat_lt b.high (2 ^ 31) ≡ true → is_bounded b ≡ true
-bounded_small b e = let less : b.high < 2 ^ 31 = grind (arith, nat_tests) in let l : b.high < 2 ^ 32 - 1 = omega arith in grind (arith, nat_tests)
 
 unsigned_less : (x : Operand) (a b : Bounds) (y : ℕ) (env : Env) → LiesIn a (value x env) → LiesIn b y → nat_lt (value x env) y ≡ true → AllLie (if is_bounded b && nat_lt 0 b.high then at_most x a (b.high - 1) else []) env
 unsigned_less x a b y env h k e = if_lie (is_bounded b && nat_lt 0 b.high) (at_most x a (b.high - 1)) env (λ c. (let two = and_parts (is_bounded b) (nat_lt 0 b.high) c in lesser_lies x a b y env h k two.0 (grind (arith, nat_tests))))

@@ -1,13 +1,15 @@
 -- What is known of the words that variables hold, as far as the actions before them in a list tell: a test of a place needs no
 -- code where the address is known to pass it, and none of its alignment where that is known.
-use Rattle.std.specs.Prelude.{◌≡◌, ℕ, suc, ◌+◌, ◌-◌, ◌*◌, ◌%◌, ◌^◌, ◌≤◌, nat_eq, nat_lt, nat_le, Bool, true, false, not, ◌&&◌, ◌||◌, if◌then◌else◌, List, [], ◌∷◌, ◌++◌, take, Option, Some, None}
+use Rattle.std.specs.Prelude.{◌≡◌, ℕ, suc, ◌+◌, ◌-◌, ◌*◌, ◌/◌, ◌%◌, ◌^◌, ◌≤◌, nat_eq, nat_lt, nat_le, Bool, true, false, not, ◌&&◌, ◌||◌, if◌then◌else◌, List, [], ◌∷◌, ◌++◌, take, Option, Some, None}
 use Rattle.dae_base.specs.declared.Width.{Width}
 use Rattle.dae_base.specs.declared.Width.TheVariants.{B1, B2, B4}
-use Rattle.dae_base.specs.Words.{size}
+use Rattle.dae_base.specs.declared.LoadKind.{LoadKind}
+use Rattle.dae_base.specs.declared.LoadKind.TheVariants.{I8, U8, I16, U16, I32}
+use Rattle.dae_base.specs.Words.{size, plus, times}
 use Rattle.dae_ir.specs.declared.form.Operand.{Operand}
 use Rattle.dae_ir.specs.declared.form.Operand.TheVariants.{Variable, Number}
 use Rattle.dae_ir.specs.declared.form.Value.{Value}
-use Rattle.dae_ir.specs.declared.form.Value.TheVariants.{Same, Binary}
+use Rattle.dae_ir.specs.declared.form.Value.TheVariants.{Same, Extended, Binary, Holds}
 use Rattle.dae_ir.specs.declared.form.Check.TheVariants.{Place}
 use Rattle.dae_ir.specs.declared.stream.Action.{Action}
 use Rattle.dae_ir.specs.declared.stream.Action.TheVariants.{Set as Compute, Own, Receive, Accept, Probe, Tell, Break, Continue, Return, Call}
@@ -23,9 +25,11 @@ use Rattle.dae_meaning.specs.declared.Comparison.TheVariants.{LessSigned, LessUn
 use Rattle.dae_select_walks.specs.Live.{sets}
 use Rattle.dae_meaning.specs.Variables.{Env}
 use Rattle.dae_meaning.specs.declared.Operator.{Operator}
-use Rattle.dae_meaning.specs.declared.Operator.TheVariants.{Add, Subtract, Multiply}
+use Rattle.dae_meaning.specs.declared.Operator.TheVariants.{Add, Subtract, Multiply, DivideSigned, DivideUnsigned, RemainderSigned, RemainderUnsigned, And, ShiftLeft, ShiftRightSigned, ShiftRightUnsigned}
+use Rattle.dae_select_walks.specs.declared.Affine.{Affine}
 use Rattle.dae_select_walks.specs.declared.Bounds.{Bounds}
 use Rattle.dae_select_walks.specs.declared.Fact.{Fact}
+use Rattle.dae_select_walks.specs.declared.Fact.TheVariants.{Within, Equals}
 use Rattle.dae_select_walks.specs.declared.Need.{Need}
 use Rattle.dae_select_walks.specs.declared.Need.TheVariants.{All, Ends, Nothing}
 
@@ -82,28 +86,127 @@ multiplied a b =
     then record { low = a.low * b.low; high = a.high * b.high; aligned = greater a.aligned b.aligned }
     else aligned_to (greater a.aligned b.aligned)
 
+-- only one word lies in these
+abbrev pub is_single : Bounds → Bool
+is_single b = is_bounded b && nat_eq b.low b.high
+
+-- signed words below 2 ^ 31 are divided and shifted as numbers
+abbrev pub is_small : Bounds → Bool
+is_small b = nat_lt b.high (2 ^ 31)
+
+-- of a quotient by a number, of a remainder by words above 0, and of a conjunction, which is at most either operand
+abbrev pub quotient_bounds : Bounds → ℕ → Bounds
+quotient_bounds a n = record { low = a.low / n; high = a.high / n; aligned = B1 }
+
+abbrev pub remainder_bounds : Bounds → Bounds → Bounds
+remainder_bounds a b = record { low = 0; high = if nat_lt a.high b.high then a.high else b.high - 1; aligned = B1 }
+
+abbrev pub conjunction_bounds : Bounds → Bounds → Bounds
+conjunction_bounds a b = record { low = 0; high = if nat_lt a.high b.high then a.high else b.high; aligned = greater a.aligned b.aligned }
+
+-- a shift by a number is a product or a quotient
 abbrev pub combined_bounds : Operator → Bounds → Bounds → Bounds
 combined_bounds Add a b = added a b
 combined_bounds Subtract a b = subtracted a b
 combined_bounds Multiply a b = multiplied a b
+combined_bounds DivideUnsigned a b = if (is_bounded a && is_single b) && nat_lt 0 b.low then quotient_bounds a b.low else any
+combined_bounds DivideSigned a b = if ((is_small a && is_small b) && is_single b) && nat_lt 0 b.low then quotient_bounds a b.low else any
+combined_bounds RemainderUnsigned a b = if is_bounded b && nat_lt 0 b.low then remainder_bounds a b else any
+combined_bounds RemainderSigned a b = if (is_small a && is_small b) && nat_lt 0 b.low then remainder_bounds a b else any
+combined_bounds And a b = conjunction_bounds a b
+combined_bounds ShiftLeft a b = if is_single b then multiplied a (single (2 ^ (b.low % 32))) else any
+combined_bounds ShiftRightUnsigned a b = if is_bounded a && is_single b then quotient_bounds a (2 ^ (b.low % 32)) else any
+combined_bounds ShiftRightSigned a b = if is_small a && is_single b then quotient_bounds a (2 ^ (b.low % 32)) else any
 combined_bounds operator a b = any
+
+-- the low bits of a word, which are at most n: they are the word itself where that is so small
+abbrev pub low_bounds : ℕ → Bounds → Bounds
+low_bounds n b = if nat_le b.high n then b else record { low = 0; high = n; aligned = b.aligned }
+
+-- where the word is at most n, it stays as it is
+abbrev pub kept_bounds : ℕ → Bounds → Bounds
+kept_bounds n b = if nat_le b.high n then b else any
+
+-- of a word's low bits, extended as a load of this kind does it
+abbrev pub extended_bounds : LoadKind → Bounds → Bounds
+extended_bounds I8 b = kept_bounds (2 ^ 7 - 1) b
+extended_bounds U8 b = low_bounds (2 ^ 8 - 1) b
+extended_bounds I16 b = kept_bounds (2 ^ 15 - 1) b
+extended_bounds U16 b = low_bounds (2 ^ 16 - 1) b
+extended_bounds I32 b = b
+
+-- of whether a test holds
+abbrev pub flag_bounds : Bounds
+flag_bounds = record { low = 0; high = 1; aligned = B1 }
 
 -- ---- facts
 
--- each variable's word lies in its bounds
+-- a word is an affine one, where the variables are these
+abbrev pub IsAffine : Affine → Env → ℕ → Type 0
+IsAffine x env n = n % 2 ^ 32 ≡ (x.scale * env x.base + x.offset) % 2 ^ 32
+
+abbrev pub Lies : Fact → Env → Type 0
+Lies (Within v b) env = LiesIn b (env v)
+Lies (Equals v x) env = IsAffine x env (env v)
+
+-- each fact is so
 abbrev pub AllLie : List Fact → Env → Type 0
 AllLie [] env = Unit {0}
-AllLie (fact ∷ facts) env = LiesIn fact.bounds (env fact.variable) × AllLie facts env
+AllLie (fact ∷ facts) env = Lies fact env × AllLie facts env
 
 -- the bounds of a variable: the first that are told, and else any
+abbrev pub gives_bounds : ℕ → Fact → Bool
+gives_bounds v (Within u b) = nat_eq u v
+gives_bounds v (Equals u x) = false
+
+abbrev pub fact_bounds : Fact → Bounds
+fact_bounds (Within u b) = b
+fact_bounds (Equals u x) = any
+
 abbrev pub bounds_among : List Fact → ℕ → Bounds → Bounds
 bounds_among [] v otherwise = otherwise
-bounds_among (fact ∷ facts) v otherwise = if nat_eq fact.variable v then fact.bounds else bounds_among facts v otherwise
+bounds_among (fact ∷ facts) v otherwise = if gives_bounds v fact then fact_bounds fact else bounds_among facts v otherwise
 
--- those of variables that aren't in a set
+-- the affine word that a variable equals: the first that is told, and else its own
+abbrev pub gives_affine : ℕ → Fact → Bool
+gives_affine v (Within u b) = false
+gives_affine v (Equals u x) = nat_eq u v
+
+abbrev pub own_word : ℕ → Affine
+own_word v = record { scale = 1; base = v; offset = 0 }
+
+abbrev pub fact_affine : Fact → Affine
+fact_affine (Within u b) = own_word u
+fact_affine (Equals u x) = x
+
+abbrev pub affine_among : List Fact → ℕ → Affine → Affine
+affine_among [] v otherwise = otherwise
+affine_among (fact ∷ facts) v otherwise = if gives_affine v fact then fact_affine fact else affine_among facts v otherwise
+
+-- the first variable of which it is told that it equals this
+abbrev pub same_affine : Affine → Affine → Bool
+same_affine x y = nat_eq x.scale y.scale && (nat_eq x.base y.base && nat_eq x.offset y.offset)
+
+abbrev pub has_affine : Affine → Fact → Bool
+has_affine x (Within u b) = false
+has_affine x (Equals u y) = same_affine y x
+
+abbrev pub fact_variable : Fact → ℕ
+fact_variable (Within u b) = u
+fact_variable (Equals u x) = u
+
+abbrev pub equal_among : List Fact → Affine → Option ℕ → Option ℕ
+equal_among [] x otherwise = otherwise
+equal_among (fact ∷ facts) x otherwise = if has_affine x fact then Some (fact_variable fact) else equal_among facts x otherwise
+
+-- the facts that are of no variable of a set
+abbrev pub is_about : VariableSet → Fact → Bool
+is_about set (Within v b) = set v
+is_about set (Equals v x) = set v || set x.base
+
 abbrev pub less : VariableSet → List Fact → List Fact
 less set [] = []
-less set (fact ∷ facts) = if set fact.variable then less set facts else fact ∷ less set facts
+less set (fact ∷ facts) = if is_about set fact then less set facts else fact ∷ less set facts
 
 -- what is known at a place of a list: what was known where the list begins, of variables that the list hasn't set, and what the latest
 -- actions of the list tell
@@ -125,9 +228,64 @@ abbrev pub operand_bounds : Facts → Operand → Bounds
 operand_bounds facts (Variable v) = bounds_in facts v
 operand_bounds facts (Number n) = single n
 
+abbrev pub affine_in : Facts → ℕ → Affine
+affine_in facts v = affine_among facts.inner v (affine_among facts.outer v (own_word v))
+
+abbrev pub operand_affine : Facts → Operand → Affine
+operand_affine facts (Variable v) = affine_in facts v
+operand_affine facts (Number n) = record { scale = 0; base = 0; offset = n }
+
+-- the sum of an affine word and a number, and their product
+abbrev pub shifted_by : ℕ → Affine → Affine
+shifted_by n x = record { scale = x.scale; base = x.base; offset = plus x.offset n }
+
+abbrev pub scaled_by : ℕ → Affine → Affine
+scaled_by n x = record { scale = times x.scale n; base = x.base; offset = times x.offset n }
+
+abbrev pub combined_affine : Operator → Affine → Affine → Option Affine
+combined_affine Add x y = if nat_eq x.scale 0 then Some (shifted_by x.offset y) else (if nat_eq y.scale 0 then Some (shifted_by y.offset x) else None)
+combined_affine Multiply x y = if nat_eq x.scale 0 then Some (scaled_by x.offset y) else (if nat_eq y.scale 0 then Some (scaled_by y.offset x) else None)
+combined_affine operator x y = None
+
+abbrev pub difference_affine : Affine → Operand → Option Affine
+difference_affine x (Variable v) = None
+difference_affine x (Number n) = Some (shifted_by (2 ^ 32 - n) x)
+
+abbrev pub result_affine : Facts → Operator → Operand → Operand → Option Affine
+result_affine facts Subtract x y = difference_affine (operand_affine facts x) y
+result_affine facts operator x y = combined_affine operator (operand_affine facts x) (operand_affine facts y)
+
+abbrev pub affine_of : Facts → Value → Option Affine
+affine_of facts (Same x) = Some (operand_affine facts x)
+affine_of facts (Binary operator x y) = result_affine facts operator x y
+affine_of facts value = None
+
+-- what is told of a variable that equals an affine word holds of this word, where it is told of a number below 2 ^ 32 - 1
+abbrev pub some_bounds : Facts → Option ℕ → Bounds
+some_bounds facts None = any
+some_bounds facts (Some v) = if is_bounded (bounds_in facts v) then bounds_in facts v else any
+
+abbrev pub equal_in : Facts → Affine → Option ℕ
+equal_in facts x = equal_among facts.inner x (equal_among facts.outer x None)
+
+abbrev pub equal_bounds : Facts → Option Affine → Bounds
+equal_bounds facts None = any
+equal_bounds facts (Some x) = some_bounds facts (equal_in facts x)
+
+-- both of two bounds
+abbrev pub closer : Bounds → Bounds → Bounds
+closer a b =
+    record { low = if nat_lt a.low b.low then b.low else a.low; high = if nat_lt a.high b.high then a.high else b.high; aligned = greater a.aligned b.aligned }
+
+abbrev pub result_bounds : Facts → Operator → Operand → Operand → Bounds
+result_bounds facts operator x y =
+    closer (combined_bounds operator (operand_bounds facts x) (operand_bounds facts y)) (equal_bounds facts (result_affine facts operator x y))
+
 abbrev pub value_bounds : Facts → Value → Bounds
 value_bounds facts (Same x) = operand_bounds facts x
-value_bounds facts (Binary operator x y) = combined_bounds operator (operand_bounds facts x) (operand_bounds facts y)
+value_bounds facts (Extended kind x) = extended_bounds kind (operand_bounds facts x)
+value_bounds facts (Holds t) = flag_bounds
+value_bounds facts (Binary operator x y) = result_bounds facts operator x y
 value_bounds facts value = any
 
 -- bounds that say nothing are no fact
@@ -135,22 +293,31 @@ abbrev pub says_nothing : Bounds → Bool
 says_nothing b = nat_eq b.low 0 && (not (is_bounded b) && nat_eq (size b.aligned) 1)
 
 abbrev pub fact_of : ℕ → Bounds → List Fact
-fact_of v b = if says_nothing b then [] else record { variable = v; bounds = b } ∷ []
+fact_of v b = if says_nothing b then [] else Within v b ∷ []
+
+-- a number is told by its bounds, and what was of the variable itself is no more
+abbrev pub affine_fact : ℕ → Option Affine → List Fact
+affine_fact v None = []
+affine_fact v (Some x) = if nat_eq x.scale 0 || nat_eq x.base v then [] else Equals v x ∷ []
 
 abbrev pub just : ℕ → VariableSet
 just v u = nat_eq u v
 
 -- of what a list tells the latest few are kept, so that the time for a list doesn't grow with it
 abbrev pub latest : ℕ → Bounds → List Fact → List Fact
-latest v b facts = take 32 (fact_of v b ++ less (just v) facts)
+latest v b facts = take 64 (fact_of v b ++ less (just v) facts)
 
 -- a variable gets a word in these bounds
 abbrev pub with_bounds : ℕ → Bounds → Facts → Facts
 with_bounds v b facts = record { outer = less (just v) facts.outer; inner = latest v b facts.inner }
 
+-- a variable that was set equals an affine word of variables that weren't
+abbrev pub with_affine : ℕ → Option Affine → Facts → Facts
+with_affine v x facts = record facts { inner = take 64 (affine_fact v x ++ facts.inner) }
+
 -- of a variable more is known
 abbrev pub refined : ℕ → Bounds → Facts → Facts
-refined v b facts = record facts { inner = latest v b facts.inner }
+refined v b facts = record facts { inner = take 64 (fact_of v b ++ facts.inner) }
 
 -- ---- tests of places
 
@@ -185,7 +352,7 @@ passed_bounds memory width b =
 
 -- what is known behind an action, where this is known before it. What a call leaves isn't looked at
 abbrev pub facts_behind : ℕ → Action → Facts → Facts
-facts_behind memory (Compute v x) facts = with_bounds v (value_bounds facts x) facts
+facts_behind memory (Compute v x) facts = with_affine v (affine_of facts x) (with_bounds v (value_bounds facts x) facts)
 facts_behind memory (Own v kind x) facts = with_bounds v any facts
 facts_behind memory (Receive v) facts = with_bounds v any facts
 facts_behind memory (Accept v) facts = with_bounds v any facts
@@ -219,7 +386,7 @@ kept set facts = record { outer = less set facts.outer; inner = less set facts.i
 
 -- a variable is at most this
 abbrev pub at_most : Operand → Bounds → ℕ → List Fact
-at_most (Variable v) b n = record { variable = v; bounds = record b { high = if nat_lt b.high n then b.high else n } } ∷ []
+at_most (Variable v) b n = Within v (record b { high = if nat_lt b.high n then b.high else n }) ∷ []
 at_most (Number m) b n = []
 
 -- what a comparison tells, where it holds or not: of the lesser operand, by the bounds of both. Signed words are compared as numbers below 2 ^ 31
@@ -275,7 +442,7 @@ abbrev pub counter_of : Test → List ℕ
 counter_of t = counter_in t.left ++ counter_in t.right
 
 abbrev pub grows : ℕ → Bounds → List Fact
-grows v b = if nat_lt b.high (2 ^ 31) then record { variable = v; bounds = record { low = b.low; high = 2 ^ 31 - 1; aligned = B1 } } ∷ [] else []
+grows v b = if nat_lt b.high (2 ^ 31) then Within v (record { low = b.low; high = 2 ^ 31 - 1; aligned = B1 }) ∷ [] else []
 
 abbrev pub counters : List ℕ → Actions → Actions → Facts → List Fact
 counters [] body step facts = []
@@ -299,9 +466,14 @@ behind_straight memory code facts = None
 abbrev pub is_inside : Bounds → Bounds → Bool
 is_inside a b = nat_le b.low a.low && ((not (is_bounded b) || (is_bounded a && nat_le a.high b.high)) && is_aligned b.aligned a)
 
+-- bounds that are told are said; no other fact is guessed
+abbrev pub is_said : Facts → Fact → Bool
+is_said facts (Within v b) = is_inside (bounds_in facts v) b
+is_said facts (Equals v x) = false
+
 abbrev pub says : Facts → List Fact → Bool
 says facts [] = true
-says facts (fact ∷ rest) = is_inside (bounds_in facts fact.variable) fact.bounds && says facts rest
+says facts (fact ∷ rest) = is_said facts fact && says facts rest
 
 abbrev pub say : Option Facts → List Fact → Bool
 say None rest = false

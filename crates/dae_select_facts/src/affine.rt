@@ -1,0 +1,102 @@
+// Which affine word a variable equals, and which variable equals an affine word.
+
+ghost use Rattle.std.specs.Prelude.{◌≡◌, ◌++◌, OnOk};
+ghost use Rattle.dae_select_walks.specs.Facts.{gives_affine, own_word, fact_affine, affine_among};
+ghost use Rattle.dae_select_walks.specs.Facts.{has_affine, fact_variable, equal_among, affine_fact};
+
+use dae_select_bounds::same_affine;
+use dae_select_walks::{Affine, Fact};
+use std::alloc::AllocError;
+
+/// The word of a variable itself.
+pub fn own_word(variable: u32) -> Affine
+    ensures { result ≡ own_word variable }
+{
+    Affine {
+        scale: 1,
+        base: variable,
+        offset: 0,
+    }
+}
+
+fn gives_affine(variable: u32, fact: Fact) -> bool
+    ensures { result ≡ gives_affine variable fact }
+{
+    match fact {
+        Fact::Within(_, _) => false,
+        Fact::Equals(other, _) => other == variable,
+    }
+}
+
+fn fact_affine(fact: Fact) -> Affine
+    ensures { result ≡ fact_affine fact }
+{
+    match fact {
+        Fact::Within(variable, _) => own_word(variable),
+        Fact::Equals(_, affine) => affine,
+    }
+}
+
+/// The first affine word that is told of a variable.
+pub fn affine_among(facts: &[Fact], variable: u32, otherwise: Affine) -> Affine
+    ensures { result ≡ affine_among facts.now variable otherwise }
+{
+    for fact in facts {
+        if gives_affine(variable, *fact) {
+            return fact_affine(*fact);
+        }
+    }
+    otherwise
+}
+
+fn has_affine(affine: Affine, fact: Fact) -> bool
+    ensures { result ≡ has_affine affine fact }
+{
+    match fact {
+        Fact::Within(_, _) => false,
+        Fact::Equals(_, other) => same_affine(other, affine),
+    }
+}
+
+fn fact_variable(fact: Fact) -> u32
+    ensures { result ≡ fact_variable fact }
+{
+    match fact {
+        Fact::Within(variable, _) => variable,
+        Fact::Equals(variable, _) => variable,
+    }
+}
+
+/// The first variable of which it is told that it equals this word.
+pub fn equal_among(facts: &[Fact], affine: Affine, otherwise: Option<u32>) -> Option<u32>
+    ensures { result ≡ equal_among facts.now affine otherwise }
+{
+    for fact in facts {
+        if has_affine(affine, *fact) {
+            return Some(fact_variable(*fact));
+        }
+    }
+    otherwise
+}
+
+/// That a variable equals a word comes behind other facts, but where its bounds tell as much, and where the word was made of
+/// the variable itself.
+pub fn push_affine(
+    facts: &mut Vec<Fact>,
+    variable: u32,
+    affine: Option<Affine>,
+) -> Result<(), AllocError>
+    ensures { OnOk result
+        (facts.new.items ≡ facts.old.items ++ affine_fact variable affine) }
+{
+    match affine {
+        None => Ok(()),
+        Some(affine) => {
+            if affine.scale == 0 || affine.base == variable {
+                Ok(())
+            } else {
+                facts.push(Fact::Equals(variable, affine))
+            }
+        }
+    }
+}
