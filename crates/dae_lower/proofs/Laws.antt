@@ -1,2 +1,3 @@
--- The definition of this crate that the proofs of others use: a result that no statement follows.
+-- What the proofs of other crates use of this one: results that no statement follows, and how many bytes a turn clears.
 pub use Rattle.dae_lower.proofs.Functions.{IsLeft}
+pub use Rattle.dae_lower.proofs.Initialising.{turn_is_short}

@@ -104,7 +104,7 @@ module _ (m n : ℕ) (s : Setup) (l : Links) (p : Program) (calls : Calls) (plac
   -- zeros, and then items
   abbrev pub InitialisesDo : Type 0
   InitialisesDo = (place : Place) (offset size : ℕ) (items : List Setting) → size < 4294967296 → AreSettingsIn m items → (q : ℕ) → m ≤ q →
-      DoesIt 7 0 q q (emit (zeros place offset size q) (q + 3) ≫ λ x. settings l place q items) (λ env w. cleared size (plus w.frame offset) env w ▷ settled s items)
+      DoesIt 7 0 q q (emit (zeros place offset size q) (q + 2) ≫ λ x. settings l place q items) (λ env w. cleared size (plus w.frame offset) env w ▷ settled s items)
 
   -- where arm j stands in a switch that begins at arm number first, with so many arms still to pass
   abbrev pub Stands : ℕ → ℕ → ℕ → Type 0

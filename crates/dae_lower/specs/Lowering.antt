@@ -1,7 +1,7 @@
 -- The structured form of typed programs. Each expression is items and the operand that holds its value, with the number of
 -- the next variable that isn't used yet. A variable as an operand is used itself where no later part of the same full
 -- expression assigns it, else a copy is. `later` is the set of variables that later parts assign.
-use Rattle.std.specs.Prelude.{ℕ, suc, ◌+◌, Bool, true, false, not, ◌&&◌, ◌||◌, nat_eq, if◌then◌else◌, List, [], ◌∷◌, Option, Some, None}
+use Rattle.std.specs.Prelude.{ℕ, zero, suc, ◌+◌, ◌%◌, Bool, true, false, not, ◌&&◌, ◌||◌, nat_eq, if◌then◌else◌, List, [], ◌∷◌, Option, Some, None}
 use Rattle.dae_base.specs.Words.{plus, width_of}
 use Rattle.dae_base.specs.declared.Place.{Place}
 use Rattle.dae_base.specs.declared.LoadKind.{LoadKind}
@@ -14,9 +14,9 @@ use Rattle.dae_ir.specs.Classes.{VariableSet}
 use Rattle.dae_ir.specs.declared.form.Operand.{Operand}
 use Rattle.dae_ir.specs.declared.form.Operand.TheVariants.{Variable, Number}
 use Rattle.dae_meaning.specs.declared.Operator.{Operator}
-use Rattle.dae_meaning.specs.declared.Operator.TheVariants.{Add}
+use Rattle.dae_meaning.specs.declared.Operator.TheVariants.{Add, Subtract}
 use Rattle.dae_meaning.specs.declared.Comparison.{Comparison}
-use Rattle.dae_meaning.specs.declared.Comparison.TheVariants.{Equal, NotEqual, LessUnsigned, AtLeastUnsigned}
+use Rattle.dae_meaning.specs.declared.Comparison.TheVariants.{Equal, NotEqual, AtLeastUnsigned}
 use Rattle.dae_ir.specs.declared.form.Value.{Value}
 use Rattle.dae_ir.specs.declared.form.Value.TheVariants.{Same, Extended, Binary, Holds, FrameAddress}
 use Rattle.dae_ir.specs.declared.form.Test.{Test}
@@ -341,16 +341,28 @@ prints p (piece.Byte b ∷ ps) xs n = emit (one p (Print Byte (Number b))) n ≫
 prints p (piece.Word spelling k ∷ ps) xs n = emit (one p (Print spelling (argument (Number 0) xs k))) n ≫ λ x. prints p ps xs
 prints p (piece.String k ∷ ps) xs n = text_loop p (argument (Number 0) xs k) n ≫ λ x. prints p ps xs
 
--- zeros from an offset in the frame on, with variables n, n + 1 and n + 2
+-- how many bytes a turn of zeroing so many clears: the most, up to five, that divide them
+unfoldable pub turn_bytes : ℕ → ℕ
+turn_bytes size =
+    if nat_eq (size % 5) 0 then 5
+    else if nat_eq (size % 4) 0 then 4
+    else if nat_eq (size % 3) 0 then 3
+    else if nat_eq (size % 2) 0 then 2
+    else 1
+
+-- so many zeros from the address in a variable on, which goes up behind each
+abbrev pub zeros_at : Place → ℕ → ℕ → Form
+zeros_at p v zero = Done
+zeros_at p v (suc count) =
+    Do p (Store B1 (Variable v) (Number 0)) (Do p (Assign v (Binary Add (Variable v) (Number 1))) (zeros_at p v count))
+
+-- Zeros from an offset in the frame on, with variables n and n + 1: an address, and the one at the end. The first address is found
+-- from the end, so that this leads to addresses too.
 abbrev pub zeros : Place → ℕ → ℕ → ℕ → Form
 zeros p offset size n =
-    Do p (Assign (n + 2) (FrameAddress offset)) (
-    Do p (Assign (n + 1) (Same (Number 0))) (
-    Loop p
-    (leaves_if_not p (test_of LessUnsigned (Variable (n + 1)) (Number size)) (
-    Do p (Assign n (Binary Add (Variable (n + 2)) (Variable (n + 1)))) (
-    one p (Store B1 (Variable n) (Number 0)))))
-    (one p (Assign (n + 1) (Binary Add (Variable (n + 1)) (Number 1)))) Done))
+    Do p (Assign (n + 1) (FrameAddress (plus offset size))) (
+    Do p (Assign n (Binary Subtract (Variable (n + 1)) (Number size))) (
+    Loop p (leaves_if_not p (test_of NotEqual (Variable n) (Variable (n + 1))) (zeros_at p n (turn_bytes size))) Done Done))
 
 -- items, whose addresses are all in variable v
 abbrev pub settings : Links → Place → ℕ → List Setting → ℕ → Made (Unit {0})
@@ -409,7 +421,7 @@ abbrev mutual
   statements l tree.Done n = skip n
   statements l (tree.Evaluate p e k) n = (ways l e).effect nowhere n ≫ λ x. statements l k
   statements l (tree.Initialise p offset size items k) n =
-      (emit (zeros p offset size n) (n + 3) ≫ λ x. settings l p n items) ≫ λ x. statements l k
+      (emit (zeros p offset size n) (n + 2) ≫ λ x. settings l p n items) ≫ λ x. statements l k
   statements l (tree.Print p xs pieces k) n =
       (operands l xs nowhere n ≫ prints p pieces) ≫ λ x. statements l k
   statements l (tree.If p e t u k) n =

@@ -24,7 +24,7 @@ use Rattle.dae_program.specs.Trees.{Expression, Expressions, Setting, Statements
 use Rattle.dae_program.specs.declared.program.Slot.{Slot}
 use Rattle.dae_program.specs.declared.statements.Piece.{Piece}
 use Rattle.dae_program.specs.declared.statements.Piece.TheVariants as piece
-use Rattle.dae_lower.specs.Lowering.{Made, ◌≫◌, nothing, emit, one, nowhere, or, assigned_all, test_of, Links, ways, operands, leave_unless, leave_unless_some, effect_of_some, loop, text_loop, prints, zeros, settings, arms_continue, search_labels, search, switch, statements, arms_from, parameters_stored}
+use Rattle.dae_lower.specs.Lowering.{Made, ◌≫◌, nothing, emit, one, nowhere, or, assigned_all, test_of, Links, ways, operands, leave_unless, leave_unless_some, effect_of_some, loop, text_loop, prints, turn_bytes, zeros_at, zeros, settings, arms_continue, search_labels, search, switch, statements, arms_from, parameters_stored}
 use Rattle.dae_lower_bounds.specs.Constants.{IsConstant, AreConstant, InitialisesConstants, ArmsInitialiseConstants}
 use Rattle.dae_lower_bounds.specs.Voids.{is_void_test, void_in_all, void_in_some, void_test, void_some, count_labels, void_statements, void_arms}
 use Rattle.dae_lower_bounds.proofs.Marked.{AnyTest, loads_into, loads_then, tests_within, tests_then, bit_grows, each_then, joined, agrees_first, agrees_second, Leads, Any, OwnFits, Marked, chain, more, plain_code, one_new, nothing_marked, branches_marked}
@@ -48,6 +48,19 @@ argument_leads flags s (x ∷ xs) k zero h g = h.0 (subst (λ (i : ℕ). flags i
 argument_leads flags s (x ∷ xs) k (suc j) h g = argument_leads flags s xs (suc k) j h.1 (subst (λ (i : ℕ). flags i ≡ true) (let e : k + suc j ≡ suc k + j = omega arith in e) g)
 
 -- ---- code that leads to nothing
+
+-- zeros from the address in a variable on
+zeros_each : (all : ℕ → VariableSet) (s : VariableSet) (p : Place) (v count : ℕ) → s v ≡ true → Each (AddressesKept all s) AnyTest (zeros_at p v count)
+zeros_each all s p v zero h = tt
+zeros_each all s p v (suc count) h = (h, ((λ t. and_from (s v) true h refl), zeros_each all s p v count h))
+
+zeros_loads : (s : VariableSet) (p : Place) (v count : ℕ) → loads_into s (zeros_at p v count) ≡ 0
+zeros_loads s p v zero = omega arith
+zeros_loads s p v (suc count) = let h = zeros_loads s p v count in omega (arith, h)
+
+zeros_tests : (s : VariableSet) (p : Place) (v count : ℕ) → tests_within s (zeros_at p v count) ≡ 0
+zeros_tests s p v zero = omega arith
+zeros_tests s p v (suc count) = let h = zeros_tests s p v count in omega (arith, h)
 
 labels_each : (all : ℕ → VariableSet) (s : VariableSet) (p : Place) (x : Operand) (v k : ℕ) (labels : List (Option ℕ)) (rest : Form) → Each (AddressesKept all s) AnyTest rest → Each (AddressesKept all s) AnyTest (search_labels p x v k labels rest)
 labels_each all s p x v k [] rest h = h
@@ -210,16 +223,17 @@ module _ (wants : Wants) (own : ℕ → ℕ) (f : ℕ) (b : Bounds) (some : 0 < 
 
   -- ---- aggregates
 
-  zeros_do : {G : VariableSet → Type 0} (n : ℕ) (p : Place) (offset size : ℕ) → Does G (λ s (y : Unit {0}). s n ≡ true) n 0 1 (emit (zeros p offset size n) (n + 3))
+  zeros_do : {G : VariableSet → Type 0} (n : ℕ) (p : Place) (offset size : ℕ) → Does G (λ s (y : Unit {0}). s n ≡ true) n 0 1 (emit (zeros p offset size n) (n + 2))
   zeros_do n p offset size = record {
     grows = omega arith;
     marks = λ v. true;
     holds = λ all fits s w g agree.
         let address : s n ≡ true = agree n (omega arith) (omega arith) in
-        let index : s (n + 1) ≡ true = agree (n + 1) (omega arith) (omega arith) in
-        let start : s (n + 2) ≡ true = agree (n + 2) (omega arith) (omega arith) in
-        let one_test = bit_most (s (n + 1) && true) in
-        (((λ t. refl), ((λ t. refl), ((tt, tt, (tt, tt), ((λ t. and_from (s (n + 2)) (s (n + 1)) start index), (address, tt))), ((λ t. and_from (s (n + 1)) true index refl), tt), tt))), omega arith, omega (arith, one_test), address);
+        let end : s (n + 1) ≡ true = agree (n + 1) (omega arith) (omega arith) in
+        let one_test = bit_most (s n && s (n + 1)) in
+        let loads = zeros_loads s p n (turn_bytes size) in
+        let tests = zeros_tests s p n (turn_bytes size) in
+        (((λ t. refl), ((λ t. and_from (s (n + 1)) true end refl), ((tt, tt, (tt, tt), zeros_each all s p n (turn_bytes size) address), tt, tt))), omega (arith, loads), omega (arith, one_test, tests), address);
   }
 
   placed_does : {G : VariableSet → Type 0} (n : ℕ) (p : Place) (v : ℕ) (item : Setting) (y : Operand) → ((s : VariableSet) → OwnFits wants own f b.variables s → G s → s v ≡ true) → Does G Any n 0 0 (emit (Do p (Assign v (FrameAddress item.offset)) (one p (Store item.width (Variable v) y))) n)

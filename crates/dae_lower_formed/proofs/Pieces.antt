@@ -1,5 +1,5 @@
 -- The parts of statements make good code: the loops of text and of zeros, items of aggregates, and the search for an arm.
-use Rattle.std.proofs.Common.{ℕ, zero, suc, ◌+◌, ◌<◌, ◌≤◌, ◌^◌, Bool, true, List, [], ◌∷◌, refl, arith}
+use Rattle.std.proofs.Common.{◌≡◌, ℕ, zero, suc, ◌+◌, ◌<◌, ◌≤◌, ◌^◌, Bool, true, List, [], ◌∷◌, refl, arith}
 use Rattle.std.specs.List.{AllByRecursion}
 use Rattle.std.proofs.lemmas.Bool.{and_from}
 use Rattle.dae_base.specs.declared.Place.{Place}
@@ -13,16 +13,22 @@ use Rattle.dae_meaning.specs.declared.Spelling.TheVariants.{Byte}
 use Rattle.dae_program.specs.Printing.{argument}
 use Rattle.dae_program.specs.declared.statements.Piece.{Piece}
 use Rattle.dae_program.specs.declared.statements.Piece.TheVariants as piece
-use Rattle.dae_lower.specs.Lowering.{Made, emit, loop, text_loop, prints, zeros}
+use Rattle.dae_lower.specs.Lowering.{Made, emit, loop, text_loop, prints, turn_bytes, zeros_at, zeros}
 use Rattle.dae_lower_formed.specs.Bytes.{IsByte}
 use Rattle.dae_program.specs.SetFirst.{both}
-use Rattle.dae_lower_formed.proofs.Good.{set_here, set_on, good_wider, operand_wider}
+use Rattle.dae_lower_formed.proofs.Good.{IsGood, set_here, set_on, good_wider, operand_wider}
 use Rattle.dae_lower_formed.proofs.Makes.{OperandFits, AllFit, Anything, all_still, number_fits, Makes, chain, nothing_makes, item_makes}
 
 argument_fits : (n : ℕ) (d : VariableSet) (xs : List Operand) (k : ℕ) → AllFit n d xs → OperandFits n d (argument (Number 0) xs k)
 argument_fits n d [] k h = number_fits n d 0 (omega arith)
 argument_fits n d (x ∷ xs) zero h = h.0
 argument_fits n d (x ∷ xs) (suc k) h = argument_fits n d xs k h.1
+
+-- zeros from the address in a variable on that is set
+zeros_good : (functions : List Function) (i r : Bool) (n : ℕ) (d : VariableSet) (p : Place) (v count : ℕ) → 0 < v → v < n → d v ≡ true → IsGood functions i r n d (zeros_at p v count)
+zeros_good functions i r n d p v zero some l h = tt
+zeros_good functions i r n d p v (suc count) some l h =
+    ((refl, (l, omega arith), (h, refl)), ((refl, ((some, l), (l, omega arith)), and_from (d v) true h refl), zeros_good functions i r n (with_set v d) p v count some l (set_here v d)))
 
 module _ (functions : List Function) {i r : Bool} where
   -- a loop, behind which nothing more is known
@@ -85,28 +91,26 @@ module _ (functions : List Function) {i r : Bool} where
 
   -- ---- aggregates
 
-  pub zeros_make : {n m : ℕ} {d c : VariableSet} (p : Place) (offset size : ℕ) → 0 < m → m ≤ n → IsWithin c d → offset < 2 ^ 32 → size < 2 ^ 32 → Makes functions i r Anything (n + 1) d c (emit (zeros p offset size n) (n + 3))
-  zeros_make {n} {m} {d} {c} p offset size some j w h g =
-      let start = with_set (n + 2) d in
-      let count = with_set (n + 1) start in
-      let started = set_on (n + 1) start (n + 2) (set_here (n + 2) d) in
-      let counted = set_here (n + 1) start in
-      let inside = both count all_set in
-      let began = and_from (count (n + 2)) true started refl in
-      let came = and_from (count (n + 1)) true counted refl in
+  pub zeros_make : {n m : ℕ} {d c : VariableSet} (p : Place) (offset size : ℕ) → 0 < m → m ≤ n → IsWithin c d → size < 2 ^ 32 → Makes functions i r Anything (n + 1) d c (emit (zeros p offset size n) (n + 2))
+  zeros_make {n} {m} {d} {c} p offset size some j w g =
+      let end = with_set (n + 1) d in
+      let first = with_set n end in
+      let inside = both first all_set in
+      let at = set_here n end in
+      let last = set_on n end (n + 1) (set_here (n + 1) d) in
       record {
         grows = omega arith;
         good = (
-          (refl, ((omega arith, omega arith), h), refl),
+          (refl, ((omega arith, omega arith), omega arith), refl),
           (
-            (refl, ((omega arith, omega arith), omega arith), refl),
+            (refl, ((omega (arith, some, j), omega arith), (omega arith, g)), and_from (end (n + 1)) true (set_here (n + 1) d) refl),
             (
-              (((omega arith, g), came), tt, ((refl, tt, tt), tt), ((refl, ((omega (arith, some, j), omega arith), (omega arith, omega arith)), and_from (inside (n + 2)) (inside (n + 1)) began came), ((refl, (omega arith, omega arith), (set_here n inside, refl)), tt))),
-              ((refl, ((omega arith, omega arith), (omega arith, omega arith)), came), tt),
+              (((omega arith, omega arith), and_from (first n) (first (n + 1)) at last), tt, ((refl, tt, tt), tt), zeros_good functions true r (n + 2) inside p n (turn_bytes size) (omega (arith, some, j)) (omega arith) (and_from (first n) true at refl)),
+              tt,
               tt,
             ),
           ),
         );
-        sets = λ v z. set_on (n + 1) start v (set_on (n + 2) d v (w v z));
+        sets = λ v z. set_on n end v (set_on (n + 1) d v (w v z));
         given = tt;
       }

@@ -1,5 +1,5 @@
 -- How much code is made for statements and functions.
-use Rattle.std.proofs.Common.{◌≡◌, ℕ, suc, ◌+◌, ◌*◌, ◌≤◌, Bool, true, false, not, ◌&&◌, nat_eq, if◌then◌else◌, List, [], ◌∷◌, length, Option, Some, None, refl, arith}
+use Rattle.std.proofs.Common.{◌≡◌, ℕ, zero, suc, ◌+◌, ◌*◌, ◌≤◌, Bool, true, false, not, ◌&&◌, nat_eq, if◌then◌else◌, List, [], ◌∷◌, length, Option, Some, None, refl, arith}
 use Rattle.dae_base.specs.declared.Place.{Place}
 use Rattle.dae_ir.specs.Code.{Done, Do, If}
 use Rattle.dae_ir.specs.Form.{Form}
@@ -18,7 +18,8 @@ use Rattle.dae_program.specs.Trees.{Expression, Setting, Statements, Arms}
 use Rattle.dae_program.specs.declared.statements.Piece.{Piece}
 use Rattle.dae_program.specs.declared.statements.Piece.TheVariants as piece
 use Rattle.dae_program.specs.declared.program.Slot.{Slot}
-use Rattle.dae_lower.specs.Lowering.{Made, function_code, ◌⨾◌, ◌≫◌, emit, one, checks, nowhere, test_of, Links, leave_unless, leave_unless_some, effect_of_some, loop, text_loop, prints, zeros, settings, arms_continue, search_labels, search, switch, statements, arms_from, parameters_stored, is_closed, closed}
+use Rattle.dae_lower.specs.Lowering.{Made, function_code, ◌⨾◌, ◌≫◌, emit, one, checks, nowhere, test_of, Links, leave_unless, leave_unless_some, effect_of_some, loop, text_loop, prints, turn_bytes, zeros_at, zeros, settings, arms_continue, search_labels, search, switch, statements, arms_from, parameters_stored, is_closed, closed}
+use Rattle.dae_lower.proofs.Laws.{turn_is_short}
 use Rattle.dae_lower_formed.specs.Formed.{form_variables}
 use Rattle.dae_lower_formed.specs.Sizes.{most_made, most_made_of_some, most_made_of_items, most_made_of_pieces, most_made_in, most_made_in_arms, most_made_of_slots, most_made_in_function}
 use Rattle.dae_ir.specs.Sizes.{bit, is_load_into}
@@ -45,8 +46,21 @@ prints_small p (piece.Byte b ∷ ps) xs n = weaker (omega arith) (omega arith) (
 prints_small p (piece.Word spelling k ∷ ps) xs n = weaker (omega arith) (omega arith) (chain (λ x. prints p ps xs) (item_small p (Print spelling (argument (Number 0) xs k)) 2 (omega arith) refl) (λ q y t. prints_small p ps xs q))
 prints_small p (piece.String k ∷ ps) xs n = weaker (omega arith) (omega arith) (chain (λ x. prints p ps xs) (text_small n p (argument (Number 0) xs k)) (λ q y t. prints_small p ps xs q))
 
-zeros_small : (n : ℕ) (p : Place) (offset size : ℕ) → Small Any n 3 16 (emit (zeros p offset size n) (n + 3))
-zeros_small n p offset size = record { few = omega arith; own = omega arith; small = omega arith; given = tt }
+zeros_weigh : (p : Place) (v count : ℕ) → loaded_burden (zeros_at p v count) ≡ 4 * count
+zeros_weigh p v zero = omega arith
+zeros_weigh p v (suc count) = let h = zeros_weigh p v count in omega (arith, h)
+
+zeros_load : (p : Place) (v count : ℕ) → loads_in (zeros_at p v count) ≡ 0
+zeros_load p v zero = omega arith
+zeros_load p v (suc count) = let h = zeros_load p v count in omega (arith, h)
+
+zeros_small : (n : ℕ) (p : Place) (offset size : ℕ) → Small Any n 2 30 (emit (zeros p offset size n) (n + 2))
+zeros_small n p offset size = record {
+  few = omega arith;
+  own = let h = zeros_load p n (turn_bytes size) in omega (arith, h);
+  small = let h = zeros_weigh p n (turn_bytes size) in let g = turn_is_short size in omega (arith, h, g);
+  given = tt;
+}
 
 placed_small : (n : ℕ) (p : Place) (v : ℕ) (item : Setting) (y : Operand) → Small Any n 0 4 (emit (Do p (Assign v (FrameAddress item.offset)) (one p (Store item.width (Variable v) y))) n)
 placed_small n p v item y = record { few = omega arith; own = omega arith; small = omega arith; given = tt }

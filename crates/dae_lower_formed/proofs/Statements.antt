@@ -106,7 +106,7 @@ module _ (functions : List Function) (b : Bounds) (some : 0 < b.variables) (l : 
         (λ q v x o t z u a. statements_make (set_behind d e) k i breaks may r hb hm (and_second _ _ h) f y (and_second _ _ g) q v o u)
     statements_make d (tree.Initialise p offset size items k) i breaks may r hb hm h f y g n s j w =
         chain functions (λ x. statements l k) j
-        (sooner functions n (omega arith) (chain functions (λ x. settings l p n items) (let m : b.variables ≤ n + 1 = omega (arith, j) in m) (zeros_make functions p offset size some j w (ltb-true offset (2 ^ 32) (and_first _ _ (and_first _ _ (and_first _ _ h)))) (ltb-true size (2 ^ 32) (and_second _ _ (and_first _ _ (and_first _ _ h)))))
+        (sooner functions n (omega arith) (chain functions (λ x. settings l p n items) (let m : b.variables ≤ n + 1 = omega (arith, j) in m) (zeros_make functions p offset size some j w (ltb-true size (2 ^ 32) (and_second _ _ (and_first _ _ (and_first _ _ h)))))
         (λ q v x o t z u a. items_make i r d p n items (and_first _ _ (and_second _ _ h)) (and_first _ _ g) q v j (omega (arith, t)) u)))
         (λ q v x o t z u a. statements_make (set_behind_items d items) k i breaks may r hb hm (and_second _ _ (and_second _ _ h)) f y (and_second _ _ g) q v o u)
     statements_make d (tree.Print p xs pieces k) i breaks may r hb hm h f y g n s j w =

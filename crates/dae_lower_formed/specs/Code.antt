@@ -75,7 +75,7 @@ abbrev mutual
   pub most_code_in : Statements → ℕ
   most_code_in Done = 0
   most_code_in (Evaluate p e k) = most_code e + most_code_in k
-  most_code_in (Initialise p offset size items k) = 16 + (most_code_of_items items + most_code_in k)
+  most_code_in (Initialise p offset size items k) = 30 + (most_code_of_items items + most_code_in k)
   most_code_in (Print p xs pieces k) = most_code_of_all xs + (most_code_of_pieces pieces + most_code_in k)
   most_code_in (If p e t u k) = 2 + (most_code e + (most_code_in t + (most_code_in u + most_code_in k)))
   most_code_in (Loop p test body step k) =

@@ -15,7 +15,8 @@ use Rattle.dae_program.specs.Trees.{Expression, Target, Expressions, Setting, St
 use Rattle.dae_lower_formed.specs.Code.{loads_in}
 use Rattle.dae_lower_formed.specs.Formed.{plain, IsFormOf}
 
--- ---- the nodes of a tree: each expression, argument, statement, item, piece, arm and label is one
+-- ---- the nodes of a tree: each expression, argument, statement, item, piece, arm and label is one, but an initialised aggregate
+-- is two, since several of its bytes are cleared in a turn
 
 abbrev mutual
   pub nodes : Expression → ℕ
@@ -60,7 +61,7 @@ abbrev mutual
   pub nodes_of_statements : Statements → ℕ
   nodes_of_statements Done = 0
   nodes_of_statements (Evaluate p e k) = 1 + (nodes e + nodes_of_statements k)
-  nodes_of_statements (Initialise p offset size items k) = 1 + (nodes_of_items items + nodes_of_statements k)
+  nodes_of_statements (Initialise p offset size items k) = 2 + (nodes_of_items items + nodes_of_statements k)
   nodes_of_statements (Print p xs pieces k) = 1 + (nodes_of_all xs + (length pieces + nodes_of_statements k))
   nodes_of_statements (If p e t u k) = 1 + (nodes e + (nodes_of_statements t + (nodes_of_statements u + nodes_of_statements k)))
   nodes_of_statements (Loop p test body step k) =
@@ -131,7 +132,7 @@ abbrev mutual
   pub most_made_in : Statements → ℕ
   most_made_in Done = 0
   most_made_in (Evaluate p e k) = most_made e + most_made_in k
-  most_made_in (Initialise p offset size items k) = 3 + (most_made_of_items items + most_made_in k)
+  most_made_in (Initialise p offset size items k) = 2 + (most_made_of_items items + most_made_in k)
   most_made_in (Print p xs pieces k) = most_made_of_all xs + (most_made_of_pieces pieces + most_made_in k)
   most_made_in (If p e t u k) = most_made e + (most_made_in t + (most_made_in u + most_made_in k))
   most_made_in (Loop p test body step k) =

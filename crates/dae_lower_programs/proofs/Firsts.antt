@@ -43,7 +43,7 @@ settings_end l p v xs i le = ap (λ ys. settings l p v (view_settings ys)) (drop
 
 statement_first : (l : Links) (s : Statement) (k : tree.Statements) (n : ℕ) → statements l (statement_then s k) n ≡ (statements l (statement_then s tree.Done) n ≫ λ u. statements l k)
 statement_first l (statement.Evaluate p e) k n = seam_one _ (statements l k)
-statement_first l (statement.Initialise p offset size items) k n = seam_one (emit (zeros p offset size n) (n + 3) ≫ λ x. settings l p n (view_settings items.items)) (statements l k)
+statement_first l (statement.Initialise p offset size items) k n = seam_one (emit (zeros p offset size n) (n + 2) ≫ λ x. settings l p n (view_settings items.items)) (statements l k)
 statement_first l (statement.Print p xs pieces) k n = seam_one _ (statements l k)
 statement_first l (statement.If' p e b s c t) k n = seam_one _ (statements l k)
 statement_first l (statement.Loop' p test b body step) k n = seam_one (loop p (leave_unless_some l p (view_some test) n ≫ λ x. statements l (row_then body tree.Done)) (effect_of_some l (view_some step))) (statements l k)

@@ -1,18 +1,22 @@
 -- The loops that lowering adds.
-use Rattle.std.proofs.Common.{◌≡◌, ℕ, ◌+◌, List, refl, ap, ◌∙◌, arith}
+use Rattle.std.proofs.Common.{◌≡◌, ℕ, suc, ◌+◌, ◌-◌, ◌<◌, ◌≤◌, List, [], ◌∷◌, ◌++◌, refl, ap, sym, ◌∙◌, arith}
 use Rattle.dae_base.specs.declared.Place.{Place}
 use Rattle.dae_ir.specs.Code.{Done, Do, Loop}
-use Rattle.dae_ir.specs.Form.{Form, form_of}
-use Rattle.dae_ir.specs.declared.form.Item.TheVariants.{Assign}
+use Rattle.dae_base.specs.declared.Width.TheVariants.{B1}
+use Rattle.dae_base.specs.Words.{plus}
+use Rattle.dae_ir.specs.Form.{Form, before, form_of}
+use Rattle.dae_ir.specs.declared.form.Item.TheVariants.{Assign, Store}
 use Rattle.dae_ir.specs.declared.form.Operand.{Operand}
 use Rattle.dae_ir.specs.declared.form.Operand.TheVariants.{Variable, Number}
-use Rattle.dae_ir.specs.declared.form.Statement.{Statement}
+use Rattle.dae_ir.specs.declared.form.Statement.{Statement, Simple}
 use Rattle.dae_ir.specs.declared.form.Value.TheVariants.{Binary, FrameAddress, Same}
-use Rattle.dae_lower.specs.Lowering.{emit, one, only, text_loop, zeros, ◌⨾◌}
+use Rattle.dae_lower.specs.Lowering.{emit, leaves_if_not, one, only, test_of, text_loop, turn_bytes, zeros, zeros_at, ◌⨾◌}
 use Rattle.dae_lower_programs.proofs.Rows.{two_codes}
-use Rattle.dae_lower_programs.specs.Parts.{text_turn, zero_turn}
+use Rattle.dae_lower_programs.specs.Parts.{text_turn, zero_then, zero_turn}
+use Rattle.dae_lower_maker.proofs.Laws.{behind_behind, behind_done, form_of_pushed}
 use Rattle.dae_lower_maker.specs.Making.{Written, Writes}
-use Rattle.dae_meaning.specs.declared.Operator.TheVariants.{Add}
+use Rattle.dae_meaning.specs.declared.Comparison.TheVariants.{NotEqual}
+use Rattle.dae_meaning.specs.declared.Operator.TheVariants.{Add, Subtract}
 
 abbrev text_code : Place → Operand → ℕ → ℕ → Form
 text_code p x n m = Do p (Assign n (Same x)) (Loop p (text_turn p n m) (one p (Assign n (Binary Add (Variable n) (Number 1)))) Done)
@@ -38,36 +42,56 @@ text_written place x a b c d e v u body step is begun next after body_is step_is
       next = two_more a.next u d.next c.next e.next (more ∙ ap (λ n. n + 1) is) (ap (λ (s : Written). s.next) after) p.next q.next;
     }
 
-abbrev zero_code : Place → (offset size n m k : ℕ) → Form
-zero_code p offset size n m k =
-    Do p (Assign k (FrameAddress offset)) (Do p (Assign m (Same (Number 0))) (Loop p (zero_turn p size n m k) (one p (Assign m (Binary Add (Variable m) (Number 1)))) Done))
+-- ---- zeros
 
-three_more : (n m k b c d : ℕ) → m ≡ n + 1 → k ≡ m + 1 → b ≡ k + 1 → c ≡ b → d ≡ c → d ≡ n + 3
-three_more n m k b c d h i j l o = omega (arith, h, i, j, l, o)
+pub zero_pushed : (p : Place) (v : ℕ) (xs ys zs : List Statement) → ys ≡ xs ++ Simple p (Store B1 (Variable v) (Number 0)) ∷ [] → zs ≡ ys ++ Simple p (Assign v (Binary Add (Variable v) (Number 1))) ∷ [] → (rest : Form) → (form_of zs ⨾ rest) ≡ (form_of xs ⨾ zero_then p v rest)
+zero_pushed p v xs ys zs a b rest =
+    let store = Simple p (Store B1 (Variable v) (Number 0)) in
+    let next = Simple p (Assign v (Binary Add (Variable v) (Number 1))) in
+    ap (λ (ls : List Statement). form_of ls ⨾ rest) b ∙ ap (λ (f : Form). f ⨾ rest) (form_of_pushed ys next) ∙ behind_behind (form_of ys) (before next Done) rest
+    ∙ ap (λ (ls : List Statement). form_of ls ⨾ (before next Done ⨾ rest)) a ∙ ap (λ (f : Form). f ⨾ (before next Done ⨾ rest)) (form_of_pushed xs store) ∙ behind_behind (form_of xs) (before store Done) (before next Done ⨾ rest)
 
-pub zeros_written : (place : Place) (offset size : ℕ) (a b c d e f g : Written) (v u w : ℕ) (body step : List Statement)
+one_to_go : (count i : ℕ) → i < count → count - i ≡ suc (count - (i + 1))
+one_to_go count i h = omega (arith, h)
+
+none_to_go : (count i : ℕ) → count ≤ i → count - i ≡ 0
+none_to_go count i h = omega (arith, h)
+
+pub zeros_go_on : (p : Place) (v count i : ℕ) (all old new : Form) → i < count → ((rest : Form) → (new ⨾ rest) ≡ (old ⨾ zero_then p v rest)) → (old ⨾ zeros_at p v (count - i)) ≡ all → (new ⨾ zeros_at p v (count - (i + 1))) ≡ all
+zeros_go_on p v count i all old new lt more h = more (zeros_at p v (count - (i + 1))) ∙ sym (ap (λ k. old ⨾ zeros_at p v k) (one_to_go count i lt)) ∙ h
+
+pub zeros_end : (p : Place) (v count i : ℕ) (all now : Form) → count ≤ i → (now ⨾ zeros_at p v (count - i)) ≡ all → now ≡ all
+zeros_end p v count i all now le h = sym (behind_done now) ∙ sym (ap (λ k. now ⨾ zeros_at p v k) (none_to_go count i le)) ∙ h
+
+-- a turn
+pub turn_made : (p : Place) (size n m count : ℕ) (leave : Statement) (xs ys block : List Statement) → xs ≡ [] → ys ≡ xs ++ leave ∷ [] → form_of block ≡ (form_of ys ⨾ zeros_at p n count) → count ≡ turn_bytes size → ((f : Form) → before leave f ≡ leaves_if_not p (test_of NotEqual (Variable n) (Variable m)) f)
+    → form_of block ≡ zero_turn p size n m
+turn_made p size n m count leave xs ys block a b e is h =
+    e ∙ ap (λ (ls : List Statement). form_of ls ⨾ zeros_at p n count) (b ∙ ap (λ (ls : List Statement). ls ++ leave ∷ []) a)
+    ∙ ap (λ (f : Form). f ⨾ zeros_at p n count) (h Done)
+    ∙ ap (λ k. leaves_if_not p (test_of NotEqual (Variable n) (Variable m)) (zeros_at p n k)) is
+
+abbrev zero_code : Place → (offset size n m : ℕ) → Form
+zero_code p offset size n m = Do p (Assign m (FrameAddress offset)) (Do p (Assign n (Binary Subtract (Variable m) (Number size))) (Loop p (zero_turn p size n m) Done Done))
+
+pub zeros_written : (place : Place) (offset size behind : ℕ) (a b c d e f : Written) (v u : ℕ) (body step : List Statement)
     → v ≡ a.next → b ≡ record { code = a.code; next = v + 1 } → u ≡ b.next → c ≡ record { code = b.code; next = u + 1 }
-    → w ≡ c.next → d ≡ record { code = c.code; next = w + 1 }
-    → form_of body ≡ zero_turn place size v u w → form_of step ≡ one place (Assign u (Binary Add (Variable u) (Number 1)))
-    → Writes (only (one place (Assign w (FrameAddress offset))) (tt {0}) d.next) d e tt
-    → Writes (only (one place (Assign u (Same (Number 0)))) (tt {0}) e.next) e f tt
-    → Writes (emit (Loop place (form_of body) (form_of step) Done) f.next) f g tt
-    → Writes (only (zeros place offset size a.next) a.next (a.next + 3)) a g v
-zeros_written place offset size a b c d e f g v u w body step is begun next after next' after' body_is step_is p q r =
+    → behind ≡ plus offset size → form_of body ≡ zero_turn place size v u → step ≡ []
+    → Writes (only (one place (Assign u (FrameAddress behind))) (tt {0}) c.next) c d tt
+    → Writes (only (one place (Assign v (Binary Subtract (Variable u) (Number size)))) (tt {0}) d.next) d e tt
+    → Writes (emit (Loop place (form_of body) (form_of step) Done) e.next) e f tt
+    → Writes (only (zeros place offset size a.next) a.next (a.next + 2)) a f v
+zeros_written place offset size behind a b c d e f v u body step is begun next after behind_is body_is step_is p q r =
     let more : u ≡ v + 1 = next ∙ ap (λ (s : Written). s.next) begun in
-    let most : w ≡ u + 1 = next' ∙ ap (λ (s : Written). s.next) after in
-    let most' : w ≡ v + 2 = most ∙ ap (λ n. n + 1) more ∙ plus_two v in
     let spin = λ (x y : Form). Loop place x y Done in record {
-      code = two_codes d.code f.code g.code (Do place (Assign w (FrameAddress offset)) (one place (Assign u (Same (Number 0))))) (spin (form_of body) (form_of step))
-          (two_codes d.code e.code f.code (one place (Assign w (FrameAddress offset))) (one place (Assign u (Same (Number 0)))) p.code q.code) r.code
-          ∙ ap (λ (k : Form). k ⨾ Do place (Assign w (FrameAddress offset)) (Do place (Assign u (Same (Number 0))) (spin (form_of body) (form_of step)))) (ap (λ (s : Written). s.code) after' ∙ ap (λ (s : Written). s.code) after ∙ ap (λ (s : Written). s.code) begun)
-          ∙ ap (λ (x : Form). a.code ⨾ Do place (Assign w (FrameAddress offset)) (Do place (Assign u (Same (Number 0))) (spin x (form_of step)))) body_is
-          ∙ ap (λ (x : Form). a.code ⨾ Do place (Assign w (FrameAddress offset)) (Do place (Assign u (Same (Number 0))) (spin (zero_turn place size v u w) x))) step_is
-          ∙ ap (λ k. a.code ⨾ zero_code place offset size v u k) most'
-          ∙ ap (λ m. a.code ⨾ zero_code place offset size v m (v + 2)) more
-          ∙ ap (λ n. a.code ⨾ zero_code place offset size n (n + 1) (n + 2)) is;
+      code = two_codes c.code e.code f.code (Do place (Assign u (FrameAddress behind)) (one place (Assign v (Binary Subtract (Variable u) (Number size))))) (spin (form_of body) (form_of step))
+          (two_codes c.code d.code e.code (one place (Assign u (FrameAddress behind))) (one place (Assign v (Binary Subtract (Variable u) (Number size)))) p.code q.code) r.code
+          ∙ ap (λ (k : Form). k ⨾ Do place (Assign u (FrameAddress behind)) (Do place (Assign v (Binary Subtract (Variable u) (Number size))) (spin (form_of body) (form_of step)))) (ap (λ (s : Written). s.code) after ∙ ap (λ (s : Written). s.code) begun)
+          ∙ ap (λ (x : Form). a.code ⨾ Do place (Assign u (FrameAddress behind)) (Do place (Assign v (Binary Subtract (Variable u) (Number size))) (spin x (form_of step)))) body_is
+          ∙ ap (λ (xs : List Statement). a.code ⨾ Do place (Assign u (FrameAddress behind)) (Do place (Assign v (Binary Subtract (Variable u) (Number size))) (spin (zero_turn place size v u) (form_of xs)))) step_is
+          ∙ ap (λ k. a.code ⨾ zero_code place k size v u) behind_is
+          ∙ ap (λ m. a.code ⨾ zero_code place (plus offset size) size v m) more
+          ∙ ap (λ n. a.code ⨾ zero_code place (plus offset size) size n (n + 1)) is;
       given = is;
-      next = three_more a.next u w e.next f.next g.next (more ∙ ap (λ n. n + 1) is) most (p.next ∙ ap (λ (s : Written). s.next) after') q.next r.next;
-    } where
-      plus_two : (n : ℕ) → (n + 1) + 1 ≡ n + 2
-      plus_two n = omega arith
+      next = two_more a.next u d.next c.next f.next (more ∙ ap (λ n. n + 1) is) (ap (λ (s : Written). s.next) after) p.next (r.next ∙ q.next);
+    }

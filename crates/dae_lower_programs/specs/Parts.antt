@@ -10,8 +10,8 @@ use Rattle.dae_ir.specs.declared.form.Check.TheVariants.{Place as Good}
 use Rattle.dae_ir.specs.declared.form.Item.TheVariants.{Expect, Load, Print, Assign, Store, Break}
 use Rattle.dae_ir.specs.declared.form.Operand.TheVariants.{Variable, Number}
 use Rattle.dae_ir.specs.declared.form.Value.TheVariants.{Binary, Same}
-use Rattle.dae_lower.specs.Lowering.{leaves_if_not, one, test_of}
-use Rattle.dae_meaning.specs.declared.Comparison.TheVariants.{Equal, NotEqual, LessUnsigned}
+use Rattle.dae_lower.specs.Lowering.{leaves_if_not, one, test_of, turn_bytes, zeros_at}
+use Rattle.dae_meaning.specs.declared.Comparison.TheVariants.{Equal, NotEqual}
 use Rattle.dae_meaning.specs.declared.Operator.TheVariants.{Add}
 use Rattle.dae_meaning.specs.declared.Spelling.TheVariants.{Byte}
 
@@ -23,12 +23,14 @@ text_turn p n m =
     leaves_if_not p (test_of NotEqual (Variable m) (Number 0)) (
     one p (Print Byte (Variable m)))))
 
--- a byte becomes 0, unless all have
-abbrev pub zero_turn : Place → (size address index base : ℕ) → Form
-zero_turn p size n m k =
-    leaves_if_not p (test_of LessUnsigned (Variable m) (Number size)) (
-    Do p (Assign n (Binary Add (Variable k) (Variable m))) (
-    one p (Store B1 (Variable n) (Number 0))))
+-- the byte at the address in a variable becomes 0, and the address goes up
+abbrev pub zero_then : Place → ℕ → Form → Form
+zero_then p v rest =
+    Do p (Store B1 (Variable v) (Number 0)) (Do p (Assign v (Binary Add (Variable v) (Number 1))) rest)
+
+-- as many bytes as a turn clears become 0, unless the address is the end
+abbrev pub zero_turn : Place → (size address end : ℕ) → Form
+zero_turn p size n m = leaves_if_not p (test_of NotEqual (Variable n) (Variable m)) (zeros_at p n (turn_bytes size))
 
 -- the search ends at an equal label, with the number of its arm, or goes on
 abbrev pub label_then : Place → Operand → (v number label : ℕ) → Form → Form

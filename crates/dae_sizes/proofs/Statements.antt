@@ -128,14 +128,14 @@ module _ (c : ℕ) (low : c ≤ 1) (ls : List (List ℕ)) where
     first_scalar_within p k tree.no_initialisers = pure_within program.Done (omega arith)
     first_scalar_within p k (tree.initialiser_then x xs) = weaker (omega arith) (omega arith) (scalar_within p k x)
 
-  initialised_within : {n w : ℕ} {m : Plan Content} (p : Place) (k : ℕ) → Within ls (held c) n w m → Within ls (weight_in c) n (4 + w) (initialised_at p k m)
+  initialised_within : {n w : ℕ} {m : Plan Content} (p : Place) (k : ℕ) → Within ls (held c) n w m → Within ls (weight_in c) n (8 + w) (initialised_at p k m)
   initialised_within p k h = maps_stays h (λ s x e l. record { grown = type_grown k x.type_id s; small = omega (arith, l) })
 
   begun_weighs : (b : Bool) (p : Place) (s : Tables) (k : ℕ) → weight_in c (if b then set_to p s k (program.Number 0) else program.Done) ≤ 4
   begun_weighs true p s k = let h = set_weighs c p s k (program.Number 0) in omega (arith, low, h)
   begun_weighs false p s k = omega arith
 
-  given_within : (p : Place) (k : ℕ) (x : Initialiser) (b : Bool) → Within ls (weight_in c) (declares_in_initialiser x) (4 + worth_of_initialiser (price c ls) x) (plan_given p k x b)
+  given_within : (p : Place) (k : ℕ) (x : Initialiser) (b : Bool) → Within ls (weight_in c) (declares_in_initialiser x) (8 + worth_of_initialiser (price c ls) x) (plan_given p k x b)
   given_within p k x true = lighter (omega arith) (scalar_within p k x)
   given_within p k x false =
       fewer (omega arith) (chain_within (looks_within {μ = none} {w = 0} (λ s. type_of_local s k) (λ s e. omega arith)) (λ t l.

@@ -60,7 +60,7 @@ abbrev mutual
   pub weight_in : (constant : ℕ) → Statements → ℕ
   weight_in c Done = 0
   weight_in c (Evaluate p e k) = 1 + (weight c e + weight_in c k)
-  weight_in c (Initialise p offset size items k) = 4 + (weight_of_items c items + weight_in c k)
+  weight_in c (Initialise p offset size items k) = 8 + (weight_of_items c items + weight_in c k)
   weight_in c (Print p xs pieces k) = 1 + (weight_of_all c xs + (weight_of_pieces c pieces + weight_in c k))
   weight_in c (If p e t u k) = 1 + (weight c e + (weight_in c t + (weight_in c u + weight_in c k)))
   weight_in c (Loop p test body step k) =
