@@ -14,6 +14,7 @@ pub use tables::{
 };
 pub use types::{Layout, Shape, Structure};
 pub use values::{Category, Known};
+pub use words::{word_behind, word_for};
 
 mod numbers;
 mod routines;
@@ -21,3 +22,4 @@ mod rules;
 mod tables;
 mod types;
 mod values;
+mod words;
