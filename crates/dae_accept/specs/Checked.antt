@@ -3,7 +3,7 @@ use Rattle.std.specs.Prelude.{List, Vec, Result, Ok, Err}
 use Rattle.std.specs.declared.alloc.Global.{Global}
 use Rattle.dae_tree.specs.Files.{Contents}
 use Rattle.dae_types_kinds.specs.declared.rules.CheckError.{CheckError}
-use Rattle.dae_types_kinds.specs.declared.rules.CheckError.TheVariants.{Rule, Memory, TooMany, Unsound}
+use Rattle.dae_types_kinds.specs.declared.rules.CheckError.TheVariants.{Rule, Memory, Unsound}
 use Rattle.dae_types_typed.specs.declared.files.FileParts.{FileParts}
 use Rattle.dae_accept.specs.Accepted.{AreTyped, IsFirstBroken}
 
@@ -12,5 +12,4 @@ abbrev pub Checks : Result (Vec FileParts Global) CheckError â†’ List Contents â
 Checks (Ok all) files = AreTyped files all.items
 Checks (Err (Rule b)) files = IsFirstBroken files b
 Checks (Err Memory) files = Unit {0}
-Checks (Err TooMany) files = Unit {0}
 Checks (Err Unsound) files = Unit {0}

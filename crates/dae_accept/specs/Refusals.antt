@@ -16,7 +16,6 @@ from_reading files.Memory = Memory
 abbrev pub from_checking : CheckError → CompileError
 from_checking (rules.Rule b) = Rule b
 from_checking rules.Memory = Memory
-from_checking rules.TooMany = Memory
 from_checking rules.Unsound = Memory
 
 abbrev pub from_joining : JoinError → CompileError

@@ -59,7 +59,6 @@ impl From<CheckError> for CompileError {
         match e {
             CheckError::Rule(breach) => CompileError::Rule(breach),
             CheckError::Memory => CompileError::Memory,
-            CheckError::TooMany => CompileError::Memory,
             CheckError::Unsound => CompileError::Memory,
         }
     }

@@ -22,7 +22,7 @@ use Rattle.dae_types_kinds.specs.declared.tables.Routine.{Routine}
 use Rattle.dae_types_kinds.specs.declared.tables.Storage.{Storage}
 use Rattle.dae_types_kinds.specs.declared.tables.Storage.TheVariants as storage
 use Rattle.dae_types_kinds.specs.Tables.{Tables, closed, reopened}
-use Rattle.dae_types_kinds.specs.Types.{shape_of, is_function, layout_at, rounded, composite}
+use Rattle.dae_types_kinds.specs.Types.{shape_of, is_function, layout_at, rounded, composite, word_for}
 use Rattle.dae_types_rules.specs.Sites.{Site}
 use Rattle.dae_types_rules.specs.Table.{is_extern, is_static}
 use Rattle.dae_types_rules.specs.Plan.{Plan, pure, ask_all}
@@ -115,8 +115,8 @@ length-kept s v o n [] = refl
 length-kept s v o n (x ∷ xs) =
     let l = layout_at s x.type_id in
     let at = rounded o l.align in
-    let u = if nat_eq n 0 then v else suc v in
-    length_if (in_variable s x) (storage.Variable v) (storage.Frame at) (kept_from s (suc v) o (n - 1) xs) (kept_from s u (min (at + l.size) most_frame) (n - 1) xs) (length xs) (length-kept s (suc v) o (n - 1) xs) (length-kept s u (min (at + l.size) most_frame) (n - 1) xs)
+    let u = if nat_eq n 0 then v else word_for (suc v) in
+    length_if (in_variable s x) (storage.Variable v) (storage.Frame at) (kept_from s (word_for (suc v)) o (n - 1) xs) (kept_from s u (min (at + l.size) most_frame) (n - 1) xs) (length xs) (length-kept s (word_for (suc v)) o (n - 1) xs) (length-kept s u (min (at + l.size) most_frame) (n - 1) xs)
 
 -- a definition gives one body, or none
 abbrev Part : ℕ → List (List ℕ) → External → List PlannedBody → Type 0

@@ -11,6 +11,7 @@ use Rattle.dae_meaning.specs.declared.Spelling.TheVariants as spelling
 use Rattle.dae_program.specs.declared.statements.Piece.{Piece}
 use Rattle.dae_program.specs.declared.statements.Piece.TheVariants as piece
 use Rattle.dae_program.specs.Trees as program
+use Rattle.dae_types_kinds.specs.Types.{word_for}
 use Rattle.dae_types_kinds.specs.declared.rules.Breach.{Breach}
 use Rattle.dae_types_kinds.specs.declared.rules.Rule.TheVariants as rule
 use Rattle.dae_types_kinds.specs.Tables.{Tables}
@@ -95,11 +96,11 @@ pieces_paid c InText k (b ∷ bs) =
     paid_if c (b ∷ bs) (nat_eq b 0) None (if nat_eq b 37 then pieces_from BehindPercent k bs else text) tt
     (paid_if c (b ∷ bs) (nat_eq b 37) (pieces_from BehindPercent k bs) text (more_paid c b bs (pieces_from BehindPercent k bs) (pieces_paid c BehindPercent k bs)) (piece_paid c b b bs (pieces_from InText k bs) (pieces_paid c InText k bs)))
 pieces_paid c BehindPercent k (b ∷ bs) =
-    let letter = converted_with (letter_piece k b) (pieces_from InText (suc k) bs) in
+    let letter = converted_with (letter_piece k b) (pieces_from InText (word_for (suc k)) bs) in
     let percent = with_piece (piece.Byte 37) (pieces_from InText k bs) in
     paid_if c (b ∷ bs) (nat_eq b 37) percent (if nat_eq b 108 then pieces_from BehindLong k bs else letter) (piece_paid c b 37 bs (pieces_from InText k bs) (pieces_paid c InText k bs))
-    (paid_if c (b ∷ bs) (nat_eq b 108) (pieces_from BehindLong k bs) letter (more_paid c b bs (pieces_from BehindLong k bs) (pieces_paid c BehindLong k bs)) (conversion_paid c b bs (letter_piece k b) (pieces_from InText (suc k) bs) (letter_converts k b) (pieces_paid c InText (suc k) bs)))
-pieces_paid c BehindLong k (b ∷ bs) = conversion_paid c b bs (number_piece k b) (pieces_from InText (suc k) bs) (number_converts k b) (pieces_paid c InText (suc k) bs)
+    (paid_if c (b ∷ bs) (nat_eq b 108) (pieces_from BehindLong k bs) letter (more_paid c b bs (pieces_from BehindLong k bs) (pieces_paid c BehindLong k bs)) (conversion_paid c b bs (letter_piece k b) (pieces_from InText (word_for (suc k)) bs) (letter_converts k b) (pieces_paid c InText (word_for (suc k)) bs)))
+pieces_paid c BehindLong k (b ∷ bs) = conversion_paid c b bs (number_piece k b) (pieces_from InText (word_for (suc k)) bs) (number_converts k b) (pieces_paid c InText (word_for (suc k)) bs)
 
 -- ---- a format has as many arguments as it wants, or its rule is broken
 

@@ -11,12 +11,10 @@ use Rattle.dae_types.specs.Answers.{Answers, IsWant, plan_in, start_in}
 
 pub refused : (c : Contents) (e : CheckError) (s : Tables) → FilesAreChecked → s ≡ start_in c → Fails e (check_of (plan_in c) s) → Answers c (Err e)
 refused c errors.Memory s law is h = tt
-refused c errors.TooMany s law is h = tt
 refused c errors.Unsound s law is h = tt
 refused c (errors.Rule f) s law is h = subst (λ t. IsChecked (plan_in c) t (Err f)) is (subst (λ r. IsChecked (plan_in c) s r) h (law (view_externals c.externals) s))
 
 pub wanted : (c : Contents) (e : CheckError) → IsWant e → Answers c (Err e)
 wanted c errors.Memory h = tt
-wanted c errors.TooMany h = tt
 wanted c errors.Unsound h = tt
 wanted c (errors.Rule f) h = absurd h

@@ -26,10 +26,9 @@ pub record IsTypedFile (c : Contents) (file : FileParts) : Type 0 where
   pub checked : IsChecked (plan_in c) (start_in c) (Ok (tables, products))
   pub reads : Reads file tables products c.names
 
--- what no rule is: a refused allocation, a number past 2^32, or a file that isn't known to be sound
+-- what no rule is: a refused allocation, or a file that isn't known to be sound
 abbrev pub IsWant : CheckError → Type 0
 IsWant errors.Memory = Unit {0}
-IsWant errors.TooMany = Unit {0}
 IsWant errors.Unsound = Unit {0}
 IsWant (errors.Rule f) = ⊥
 
@@ -38,5 +37,4 @@ abbrev pub Answers : Contents → Result FileParts CheckError → Type 0
 Answers c (Ok file) = IsTypedFile c file
 Answers c (Err (errors.Rule f)) = IsChecked (plan_in c) (start_in c) (Err f)
 Answers c (Err errors.Memory) = Unit {0}
-Answers c (Err errors.TooMany) = Unit {0}
 Answers c (Err errors.Unsound) = Unit {0}

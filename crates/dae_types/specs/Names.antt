@@ -2,11 +2,12 @@
 -- 5.1.2.2.1). A name's number is its place among the file's names, none of which stands twice.
 use Rattle.std.specs.Prelude.{ℕ, suc, List, [], ◌∷◌, Option, Some, None, if◌then◌else◌, codes}
 use Rattle.std.specs.Str.{bytes_eq}
+use Rattle.dae_types_kinds.specs.Types.{word_for}
 use Rattle.dae_types_file_plans.specs.Files.{Numbers}
 
 abbrev pub number_behind : ℕ → List (List ℕ) → List ℕ → Option ℕ
 number_behind n [] name = None
-number_behind n (x ∷ xs) name = if bytes_eq x name then Some n else number_behind (suc n) xs name
+number_behind n (x ∷ xs) name = if bytes_eq x name then Some n else number_behind (word_for (suc n)) xs name
 
 abbrev pub number_among : List (List ℕ) → List ℕ → Option ℕ
 number_among names name = number_behind 0 names name

@@ -21,7 +21,7 @@ use std::alloc::Global;
 fn begin(alloc: Global, file: &File) -> Result<Checker, CheckError>
     ensures { Gives tables result (Ok (start_in file.now)) }
 {
-    let numbers = numbers_in(file.names())?;
+    let numbers = numbers_in(file.names());
     let literals = copy_all(alloc, file.literals())?;
     let Ok(mut checker) = begin_file(alloc, literals, numbers.main) else {
         return Err(CheckError::Memory);
@@ -51,14 +51,13 @@ fn want_in(error: CheckError) -> CheckError
 {
     match error {
         CheckError::Memory => CheckError::Memory,
-        CheckError::TooMany => CheckError::TooMany,
         CheckError::Unsound | CheckError::Rule(_) => CheckError::Unsound,
     }
 }
 
 /// Checks the types of a file (C90 6.1.2, 6.2, 6.3, 6.5, 6.6 and 6.7). A file in which no rule is broken becomes a typed file;
-/// in another a rule that is broken is answered, with a place where it is. Both may fail for want of memory, or where a number
-/// passes 2^32; and a file fails for which the test of what a joiner relies on says no.
+/// in another a rule that is broken is answered, with a place where it is. Both may fail for want of memory; and a file
+/// fails for which the test of what a joiner relies on says no.
 pub fn check(alloc: Global, file: &File) -> Result<TypedFile, CheckError>
     ensures { Answers file.now result }
 {

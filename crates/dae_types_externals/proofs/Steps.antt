@@ -46,7 +46,6 @@ settled_fails e n m s h = subst (λ y. Fails e y) (sym (settled n m s)) h
 some_given : (new : Tables) (r : Result ℕ CheckError) (y : Result (Tables × ℕ) Breach) → Gives {Y = Tables × ℕ} (λ t. (new, t)) r y → Gives {Y = Tables × Option ℕ} (λ t. (new, Some t)) r (y >>= λ x. Ok (x.0, Some x.1))
 some_given new (Ok t) y h = rw h refl
 some_given new (Err errors.Memory) y h = h
-some_given new (Err errors.TooMany) y h = h
 some_given new (Err errors.Unsound) y h = h
 some_given new (Err (errors.Rule f)) y h = rw h refl
 
@@ -57,7 +56,6 @@ definition_gives new r n p b d m s x h k =
 
 pub definition_fails : (e : CheckError) (n : Option Name) (p : Place) (b d : Bool) (m : Plan NamedType) (s : Tables) → Fails e (check_of m s) → Fails e (check_of (settles_name n (some_of (definition_at p b d m))) s)
 definition_fails errors.Memory n p b d m s h = h
-definition_fails errors.TooMany n p b d m s h = h
 definition_fails errors.Unsound n p b d m s h = h
 definition_fails (errors.Rule f) None p b d m s h = rw h refl
 definition_fails (errors.Rule f) (Some n) p b d m s h = rw h refl
@@ -91,7 +89,6 @@ broken_by d (Err f) = f
 
 broke : {A B : Type 0} (a : A) (b : B) (x : Result A Breach) (y : Result B Breach) → Alike (Ok a) (Ok b) x y → (e : CheckError) → Fails e x → Fails e y
 broke a b x y h errors.Memory k = k
-broke a b x y h errors.TooMany k = k
 broke a b x y h errors.Unsound k = k
 broke a b x y (inl h) (errors.Rule f) k = let e : Err f ≡ Ok a = sym k ∙ h.0 in absurd cc
 broke a b x y (inr h) (errors.Rule f) k = h.2 ∙ ap Err (ap (broken_by f) (sym h.1 ∙ k))
@@ -113,7 +110,6 @@ file_follows e xs s t ps h k = subst (λ y. Fails e y) (sym (behind_externals xs
 
 pub file_stops : (e : CheckError) (xs : List tree.External) (s : Tables) → Fails e (check_of (plan_externals [] xs) s) → Fails e (check_of (plan_file xs) s)
 file_stops errors.Memory xs s h = h
-file_stops errors.TooMany xs s h = h
 file_stops errors.Unsound xs s h = h
 file_stops (errors.Rule f) xs s h = rw h refl
 

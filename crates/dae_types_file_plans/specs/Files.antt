@@ -24,7 +24,7 @@ use Rattle.dae_types_kinds.specs.declared.tables.Routine.{Routine}
 use Rattle.dae_types_kinds.specs.declared.tables.Storage.{Storage}
 use Rattle.dae_types_kinds.specs.declared.tables.Storage.TheVariants as storage
 use Rattle.dae_types_kinds.specs.Tables.{Tables, with_object, with_routine, with_locals, with_storages, with_name, set_object, set_routine, reopened, closed}
-use Rattle.dae_types_kinds.specs.Types.{int_id, first_shapes, shape_of, is_function, is_scalar, composite, layout_at, rounded}
+use Rattle.dae_types_kinds.specs.Types.{int_id, first_shapes, shape_of, is_function, is_scalar, composite, word_for, layout_at, rounded}
 use Rattle.dae_types_kinds.specs.Values.{result_of}
 use Rattle.dae_types_rules.specs.Table.{is_static, is_extern}
 use Rattle.dae_types_rules.specs.Sites.{Site, AtFunction, AtObject, AtEndOfFile, AtDefinition, AtSecond, AtUnnamed}
@@ -184,7 +184,7 @@ kept_from s v o n [] = []
 kept_from s v o n (x ∷ xs) =
     let l = layout_at s x.type_id in
     let at = rounded o l.align in
-    if in_variable s x then storage.Variable v ∷ kept_from s (suc v) o (n - 1) xs else storage.Frame at ∷ kept_from s (if nat_eq n 0 then v else suc v) (min (at + l.size) most_frame) (n - 1) xs
+    if in_variable s x then storage.Variable v ∷ kept_from s (word_for (suc v)) o (n - 1) xs else storage.Frame at ∷ kept_from s (if nat_eq n 0 then v else word_for (suc v)) (min (at + l.size) most_frame) (n - 1) xs
 
 -- ---- definitions (C90 6.7.1)
 

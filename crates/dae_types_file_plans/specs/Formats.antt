@@ -3,6 +3,7 @@ use Rattle.std.specs.Prelude.{ℕ, suc, List, [], ◌∷◌, Option, Some, None,
 use Rattle.dae_meaning.specs.declared.Spelling.TheVariants as spelling
 use Rattle.dae_program.specs.declared.statements.Piece.{Piece}
 use Rattle.dae_program.specs.declared.statements.Piece.TheVariants as piece
+use Rattle.dae_types_kinds.specs.Types.{word_for}
 
 -- where in a conversion a byte stands
 pub data Part : Type 0 where
@@ -38,8 +39,8 @@ pieces_from InText k (b ∷ bs) = if nat_eq b 0 then None else if nat_eq b 37 th
 pieces_from BehindPercent k (b ∷ bs) =
     if nat_eq b 37 then with_piece (piece.Byte 37) (pieces_from InText k bs)
     else if nat_eq b 108 then pieces_from BehindLong k bs
-    else converted_with (letter_piece k b) (pieces_from InText (suc k) bs)
-pieces_from BehindLong k (b ∷ bs) = converted_with (number_piece k b) (pieces_from InText (suc k) bs)
+    else converted_with (letter_piece k b) (pieces_from InText (word_for (suc k)) bs)
+pieces_from BehindLong k (b ∷ bs) = converted_with (number_piece k b) (pieces_from InText (word_for (suc k)) bs)
 
 -- what each argument must be, in their order: whether it is text
 abbrev pub letters : List Piece → List Bool

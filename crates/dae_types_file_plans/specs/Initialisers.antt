@@ -1,6 +1,6 @@
 -- The plans of initialisers (C90 6.5.7). Items are given to the scalars of an aggregate in their order; inner braces may be
 -- left out. What is still to be filled is a stack, its innermost part first.
-use Rattle.std.specs.Prelude.{ℕ, zero, suc, ◌+◌, ◌*◌, min, List, [], ◌∷◌, ◌++◌, length, filter, Option, Some, None, Bool, true, false, ◌&&◌, ◌||◌, not, nat_eq, nat_lt, if◌then◌else◌, slice_get}
+use Rattle.std.specs.Prelude.{ℕ, zero, suc, ◌+◌, ◌*◌, List, [], ◌∷◌, ◌++◌, length, filter, Option, Some, None, Bool, true, false, ◌&&◌, ◌||◌, not, nat_eq, nat_lt, if◌then◌else◌, slice_get}
 use Rattle.dae_base.specs.declared.Place.{Place}
 use Rattle.dae_base.specs.declared.LoadKind.{LoadKind}
 use Rattle.dae_base.specs.Words.{extended, width_of}
@@ -12,7 +12,7 @@ use Rattle.dae_types_kinds.specs.declared.types.Shape.{Shape}
 use Rattle.dae_types_kinds.specs.declared.types.Shape.TheVariants as shape
 use Rattle.dae_types_kinds.specs.declared.tables.Component.{Component}
 use Rattle.dae_types_kinds.specs.Tables.{Tables}
-use Rattle.dae_types_kinds.specs.Types.{int_id, shape_of, made, greatest_word, is_scalar, is_character, is_structure, layout_at}
+use Rattle.dae_types_kinds.specs.Types.{int_id, shape_of, made, word_for, is_scalar, is_character, is_structure, layout_at}
 use Rattle.dae_types_kinds.specs.Values.{Typed, number, load_kind, known_as, constant_tree}
 use Rattle.dae_types_rules.specs.Sites.{Site, AtItem, AtScalarList, AtAggregate, AtString, AtTooMany, AtFilled}
 use Rattle.dae_types_rules.specs.Plan.{Plan, pure, node, chain, pardons}
@@ -47,20 +47,20 @@ abbrev pub is_before : ℕ → Option ℕ → Bool
 is_before n None = true
 is_before n (Some count) = nat_lt n count
 
--- offsets stop at the greatest word, which is behind all that an object may have
+-- offsets and numbers stop at the greatest word, which is behind all that an object may have
 abbrev pub behind_bytes : ℕ → ℕ → ℕ
-behind_bytes o bytes = min (o + bytes) greatest_word
+behind_bytes o bytes = word_for (o + bytes)
 
 -- the next element or member, or else what stands behind
 abbrev pub element_slot : Tables → ℕ → ℕ → ℕ → Option ℕ → List Rest → Option Slot → Option Slot
 element_slot s o t n count rest behind =
     if is_before n count
-    then Some (slot (behind_bytes o (n * (layout_at s t).size)) t (Elements o t (suc n) count ∷ rest))
+    then Some (slot (behind_bytes o (n * (layout_at s t).size)) t (Elements o t (word_for (suc n)) count ∷ rest))
     else behind
 
 abbrev pub member_slot : ℕ → ℕ → ℕ → Option Component → List Rest → Option Slot → Option Slot
 member_slot o k n None rest behind = behind
-member_slot o k n (Some f) rest behind = Some (slot (behind_bytes o f.offset) f.type_id (Members o k (suc n) ∷ rest))
+member_slot o k n (Some f) rest behind = Some (slot (behind_bytes o f.offset) f.type_id (Members o k (word_for (suc n)) ∷ rest))
 
 abbrev pub next_slot : Tables → List Rest → Option Slot
 next_slot s [] = None
@@ -166,7 +166,7 @@ byte_settings o k [] = []
 byte_settings o k (b ∷ bs) = byte_setting o k b ∷ byte_settings (behind_bytes o 1) k bs
 
 abbrev pub item_by : Tables → Option ℕ → Typed → Slot → Shape → Filling → Filling
-item_by s n x z (shape.Array u count) f = record f { items = f.items ++ byte_settings z.offset (load_kind (shape_of s u)) (literal_bytes s n); count = suc (length (literal_bytes s n)) }
+item_by s n x z (shape.Array u count) f = record f { items = f.items ++ byte_settings z.offset (load_kind (shape_of s u)) (literal_bytes s n); count = word_for (suc (length (literal_bytes s n))) }
 item_by s n x z (shape.Struct k) f = f
 item_by s n x z t f =
     let k = known_as (shape_of s x.type_id) t x.known in

@@ -5,7 +5,7 @@ use Rattle.dae_program.specs.Trees.{Setting}
 use Rattle.dae_program.specs.Views.{view, view_settings}
 use Rattle.dae_program.specs.declared.statements.Setting.{Setting as SettingInMemory}
 use Rattle.dae_types_kinds.specs.Tables.{Tables}
-use Rattle.dae_types_kinds.specs.Types.{shape_of}
+use Rattle.dae_types_kinds.specs.Types.{shape_of, word_for}
 use Rattle.dae_types_kinds.specs.Values.{Typed, load_kind, known_as, constant_tree}
 use Rattle.dae_types_kinds.specs.declared.types.Shape.{Shape}
 use Rattle.dae_base.specs.declared.Place.{Place}
@@ -51,7 +51,7 @@ abbrev pub text_item : Place → Option ℕ → (offset element : ℕ) → Optio
 text_item p n o u count f =
     at
     (λ s x. AtString p (length (literal_bytes s n)) count)
-    (λ s x. (s, with_settings f (byte_settings o (load_kind (shape_of s u)) (literal_bytes s n)) (suc (length (literal_bytes s n)))))
+    (λ s x. (s, with_settings f (byte_settings o (load_kind (shape_of s u)) (literal_bytes s n)) (word_for (suc (length (literal_bytes s n))))))
     nothing
 
 -- a value for a structure is never taken

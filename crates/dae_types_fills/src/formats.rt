@@ -2,12 +2,13 @@
 
 ghost use Rattle.std.specs.Prelude.{◌≡◌, ℕ, suc, List, ◌∷◌, Ok};
 ghost use Rattle.dae_types_file_plans.specs.Formats.{InText, converted_with, letter_piece, letters, number_piece, pieces_from};
+ghost use Rattle.dae_types_kinds.specs.Types.{word_for};
 ghost use Rattle.dae_types_rules.specs.Plan.{Gives};
 ghost use Rattle.dae_types_fills.specs.Filled.{pieces_at, read_on, seen};
 
 use dae_meaning::Spelling;
 use dae_program::Piece;
-use dae_types_kinds::CheckError;
+use dae_types_kinds::{CheckError, word_behind};
 use std::alloc::Global;
 
 /// Where in a conversion a byte stands.
@@ -35,7 +36,7 @@ pub fn format_pieces(alloc: Global, format: &[u8]) -> Result<Option<Vec<Piece>>,
         argument: 0,
     };
     for byte in format {
-        let Some((next, piece)) = read_byte(spot, *byte)? else {
+        let Some((next, piece)) = read_byte(spot, *byte) else {
             return Ok(None);
         };
         if let Some(piece) = piece {
@@ -50,17 +51,17 @@ pub fn format_pieces(alloc: Global, format: &[u8]) -> Result<Option<Vec<Piece>>,
 }
 
 /// The spot behind a byte, and the piece that ends with it, if one does; or none where the format is refused.
-fn read_byte(spot: Spot, byte: u8) -> Result<Option<(Spot, Option<Piece>)>, CheckError>
-    ensures { (bs : List ℕ) → Gives (λ r. read_on r bs) result (Ok (pieces_at spot (byte ∷ bs))) }
+fn read_byte(spot: Spot, byte: u8) -> Option<(Spot, Option<Piece>)>
+    ensures { (bs : List ℕ) → read_on result bs ≡ pieces_at spot (byte ∷ bs) }
 {
     match (spot.part, byte) {
-        (Part::InText, 0) => Ok(None),
-        (Part::InText, b'%') => Ok(Some((within(spot, Part::BehindPercent), None))),
-        (Part::InText, _) => Ok(Some((spot, Some(Piece::Byte(byte))))),
+        (Part::InText, 0) => None,
+        (Part::InText, b'%') => Some((within(spot, Part::BehindPercent), None)),
+        (Part::InText, _) => Some((spot, Some(Piece::Byte(byte)))),
         (Part::BehindPercent, b'%') => {
-            Ok(Some((within(spot, Part::InText), Some(Piece::Byte(byte)))))
+            Some((within(spot, Part::InText), Some(Piece::Byte(byte))))
         }
-        (Part::BehindPercent, b'l') => Ok(Some((within(spot, Part::BehindLong), None))),
+        (Part::BehindPercent, b'l') => Some((within(spot, Part::BehindLong), None)),
         (Part::BehindPercent, _) => convert(spot, letter_piece(spot.argument, byte)),
         (Part::BehindLong, _) => convert(spot, number_piece(spot.argument, byte)),
     }
@@ -76,22 +77,18 @@ fn within(spot: Spot, part: Part) -> Spot
     }
 }
 
-/// The spot behind a conversion, with its piece.
-fn convert(spot: Spot, piece: Option<Piece>) -> Result<Option<(Spot, Option<Piece>)>, CheckError>
+/// The spot behind a conversion, with its piece; none where it has none.
+fn convert(spot: Spot, piece: Option<Piece>) -> Option<(Spot, Option<Piece>)>
     ensures { (bs : List ℕ)
-        → Gives (λ r. read_on r bs) result
-        (Ok (converted_with piece (pieces_from InText (suc spot.argument) bs))) }
+        → read_on result bs
+        ≡ converted_with piece (pieces_from InText (word_for (suc spot.argument)) bs) }
 {
-    let Some(argument) = spot.argument.checked_add(1) else {
-        return Err(CheckError::TooMany);
+    let piece = piece?;
+    let behind = Spot {
+        part: Part::InText,
+        argument: word_behind(spot.argument),
     };
-    match piece {
-        Some(piece) => {
-            let part = Part::InText;
-            Ok(Some((Spot { part, argument }, Some(piece))))
-        }
-        None => Ok(None),
-    }
+    Some((behind, Some(piece)))
 }
 
 /// The conversion that a letter behind `%` says.

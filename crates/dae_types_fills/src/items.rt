@@ -15,7 +15,7 @@ use crate::slots::behind_bytes;
 use dae_base::{LoadKind, Place, extend};
 use dae_program::{Expression, Setting};
 use dae_types_folding::{Value, known_as, load_kind};
-use dae_types_kinds::{CheckError, Known, Rule, Shape};
+use dae_types_kinds::{CheckError, Known, Rule, Shape, word_behind, word_for};
 use dae_types_tables::{Checker, broken, is_structure};
 use dae_types_values::fits;
 
@@ -139,12 +139,7 @@ fn fill_text(
         return Err(broken(Rule::TooManyInitialisers, place));
     }
     let kind = load_kind(checker.shape_of(array.element));
-    let Ok(length) = u32::try_from(bytes.len()) else {
-        return Err(CheckError::TooMany);
-    };
-    let Some(count) = length.checked_add(1) else {
-        return Err(CheckError::TooMany);
-    };
+    let count = word_behind(word_for(bytes.len()));
     let mut items = filling.items;
     push_bytes(&mut items, array.offset, kind, bytes)?;
     Ok(Filling {

@@ -8,7 +8,7 @@ ghost use Rattle.dae_types_tables.specs.Seen.{tables};
 ghost use Rattle.dae_types_fills.specs.Slots.{left_behind, slot_or, structure_slot, view_rest, view_slot, view_stack};
 ghost use Rattle.dae_types_fills.specs.Filled.{seen};
 
-use dae_types_kinds::{CheckError, Component, Shape};
+use dae_types_kinds::{CheckError, Component, Shape, word_behind};
 use dae_types_tables::{Checker, is_character, is_scalar, is_structure};
 use std::alloc::Global;
 
@@ -18,7 +18,7 @@ use std::alloc::Global;
 pub enum Rest {
     Once(u32, usize),
     Elements(u32, usize, u32, Option<u32>),
-    Members(u32, usize, usize),
+    Members(u32, usize, u32),
 }
 
 /// An object to be filled, and what is left behind it, the next part at the end.
@@ -51,7 +51,7 @@ pub fn next_slot(checker: &Checker, mut rest: Vec<Rest>) -> Result<Option<Slot>,
         (Ok (next_slot (tables checker.now) (view_stack rest.items))) }
 {
     while let Some(part) = rest.pop() {
-        if let Some(start) = start_of(checker, part)? {
+        if let Some(start) = start_of(checker, part) {
             let slot = before_rest(start, rest)?;
             return Ok(Some(slot));
         }
@@ -76,17 +76,17 @@ fn before_rest(start: Start, mut rest: Vec<Rest>) -> Result<Slot, CheckError>
 }
 
 /// The first object of a part, unless nothing of it is left.
-fn start_of(checker: &Checker, part: Rest) -> Result<Option<Start>, CheckError>
+fn start_of(checker: &Checker, part: Rest) -> Option<Start>
     ensures { (rest : List PlainRest)
-        → Gives (λ r. slot_or r rest (next_slot (tables checker.now) rest)) result
-        (Ok (next_slot (tables checker.now) (view_rest part ∷ rest))) }
+        → slot_or result rest (next_slot (tables checker.now) rest)
+        ≡ next_slot (tables checker.now) (view_rest part ∷ rest) }
 {
     match part {
-        Rest::Once(offset, type_id) => Ok(Some(Start {
+        Rest::Once(offset, type_id) => Some(Start {
             offset,
             type_id,
             left: None,
-        })),
+        }),
         Rest::Elements(offset, element, begun, count) => {
             first_element(checker, offset, element, begun, count)
         }
@@ -117,25 +117,20 @@ fn first_element(
     element: usize,
     begun: u32,
     count: Option<u32>,
-) -> Result<Option<Start>, CheckError>
+) -> Option<Start>
     ensures { (rest : List PlainRest) (behind : Option PlainSlot)
-        → Gives (λ r. slot_or r rest behind) result
-        (Ok (element_slot (tables checker.now) offset element begun count rest behind)) }
+        → slot_or result rest behind
+        ≡ element_slot (tables checker.now) offset element begun count rest behind }
 {
     if !is_before(begun, count) {
-        return Ok(None);
+        return None;
     }
     let size = checker.layout_at(element).size;
-    let offset_of_it = element_offset(offset, begun, size);
-    let Some(more) = begun.checked_add(1) else {
-        return Err(CheckError::TooMany);
-    };
-    let left = Rest::Elements(offset, element, more, count);
-    Ok(Some(Start {
-        offset: offset_of_it,
+    Some(Start {
+        offset: element_offset(offset, begun, size),
         type_id: element,
-        left: Some(left),
-    }))
+        left: Some(Rest::Elements(offset, element, word_behind(begun), count)),
+    })
 }
 
 /// Whether an array has an element of this number.
@@ -149,29 +144,17 @@ fn is_before(number: u32, count: Option<u32>) -> bool
 }
 
 /// The next member of a structure, unless all are begun.
-fn first_member(
-    checker: &Checker,
-    offset: u32,
-    structure: usize,
-    begun: usize,
-) -> Result<Option<Start>, CheckError>
+fn first_member(checker: &Checker, offset: u32, structure: usize, begun: u32) -> Option<Start>
     ensures { (rest : List PlainRest) (behind : Option PlainSlot)
-        → Gives (λ r. slot_or r rest behind) result
-        (Ok (structure_slot (tables checker.now) offset structure begun rest behind)) }
+        → slot_or result rest behind
+        ≡ structure_slot (tables checker.now) offset structure begun rest behind }
 {
-    let Some(member) = component(checker, structure, begun) else {
-        return Ok(None);
-    };
-    let place = behind_bytes(offset, member.offset);
-    let Some(more) = begun.checked_add(1) else {
-        return Err(CheckError::TooMany);
-    };
-    let left = Rest::Members(offset, structure, more);
-    Ok(Some(Start {
-        offset: place,
+    let member = component(checker, structure, begun as usize)?;
+    Some(Start {
+        offset: behind_bytes(offset, member.offset),
         type_id: member.type_id,
-        left: Some(left),
-    }))
+        left: Some(Rest::Members(offset, structure, word_behind(begun))),
+    })
 }
 
 /// The member of a structure by its number in it.

@@ -193,13 +193,18 @@ composite_within (suc k) s m n = composite_shape (composite_within k) s m (shape
 unfoldable pub composite : Tables → ℕ → ℕ → Tables × ℕ
 composite s m n = composite_within (length s.shapes) s m n
 
+-- ---- numbers that are words stop at the greatest one
+
+abbrev pub greatest_word : ℕ
+greatest_word = 2 ^ 32 - 1
+
+abbrev pub word_for : ℕ → ℕ
+word_for n = min n greatest_word
+
 -- ---- bytes and alignment. Sums and products stop at the greatest word, which is far above what a type may have.
 
 abbrev pub most_bytes : ℕ
 most_bytes = 67108864
-
-abbrev pub greatest_word : ℕ
-greatest_word = 2 ^ 32 - 1
 
 abbrev pub layout : ℕ → ℕ → Layout
 layout size align = record { size = size; align = align }

@@ -36,7 +36,7 @@ use Rattle.dae_types_kinds.specs.declared.tables.LibraryFunction.TheVariants as 
 use Rattle.dae_types_kinds.specs.declared.tables.Storage.{Storage}
 use Rattle.dae_types_kinds.specs.declared.tables.Storage.TheVariants as storage
 use Rattle.dae_types_kinds.specs.Tables.{Tables, with_shape, with_use, set_local, found_component}
-use Rattle.dae_types_kinds.specs.Types.{void_id, char_id, int_id, unsigned_id, no_parameters_id, shape_of, is_integer, is_unsigned, is_pointer, is_void, pointee, points_to_void, structure_of, same, composite, layout_at}
+use Rattle.dae_types_kinds.specs.Types.{void_id, char_id, int_id, unsigned_id, no_parameters_id, shape_of, is_integer, is_unsigned, is_pointer, is_void, pointee, points_to_void, structure_of, same, composite, word_for, layout_at}
 
 -- a typed expression with what the rules ask of it
 pub record Typed : Type 0 where
@@ -121,7 +121,7 @@ stored_in p t (Some (storage.Frame offset)) = typed (program.Frame p offset) t (
 
 -- among a file's objects the literals come first
 abbrev pub object_number : Tables → ℕ → ℕ
-object_number s n = length s.literals + n
+object_number s n = word_for (length s.literals + n)
 
 abbrev pub object_at : ℕ → ℕ → Typed
 object_at n t = typed (program.Address n 0) t (category.At Direct) (known.Address (Some n) 0)
@@ -134,7 +134,7 @@ named p _ s = (s, number 0 int_id)
 
 abbrev pub literal_size : Option (List ℕ) → ℕ
 literal_size None = 1
-literal_size (Some bytes) = length bytes + 1
+literal_size (Some bytes) = word_for (length bytes + 1)
 
 -- a literal is an array of its bytes and a zero byte (C90 6.1.4)
 abbrev pub literal : ℕ → Tables → Tables × Typed
@@ -667,4 +667,4 @@ call_tree p n (Some library.Abort) es = program.Abort p
 call_tree p n _ es = program.Call p n (listed es)
 
 abbrev pub called : Place → Tables → ℕ → List program.Expression → Typed
-called p s n es = plain (call_tree p n (library_of (slice_get s.routines n)) es) (result_of (shape_of s (routine_type (slice_get s.routines n))))
+called p s n es = plain (call_tree p (word_for n) (library_of (slice_get s.routines n)) es) (result_of (shape_of s (routine_type (slice_get s.routines n))))

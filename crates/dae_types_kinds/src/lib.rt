@@ -14,6 +14,7 @@ pub use tables::{
 };
 pub use types::{Layout, Shape, Structure};
 pub use values::{Addressing, Category, Known, is_indirect};
+pub use words::{word_behind, word_for};
 
 mod numbers;
 mod routines;
@@ -21,3 +22,4 @@ mod rules;
 mod tables;
 mod types;
 mod values;
+mod words;

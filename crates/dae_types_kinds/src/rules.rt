@@ -63,13 +63,12 @@ pub struct Breach {
     pub place: Place,
 }
 
-/// Why a check has no typed tree: a broken rule; an allocation that was refused; a count or an offset past 2^32, which no text
-/// of a permitted length comes to; or that what a file comes to isn't known to be sound.
+/// Why a check has no typed tree: a broken rule; an allocation that was refused; or that what a file comes to isn't known to be
+/// sound.
 #[derive(Drop)]
 pub enum CheckError {
     Rule(Breach),
     Memory,
-    TooMany,
     Unsound,
 }
 

@@ -2,12 +2,13 @@
 
 ghost use Rattle.std.specs.Prelude.{◌≡◌, ◌+◌, ℕ, suc, min, List, ◌∷◌, Ok, nat_eq, if◌then◌else◌};
 ghost use Rattle.dae_types_file_plans.specs.Files.{in_variable, kept_from, most_frame, settled_locals};
+ghost use Rattle.dae_types_kinds.specs.Types.{word_for};
 ghost use Rattle.dae_types_kinds.specs.declared.tables.Local.{Local as PlainLocal};
 ghost use Rattle.dae_types_rules.specs.Plan.{Gives};
 ghost use Rattle.dae_types_tables.specs.Seen.{tables, Leaves};
 ghost use Rattle.dae_types_linkage.specs.Rooms.{kept_in};
 
-use dae_types_kinds::{CheckError, Local, Storage};
+use dae_types_kinds::{CheckError, Local, Storage, word_behind};
 use dae_types_tables::{Checker, is_scalar, round_up};
 
 /// Offsets in a frame stop here, far above what a memory has.
@@ -44,7 +45,7 @@ fn storages_of(checker: &Checker, parameters: usize) -> Result<Vec<Storage>, Che
         parameters,
     };
     for local in checker.locals() {
-        let (storage, next) = keep(checker, room, *local)?;
+        let (storage, next) = keep(checker, room, *local);
         storages.push(storage)?;
         room = next;
     }
@@ -52,34 +53,32 @@ fn storages_of(checker: &Checker, parameters: usize) -> Result<Vec<Storage>, Che
 }
 
 /// Where a parameter or local object is kept, and the room behind it.
-fn keep(checker: &Checker, room: Room, local: Local) -> Result<(Storage, Room), CheckError>
+fn keep(checker: &Checker, room: Room, local: Local) -> (Storage, Room)
     ensures { (xs : List PlainLocal)
-        → Gives (λ r. r.0 ∷ kept_in (tables checker.now) r.1 xs) result
-        (Ok (kept_in (tables checker.now) room (local ∷ xs))) }
+        → result.0 ∷ kept_in (tables checker.now) result.1 xs
+        ≡ kept_in (tables checker.now) room (local ∷ xs) }
 {
     let parameters = room.parameters.saturating_sub(1);
     if is_in_variable(checker, local) {
-        let Some(variable) = room.variable.checked_add(1) else {
-            return Err(CheckError::TooMany);
-        };
+        let variable = word_behind(room.variable);
         let offset = room.offset;
         let next = Room {
             variable,
             offset,
             parameters,
         };
-        return Ok((Storage::Variable(room.variable), next));
+        return (Storage::Variable(room.variable), next);
     }
     let layout = checker.layout_at(local.type_id);
     let start = round_up(room.offset, layout.align);
     let offset = end_of(start, layout.size);
-    let variable = variable_behind(room)?;
+    let variable = variable_behind(room);
     let next = Room {
         variable,
         offset,
         parameters,
     };
-    Ok((Storage::Frame(start), next))
+    (Storage::Frame(start), next)
 }
 
 /// Where so many bytes from an offset on end, as far as offsets go.
@@ -97,15 +96,13 @@ fn is_in_variable(checker: &Checker, local: Local) -> bool
 }
 
 /// The next variable behind what is in the frame: a parameter takes one all the same.
-fn variable_behind(room: Room) -> Result<u32, CheckError>
-    ensures { Gives (λ v. v) result
-        (Ok (if nat_eq room.parameters 0 then room.variable else suc room.variable)) }
+fn variable_behind(room: Room) -> u32
+    ensures { result
+        ≡ (if nat_eq room.parameters 0 then room.variable else word_for (suc room.variable)) }
 {
     if room.parameters == 0 {
-        return Ok(room.variable);
-    }
-    match room.variable.checked_add(1) {
-        Some(variable) => Ok(variable),
-        None => Err(CheckError::TooMany),
+        room.variable
+    } else {
+        word_behind(room.variable)
     }
 }

@@ -1,14 +1,15 @@
 // How many variables a function has, where its parameters stand, and how large its frame is.
 
-ghost use Rattle.std.specs.Prelude.{◌≡◌, ◌+◌, Ok, [], ◌∷◌, drop, MatchOption};
+ghost use Rattle.std.specs.Prelude.{◌≡◌, ◌+◌, ◌^◌, ◌<◌, Ok, [], ◌∷◌, drop, MatchOption};
 ghost use Rattle.std.specs.List.{count_by};
+ghost use Rattle.dae_types_kinds.specs.Types.{word_for};
 ghost use Rattle.dae_types_rules.specs.Plan.{Gives};
 ghost use Rattle.dae_types_tables.specs.Seen.{tables};
 ghost use Rattle.dae_types_typed.specs.Frames.{end_of, frame_of, is_variable, last_end, slot_of, slots_of, variables_of};
 
 use dae_program::Slot;
 use dae_types_folding::load_kind;
-use dae_types_kinds::{CheckError, Local, Storage};
+use dae_types_kinds::{CheckError, Local, Storage, word_behind, word_for};
 use dae_types_tables::Checker;
 
 /// Whether a parameter or local object is kept in a variable.
@@ -42,27 +43,24 @@ fn behind(storages: &[Storage], count: usize) -> &[Storage]
     }
 }
 
-/// How many of these are kept in variables, and so many more.
-fn count_kept(storages: &[Storage], mut count: u32) -> Result<u32, CheckError>
-    ensures { Gives (λ n. n) result (Ok (count + count_by is_variable storages.now)) }
+/// How many of these are kept in variables, and so many more, as far as words go.
+fn count_kept(storages: &[Storage], mut count: u32) -> u32
+    ensures { result ≡ word_for (count + count_by is_variable storages.now) }
 {
     for storage in storages {
         if is_variable(*storage) {
-            count = count.checked_add(1).ok_or(CheckError::TooMany)?;
+            count = word_behind(count);
         }
     }
-    Ok(count)
+    count
 }
 
 /// The number of a function's variables: one holds what it returns, each parameter has one, and each other local object that
 /// isn't in the frame.
-pub fn count_variables(parameters: usize, storages: &[Storage]) -> Result<u32, CheckError>
-    ensures { Gives (λ n. n) result (Ok (variables_of parameters storages.now)) }
+pub fn count_variables(parameters: usize, storages: &[Storage]) -> u32
+    ensures { result ≡ variables_of parameters storages.now }
 {
-    let Ok(first) = u32::try_from(parameters) else {
-        return Err(CheckError::TooMany);
-    };
-    let first = first.checked_add(1).ok_or(CheckError::TooMany)?;
+    let first = word_behind(word_for(parameters));
     count_kept(behind(storages, parameters), first)
 }
 
@@ -108,7 +106,8 @@ pub fn slots_of(
 
 /// Where a local object ends in the frame, in bytes.
 fn end_of(checker: &Checker, local: Local, storage: Storage) -> u64
-    ensures { result ≡ end_of (tables checker.now) local storage }
+    ensures is { result ≡ end_of (tables checker.now) local storage }
+    ensures near { result < 2 ^ 33 }
 {
     match storage {
         Storage::Variable(_) => 0,
@@ -120,7 +119,8 @@ fn end_of(checker: &Checker, local: Local, storage: Storage) -> u64
 
 /// Where the last of the local objects ends in the frame, in bytes.
 fn last_end(checker: &Checker, locals: &[Local], storages: &[Storage]) -> u64
-    ensures { result ≡ last_end (tables checker.now) locals.now storages.now }
+    ensures is { result ≡ last_end (tables checker.now) locals.now storages.now }
+    ensures near { result < 2 ^ 33 }
 {
     let mut last = 0;
     let mut rest = storages;
@@ -135,16 +135,8 @@ fn last_end(checker: &Checker, locals: &[Local], storages: &[Storage]) -> u64
 }
 
 /// The size of a function's frame in bytes, a multiple of 4.
-pub fn frame_size(
-    checker: &Checker,
-    locals: &[Local],
-    storages: &[Storage],
-) -> Result<u64, CheckError>
-    ensures { Gives (λ size. size) result
-        (Ok (frame_of (tables checker.now) locals.now storages.now)) }
+pub fn frame_size(checker: &Checker, locals: &[Local], storages: &[Storage]) -> u64
+    ensures { result ≡ frame_of (tables checker.now) locals.now storages.now }
 {
-    let Some(end) = last_end(checker, locals, storages).checked_add(3) else {
-        return Err(CheckError::TooMany);
-    };
-    Ok(end / 4 * 4)
+    (last_end(checker, locals, storages) + 3) / 4 * 4
 }

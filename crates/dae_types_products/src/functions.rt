@@ -1,6 +1,6 @@
 // The functions of a typed file, from their bodies.
 
-ghost use Rattle.std.specs.Prelude.{◌≡◌, Ok, [], ◌∷◌, length, slice_get, MatchOption};
+ghost use Rattle.std.specs.Prelude.{◌≡◌, ◌≤◌, Ok, [], ◌∷◌, length, slice_get, MatchOption};
 ghost use Rattle.dae_types_plans.specs.Steps.{parameter_types, parameters_from};
 ghost use Rattle.dae_types_kinds.specs.Values.{parameters_of, routine_type};
 ghost use Rattle.dae_types_rules.specs.Plan.{Gives};
@@ -49,26 +49,25 @@ fn name_of(names: &[Items<u8>], routine: Option<Routine>) -> &[u8]
 }
 
 /// The number of parameters in a list of at most so many.
-fn count_parameters_from(checker: &Checker, depth: usize, shape: Shape) -> Result<usize, CheckError>
-    ensures { Gives (λ n. n) result
-        (Ok (length (parameters_from depth (tables checker.now) shape))) }
+fn count_parameters_from(checker: &Checker, depth: usize, shape: Shape) -> usize
+    ensures is { result ≡ length (parameters_from depth (tables checker.now) shape) }
+    ensures few { result ≤ depth }
 {
     if depth == 0 {
-        return Ok(0);
+        return 0;
     }
     match shape {
         Shape::Parameter(before, _) => {
-            let before = count_parameters_from(checker, depth - 1, checker.shape_of(before))?;
-            before.checked_add(1).ok_or(CheckError::TooMany)
+            count_parameters_from(checker, depth - 1, checker.shape_of(before)) + 1
         }
-        _ => Ok(0),
+        _ => 0,
     }
 }
 
 /// The number of a function's parameters.
 #[tactic(auto, unfolding(dae_types_plans::specs::Steps::parameter_types))]
-fn count_parameters(checker: &Checker, function: usize) -> Result<usize, CheckError>
-    ensures { Gives (λ n. n) result (Ok (length (parameter_types (tables checker.now) function))) }
+fn count_parameters(checker: &Checker, function: usize) -> usize
+    ensures { result ≡ length (parameter_types (tables checker.now) function) }
 {
     let shape = checker.shape_of(routine_type(checker.routine(function)));
     let list = checker.shape_of(parameters_of(shape));
@@ -86,13 +85,13 @@ fn typed_function(
         (Ok (written_of (tables checker.now) names.now body, place)) }
 {
     let routine = body.routine;
-    let count = count_parameters(checker, routine)?;
+    let count = count_parameters(checker, routine);
     let locals = body.locals.as_slice();
     let storages = body.storages.as_slice();
     let name = text_of(checker.alloc, name_of(names, checker.routine(routine)))?;
     let parameters = slots_of(checker, count, locals, storages)?;
-    let variables = count_variables(count, storages)?;
-    let frame = frame_size(checker, locals, storages)?;
+    let variables = count_variables(count, storages);
+    let frame = frame_size(checker, locals, storages);
     Ok(TypedFunction {
         routine,
         name,

@@ -153,11 +153,10 @@ check_of (unless_spoiled n m) s = check_of m s
 
 abbrev pub Fails : {Y : Type 0} → CheckError → Result Y Breach → Type 0
 Fails errors.Memory read = Unit {0}
-Fails errors.TooMany read = Unit {0}
 Fails errors.Unsound read = Unit {0}
 Fails (errors.Rule f) read = read ≡ Err f
 
--- what a function returned, seen by view, is what checking gives, unless memory or numbers ran out
+-- what a function returned, seen by view, is what checking gives, unless memory ran out
 abbrev pub Gives : {X Y : Type 0} → (X → Y) → Result X CheckError → Result Y Breach → Type 0
 Gives view (Ok x) read = read ≡ Ok (view x)
 Gives view (Err e) read = Fails e read

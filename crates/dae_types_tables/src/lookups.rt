@@ -1,16 +1,15 @@
 // What the tables say of a number, a name, a tag or a member.
 
-ghost use Rattle.std.specs.Prelude.{◌≡◌, Ok, slice_get, length};
+ghost use Rattle.std.specs.Prelude.{◌≡◌, slice_get, length};
 ghost use Rattle.dae_types_kinds.specs.Tables.{found_name, found_tag, own_entity, own_name, own_tag, found_component};
 ghost use Rattle.dae_types_kinds.specs.Types.{shape_of, layout_of, is_complete};
 ghost use Rattle.dae_types_kinds.specs.Values.{literal_size};
-ghost use Rattle.dae_types_rules.specs.Plan.{Gives};
 ghost use Rattle.dae_types_tables.specs.Seen.{tables, literal_or_none};
 
 use crate::Checker;
 use dae_types_kinds::{
-    CheckError, Component, Entity, Layout, Local, Object, Routine, Shape, Storage, Structure,
-    Tagged,
+    Component, Entity, Layout, Local, Object, Routine, Shape, Storage, Structure, Tagged,
+    word_behind, word_for,
 };
 
 impl Checker {
@@ -195,16 +194,12 @@ impl Checker {
     }
 
     /// The number of bytes of a literal with the zero byte at its end.
-    pub fn literal_size(&self, number: usize) -> Result<u32, CheckError>
-        ensures { Gives (λ size. size) result
-            (Ok (literal_size (slice_get (tables self.now).literals number))) }
+    pub fn literal_size(&self, number: usize) -> u32
+        ensures { result ≡ literal_size (slice_get (tables self.now).literals number) }
     {
-        let Some(bytes) = self.literals.as_slice().get(number) else {
-            return Ok(1);
-        };
-        match u32::try_from(bytes.len()) {
-            Ok(length) => length.checked_add(1).ok_or(CheckError::TooMany),
-            Err(_) => Err(CheckError::TooMany),
+        match self.literals.as_slice().get(number) {
+            Some(bytes) => word_behind(word_for(bytes.len())),
+            None => 1,
         }
     }
 

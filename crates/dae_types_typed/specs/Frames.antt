@@ -8,7 +8,7 @@ use Rattle.dae_types_kinds.specs.declared.tables.Local.{Local}
 use Rattle.dae_types_kinds.specs.declared.tables.Storage.{Storage}
 use Rattle.dae_types_kinds.specs.declared.tables.Storage.TheVariants as storage
 use Rattle.dae_types_kinds.specs.Tables.{Tables}
-use Rattle.dae_types_kinds.specs.Types.{shape_of, layout_at}
+use Rattle.dae_types_kinds.specs.Types.{shape_of, layout_at, word_for}
 use Rattle.dae_types_kinds.specs.Values.{load_kind}
 
 abbrev pub is_variable : Storage → Bool
@@ -17,7 +17,7 @@ is_variable (storage.Frame offset) = false
 
 -- variable 0 is the result; each parameter has one, also where it stands in the frame, and each other local that isn't there
 abbrev pub variables_of : (parameters : ℕ) → List Storage → ℕ
-variables_of parameters storages = suc parameters + count_by is_variable (drop parameters storages)
+variables_of parameters storages = word_for (suc parameters + count_by is_variable (drop parameters storages))
 
 -- where a parameter is stored at the entry, if it is
 abbrev pub slot_of : Tables → Local → Storage → Option Slot

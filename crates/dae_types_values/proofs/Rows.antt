@@ -106,7 +106,6 @@ pub call_goes_on : {X : Type 0} (new s t : Tables) (r : Result X CheckError) (p 
 call_goes_on new s t (Ok x) p n f given h d k e g =
     call_passes p (is_main s n.number) (library_of (slice_get s.routines f)) given (length (parameter_types s f)) (Ok (with_call f n.place (library_of (slice_get s.routines f)) s, tt {0})) h d k ∙ ap (λ (u : Tables). Ok (u, tt {0})) (e ∙ ok_is t new g)
 call_goes_on new s t (Err errors.Memory) p n f given h d k e g = tt
-call_goes_on new s t (Err errors.TooMany) p n f given h d k e g = tt
 call_goes_on new s t (Err errors.Unsound) p n f given h d k e g = tt
 call_goes_on new s t (Err (errors.Rule b)) p n f given h d k e g = absurd cc
 

@@ -20,7 +20,7 @@ use dae_tree::Name;
 use dae_types_folding::Value;
 use dae_types_kinds::{
     CheckError, Entity, LibraryFunction, Rule, Shape, is_printf, library_of, parameters_of,
-    result_of, routine_type,
+    result_of, routine_type, word_for,
 };
 use dae_types_tables::{Checker, broken, is_structure};
 use std::alloc::Global;
@@ -247,11 +247,9 @@ pub fn call(
 ) -> Result<Value, CheckError>
     ensures { MakesValue result (called place (tables checker.now) function (views arguments)) }
 {
-    let Ok(number) = u32::try_from(function) else {
-        return Err(CheckError::TooMany);
-    };
     let routine = checker.routine(function);
     let type_id = result_of(checker.shape_of(routine_type(routine)));
+    let number = word_for(function);
     let tree = call_tree(checker.alloc, place, number, library_of(routine), arguments)?;
     Ok(Value::plain(tree, type_id))
 }

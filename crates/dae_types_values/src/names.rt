@@ -1,12 +1,11 @@
 // Names, constants and literals (C90 6.3.1).
 
-ghost use Rattle.std.specs.Prelude.{◌≡◌, Ok, if◌then◌else◌, slice_get};
+ghost use Rattle.std.specs.Prelude.{◌≡◌, if◌then◌else◌, slice_get};
 ghost use Rattle.dae_types_kinds.specs.Types.{int_id, unsigned_id};
-ghost use Rattle.dae_types_kinds.specs.Values.{number, literal, literal_size, local_type, object_at, object_number, object_type, stored_in};
-ghost use Rattle.dae_types_rules.specs.Plan.{Gives};
+ghost use Rattle.dae_types_kinds.specs.Values.{number, literal, local_type, object_at, object_number, object_type, stored_in};
 ghost use Rattle.dae_types_plans.specs.Steps.{does, name_at, nothing};
 ghost use Rattle.dae_types_tables.specs.Seen.{tables};
-ghost use Rattle.dae_types_folding.specs.Views.{MakesValue, view_value};
+ghost use Rattle.dae_types_folding.specs.Views.{view_value};
 ghost use Rattle.dae_types_values.specs.Results.{GivesValue};
 
 use dae_base::Place;
@@ -15,7 +14,7 @@ use dae_tree::{Constant, Name};
 use dae_types_folding::Value;
 use dae_types_kinds::{
     Addressing, CHAR_ID, Category, CheckError, Entity, INT_ID, Known, Rule, Shape, Storage,
-    UNSIGNED_ID,
+    UNSIGNED_ID, word_for,
 };
 use dae_types_tables::{Checker, broken};
 
@@ -35,38 +34,33 @@ pub fn constant_number(constant: Constant) -> Value
 }
 
 /// The object with static storage of a number, of a type.
-fn object_at(number: usize, type_id: usize) -> Result<Value, CheckError>
-    ensures { MakesValue result (object_at number type_id) }
+fn object_at(number: u32, type_id: usize) -> Value
+    ensures { view_value result ≡ object_at number type_id }
 {
-    let Ok(number) = u32::try_from(number) else {
-        return Err(CheckError::TooMany);
-    };
-    Ok(Value {
+    Value {
         tree: Expression::Address(number, 0),
         type_id,
         category: Category::At(Addressing::Direct),
         known: Known::Address(Some(number), 0),
-    })
+    }
 }
 
 /// A string literal, by its number: an array of its bytes and a zero byte.
 pub fn literal(checker: &mut Checker, number: u32) -> Result<Value, CheckError>
     ensures { GivesValue checker.new result (does (λ s x. literal number s) nothing) checker.old }
 {
-    let size = checker.literal_size(number as usize)?;
+    let size = checker.literal_size(number as usize);
     let type_id = checker.make(Shape::Array(CHAR_ID, Some(size)))?;
-    object_at(number as usize, type_id)
+    Ok(object_at(number, type_id))
 }
 
 /// An object of the file, behind the literals.
-fn object(checker: &Checker, number: usize) -> Result<Value, CheckError>
-    ensures { MakesValue result
-        (object_at (object_number (tables checker.now) number)
-        (object_type (slice_get (tables checker.now).objects number))) }
+fn object(checker: &Checker, number: usize) -> Value
+    ensures { view_value result
+        ≡ object_at (object_number (tables checker.now) number)
+        (object_type (slice_get (tables checker.now).objects number)) }
 {
-    let Some(behind) = checker.count_literals().checked_add(number) else {
-        return Err(CheckError::TooMany);
-    };
+    let behind = word_for(checker.count_literals().saturating_add(number));
     match checker.object(number) {
         Some(object) => object_at(behind, object.type_id),
         None => object_at(behind, INT_ID),
@@ -118,7 +112,7 @@ pub fn name(checker: &mut Checker, name: Name) -> Result<Value, CheckError>
         None => Err(broken(Rule::Undeclared, name.place)),
         Some(Entity::Function(_)) => Err(broken(Rule::FunctionValue, name.place)),
         Some(Entity::Object(number)) => {
-            let x = object(checker, number)?;
+            let x = object(checker, number);
             checker.add_use(Entity::Object(number), name.place)?;
             Ok(x)
         }

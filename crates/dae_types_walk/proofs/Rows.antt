@@ -49,7 +49,6 @@ beside s (Err f) = Err f
 with_tables : (s : Tables) (r : Result Value CheckError) (x : Typed) → MakesValue r x → Gives {Y = Tables × Typed} (λ v. (s, view_value v)) r (Ok (s, x))
 with_tables s (Ok v) x h = ap (beside s) h
 with_tables s (Err errors.Memory) x h = h
-with_tables s (Err errors.TooMany) x h = h
 with_tables s (Err errors.Unsound) x h = h
 with_tables s (Err (errors.Rule f)) x h = ap (beside s) h
 
@@ -62,13 +61,11 @@ after_arguments p f y = y >>= λ x. Ok (x.0, called p x.0 f x.1)
 
 pub call_refused : (e : CheckError) (p : Place) (n : Name) (f : ℕ) (xs : List Expression) (s : Tables) → Fails e (check_of (call_at p n f (length xs)) s) → Fails e (check_of (plan_call p n f xs) s)
 call_refused errors.Memory p n f xs s h = h
-call_refused errors.TooMany p n f xs s h = h
 call_refused errors.Unsound p n f xs s h = h
 call_refused (errors.Rule b) p n f xs s h = ap (after_site p f (plan_all (Some f) xs)) h
 
 pub call_broken : (e : CheckError) (p : Place) (n : Name) (f : ℕ) (xs : List Expression) (s begun : Tables) → check_of (call_at p n f (length xs)) s ≡ Ok (begun, tt {0}) → Fails e (check_of (plan_all (Some f) xs) begun) → Fails e (check_of (plan_call p n f xs) s)
 call_broken errors.Memory p n f xs s begun h g = g
-call_broken errors.TooMany p n f xs s begun h g = g
 call_broken errors.Unsound p n f xs s begun h g = g
 call_broken (errors.Rule b) p n f xs s begun h g = ap (after_site p f (plan_all (Some f) xs)) h ∙ ap (after_arguments p f) g
 

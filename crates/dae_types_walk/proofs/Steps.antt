@@ -30,7 +30,6 @@ given k on see r m s x h g = rw (on m s (Ok x) h) g
 
 failed : {A : Type 0} (k : Plan A → Plan Typed) → GoesOn k → (e : CheckError) (m : Plan A) (s : Tables) → Fails e (check_of m s) → Fails e (check_of (k m) s)
 failed k on errors.Memory m s h = h
-failed k on errors.TooMany m s h = h
 failed k on errors.Unsound m s h = h
 failed k on (errors.Rule f) m s h = on m s (Err f) h
 
@@ -129,13 +128,11 @@ second_given x n s y h = rw h refl
 
 first_failed : {A B : Type 0} (e : CheckError) (m : Plan A) (n : Plan B) (s : Tables) → Fails e (check_of m s) → Fails e (check_of (both m n) s)
 first_failed errors.Memory m n s h = h
-first_failed errors.TooMany m n s h = h
 first_failed errors.Unsound m n s h = h
 first_failed (errors.Rule f) m n s h = rw h refl
 
 second_failed : {A B : Type 0} (e : CheckError) (x : A) (n : Plan B) (s : Tables) → Fails e (check_of n s) → Fails e (check_of (both (pure x) n) s)
 second_failed errors.Memory x n s h = h
-second_failed errors.TooMany x n s h = h
 second_failed errors.Unsound x n s h = h
 second_failed (errors.Rule f) x n s h = rw h refl
 
