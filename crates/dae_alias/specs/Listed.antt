@@ -1,11 +1,22 @@
--- What is known in a stretch, as a list of the sets since its start.
-use Rattle.std.specs.Prelude.{List, [], ◌∷◌, Some}
-use Rattle.dae_alias.specs.declared.stretch.SetAt.{SetAt}
-use Rattle.dae_alias.specs.Stretches.{Known, nothing, set}
+-- What is known in a stretch, by a map of the variables that were set since its start.
+use Rattle.std.specs.Prelude.{ℕ, nat_eq, Option, Some, None}
+use Rattle.indexmap.specs.IndexMap.{IndexMap, get}
+use Rattle.dae_alias.specs.declared.addresses.Base.TheVariants.{Variable}
+use Rattle.dae_alias.specs.declared.addresses.SymAddr.{SymAddr}
+use Rattle.dae_alias.specs.declared.stretch.Latest.{Latest}
+use Rattle.dae_alias.specs.Stretches.{Known}
 
-abbrev pub known_from : Known → List SetAt → Known
-known_from s [] = s
-known_from s (x ∷ xs) = known_from (set s x.variable (Some x.value)) xs
+-- what a variable holds, where it was set and where it wasn't
+abbrev pub value_in : ℕ → Option Latest → SymAddr
+value_in v None = record { base = Variable v 0; offset = 0 }
+value_in v (Some x) = x.value
 
-abbrev pub known_of : List SetAt → Known
-known_of xs = known_from nothing xs
+abbrev pub times_in : Option Latest → ℕ
+times_in None = 0
+times_in (Some x) = x.times
+
+abbrev pub known_of : {S : Type 0} → IndexMap ℕ Latest S → Known
+known_of sets = record {
+  value = λ v. value_in v (get nat_eq sets v);
+  times = λ v. times_in (get nat_eq sets v);
+}

@@ -9,7 +9,7 @@ use Rattle.dae_alias.specs.Stretches.{Known, symbol}
 use Rattle.dae_alias.specs.Reuse.{held_in, known_behind, held_behind}
 
 abbrev pub known_in : Walk → Known
-known_in w = let sets = w.sets in known_of sets.items
+known_in w = known_of w.sets
 
 abbrev pub held_by : Walk → List Held
 held_by w = let held = w.held in held.items

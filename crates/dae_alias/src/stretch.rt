@@ -7,29 +7,27 @@ ghost use Rattle.dae_alias.specs.Stretches as spec;
 use crate::addresses::{Base, SymAddr};
 use dae_ir::{Operand, Value};
 use dae_meaning::Operator;
+use indexmap::IndexMap;
 use std::alloc::AllocError;
 
-/// A variable was set, and has this symbolic address since.
+/// What a variable was set to last in a stretch, and how often it was set.
 #[derive(Clone, Copy)]
-pub struct SetAt {
-    pub variable: u32,
+pub struct Latest {
     pub value: SymAddr,
+    pub times: u32,
 }
 
 /// The symbolic address of a variable, behind these sets.
-fn value_of(sets: &[SetAt], variable: u32) -> SymAddr
+fn value_of(sets: &IndexMap<u32, Latest>, variable: u32) -> SymAddr
     ensures { result ≡ (known_of sets.now).value variable }
 {
-    let mut value = SymAddr {
-        base: Base::Variable(variable, 0),
-        offset: 0,
-    };
-    for set in sets {
-        if set.variable == variable {
-            value = set.value;
-        }
+    match sets.get(&variable) {
+        Some(latest) => latest.value,
+        None => SymAddr {
+            base: Base::Variable(variable, 0),
+            offset: 0,
+        },
     }
-    value
 }
 
 /// The next number, where there is one.
@@ -41,20 +39,17 @@ pub fn one_more(times: u32) -> Result<u32, AllocError>
 }
 
 /// How often it was set by them.
-fn times_of(sets: &[SetAt], variable: u32) -> Result<u32, AllocError>
-    ensures { IfOk result (λ n. n ≡ (known_of sets.now).times variable) }
+fn times_of(sets: &IndexMap<u32, Latest>, variable: u32) -> u32
+    ensures { result ≡ (known_of sets.now).times variable }
 {
-    let mut times: u32 = 0;
-    for set in sets {
-        if set.variable == variable {
-            times = one_more(times)?;
-        }
+    match sets.get(&variable) {
+        Some(latest) => latest.times,
+        None => 0,
     }
-    Ok(times)
 }
 
 /// The symbolic address of an operand.
-pub fn symbol(sets: &[SetAt], x: Operand) -> SymAddr
+pub fn symbol(sets: &IndexMap<u32, Latest>, x: Operand) -> SymAddr
     ensures { result ≡ spec.symbol (known_of sets.now) x }
 {
     match x {
@@ -85,7 +80,7 @@ fn shift_back(x: SymAddr, k: u32) -> SymAddr
 }
 
 /// The symbolic address of what is assigned, where it can be followed.
-fn follow(sets: &[SetAt], x: Value) -> Option<SymAddr>
+fn follow(sets: &IndexMap<u32, Latest>, x: Value) -> Option<SymAddr>
     ensures { result ≡ spec.followed (known_of sets.now) x }
 {
     match x {
@@ -104,11 +99,10 @@ fn follow(sets: &[SetAt], x: Value) -> Option<SymAddr>
 }
 
 /// What a variable gets that can't be followed.
-pub fn new_base(sets: &[SetAt], variable: u32) -> Result<SymAddr, AllocError>
+pub fn new_base(sets: &IndexMap<u32, Latest>, variable: u32) -> Result<SymAddr, AllocError>
     ensures { IfOk result (λ x. x ≡ spec.renewed (known_of sets.now) variable) }
 {
-    let times = times_of(sets, variable)?;
-    let next = one_more(times)?;
+    let next = one_more(times_of(sets, variable))?;
     Ok(SymAddr {
         base: Base::Variable(variable, next),
         offset: 0,
@@ -116,23 +110,27 @@ pub fn new_base(sets: &[SetAt], variable: u32) -> Result<SymAddr, AllocError>
 }
 
 /// The variable is set, to what may be followed.
-pub fn set(sets: &mut Vec<SetAt>, variable: u32, x: Option<SymAddr>) -> Result<(), AllocError>
-    ensures { OnOk result
-        (known_of sets.new.items ≡ spec.set (known_of sets.old.items) variable x) }
+pub fn set(
+    sets: &mut IndexMap<u32, Latest>,
+    variable: u32,
+    x: Option<SymAddr>,
+) -> Result<(), AllocError>
+    ensures { OnOk result (known_of sets.new ≡ spec.set (known_of sets.old) variable x) }
 {
     let value = match x {
         Some(value) => value,
         None => new_base(sets, variable)?,
     };
-    sets.push(SetAt { variable, value })?;
+    let times = one_more(times_of(sets, variable))?;
+    sets.insert(variable, Latest { value, times })?;
     Ok(())
 }
 
 /// It is set by an assignment.
-pub fn assign(sets: &mut Vec<SetAt>, variable: u32, x: Value) -> Result<(), AllocError>
+pub fn assign(sets: &mut IndexMap<u32, Latest>, variable: u32, x: Value) -> Result<(), AllocError>
     ensures { OnOk result
-        (known_of sets.new.items
-        ≡ spec.set (known_of sets.old.items) variable (spec.followed (known_of sets.old.items) x)) }
+        (known_of sets.new
+        ≡ spec.set (known_of sets.old) variable (spec.followed (known_of sets.old) x)) }
 {
     let value = follow(sets, x);
     set(sets, variable, value)

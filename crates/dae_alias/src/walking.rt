@@ -8,27 +8,29 @@ ghost use Rattle.dae_alias.specs.Turning.{Passes};
 
 use crate::addresses::SymAddr;
 use crate::held::{Held, find, keep_apart};
-use crate::stretch::{SetAt, assign, new_base, set, symbol};
+use crate::stretch::{Latest, assign, new_base, set, symbol};
 use dae_base::LoadKind;
 use dae_ir::{Item, Operand};
+use indexmap::IndexMap;
 use std::alloc::{AllocError, Global};
 
 /// What was set and loaded in the stretch so far, the newest loads first, and how many loads the code had so far.
 #[derive(Drop)]
 pub struct Walk {
-    pub sets: Vec<SetAt>,
+    pub sets: IndexMap<u32, Latest>,
     pub held: Vec<Held>,
     pub loads: usize,
 }
 
 /// A stretch begins, where so many loads stand before it.
+#[tactic(auto, using(crate::proofs::Sets::known_empty))]
 pub fn start(alloc: Global, loads: usize) -> Walk
     ensures known { known_in result ≡ spec.nothing }
     ensures held { held_by result ≡ [] }
     ensures loads { result.loads ≡ loads }
 {
     Walk {
-        sets: Vec::new(alloc),
+        sets: IndexMap::new(alloc),
         held: Vec::new(alloc),
         loads,
     }
@@ -115,6 +117,7 @@ pub fn meet(
 }
 
 /// A stretch has ended.
+#[tactic(auto, using(crate::proofs::Sets::known_empty))]
 pub fn begin_again(walk: &mut Walk)
     ensures known { known_in walk.new ≡ spec.nothing }
     ensures held { held_by walk.new ≡ [] }
