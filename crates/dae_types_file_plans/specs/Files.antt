@@ -184,7 +184,10 @@ kept_from s v o n [] = []
 kept_from s v o n (x ∷ xs) =
     let l = layout_at s x.type_id in
     let at = rounded o l.align in
-    if in_variable s x then storage.Variable v ∷ kept_from s (word_for (suc v)) o (n - 1) xs else storage.Frame at ∷ kept_from s (if nat_eq n 0 then v else word_for (suc v)) (min (at + l.size) most_frame) (n - 1) xs
+    let next = word_for (suc v) in
+    if in_variable s x then storage.Variable v ∷ kept_from s next o (n - 1) xs
+    else storage.Frame at
+    ∷ kept_from s (if nat_eq n 0 then v else next) (min (at + l.size) most_frame) (n - 1) xs
 
 -- ---- definitions (C90 6.7.1)
 
