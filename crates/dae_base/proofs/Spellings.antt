@@ -5,8 +5,9 @@ use Rattle.std.specs.Fmt.{digits_onto, digit_glyph, digits, signed_decimal}
 use Rattle.std.proofs.lemmas.Bool.Decides.{nat_tests}
 use Rattle.dae_base.specs.Words.{signed}
 use Rattle.dae_base.specs.Texts.{spelled, is_nothing}
+use Rattle.dae_base.specs.declared.Signedness.TheVariants.{Signed, Unsigned}
 use Rattle.dae_base.specs.declared.pieces.Spelling.{Spelling}
-use Rattle.dae_base.specs.declared.pieces.Spelling.TheVariants.{Nothing, Byte, Signed, Unsigned, Hexadecimal}
+use Rattle.dae_base.specs.declared.pieces.Spelling.TheVariants.{Nothing, Byte, Decimal, Hexadecimal}
 
 if_some : (b : Bool) (xs ys : List ℕ) → 0 < length xs → 0 < length ys → 0 < length (if b then xs else ys)
 if_some true xs ys h k = h
@@ -35,6 +36,6 @@ not_zero n h = grind (arith, nat_tests)
 pub none_of_nothing : (s : Spelling) (w : ℕ) → nat_eq (length (spelled s w)) 0 ≡ is_nothing s
 none_of_nothing Nothing w = refl
 none_of_nothing Byte w = refl
-none_of_nothing Signed w = not_zero _ (signed_some (signed w))
-none_of_nothing Unsigned w = not_zero _ (digits_some 10 false w)
+none_of_nothing (Decimal Signed) w = not_zero _ (signed_some (signed w))
+none_of_nothing (Decimal Unsigned) w = not_zero _ (digits_some 10 false w)
 none_of_nothing Hexadecimal w = not_zero _ (digits_some 16 false w)

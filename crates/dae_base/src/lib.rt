@@ -61,6 +61,13 @@ pub enum LoadKind {
     I32,
 }
 
+/// Whether a word stands for a signed number or for an unsigned one.
+#[derive(Clone, Copy, PartialEq, Eq, Debug)]
+pub enum Signedness {
+    Signed,
+    Unsigned,
+}
+
 /// How many items each queue can hold, or how many a program needs it to hold.
 #[derive(Clone, Copy, PartialEq, Eq, Debug)]
 pub struct Depths {

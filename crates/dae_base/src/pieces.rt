@@ -1,9 +1,10 @@
 // What is printed at a time: a byte, or a word in decimal or hexadecimal digits.
 
-ghost use Rattle.std.specs.Prelude.{◌≡◌, ℕ, ◌<◌, ◌≤◌, List, [], length, take, nat_eq, true, false};
+ghost use Rattle.std.specs.Prelude.{◌≡◌, ℕ, ◌<◌, ◌≤◌, List, [], length, take, nat_eq, false};
 ghost use Rattle.std.specs.Fmt.{digit_glyph};
 ghost use Rattle.dae_base.specs.Texts.{byte_text, decimal_text, hex_text, is_nothing, spelled};
 
+use crate::Signedness;
 use itoa::Buffer;
 use std::marker::Model;
 
@@ -13,8 +14,7 @@ use std::marker::Model;
 pub enum Spelling {
     Nothing,
     Byte,
-    Signed,
-    Unsigned,
+    Decimal(Signedness),
     Hexadecimal,
 }
 
@@ -68,19 +68,12 @@ pub fn byte_piece(word: u32) -> Piece
 }
 
 /// A word in decimal: as a signed number, or as an unsigned one. There are no leading zeros.
-pub fn decimal_piece(word: u32, signed: bool) -> Piece
-    ensures { result ≡ decimal_text word signed }
+pub fn decimal_piece(word: u32, signedness: Signedness) -> Piece
+    ensures { result ≡ decimal_text word signedness }
 {
-    if signed {
-        Piece {
-            spelling: Spelling::Signed,
-            word,
-        }
-    } else {
-        Piece {
-            spelling: Spelling::Unsigned,
-            word,
-        }
+    Piece {
+        spelling: Spelling::Decimal(signedness),
+        word,
     }
 }
 
@@ -143,21 +136,21 @@ fn spelled(spelling: Spelling, word: u32) -> ShortText
     match spelling {
         Spelling::Nothing => ShortText::of_bytes(&[]),
         Spelling::Byte => ShortText::of_bytes(&[(word % 256) as u8]),
-        Spelling::Signed => signed_text(word),
-        Spelling::Unsigned => unsigned_text(word),
+        Spelling::Decimal(Signedness::Signed) => signed_text(word),
+        Spelling::Decimal(Signedness::Unsigned) => unsigned_text(word),
         Spelling::Hexadecimal => hex_text(word),
     }
 }
 
 fn signed_text(word: u32) -> ShortText
-    ensures { result ≡ decimal_text word true }
+    ensures { result ≡ decimal_text word Signedness.Signed }
 {
     let mut buffer = Buffer::new();
     ShortText::of_bytes(buffer.format(word.cast_signed()).as_bytes())
 }
 
 fn unsigned_text(word: u32) -> ShortText
-    ensures { result ≡ decimal_text word false }
+    ensures { result ≡ decimal_text word Signedness.Unsigned }
 {
     let mut buffer = Buffer::new();
     ShortText::of_bytes(buffer.format(word).as_bytes())

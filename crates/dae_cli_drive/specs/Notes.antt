@@ -1,5 +1,5 @@
 -- The lines that a job notes.
-use Rattle.std.specs.Prelude.{ℕ, ◌/◌, ◌%◌, true, false, List, [], ◌∷◌, ◌++◌, take, drop, Option, Some, None, codes, decimal}
+use Rattle.std.specs.Prelude.{ℕ, ◌/◌, ◌%◌, false, List, [], ◌∷◌, ◌++◌, take, drop, Option, Some, None, codes, decimal}
 use Rattle.std.specs.List.{flat_map}
 use Rattle.std.specs.Fmt.{digit_glyph}
 use Rattle.dae_base.specs.declared.Depths.{Depths}
@@ -7,6 +7,7 @@ use Rattle.dae_base.specs.declared.Side.TheVariants.{A, E}
 use Rattle.dae_base.specs.declared.Queue.{Queue}
 use Rattle.dae_base.specs.declared.Queue.TheVariants.{Ld, Al, Sa, Sd, Ab, Eb, Cq}
 use Rattle.dae_base.specs.Texts.{decimal_text}
+use Rattle.dae_base.specs.declared.Signedness.TheVariants as signedness
 use Rattle.dae_encode.specs.declared.Fault.{Fault}
 use Rattle.dae_encode.specs.declared.Fault.TheVariants.{BadPc, Illegal, Private, Shared, Call}
 use Rattle.dae_core.specs.declared.CoreAnswer.{CoreAnswer}
@@ -53,10 +54,10 @@ image_line errors.Memory = memory_line
 
 -- a status, as a signed number
 abbrev pub ended_line : ℕ → List ℕ
-ended_line status = codes "ended " ++ (decimal_text status true ++ codes "\n")
+ended_line status = codes "ended " ++ (decimal_text status signedness.Signed ++ codes "\n")
 
 abbrev pub trapped_line : ℕ → List ℕ
-trapped_line code = codes "trapped " ++ (decimal_text code false ++ codes "\n")
+trapped_line code = codes "trapped " ++ (decimal_text code signedness.Unsigned ++ codes "\n")
 
 abbrev pub running_line : List ℕ
 running_line = codes "running\n"

@@ -9,7 +9,7 @@ ghost use Rattle.dae_cli_drive.specs.Notes.{budget_line, depth_line, ended_line,
 
 use crate::driving::Driven;
 use crate::line::Line;
-use dae_base::{Depths, Queue, Side, decimal_piece};
+use dae_base::{Depths, Queue, Side, Signedness, decimal_piece};
 use dae_cli_options::Shown;
 use dae_core::{CoreAnswer, Fault};
 use dae_image::ImageError;
@@ -99,7 +99,7 @@ pub fn ended_line(line: &mut Line, status: u32)
     ensures { line.new ≡ ended_line status }
 {
     line.begin(b"ended ");
-    line.push(decimal_piece(status, true).text().as_bytes());
+    line.push(decimal_piece(status, Signedness::Signed).text().as_bytes());
     line.push(b"\n");
 }
 
@@ -108,7 +108,7 @@ pub fn trapped_line(line: &mut Line, code: u32)
     ensures { line.new ≡ trapped_line code }
 {
     line.begin(b"trapped ");
-    line.push(decimal_piece(code, false).text().as_bytes());
+    line.push(decimal_piece(code, Signedness::Unsigned).text().as_bytes());
     line.push(b"\n");
 }
 

@@ -15,7 +15,7 @@ use crate::code::{Legal, legal_words};
 use crate::memory::{load, store};
 use crate::ports::waits;
 use crate::{CoreAnswer, Ports};
-use dae_base::{LoadKind, Piece, Side, Width, byte_piece, decimal_piece, hex_piece};
+use dae_base::{LoadKind, Piece, Side, Signedness, Width, byte_piece, decimal_piece, hex_piece};
 use dae_encode::{Fault, Form, Halt, Inst, QueueUse, bad_call, is_shared, is_within, next, value};
 use std::alloc::{AllocError, Global};
 use std::marker::Model;
@@ -290,8 +290,8 @@ impl Core {
         match self.registers[17] {
             0 => self.halt(Halt::Status(word)),
             1 => self.print(byte_piece(word)),
-            2 => self.print(decimal_piece(word, true)),
-            3 => self.print(decimal_piece(word, false)),
+            2 => self.print(decimal_piece(word, Signedness::Signed)),
+            3 => self.print(decimal_piece(word, Signedness::Unsigned)),
             4 => self.print(hex_piece(word)),
             _ => self.halt(Halt::Trap(word)),
         }

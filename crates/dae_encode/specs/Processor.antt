@@ -14,6 +14,7 @@ use Rattle.dae_encode.specs.declared.Request.{Request}
 use Rattle.dae_encode.specs.declared.Request.TheVariants.{Halted, Faulty, Asks}
 use Rattle.dae_base.specs.Words.{plus, size, width_of, loaded, stored}
 use Rattle.dae_base.specs.Texts.{byte_text, decimal_text, hex_text}
+use Rattle.dae_base.specs.declared.Signedness.TheVariants as signedness
 use Rattle.dae_encode.specs.declared.Form.{Form}
 use Rattle.dae_encode.specs.declared.Form.TheVariants.{Computes, Loads, Stores, Calls}
 use Rattle.dae_encode.specs.Instructions.{form, value, next}
@@ -131,8 +132,8 @@ called A p what value = halts p Plain
 called E p what value =
     if what == 0 then halts p (Status value)
     else (if what == 1 then prints p (byte_text value)
-    else (if what == 2 then prints p (decimal_text value true)
-    else (if what == 3 then prints p (decimal_text value false)
+    else (if what == 2 then prints p (decimal_text value signedness.Signed)
+    else (if what == 3 then prints p (decimal_text value signedness.Unsigned)
     else (if what == 4 then prints p (hex_text value)
     else halts p (Trap value)))))
 

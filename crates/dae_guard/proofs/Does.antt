@@ -9,6 +9,7 @@ use Rattle.dae_base.specs.declared.Width.{Width}
 use Rattle.dae_base.specs.declared.LoadKind.{LoadKind}
 use Rattle.dae_base.specs.Words.{plus, size, width_of, loaded, stored, low_bytes}
 use Rattle.dae_base.specs.Texts.{byte_text, decimal_text, hex_text}
+use Rattle.dae_base.specs.declared.Signedness.TheVariants as signedness
 use Rattle.dae_encode.specs.declared.QueueUse.{QueueUse}
 use Rattle.dae_encode.specs.declared.QueueUse.TheVariants.{Nothing, Take, Push, Load, StoreAddress}
 use Rattle.dae_encode.specs.declared.Form.{Form}
@@ -257,8 +258,8 @@ called_is t rs c p s what l = by what l
     by : (what : ℕ) → what ≤ 5 → Called t rs c p what
     by zero l = record { came = (record p { counter = plus p.counter 4; halt = Some (Status (slice_index p.registers 10)) }, []); does = refl; stands = halted (Status (slice_index p.registers 10)) }
     by (suc zero) l = record { came = (record p { counter = plus p.counter 4 }, byte_text (slice_index p.registers 10)); does = refl; stands = goes }
-    by (suc (suc zero)) l = record { came = (record p { counter = plus p.counter 4 }, decimal_text (slice_index p.registers 10) true); does = refl; stands = goes }
-    by (suc (suc (suc zero))) l = record { came = (record p { counter = plus p.counter 4 }, decimal_text (slice_index p.registers 10) false); does = refl; stands = goes }
+    by (suc (suc zero)) l = record { came = (record p { counter = plus p.counter 4 }, decimal_text (slice_index p.registers 10) signedness.Signed); does = refl; stands = goes }
+    by (suc (suc (suc zero))) l = record { came = (record p { counter = plus p.counter 4 }, decimal_text (slice_index p.registers 10) signedness.Unsigned); does = refl; stands = goes }
     by (suc (suc (suc (suc zero)))) l = record { came = (record p { counter = plus p.counter 4 }, hex_text (slice_index p.registers 10)); does = refl; stands = goes }
     by (suc (suc (suc (suc (suc zero))))) l = record { came = (record p { counter = plus p.counter 4; halt = Some (Trap (slice_index p.registers 10)) }, []); does = refl; stands = halted (Trap (slice_index p.registers 10)) }
     by (suc (suc (suc (suc (suc (suc n)))))) l = absurd (omega arith)

@@ -1,20 +1,25 @@
 // Pieces of words, extension at the edges, and the first queue that is below a budget.
 
-use dae_base::{Depths, LoadKind, Piece, Queue, byte_piece, decimal_piece, extend, hex_piece};
+use dae_base::{
+    Depths, LoadKind, Piece, Queue, Signedness, byte_piece, decimal_piece, extend, hex_piece,
+};
 
 #[test]
 fn pieces_of_words(rt: HostRuntime) {
     let table = [
-        (decimal_piece(0, true), b"0".as_slice()),
-        (decimal_piece(9, true), b"9".as_slice()),
-        (decimal_piece(10, false), b"10".as_slice()),
+        (decimal_piece(0, Signedness::Signed), b"0".as_slice()),
+        (decimal_piece(9, Signedness::Signed), b"9".as_slice()),
+        (decimal_piece(10, Signedness::Unsigned), b"10".as_slice()),
         (
-            decimal_piece(4_294_967_295, false),
+            decimal_piece(4_294_967_295, Signedness::Unsigned),
             b"4294967295".as_slice(),
         ),
-        (decimal_piece(4_294_967_295, true), b"-1".as_slice()),
         (
-            decimal_piece(2_147_483_648, true),
+            decimal_piece(4_294_967_295, Signedness::Signed),
+            b"-1".as_slice(),
+        ),
+        (
+            decimal_piece(2_147_483_648, Signedness::Signed),
             b"-2147483648".as_slice(),
         ),
         (hex_piece(0), b"0".as_slice()),

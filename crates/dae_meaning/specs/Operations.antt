@@ -1,9 +1,10 @@
 -- The operations of C on words of 32 bits (C90 6.3.5 to 6.3.12), comparisons, what is printed, and what a check of an
 -- address or of a limit finds.
-use Rattle.std.specs.Prelude.{ℕ, ◌+◌, ◌-◌, ◌*◌, ◌/◌, ◌%◌, ◌^◌, Bool, true, false, not, ◌||◌, nat_eq, nat_lt, if◌then◌else◌, List, Option, Some, None, bit_and, bit_or, bit_xor, int_lt, int_div, int_rem}
+use Rattle.std.specs.Prelude.{ℕ, ◌+◌, ◌-◌, ◌*◌, ◌/◌, ◌%◌, ◌^◌, Bool, not, ◌||◌, nat_eq, nat_lt, if◌then◌else◌, List, Option, Some, None, bit_and, bit_or, bit_xor, int_lt, int_div, int_rem}
 use Rattle.std.specs.Int.{int_shr}
 use Rattle.dae_base.specs.Words.{word, signed, plus, minus, times, size}
 use Rattle.dae_base.specs.Texts.{byte_text, decimal_text, hex_text}
+use Rattle.dae_base.specs.declared.Signedness.TheVariants as signedness
 use Rattle.dae_base.specs.declared.Width.{Width}
 use Rattle.dae_meaning.specs.declared.Operator.{Operator}
 use Rattle.dae_meaning.specs.declared.Operator.TheVariants.{Add, Subtract, Multiply, DivideSigned, DivideUnsigned, RemainderSigned, RemainderUnsigned, And, Or, Xor, ShiftLeft, ShiftRightSigned, ShiftRightUnsigned}
@@ -43,8 +44,8 @@ compared AtLeastUnsigned x y = not (nat_lt x y)
 
 unfoldable pub spelled : Spelling → ℕ → List ℕ
 spelled Byte x = byte_text x
-spelled Signed x = decimal_text x true
-spelled Unsigned x = decimal_text x false
+spelled Signed x = decimal_text x signedness.Signed
+spelled Unsigned x = decimal_text x signedness.Unsigned
 spelled Hexadecimal x = hex_text x
 
 -- the trap of an access in a memory of this size: 3 at an address that isn't a multiple of the width, else 2 below

@@ -6,6 +6,7 @@ use Rattle.std.proofs.lemmas.Bool.Decides.{nat_tests}
 use Rattle.std.proofs.lemmas.Nat.{and_mask}
 use Rattle.dae_base.specs.Words.{plus, word, size}
 use Rattle.dae_base.specs.Texts.{byte_text, decimal_text, hex_text}
+use Rattle.dae_base.specs.declared.Signedness.TheVariants as signedness
 use Rattle.dae_base.specs.declared.Side.TheVariants.{A, E}
 use Rattle.dae_base.specs.declared.Width.{Width}
 use Rattle.dae_base.specs.declared.Width.TheVariants.{B1, B2, B4}
@@ -91,8 +92,8 @@ module _ (s : Setting) (plan : Plan) (variables : ℕ → ℕ) (fine : Fits s pl
       Does' s plan variables fine live live' m (system_code (plan.home m.function) (call_number spelling) x) c (Say (spelled spelling (value x m.env)) (Went m.env))
   unfolding spelled
   emit_done Byte x by_e h reads number stays = says 1 byte_text x (omega arith) (λ q v. refl) by_e h reads number stays
-  emit_done Signed x by_e h reads number stays = says 2 (λ v. decimal_text v true) x (omega arith) (λ q v. refl) by_e h reads number stays
-  emit_done Unsigned x by_e h reads number stays = says 3 (λ v. decimal_text v false) x (omega arith) (λ q v. refl) by_e h reads number stays
+  emit_done Signed x by_e h reads number stays = says 2 (λ v. decimal_text v signedness.Signed) x (omega arith) (λ q v. refl) by_e h reads number stays
+  emit_done Unsigned x by_e h reads number stays = says 3 (λ v. decimal_text v signedness.Unsigned) x (omega arith) (λ q v. refl) by_e h reads number stays
   emit_done Hexadecimal x by_e h reads number stays = says 4 hex_text x (omega arith) (λ q v. refl) by_e h reads number stays
 
   -- Stop
