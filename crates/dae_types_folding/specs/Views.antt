@@ -1,5 +1,7 @@
 -- Values in memory as plain data.
-use Rattle.std.specs.Prelude.{Option, Some, None, Result, Ok}
+use Rattle.std.specs.Prelude.{Bool, false, true, Option, Some, None, Result, Ok}
+use Rattle.dae_base.specs.declared.Signedness.{Signedness}
+use Rattle.dae_base.specs.declared.Signedness.TheVariants as signedness
 use Rattle.dae_program.specs.Trees as program
 use Rattle.dae_program.specs.declared.expressions.Expression.{Expression}
 use Rattle.dae_types_kinds.specs.declared.rules.CheckError.{CheckError}
@@ -14,6 +16,10 @@ use Rattle.dae_types_folding.specs.declared.operators.Combination.TheVariants as
 
 abbrev pub view_value : Value → Typed
 view_value x = typed (view x.tree) x.type_id x.category x.known
+
+abbrev pub is_without_sign : Signedness → Bool
+is_without_sign signedness.Signed = false
+is_without_sign signedness.Unsigned = true
 
 abbrev pub view_deed : DeedInMemory → Deed
 view_deed (deeds.Operates o) = Operates o

@@ -8,7 +8,7 @@ pub use knowing::{
 };
 pub use operators::{
     Combination, Deed, apply, compare, deed_of, divides, is_comparison, is_difference, is_equality,
-    is_shift, is_sum, is_unsigned_for, operator_of, type_for,
+    is_shift, is_sum, operator_of, signedness_for, type_for,
 };
 pub use shapes::{common, load_kind, pointee, promoted};
 pub use trees::{changed, difference_of, further, operated, scaled, sum_of, target_of, tree_by};

@@ -1,10 +1,13 @@
 // What operators do to words (C90 6.3.5 to 6.3.14).
 
-ghost use Rattle.std.specs.Prelude.{◌≡◌};
+ghost use Rattle.std.specs.Prelude.{◌≡◌, if◌then◌else◌};
+ghost use Rattle.dae_meaning.specs.declared.Comparison.TheVariants as comparison;
+ghost use Rattle.dae_meaning.specs.declared.Operator.TheVariants as operators;
 ghost use Rattle.dae_meaning.specs.Operations.{combined, compared};
 ghost use Rattle.dae_types_kinds.specs.Values.{deed, is_shift, is_equality, is_comparison, is_sum, is_difference, operator_of, divides, is_unsigned_for, type_for};
-ghost use Rattle.dae_types_folding.specs.Views.{view_deed};
+ghost use Rattle.dae_types_folding.specs.Views.{is_without_sign, view_deed};
 
+use dae_base::Signedness;
 use dae_meaning::{Comparison, Operator};
 use dae_tree::{AssignmentOperator, BinaryOperator};
 use dae_types_kinds::{INT_ID, Shape, UNSIGNED_ID};
@@ -28,25 +31,22 @@ pub enum Combination {
     Pointers,
 }
 
-/// What an operator does, on unsigned operands or on others.
-pub fn deed_of(unsigned: bool, operator: BinaryOperator) -> Deed
-    ensures { view_deed result ≡ deed unsigned operator }
+/// What an operator does, on operands with a sign or without.
+pub fn deed_of(signedness: Signedness, operator: BinaryOperator) -> Deed
+    ensures { view_deed result ≡ deed (is_without_sign signedness) operator }
 {
     match operator {
         BinaryOperator::Multiply => Deed::Operates(Operator::Multiply),
-        BinaryOperator::Divide if unsigned => Deed::Operates(Operator::DivideUnsigned),
-        BinaryOperator::Divide => Deed::Operates(Operator::DivideSigned),
-        BinaryOperator::Remainder if unsigned => Deed::Operates(Operator::RemainderUnsigned),
-        BinaryOperator::Remainder => Deed::Operates(Operator::RemainderSigned),
+        BinaryOperator::Divide => Deed::Operates(division_for(signedness)),
+        BinaryOperator::Remainder => Deed::Operates(remainder_for(signedness)),
         BinaryOperator::Add => Deed::Operates(Operator::Add),
         BinaryOperator::Subtract => Deed::Operates(Operator::Subtract),
         BinaryOperator::ShiftLeft => Deed::Operates(Operator::ShiftLeft),
-        BinaryOperator::ShiftRight if unsigned => Deed::Operates(Operator::ShiftRightUnsigned),
-        BinaryOperator::ShiftRight => Deed::Operates(Operator::ShiftRightSigned),
-        BinaryOperator::Less => Deed::Compares(less(unsigned), false),
-        BinaryOperator::Greater => Deed::Compares(less(unsigned), true),
-        BinaryOperator::AtMost => Deed::Compares(at_least(unsigned), true),
-        BinaryOperator::AtLeast => Deed::Compares(at_least(unsigned), false),
+        BinaryOperator::ShiftRight => Deed::Operates(right_shift_for(signedness)),
+        BinaryOperator::Less => Deed::Compares(less(signedness), false),
+        BinaryOperator::Greater => Deed::Compares(less(signedness), true),
+        BinaryOperator::AtMost => Deed::Compares(at_least(signedness), true),
+        BinaryOperator::AtLeast => Deed::Compares(at_least(signedness), false),
         BinaryOperator::Equal => Deed::Compares(Comparison::Equal, false),
         BinaryOperator::NotEqual => Deed::Compares(Comparison::NotEqual, false),
         BinaryOperator::And | BinaryOperator::AndAnd => Deed::Operates(Operator::And),
@@ -55,26 +55,63 @@ pub fn deed_of(unsigned: bool, operator: BinaryOperator) -> Deed
     }
 }
 
-ghost use Rattle.std.specs.Prelude.{if◌then◌else◌};
-ghost use Rattle.dae_meaning.specs.declared.Comparison.TheVariants as comparison;
-
-fn less(unsigned: bool) -> Comparison
-    ensures { result ≡ (if unsigned then comparison.LessUnsigned else comparison.LessSigned) }
+/// The division of words with a sign or without.
+fn division_for(signedness: Signedness) -> Operator
+    ensures { result
+        ≡ (if is_without_sign signedness then operators.DivideUnsigned
+        else operators.DivideSigned) }
 {
-    if unsigned {
-        Comparison::LessUnsigned
-    } else {
-        Comparison::LessSigned
+    match signedness {
+        Signedness::Signed => Operator::DivideSigned,
+        Signedness::Unsigned => Operator::DivideUnsigned,
     }
 }
 
-fn at_least(unsigned: bool) -> Comparison
-    ensures { result ≡ (if unsigned then comparison.AtLeastUnsigned else comparison.AtLeastSigned) }
+/// The remainder of words with a sign or without.
+fn remainder_for(signedness: Signedness) -> Operator
+    ensures { result
+        ≡ (if is_without_sign signedness then operators.RemainderUnsigned
+        else operators.RemainderSigned) }
 {
-    if unsigned {
-        Comparison::AtLeastUnsigned
-    } else {
-        Comparison::AtLeastSigned
+    match signedness {
+        Signedness::Signed => Operator::RemainderSigned,
+        Signedness::Unsigned => Operator::RemainderUnsigned,
+    }
+}
+
+/// The shift to the right of a word with a sign or without.
+fn right_shift_for(signedness: Signedness) -> Operator
+    ensures { result
+        ≡ (if is_without_sign signedness then operators.ShiftRightUnsigned
+        else operators.ShiftRightSigned) }
+{
+    match signedness {
+        Signedness::Signed => Operator::ShiftRightSigned,
+        Signedness::Unsigned => Operator::ShiftRightUnsigned,
+    }
+}
+
+/// Whether a word is less than another, with a sign or without.
+fn less(signedness: Signedness) -> Comparison
+    ensures { result
+        ≡ (if is_without_sign signedness then comparison.LessUnsigned
+        else comparison.LessSigned) }
+{
+    match signedness {
+        Signedness::Signed => Comparison::LessSigned,
+        Signedness::Unsigned => Comparison::LessUnsigned,
+    }
+}
+
+/// Whether a word is at least another, with a sign or without.
+fn at_least(signedness: Signedness) -> Comparison
+    ensures { result
+        ≡ (if is_without_sign signedness then comparison.AtLeastUnsigned
+        else comparison.AtLeastSigned) }
+{
+    match signedness {
+        Signedness::Signed => Comparison::AtLeastSigned,
+        Signedness::Unsigned => Comparison::AtLeastUnsigned,
     }
 }
 
@@ -158,21 +195,27 @@ pub fn divides(operator: Operator) -> bool
     }
 }
 
-/// Whether an operator works on unsigned words: a shift by its left operand alone.
-pub fn is_unsigned_for(operator: BinaryOperator, left: Shape, right: Shape) -> bool
-    ensures { result ≡ is_unsigned_for operator left right }
+/// Whether an operator works on words with a sign or without: a shift by its left operand alone.
+pub fn signedness_for(operator: BinaryOperator, left: Shape, right: Shape) -> Signedness
+    ensures { is_without_sign result ≡ is_unsigned_for operator left right }
 {
-    is_unsigned(left) || (!is_shift(operator) && is_unsigned(right))
+    if is_unsigned(left) || (!is_shift(operator) && is_unsigned(right)) {
+        Signedness::Unsigned
+    } else {
+        Signedness::Signed
+    }
 }
 
-/// The type of an operation on words, which are unsigned or not.
-pub fn type_for(operator: BinaryOperator, unsigned: bool) -> usize
-    ensures { result ≡ type_for operator unsigned }
+/// The type of an operation on words with a sign or without.
+pub fn type_for(operator: BinaryOperator, signedness: Signedness) -> usize
+    ensures { result ≡ type_for operator (is_without_sign signedness) }
 {
-    if !is_comparison(operator) && unsigned {
-        UNSIGNED_ID
-    } else {
-        INT_ID
+    if is_comparison(operator) {
+        return INT_ID;
+    }
+    match signedness {
+        Signedness::Signed => INT_ID,
+        Signedness::Unsigned => UNSIGNED_ID,
     }
 }
 
@@ -198,11 +241,9 @@ pub fn apply(operator: Operator, x: u32, y: u32) -> u32
     }
 }
 
-ghost use Rattle.dae_meaning.specs.declared.Operator.TheVariants as operator;
-
 #[tactic(auto, unfolding(dae_meaning::specs::Operations::combined))]
 fn quotient(x: u32, y: u32) -> u32
-    ensures { result ≡ combined operator.DivideSigned x y }
+    ensures { result ≡ combined operators.DivideSigned x y }
 {
     if y == 0 {
         u32::MAX
@@ -215,7 +256,7 @@ fn quotient(x: u32, y: u32) -> u32
 
 #[tactic(auto, unfolding(dae_meaning::specs::Operations::combined))]
 fn remainder(x: u32, y: u32) -> u32
-    ensures { result ≡ combined operator.RemainderSigned x y }
+    ensures { result ≡ combined operators.RemainderSigned x y }
 {
     if y == 0 {
         x

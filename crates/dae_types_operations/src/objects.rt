@@ -16,8 +16,8 @@ use dae_meaning::Operator;
 use dae_program::Expression;
 use dae_tree::{AssignmentOperator, BinaryOperator, MemberOperator, Name};
 use dae_types_folding::{
-    Combination, Deed, Value, based, deed_of, further, is_unsigned_for, known_further, load_kind,
-    operator_of, scaled, target_of,
+    Combination, Deed, Value, based, deed_of, further, known_further, load_kind, operator_of,
+    scaled, signedness_for, target_of,
 };
 use dae_types_kinds::{
     Addressing, Category, CheckError, Component, Known, Rule, Shape, is_indirect,
@@ -122,8 +122,8 @@ fn updated(
 {
     let type_id = x.type_id;
     let left = checker.shape_of(type_id);
-    let unsigned = is_unsigned_for(operator, left, checker.shape_of(y.type_id));
-    let operation = operator_in(deed_of(unsigned, operator));
+    let signedness = signedness_for(operator, left, checker.shape_of(y.type_id));
+    let operation = operator_in(deed_of(signedness, operator));
     let combination = combination_of(checker, operator, &x, &y);
     let right = updated_by(checker, place, operator, &x, y, combination)?;
     let right = Box::new(checker.alloc, right)?;

@@ -12,13 +12,13 @@ ghost use Rattle.dae_types_folding.specs.Views.{MakesValue, view_combination, vi
 ghost use Rattle.dae_types_values.specs.Results.{GivesValue, two};
 
 use crate::choices::{and, or};
-use dae_base::Place;
+use dae_base::{Place, Signedness};
 use dae_meaning::Operator;
 use dae_program::Expression;
 use dae_tree::BinaryOperator;
 use dae_types_folding::{
     Combination, Value, based, deed_of, difference_of, is_comparison, is_difference, is_equality,
-    is_sum, is_unsigned_for, moved_back, moved_on, operated, scaled, scaled_known, sum_of, tree_by,
+    is_sum, moved_back, moved_on, operated, scaled, scaled_known, signedness_for, sum_of, tree_by,
     type_for,
 };
 use dae_types_kinds::{Addressing, Category, CheckError, INT_ID, Rule, Shape};
@@ -229,13 +229,13 @@ fn combine(
         Combination::Words => {
             let left = checker.shape_of(x.type_id);
             let right = checker.shape_of(y.type_id);
-            let unsigned = is_unsigned_for(operator, left, right);
-            let deed = deed_of(unsigned, operator);
+            let signedness = signedness_for(operator, left, right);
+            let deed = deed_of(signedness, operator);
             operated(
                 checker.alloc,
                 place,
                 deed,
-                type_for(operator, unsigned),
+                type_for(operator, signedness),
                 x,
                 y,
             )
@@ -253,7 +253,7 @@ fn combine(
             let tree = tree_by(
                 checker.alloc,
                 place,
-                deed_of(true, operator),
+                deed_of(Signedness::Unsigned, operator),
                 x.tree,
                 y.tree,
             )?;
