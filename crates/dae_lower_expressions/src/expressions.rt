@@ -13,7 +13,7 @@ use crate::leaves::{Part, address, callee, constant, nonzero, turn};
 use crate::lowerer::Lowerer;
 use dae_base::{Items, LoadKind};
 use dae_ir::{Check, Item, Operand, Statement, Test, Value};
-use dae_lower_maker::{Change, Condition, Increment, Location, Lvalue, Spot, related};
+use dae_lower_maker::{Change, Condition, Increment, Location, Lvalue, Spot, test_of};
 use dae_meaning::{Comparison, Spelling};
 use dae_program::{Expression, Fixity, Links, Target};
 use std::alloc::AllocError;
@@ -45,12 +45,12 @@ impl Lowerer {
                     address: x,
                     checked: *checked,
                 };
-                let z = self.maker.fetched(*place, *kind, location)?;
+                let z = self.maker.fetch(*place, *kind, location)?;
                 Ok(z)
             }
             Expression::Convert(place, kind, a) => {
                 let x = self.value(links, none, a)?;
-                let z = self.maker.narrowed(*place, *kind, x)?;
+                let z = self.maker.narrow(*place, *kind, x)?;
                 Ok(z)
             }
             Expression::Not(place, a) => {
@@ -60,20 +60,20 @@ impl Lowerer {
                     left: x,
                     right: Operand::Number(0),
                 };
-                let z = self.maker.compared(*place, is_zero)?;
+                let z = self.maker.truth_of(*place, is_zero)?;
                 Ok(z)
             }
             Expression::Binary(place, operator, a, b) => {
                 let x = self.value(links, none, a)?;
                 let y = self.value(links, none, b)?;
-                let z = self.maker.operated(*place, *operator, x, y)?;
+                let z = self.maker.operate(*place, *operator, x, y)?;
                 Ok(z)
             }
             Expression::Compare(place, comparison, turned, a, b) => {
                 let x = self.value(links, none, a)?;
                 let y = self.value(links, none, b)?;
-                let test = related(*comparison, *turned, x, y);
-                let z = self.maker.compared(*place, test)?;
+                let test = test_of(*comparison, *turned, x, y);
+                let z = self.maker.truth_of(*place, test)?;
                 Ok(z)
             }
             Expression::And(place, a, b) => {
@@ -126,9 +126,9 @@ impl Lowerer {
                     kind: *kind,
                     spot,
                 };
-                let x = self.maker.held(&self.later, lvalue)?;
+                let x = self.maker.value_of(&self.later, lvalue)?;
                 let y = self.value(links, none, a)?;
-                let z = self.maker.updated(lvalue, *operator, x, y)?;
+                let z = self.maker.update(lvalue, *operator, x, y)?;
                 Ok(z)
             }
             Expression::Step(place, kind, t, change, fixity) => {
@@ -143,7 +143,7 @@ impl Lowerer {
             }
             Expression::Call(place, function, xs) => {
                 let arguments = self.operands(links, none, xs)?;
-                let z = self.maker.called(
+                let z = self.maker.call(
                     *place,
                     callee(none, links, *function),
                     Items::from_vec(arguments),
@@ -291,7 +291,7 @@ impl Lowerer {
                 let x = self.value(links, none, a)?;
                 let y = self.value(links, none, b)?;
                 Ok(Condition {
-                    test: related(*comparison, *turned, x, y),
+                    test: test_of(*comparison, *turned, x, y),
                     turned: false,
                 })
             }
@@ -428,7 +428,7 @@ impl Lowerer {
             (target_assignments (view_target t.now)) self.old self.new) }
     {
         let spot = self.spot(links, none, t)?;
-        let z = self.maker.stepped(&self.later, increment, spot)?;
+        let z = self.maker.step(&self.later, increment, spot)?;
         Ok(z)
     }
 

@@ -162,7 +162,7 @@ fn end_of(invocation: Invocation) -> Item
 }
 
 /// A number of things, where it is a word.
-fn counted(number: usize) -> Result<u32, AllocError>
+fn count_of(number: usize) -> Result<u32, AllocError>
     ensures { IfOk result (λ n. n ≡ number) }
 {
     let n = u32::try_from(number).map_err(|_| AllocError)?;
@@ -191,7 +191,7 @@ fn lower_with(
     let variables = maker.next();
     let body = close(maker.into_statements(), f.place, end_of(invocation))?;
     let name = Text::from_str(alloc, f.name.as_str())?;
-    let parameters = counted(f.parameters.len())?;
+    let parameters = count_of(f.parameters.len())?;
     Ok(FormFunction {
         name,
         parameters,
@@ -253,7 +253,7 @@ fn lower_each(
 pub fn lower_functions(alloc: Global, program: &Program) -> Result<Vec<FormFunction>, AllocError>
     ensures { IfOk result (λ gs. AreFormsOf program.now 0 program.now.functions gs.items) }
 {
-    let none = counted(program.functions.len())?;
+    let none = count_of(program.functions.len())?;
     let forms = lower_each(alloc, program, none, program.functions.as_slice())?;
     Ok(forms)
 }

@@ -2,7 +2,7 @@
 #![tactic(auto)]
 
 pub use later::{Change, Later, one_more};
-pub use maker::{Condition, Increment, Location, Lvalue, Maker, Spot, related};
+pub use maker::{Condition, Increment, Location, Lvalue, Maker, Spot, test_of};
 
 mod later;
 mod maker;

@@ -78,7 +78,7 @@ fn may_be_zero(x: Operand) -> bool
 }
 
 /// A comparison of two operands, or of the second with the first.
-pub fn related(comparison: Comparison, turned: bool, x: Operand, y: Operand) -> Test
+pub fn test_of(comparison: Comparison, turned: bool, x: Operand, y: Operand) -> Test
     ensures { result ≡ related comparison turned x y }
 {
     if turned {
@@ -175,7 +175,7 @@ impl Maker {
     }
 
     /// An operation, behind a check where the second operand may be a zero that it divides by.
-    pub fn operated(
+    pub fn operate(
         &mut self,
         place: Place,
         operator: Operator,
@@ -203,7 +203,7 @@ impl Maker {
     }
 
     /// The value of an object in memory, behind a check of its address where one is due.
-    pub fn fetched(
+    pub fn fetch(
         &mut self,
         place: Place,
         kind: LoadKind,
@@ -218,7 +218,7 @@ impl Maker {
     }
 
     /// A word of a narrower type.
-    pub fn narrowed(
+    pub fn narrow(
         &mut self,
         place: Place,
         kind: LoadKind,
@@ -291,7 +291,7 @@ impl Maker {
     }
 
     /// What is assigned holds this so far: a variable's value is a copy where what is still to come assigns it.
-    pub fn held(&mut self, later: &Later, lvalue: Lvalue) -> Result<Operand, AllocError>
+    pub fn value_of(&mut self, later: &Later, lvalue: Lvalue) -> Result<Operand, AllocError>
         ensures { IfOk result
             (Appends (held_in (is_counted (counts_of later.now)) lvalue) self.old self.new) }
     {
@@ -301,7 +301,7 @@ impl Maker {
                 Ok(x)
             }
             Spot::Object(location) => {
-                let z = self.fetched(lvalue.place, lvalue.kind, location)?;
+                let z = self.fetch(lvalue.place, lvalue.kind, location)?;
                 Ok(z)
             }
         }
@@ -317,27 +317,27 @@ impl Maker {
                 Ok(x)
             }
             Spot::Object(location) => {
-                let z = self.fetched(lvalue.place, lvalue.kind, location)?;
+                let z = self.fetch(lvalue.place, lvalue.kind, location)?;
                 Ok(z)
             }
         }
     }
 
     /// What is assigned gets an operand and a number, narrowed to its type.
-    fn advanced(&mut self, lvalue: Lvalue, change: u32, x: Operand) -> Result<Operand, AllocError>
+    fn advance(&mut self, lvalue: Lvalue, change: u32, x: Operand) -> Result<Operand, AllocError>
         ensures { IfOk result (Appends (advanced_in lvalue change x) self.old self.new) }
     {
         let z = self.set(
             lvalue.place,
             Value::Binary(Operator::Add, x, Operand::Number(change)),
         )?;
-        let w = self.narrowed(lvalue.place, lvalue.kind, z)?;
+        let w = self.narrow(lvalue.place, lvalue.kind, z)?;
         let y = self.put_in(lvalue, w)?;
         Ok(y)
     }
 
     /// What is assigned gets the result of an operation on what it held and an operand, narrowed to its type.
-    pub fn updated(
+    pub fn update(
         &mut self,
         lvalue: Lvalue,
         operator: Operator,
@@ -346,8 +346,8 @@ impl Maker {
     ) -> Result<Operand, AllocError>
         ensures { IfOk result (Appends (updated_in lvalue operator x y) self.old self.new) }
     {
-        let z = self.operated(lvalue.place, operator, x, y)?;
-        let w = self.narrowed(lvalue.place, lvalue.kind, z)?;
+        let z = self.operate(lvalue.place, operator, x, y)?;
+        let w = self.narrow(lvalue.place, lvalue.kind, z)?;
         let result = self.put_in(lvalue, w)?;
         Ok(result)
     }
@@ -366,7 +366,7 @@ impl Maker {
     {
         match fixity {
             Fixity::Prefix => {
-                let x = self.held(later, lvalue)?;
+                let x = self.value_of(later, lvalue)?;
                 Ok(x)
             }
             Fixity::Postfix => {
@@ -377,7 +377,7 @@ impl Maker {
     }
 
     /// What is assigned gets a number more, and the new value is given or the old one.
-    pub fn stepped(
+    pub fn step(
         &mut self,
         later: &Later,
         increment: Increment,
@@ -393,7 +393,7 @@ impl Maker {
             spot,
         };
         let x = self.old_value(later, increment.fixity, lvalue)?;
-        let y = self.advanced(lvalue, increment.change, x)?;
+        let y = self.advance(lvalue, increment.change, x)?;
         match increment.fixity {
             Fixity::Prefix => Ok(y),
             Fixity::Postfix => Ok(x),
@@ -401,7 +401,7 @@ impl Maker {
     }
 
     /// 1 where a test holds, and else 0.
-    pub fn compared(&mut self, place: Place, test: Test) -> Result<Operand, AllocError>
+    pub fn truth_of(&mut self, place: Place, test: Test) -> Result<Operand, AllocError>
         ensures { IfOk result (Appends (set place (Holds test)) self.old self.new) }
     {
         let z = self.set(place, Value::Holds(test))?;
@@ -409,7 +409,7 @@ impl Maker {
     }
 
     /// A call of a function, behind the check that there is room for it.
-    pub fn called(
+    pub fn call(
         &mut self,
         place: Place,
         function: u32,

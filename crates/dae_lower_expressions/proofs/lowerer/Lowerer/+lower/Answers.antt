@@ -58,7 +58,7 @@ value-returns-in_ok-z-in-Binary t c =
 pub value-returns-in_ok-z-in-Compare : goal.value-returns-in_ok-z-in-Compare
 value-returns-in_ok-z-in-Compare t c =
     rw (c.in-Compare.is, ← c.deref-in-Compare.ensures, ← c.deref-in-Compare-2.ensures) (both_lowered (ways (links_in c.args.none c.args.links.now) (view c.deref-in-Compare.result.now)).value (λ x later n. (ways (links_in c.args.none c.args.links.now) (view c.deref-in-Compare-2.result.now)).value later n ≫ (λ y. set c.in-Compare.place (Holds (related c.in-Compare.comparison c.in-Compare.turned x y)))) _ _ (assigned (view c.deref-in-Compare-2.result.now)) _ _ _ _ _ (assigned_told (view c.deref-in-Compare-2.result.now)) c.in_ok-x-in-Compare.ensures
-    (then_lowered (ways (links_in c.args.none c.args.links.now) (view c.deref-in-Compare-2.result.now)).value ((λ y. set c.in-Compare.place (Holds (related c.in-Compare.comparison c.in-Compare.turned c.in_ok-x-in-Compare.x y)))) _ _ _ _ _ _ c.in_ok-y-in-Compare.ensures refl (rw (c.related-test.ensures) at (c.in_ok-z-in-Compare.ensures))))
+    (then_lowered (ways (links_in c.args.none c.args.links.now) (view c.deref-in-Compare-2.result.now)).value ((λ y. set c.in-Compare.place (Holds (related c.in-Compare.comparison c.in-Compare.turned c.in_ok-x-in-Compare.x y)))) _ _ _ _ _ _ c.in_ok-y-in-Compare.ensures refl (rw (c.test_of-test.ensures) at (c.in_ok-z-in-Compare.ensures))))
 
 pub value-returns-in_ok-branch-in-And : goal.value-returns-in_ok-branch-in-And
 value-returns-in_ok-branch-in-And t c =
@@ -95,7 +95,7 @@ value-returns-in_ok-z-in-Step t c =
 
 pub value-returns-in_ok-z-in-Call : goal.value-returns-in_ok-z-in-Call
 value-returns-in_ok-z-in-Call t c =
-    by_call (λ e. Lowers (ways (links_in c.args.none c.args.links.now) e).value (assignments e) (state_of c.args.self.now) (state_of (record { alloc = c.operands.new.self.alloc; maker = c.called.new.self; later = c.operands.new.self.later })) c.in_ok-z-in-Call.z) c.args.e.now c.in-Call.place c.in-Call.function c.in-Call.xs c.in-Call.is
+    by_call (λ e. Lowers (ways (links_in c.args.none c.args.links.now) e).value (assignments e) (state_of c.args.self.now) (state_of (record { alloc = c.operands.new.self.alloc; maker = c.call.new.self; later = c.operands.new.self.later })) c.in_ok-z-in-Call.z) c.args.e.now c.in-Call.place c.in-Call.function c.in-Call.xs c.in-Call.is
     (then_lowered (operands (links_in c.args.none c.args.links.now) (view_expressions c.in-Call.xs.items)) (called_with c.in-Call.place (callee_in c.args.none (Some c.args.links.now) c.in-Call.function)) _ _ _ _ _ _ (rw (c.deref-in-Call.ensures.value) at (c.in_ok-arguments-in-Call.ensures)) refl (rw (c.callee.ensures, c.from_vec.ensures) at (c.in_ok-z-in-Call.ensures)))
 
 pub value-returns-in_ok-z-in-Putchar : goal.value-returns-in_ok-z-in-Putchar
@@ -201,7 +201,7 @@ condition-returns-in_ok-condition-in-Not t c =
 pub condition-returns-in_ok-y-in-Compare : goal.condition-returns-in_ok-y-in-Compare
 condition-returns-in_ok-y-in-Compare t c =
     rw (c.in-Compare.is, ← c.deref-in-Compare.ensures, ← c.deref-in-Compare-2.ensures) (both_lowered (ways (links_in c.args.none c.args.links.now) (view c.deref-in-Compare.result.now)).value (λ x later n. (ways (links_in c.args.none c.args.links.now) (view c.deref-in-Compare-2.result.now)).value later n ≫ (λ y. nothing (record { test = related c.in-Compare.comparison c.in-Compare.turned x y; turned = false }))) _ _ (assigned (view c.deref-in-Compare-2.result.now)) _ _ _ _ _ (assigned_told (view c.deref-in-Compare-2.result.now)) c.in_ok-x-in-Compare.ensures
-    (then_lowered (ways (links_in c.args.none c.args.links.now) (view c.deref-in-Compare-2.result.now)).value ((λ y. nothing (record { test = related c.in-Compare.comparison c.in-Compare.turned c.in_ok-x-in-Compare.x y; turned = false }))) _ _ _ _ _ _ c.in_ok-y-in-Compare.ensures refl (rw (c.related.ensures) (nothing_written _ _))))
+    (then_lowered (ways (links_in c.args.none c.args.links.now) (view c.deref-in-Compare-2.result.now)).value ((λ y. nothing (record { test = related c.in-Compare.comparison c.in-Compare.turned c.in_ok-x-in-Compare.x y; turned = false }))) _ _ _ _ _ _ c.in_ok-y-in-Compare.ensures refl (rw (c.test_of.ensures) (nothing_written _ _))))
 
 pub condition-returns-in_ok-condition-in-Comma : goal.condition-returns-in_ok-condition-in-Comma
 condition-returns-in_ok-condition-in-Comma t c =

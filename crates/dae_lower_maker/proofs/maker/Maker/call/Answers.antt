@@ -3,7 +3,7 @@ use Rattle.dae_ir.specs.declared.form.Check.TheVariants.{Room}
 use Rattle.dae_ir.specs.declared.form.Item.TheVariants.{Expect, Call}
 use Rattle.dae_lower_maker.specs.Making.{so_far}
 use Rattle.dae_lower_maker.proofs.Rows.{checked_item}
-use Rattle.dae_lower_maker.proofs.maker.Maker.called.Goals as goal
+use Rattle.dae_lower_maker.proofs.maker.Maker.call.Goals as goal
 
 pub returns : goal.returns
 returns c =
