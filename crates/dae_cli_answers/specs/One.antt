@@ -5,7 +5,7 @@ use Rattle.dae_accept.specs.declared.error.CompileError.{CompileError}
 use Rattle.dae_accept.specs.declared.error.CompileError.TheVariants.{Memory}
 use Rattle.dae_big.specs.Texts.{big_name, big_text}
 use Rattle.dae_compile.specs.Images.{IsCompilationOf, IsImageOf}
-use Rattle.dae_compile_generate.specs.declared.generating.Compiled.{Compiled}
+use Rattle.dae_compile.specs.declared.generating.Compiled.{Compiled}
 use Rattle.dae_cli_options.specs.declared.options.Options.{Options}
 use Rattle.dae_image.specs.declared.Image.{Image}
 use Rattle.dae_io.specs.Faults.{Rose}

@@ -1,6 +1,6 @@
 -- What is due for files whose report is asked for.
 use Rattle.std.specs.Prelude.{ℕ, List, [], ◌∷◌}
-use Rattle.dae_compile_generate.specs.declared.generating.Compiled.{Compiled}
+use Rattle.dae_compile.specs.declared.generating.Compiled.{Compiled}
 use Rattle.dae_report.specs.Lines.{report_line}
 use Rattle.dae_cli_options.specs.declared.options.Options.{Options}
 use Rattle.dae_cli_drive.specs.Lines.{memory_line}

@@ -12,8 +12,8 @@ use Rattle.dae_program.specs.declared.program.Program.{Program}
 use Rattle.dae_lower_forms.specs.Lowered.{HasRoom}
 use Rattle.dae_link.specs.Linked.{IsCompiledOf}
 use Rattle.dae_report.specs.Reports.{IsReportOf}
-use Rattle.dae_compile_generate.specs.declared.generating.Compiled.{Compiled}
-use Rattle.dae_compile_generate.specs.Generated.{FitsMachine, HasFramesWithin, IsShort, NeedsTooMuch, words_of_form}
+use Rattle.dae_compile.specs.declared.generating.Compiled.{Compiled}
+use Rattle.dae_compile.specs.Generated.{FitsMachine, HasFramesWithin, IsShort, NeedsTooMuch, words_of_form}
 use Rattle.dae_compile_promise.specs.Promises.{IsLaterForm, KeepsMeaning, ImageKeepsMeaning}
 use Rattle.dae_compile.specs.Compiled.{AreCompiledFrom, IsFinalForm, HasTooMuchPrivate, HasTooMuchCode}
 

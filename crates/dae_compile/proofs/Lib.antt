@@ -1,3 +1,7 @@
 mod Accesses
 mod Fitting
 mod Small
+mod Names
+mod Own
+mod Private
+mod Calls

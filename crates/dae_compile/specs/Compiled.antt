@@ -12,8 +12,8 @@ use Rattle.dae_lower_formed.specs.Formed.{IsLowered}
 use Rattle.dae_link.specs.Linked.{IsCompiledOf}
 use Rattle.dae_report.specs.Reports.{IsReportOf}
 use Rattle.dae_compile_promise.specs.Promises.{IsLaterForm}
-use Rattle.dae_compile_generate.specs.Generated.{HasFramesWithin, IsShort, NeedsTooMuch, words_of_form}
-use Rattle.dae_compile_generate.specs.declared.generating.Compiled.{Compiled}
+use Rattle.dae_compile.specs.Generated.{HasFramesWithin, IsShort, NeedsTooMuch, words_of_form}
+use Rattle.dae_compile.specs.declared.generating.Compiled.{Compiled}
 use Rattle.dae_compile.specs.Sizes.{AreSmallBy}
 
 -- A form of a program, under a limit on calls: it is the lowered form, or one that passes made of it. It means what the lowered

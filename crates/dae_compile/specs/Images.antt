@@ -6,7 +6,7 @@ use Rattle.dae_program.specs.declared.program.Program.{Program}
 use Rattle.dae_report.specs.Reports.{IsReportOf}
 use Rattle.dae_compile_promise.specs.Promises.{KeepsMeaning}
 use Rattle.dae_accept.specs.Accepted.{IsAccepted}
-use Rattle.dae_compile_generate.specs.declared.generating.Compiled.{Compiled}
+use Rattle.dae_compile.specs.declared.generating.Compiled.{Compiled}
 use Rattle.dae_compile.specs.Accesses.{KeepsAccesses}
 use Rattle.dae_compile.specs.Compiled.{IsCompiledFrom}
 use Rattle.dae_compile.specs.Sizes.{IsSmallBeside}

@@ -2,3 +2,4 @@ pub mod Accesses
 pub mod Compiled
 pub mod Images
 pub mod Sizes
+pub mod Generated

@@ -5,7 +5,7 @@ use Rattle.dae_ir.specs.Form.{form_of}
 use Rattle.dae_ir.specs.Sizes.{form_size}
 use Rattle.dae_ir.specs.declared.form.Function.{Function}
 use Rattle.dae_lower_formed.specs.Code.{loaded_burden, loads_in}
-use Rattle.dae_compile_generate.specs.Generated.{calls_of_form}
+use Rattle.dae_compile.specs.Generated.{calls_of_form}
 use Rattle.dae_tree.specs.Files.{Contents}
 use Rattle.dae_accept_sources.specs.Read.{AreRead}
 use Rattle.dae_sizes.specs.Sources.{AreUpTo, tokens_in, bytes_in}

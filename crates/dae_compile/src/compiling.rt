@@ -7,11 +7,11 @@ ghost use Rattle.dae_accept_sources.specs.Read.{IsShort, texts_in};
 ghost use Rattle.dae_accept.specs.Accepted.{IsRefusedFor};
 ghost use Rattle.dae_compile.specs.Images.{IsCompilationOf};
 
+use crate::Compiled;
 use crate::programs::compile_program;
 use dae_accept::{CompileError, accept, read_are_within};
 use dae_base::{Items, Text};
 use dae_cli_options::Options;
-use dae_compile_generate::Compiled;
 use dae_compile_promise::later_forms_do_programs;
 use dae_link_sides::CodeError;
 use dae_lower_bounds::sets_bounded;

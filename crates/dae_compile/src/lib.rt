@@ -7,8 +7,9 @@
 pub use compiling::compile;
 pub use dae_accept::CompileError;
 pub use dae_cli_options::Options;
-pub use dae_compile_generate::Compiled;
+pub use generating::{Compiled, generate};
 pub use programs::compile_program;
 
 mod compiling;
+mod generating;
 mod programs;

@@ -11,9 +11,9 @@ ghost use Rattle.dae_ir.specs.SetFirst.{IsFunctionSetFirst};
 ghost use Rattle.dae_lower_forms.specs.Lowered.{HasRoom};
 ghost use Rattle.dae_compile.specs.Compiled.{AreCompiledFrom, HasTooMuchPrivate, HasTooMuchCode, IsFinalForm};
 
+use crate::{Compiled, generate};
 use dae_alias::{forms_are_reused, reuse, reuse_stays_small};
 use dae_base::{Items, Text};
-use dae_compile_generate::{Compiled, generate};
 use dae_compile_promise::image_keeps_meaning;
 use dae_ir::Ir;
 use dae_link_sides::CodeError;

@@ -2,9 +2,9 @@ use Rattle.std.proofs.Common.{List, sym, ap, ◌∙◌}
 use Rattle.std.proofs.lemmas.Result.{err_from_is_err_and}
 use Rattle.dae_ir.specs.declared.stream.Class.{Class}
 use Rattle.dae_report.specs.Reports.{report_of}
-use Rattle.dae_compile_generate.proofs.Private.{needs_too_much, private_within}
-use Rattle.dae_compile_generate.proofs.Calls.{short_code, too_long}
-use Rattle.dae_compile_generate.proofs.generating.generate.Goals as goal
+use Rattle.dae_compile.proofs.Private.{needs_too_much, private_within}
+use Rattle.dae_compile.proofs.Calls.{short_code, too_long}
+use Rattle.dae_compile.proofs.generating.generate.Goals as goal
 
 pub returns-clause-compiled : goal.returns-clause-compiled
 returns-clause-compiled c =

@@ -11,8 +11,8 @@ use Rattle.dae_ir.specs.declared.stream.Stream.{Stream}
 use Rattle.dae_select_walks.specs.Homes.{frame_words}
 use Rattle.dae_link_sides.specs.Settled.{IsTooDeep, IsPrivateWithin}
 use Rattle.dae_link.specs.Linked.{HasPrivateWithin, HasTooDeep}
-use Rattle.dae_compile_generate.specs.Generated.{HaveAtMost, HasFramesWithin, NeedsTooMuch}
-use Rattle.dae_compile_generate.proofs.Own.{stream_at_most}
+use Rattle.dae_compile.specs.Generated.{HaveAtMost, HasFramesWithin, NeedsTooMuch}
+use Rattle.dae_compile.proofs.Own.{stream_at_most}
 
 four_times : (bytes words most : ℕ) → bytes ≡ 4 * words → words ≤ most → bytes ≤ 4 * most
 four_times bytes words most four low = omega (arith, four, low)

@@ -29,7 +29,7 @@ use Rattle.dae_ir_pair.proofs.Laws.{streams_are_small}
 use Rattle.dae_select_blocks.specs.Sizes.{one_call, calls_in, most_words_in}
 use Rattle.dae_link_sides.specs.Sizes.{most_of_functions, most_words}
 use Rattle.dae_link.specs.Linked.{HasShortCode, IsTooLong}
-use Rattle.dae_compile_generate.specs.Generated.{calls_of_form, words_of_functions, words_of_form, IsShort}
+use Rattle.dae_compile.specs.Generated.{calls_of_form, words_of_functions, words_of_form, IsShort}
 
 module _ (of : ℕ → Classes) (c : Classes) (cap : ℕ) where
   -- ---- groups hold no call

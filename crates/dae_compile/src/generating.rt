@@ -7,7 +7,7 @@ ghost use Rattle.dae_machine_runs.specs.Promises.{DoesForm};
 ghost use Rattle.dae_link.specs.Linked.{IsCompiledOf};
 ghost use Rattle.dae_report.specs.Reports.{IsReportOf};
 ghost use Rattle.dae_link_sides.specs.declared.error.CodeError.TheVariants as errors;
-ghost use Rattle.dae_compile_generate.specs.Generated.{FitsMachine, HasFramesWithin, IsShort, NeedsTooMuch, words_of_form};
+ghost use Rattle.dae_compile.specs.Generated.{FitsMachine, HasFramesWithin, IsShort, NeedsTooMuch, words_of_form};
 
 use dae_base::{Items, Text};
 use dae_image::Image;

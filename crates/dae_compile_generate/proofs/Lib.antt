@@ -1,4 +1,0 @@
-mod Names
-mod Own
-mod Private
-mod Calls
