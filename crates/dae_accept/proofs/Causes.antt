@@ -1,6 +1,6 @@
 -- Of texts without tokens or without a tree one cause is told.
 use Rattle.std.proofs.Common.{◌≡◌, ◌≢◌, ◌⊎◌, inl, inr, ℕ, List, refl, ap}
-use Rattle.dae_accept_sources.specs.Once.{AreCutFirst, AreCutOnce, AreParsedOnce}
+use Rattle.dae_accept.specs.Once.{AreCutFirst, AreCutOnce, AreParsedOnce}
 use Rattle.dae_accept.specs.Accepted.{HaveTrees, IsRefusedFor}
 use Rattle.dae_accept.specs.declared.error.CompileError.{CompileError}
 use Rattle.dae_accept.specs.declared.error.CompileError.TheVariants as errors

@@ -8,8 +8,8 @@ use Rattle.dae_types_rules.specs.Plan.{Broken, IsChecked}
 use Rattle.dae_types_file_plans.specs.Files.{plan_file}
 use Rattle.dae_types_typed.specs.declared.files.FileParts.{FileParts}
 use Rattle.dae_program.specs.declared.program.Program.{Program}
-use Rattle.dae_accept_sources.specs.Alike.{AreLike, IsLike}
-use Rattle.dae_accept_sources.specs.Once.{AreReadAlike}
+use Rattle.dae_accept.specs.Alike.{AreLike, IsLike}
+use Rattle.dae_accept.specs.Once.{AreReadAlike}
 use Rattle.dae_types.specs.Answers.{plan_in, start_in}
 use Rattle.dae_accept.specs.Accepted.{AreTyped, IsAccepted, IsFirstBroken, IsRuleRefusal}
 

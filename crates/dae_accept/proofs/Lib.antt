@@ -4,3 +4,6 @@ mod Files
 mod Joined
 mod Origins
 mod Within
+mod Seen
+mod Once
+mod Texts

@@ -8,7 +8,7 @@ use Rattle.dae_types.specs.Answers.{IsTypedFile}
 use Rattle.dae_types.specs.Names.{numbers_in}
 use Rattle.dae_sizes.specs.Sources.{AreTypedAs, IsTypedAs}
 use Rattle.dae_unit_join.specs.Promise.{HaveParameters, IsJoinedTo}
-use Rattle.dae_accept_sources.specs.Read.{AreRead}
+use Rattle.dae_accept.specs.Read.{AreRead}
 use Rattle.dae_accept.specs.Accepted.{AreTyped}
 use Rattle.dae_accept.specs.Origins.{IsOfFiles}
 

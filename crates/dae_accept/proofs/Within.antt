@@ -20,7 +20,7 @@ use Rattle.dae_tree.specs.Tokens as tree
 use Rattle.dae_tree.specs.Tokens.{literal_of, before, before_by, joined, names_with, literals_with, literals_after, numbered, room_after, reading_of, lines_in, tested_of, reads_of, with_room}
 use Rattle.dae_parse.specs.Parsed.{IsFileOf}
 use Rattle.dae_sizes.specs.Sources.{tokens_in, bytes_of, bytes_in}
-use Rattle.dae_accept_sources.specs.Read.{AreFilesOf, AreRead, readings_from, whole_room, with_first}
+use Rattle.dae_accept.specs.Read.{AreFilesOf, AreRead, readings_from, whole_room, with_first}
 use Rattle.dae_accept.specs.Origins.{ReadAreWithin}
 
 -- ---- what is read of one text is within its limits

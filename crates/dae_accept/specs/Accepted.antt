@@ -5,7 +5,7 @@ use Rattle.dae_types_kinds.specs.declared.rules.Breach.{Breach}
 use Rattle.dae_types_rules.specs.Plan.{IsChecked}
 use Rattle.dae_types_typed.specs.declared.files.FileParts.{FileParts}
 use Rattle.dae_program.specs.declared.program.Program.{Program}
-use Rattle.dae_accept_sources.specs.Read.{AreRead, HasNoTokens, IsTreeRefusal}
+use Rattle.dae_accept.specs.Read.{AreRead, HasNoTokens, IsTreeRefusal}
 use Rattle.dae_types.specs.Answers.{IsTypedFile, plan_in, start_in}
 use Rattle.dae_unit.specs.declared.errors.JoinError.{JoinError}
 use Rattle.dae_unit.specs.Joining.{cause}

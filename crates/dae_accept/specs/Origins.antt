@@ -5,7 +5,7 @@ use Rattle.dae_program.specs.declared.program.Program.{Program}
 use Rattle.dae_types_typed.specs.declared.files.FileParts.{FileParts}
 use Rattle.dae_unit.specs.Meanings.{functions_from}
 use Rattle.dae_sizes.specs.Sources.{AreTypedAs, tokens_in, bytes_in}
-use Rattle.dae_accept_sources.specs.Read.{AreRead, whole_room}
+use Rattle.dae_accept.specs.Read.{AreRead, whole_room}
 
 -- the texts are read as files, in which no rule is broken, and the program has the functions that they join to
 pub record IsOfFiles (texts : List (List ℕ)) (p : Program) : Type 0 where

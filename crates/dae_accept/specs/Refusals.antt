@@ -1,8 +1,8 @@
 -- What the refusal of a stage is for all.
 use Rattle.dae_types_kinds.specs.declared.rules.CheckError.{CheckError}
 use Rattle.dae_types_kinds.specs.declared.rules.CheckError.TheVariants as rules
-use Rattle.dae_accept_sources.specs.declared.reading.FileError.{FileError}
-use Rattle.dae_accept_sources.specs.declared.reading.FileError.TheVariants as files
+use Rattle.dae_accept.specs.declared.reading.FileError.{FileError}
+use Rattle.dae_accept.specs.declared.reading.FileError.TheVariants as files
 use Rattle.dae_unit.specs.declared.errors.JoinError.{JoinError}
 use Rattle.dae_unit.specs.declared.errors.JoinError.TheVariants as joins
 use Rattle.dae_accept.specs.declared.error.CompileError.{CompileError}

@@ -3,13 +3,13 @@
 ghost use Rattle.std.specs.Prelude.{◌≤◌, ◌^◌, length, IfErr, IfOk};
 ghost use Rattle.std.specs.List.{All};
 ghost use Rattle.dae_tree.specs.Files.{IsFile};
-ghost use Rattle.dae_accept_sources.specs.Read.{IsShort, texts_in};
+ghost use Rattle.dae_accept.specs.Read.{IsShort, texts_in};
 ghost use Rattle.dae_accept.specs.Accepted.{IsAccepted, IsRefusedFor};
 ghost use Rattle.dae_accept.specs.Checked.{Checks};
 ghost use Rattle.dae_accept.specs.Origins.{IsOfFiles};
 
 use crate::error::CompileError;
-use dae_accept_sources::read_files;
+use crate::read_files;
 use dae_program::Program;
 use dae_tree::File;
 use dae_types::check;

@@ -4,7 +4,7 @@ ghost use Rattle.std.specs.Prelude.{◌≡◌};
 ghost use Rattle.dae_accept.specs.declared.error.CompileError.TheVariants.{Memory};
 ghost use Rattle.dae_accept.specs.Refusals.{from_checking, from_joining, from_reading};
 
-use dae_accept_sources::FileError;
+use crate::FileError;
 use dae_lex::LexError;
 use dae_parse::ParseError;
 use dae_types_kinds::{Breach, CheckError};

@@ -5,8 +5,10 @@
 
 pub use accepting::accept;
 pub use error::CompileError;
-pub use laws::{accepted_have_no_fault, one_cause_is_told, read_are_within};
+pub use laws::{accepted_have_no_fault, one_cause_is_told, read_are_within, texts_are_read_once};
+pub use reading::{FileError, read_files};
 
 mod accepting;
 mod error;
 mod laws;
+mod reading;

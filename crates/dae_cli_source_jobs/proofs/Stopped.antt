@@ -8,7 +8,7 @@ use Rattle.std.proofs.lemmas.Bool.{and_parts}
 use Rattle.std.proofs.lemmas.List.Elements.{All-from_recursion}
 use Rattle.dae_base.proofs.Laws.{is_true}
 use Rattle.dae_image.specs.Contents.{is_name}
-use Rattle.dae_accept_sources.specs.Read.{IsShort, texts_in}
+use Rattle.dae_accept.specs.Read.{IsShort, texts_in}
 use Rattle.dae_image.specs.declared.Image.{Image}
 use Rattle.dae_cli_options.specs.Names.{begins_with_dash, is_file_name}
 use Rattle.dae_cli_options.specs.declared.options.Options.{Options}

@@ -1,7 +1,7 @@
 // The texts of the source files of a job, which are fetched in order.
 ghost use Rattle.std.specs.Prelude.{◌≡◌, ◌⊎◌, ◌≤◌, IfErr, IfOk, length, map, string_bytes};
 ghost use Rattle.dae_io.specs.Told.{TellsSame};
-ghost use Rattle.dae_accept_sources.specs.Read.{texts_in};
+ghost use Rattle.dae_accept.specs.Read.{texts_in};
 ghost use Rattle.dae_cli_drive.specs.Lines.{memory_line};
 ghost use Rattle.dae_cli_drive.specs.Puts.{stop_answer, told};
 ghost use Rattle.dae_cli_source_jobs.specs.Fetching.{AreFetched, IsFirstNotFetched, IsNotFetched, most_source};

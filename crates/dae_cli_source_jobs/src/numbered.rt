@@ -1,7 +1,7 @@
 // The job `big`: the source of a number is compiled, and its image is run. Nothing is fetched.
 ghost use Rattle.std.specs.Prelude.{◌≡◌, ◌≤◌, [], ◌∷◌, IfErr, IfOk, length, map, string_bytes};
 ghost use Rattle.std.specs.List.{All};
-ghost use Rattle.dae_accept_sources.specs.Read.{IsShort, texts_in};
+ghost use Rattle.dae_accept.specs.Read.{IsShort, texts_in};
 ghost use Rattle.dae_big.specs.Texts.{big_name, big_text};
 ghost use Rattle.dae_cli_drive.specs.Images.{DueOfImage};
 ghost use Rattle.dae_cli_drive.specs.Puts.{GivesDue, sinks, stop_answer};

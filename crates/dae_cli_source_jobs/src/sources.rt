@@ -2,7 +2,7 @@
 ghost use Rattle.std.specs.Prelude.{◌≡◌, ◌≤◌, true, IfErr, IfOk, length, map, string_bytes};
 ghost use Rattle.std.specs.List.{All, list_all};
 ghost use Rattle.std.specs.Str.{is_utf8};
-ghost use Rattle.dae_accept_sources.specs.Read.{IsShort, texts_in};
+ghost use Rattle.dae_accept.specs.Read.{IsShort, texts_in};
 ghost use Rattle.dae_cli_drive.specs.Puts.{stop_answer};
 ghost use Rattle.dae_cli_files.specs.ImageFiles.{NoneOf};
 ghost use Rattle.dae_cli_files.specs.Shelves.{KeepsNothing, shelf_seen};

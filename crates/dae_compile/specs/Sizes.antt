@@ -7,7 +7,7 @@ use Rattle.dae_ir.specs.declared.form.Function.{Function}
 use Rattle.dae_lower_formed.specs.Code.{loaded_burden, loads_in}
 use Rattle.dae_compile.specs.Generated.{calls_of_form}
 use Rattle.dae_tree.specs.Files.{Contents}
-use Rattle.dae_accept_sources.specs.Read.{AreRead}
+use Rattle.dae_accept.specs.Read.{AreRead}
 use Rattle.dae_sizes.specs.Sources.{AreUpTo, tokens_in, bytes_in}
 
 -- A function of a final form, beside that of the lowered one: the words that bound its code, 28 a unit of size and 42 more a

@@ -3,7 +3,7 @@
 ghost use Rattle.std.specs.Prelude.{◌≡◌, ◌≤◌, length, IfErr, IfOk, IsTrue};
 ghost use Rattle.std.specs.List.{All, list_all};
 ghost use Rattle.dae_image.specs.Contents.{is_name};
-ghost use Rattle.dae_accept_sources.specs.Read.{IsShort, texts_in};
+ghost use Rattle.dae_accept.specs.Read.{IsShort, texts_in};
 ghost use Rattle.dae_accept.specs.Accepted.{IsRefusedFor};
 ghost use Rattle.dae_compile.specs.Images.{IsCompilationOf};
 

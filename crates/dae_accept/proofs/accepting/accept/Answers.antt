@@ -2,7 +2,7 @@ use Rattle.std.proofs.Common.{subst}
 use Rattle.std.proofs.lemmas.List.Elements.{recursion_from_All}
 use Rattle.std.specs.List.{All}
 use Rattle.dae_tree.specs.Files.{IsFile}
-use Rattle.dae_accept_sources.specs.Read.{texts_in}
+use Rattle.dae_accept.specs.Read.{texts_in}
 use Rattle.dae_accept.specs.Accepted.{AreTyped}
 use Rattle.dae_accept.proofs.Origins.{of_files}
 use Rattle.dae_accept.proofs.accepting.accept.Goals as goal

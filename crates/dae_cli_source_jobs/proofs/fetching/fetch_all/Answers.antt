@@ -1,7 +1,7 @@
 use Rattle.std.proofs.Common.{◌≡◌, ◌-◌, ◌++◌, ◌∷◌, [], length, map, string_bytes, sym, ap, ◌∙◌, subst, arith, rules, List, ℕ}
 use Rattle.std.proofs.lemmas.List.{at_drop_all, map-append}
 use Rattle.std.proofs.lemmas.Result.{err_from_is_err_and}
-use Rattle.dae_accept_sources.specs.Read.{texts_in}
+use Rattle.dae_accept.specs.Read.{texts_in}
 use Rattle.dae_cli_source_jobs.specs.Fetching.{most_source}
 use Rattle.dae_cli_source_jobs.proofs.OnWay.{IsOnWay, texts_from, way_begins, way_ends, way_same, way_stops, way_told}
 use Rattle.dae_cli_source_jobs.proofs.fetching.fetch_all.Goals as goal

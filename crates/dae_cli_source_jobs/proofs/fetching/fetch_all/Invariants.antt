@@ -1,6 +1,6 @@
 use Rattle.std.proofs.Common.{◌≡◌, ◌≤◌, map, string_bytes, drop}
 use Rattle.dae_io.specs.Told.{TellsSame}
-use Rattle.dae_accept_sources.specs.Read.{texts_in}
+use Rattle.dae_accept.specs.Read.{texts_in}
 use Rattle.dae_cli_source_jobs.specs.Fetching.{most_source}
 use Rattle.dae_cli_source_jobs.proofs.OnWay.{IsOnWay}
 use Rattle.dae_cli_source_jobs.proofs.fetching.fetch_all.Given as goal

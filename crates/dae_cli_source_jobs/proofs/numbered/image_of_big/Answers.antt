@@ -1,7 +1,7 @@
 use Rattle.std.proofs.Common.{ℕ, List, map, string_bytes, ap, ◌∙◌}
 use Rattle.std.specs.Prelude.{String, Vec}
 use Rattle.std.specs.declared.alloc.Global.{Global}
-use Rattle.dae_accept_sources.specs.Read.{texts_in}
+use Rattle.dae_accept.specs.Read.{texts_in}
 use Rattle.dae_cli_source_jobs.specs.Sources.{due_memory_to_compile}
 use Rattle.dae_cli_source_jobs.proofs.OfNumber.{image_of_number}
 use Rattle.dae_cli_source_jobs.proofs.numbered.image_of_big.Goals as goal

@@ -1,5 +1,5 @@
 use Rattle.std.proofs.Common.{refl}
-use Rattle.dae_accept_sources.specs.Read.{texts_in}
+use Rattle.dae_accept.specs.Read.{texts_in}
 use Rattle.dae_compile.proofs.Accesses.{keeps_accesses}
 use Rattle.dae_compile.proofs.Small.{never_deep, never_long, small}
 use Rattle.dae_compile.proofs.compiling.compile.Goals as goal

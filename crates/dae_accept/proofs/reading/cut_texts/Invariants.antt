@@ -1,7 +1,7 @@
 use Rattle.std.proofs.Common.{◌≡◌, drop}
-use Rattle.dae_accept_sources.specs.Read.{readings_from, readings_of, texts_in}
-use Rattle.dae_accept_sources.proofs.Texts.{behind}
-use Rattle.dae_accept_sources.proofs.reading.cut_texts.Given as goal
+use Rattle.dae_accept.specs.Read.{readings_from, readings_of, texts_in}
+use Rattle.dae_accept.proofs.Texts.{behind}
+use Rattle.dae_accept.proofs.reading.cut_texts.Given as goal
 
 abbrev pub invariant-loop-text : goal.invariant-loop-text
 invariant-loop-text l =

@@ -2,8 +2,8 @@
 
 ghost use Rattle.std.specs.Prelude.{◌≡◌, ◌≤◌, length};
 ghost use Rattle.std.specs.List.{All};
-ghost use Rattle.dae_accept_sources.specs.declared.reading.FileError.TheVariants.{Memory};
-ghost use Rattle.dae_accept_sources.specs.Read.{Cuts, IsShort, Parses, Reads, lexed, readings_of, texts_in};
+ghost use Rattle.dae_accept.specs.declared.reading.FileError.TheVariants.{Memory};
+ghost use Rattle.dae_accept.specs.Read.{Cuts, IsShort, Parses, Reads, lexed, readings_of, texts_in};
 
 use dae_lex::tokens;
 use dae_parse::{ParseError, parse};

@@ -10,8 +10,8 @@ use Rattle.dae_tree.specs.Files.{Contents}
 use Rattle.dae_tree.specs.Trees.{External}
 use Rattle.dae_parse.specs.declared.error.ParseError.{ParseError}
 use Rattle.dae_parse.specs.Parsed.{IsCause, IsFileOf, IsRefused, IsWithinLimits}
-use Rattle.dae_accept_sources.specs.declared.reading.FileError.{FileError}
-use Rattle.dae_accept_sources.specs.declared.reading.FileError.TheVariants.{Lex, Tree, Memory}
+use Rattle.dae_accept.specs.declared.reading.FileError.{FileError}
+use Rattle.dae_accept.specs.declared.reading.FileError.TheVariants.{Lex, Tree, Memory}
 
 -- the limits on what is read of a job
 abbrev pub whole_room : Room

@@ -8,8 +8,8 @@ use Rattle.dae_tree.specs.Trees.{External}
 use Rattle.dae_parse.specs.declared.error.ParseError.{ParseError}
 use Rattle.dae_parse.specs.declared.error.ParseError.TheVariants as errors
 use Rattle.dae_parse.specs.Parsed.{AreAlike, IsCause, IsFileOf, IsRefused, IsWithinLimits}
-use Rattle.dae_accept_sources.specs.Alike.{AreLike, IsLike}
-use Rattle.dae_accept_sources.specs.Read.{AreFilesOf, AreRead, HasNoTokens, IsFirstRefused, IsTreeRefusal}
+use Rattle.dae_accept.specs.Alike.{AreLike, IsLike}
+use Rattle.dae_accept.specs.Read.{AreFilesOf, AreRead, HasNoTokens, IsFirstRefused, IsTreeRefusal}
 
 -- the tokens of a text have one tree
 abbrev pub OneTree : Type 0

@@ -1,5 +1,5 @@
-use Rattle.dae_accept_sources.proofs.Files.{last_files, next_files}
-use Rattle.dae_accept_sources.proofs.reading.parse_all.Goals as goal
+use Rattle.dae_accept.proofs.Seen.{last_files, next_files}
+use Rattle.dae_accept.proofs.reading.parse_all.Goals as goal
 
 pub loop-tokens-preserved : goal.loop-tokens-preserved
 loop-tokens-preserved c =

@@ -7,7 +7,7 @@ use Rattle.dae_tree.specs.Files.{Contents}
 use Rattle.dae_tree.specs.FileViews.{view_externals}
 use Rattle.dae_parse.specs.declared.error.ParseError.{ParseError}
 use Rattle.dae_parse.specs.Parsed.{IsFileOf}
-use Rattle.dae_accept_sources.specs.Read.{AreFilesOf, IsFirstRefused}
+use Rattle.dae_accept.specs.Read.{AreFilesOf, IsFirstRefused}
 
 -- so far there are these, and with those of the readings from an index on they are all; the first refusal of those is that of all
 pub record Starts (rs : List Reading) (i : ℕ) (files : List Contents) : Type 0 where

@@ -3,8 +3,8 @@ use Rattle.std.specs.Prelude.{◌≡◌, ℕ, List}
 use Rattle.dae_tree.specs.declared.faults.LexError.{LexError}
 use Rattle.dae_tree.specs.Files.{Contents}
 use Rattle.dae_parse.specs.declared.error.ParseError.{ParseError}
-use Rattle.dae_accept_sources.specs.Alike.{AreLike}
-use Rattle.dae_accept_sources.specs.Read.{AreRead, HasNoTokens, IsTreeRefusal}
+use Rattle.dae_accept.specs.Alike.{AreLike}
+use Rattle.dae_accept.specs.Read.{AreRead, HasNoTokens, IsTreeRefusal}
 
 -- whatever files texts are read to, they are alike
 abbrev pub AreReadAlike : Type 0

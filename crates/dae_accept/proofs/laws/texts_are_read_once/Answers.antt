@@ -1,5 +1,5 @@
-use Rattle.dae_accept_sources.proofs.Once.{cut_first, cut_once, parsed_once, read_alike, read_cut, read_parsed}
-use Rattle.dae_accept_sources.proofs.laws.texts_are_read_once.Goals as goal
+use Rattle.dae_accept.proofs.Once.{cut_first, cut_once, parsed_once, read_alike, read_cut, read_parsed}
+use Rattle.dae_accept.proofs.laws.texts_are_read_once.Goals as goal
 
 pub returns-clause-alike : goal.returns-clause-alike
 returns-clause-alike c = read_alike c.one_answer_is_due.ensures.tree

@@ -1,3 +1,0 @@
-mod Files
-mod Once
-mod Texts
