@@ -5,7 +5,7 @@ use Rattle.std.specs.declared.alloc.Global.{Global}
 use Rattle.dae_base.specs.declared.Place.{Place}
 use Rattle.dae_parse_grammar.specs.FirstPlaces.{Places, or_else, nowhere, both, over}
 use Rattle.dae_parse_parts.specs.declared.reading.Read.{Read}
-use Rattle.dae_parse_depths.specs.declared.depths.Depths.{Depths}
+use Rattle.dae_parse_parts.specs.declared.depths.Depths.{Depths}
 use Rattle.dae_parse_parts.specs.Shown.{Lists, IsKept, Holds, IsSeen, in_box, box_value, Shows, IsFrom, IsPair, IsMade}
 use Rattle.dae_parse_parts.proofs.Holding.{holds_some, holds_none}
 

@@ -1,2 +1,3 @@
 mod Holding
 pub mod Laws
+mod Cutting

@@ -3,8 +3,8 @@ ghost use Rattle.std.specs.Prelude.{◌≡◌, length, slice_get, Some, None, If
 ghost use Rattle.dae_parse_grammar.specs.FirstPlaces.{Places, nowhere, both, over};
 ghost use Rattle.dae_parse_parts.specs.Shown.{Holds, IsKept, IsFrom, IsPair, IsLonger, IsMade, box_value};
 
+use crate::Depths;
 use dae_base::Place;
-use dae_parse_depths::Depths;
 use std::alloc::{AllocError, Global};
 
 /// A part that was read: its tree, where no node in it is too deep, and the places of its first nodes.

@@ -1,7 +1,7 @@
 // Small parts of a parser: trees at the greatest depth, and what parts over others keep of them.
 
 use dae_base::Place;
-use dae_parse_depths::GREATEST_DEPTH;
+use dae_parse_parts::GREATEST_DEPTH;
 use dae_parse_nodes::{
     Body, Declared, Operand, ParameterList, Specified, binary, function, identifier, named,
     no_declarators, no_members, no_parameters, no_specifiers, parenthesised, pointer,
