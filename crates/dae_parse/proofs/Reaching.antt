@@ -18,7 +18,7 @@ use Rattle.dae_parse_states.specs.declared.frames.Doing.{Doing}
 use Rattle.dae_parse_states.specs.declared.machine.Machine.{Machine}
 use Rattle.dae_parse_states.specs.declared.frames.Doing.TheVariants as doing
 use Rattle.dae_parse_states.specs.declared.frames.Frame.{Frame as Top}
-use Rattle.dae_parse_scope.specs.Scopes.{Scopes}
+use Rattle.dae_parse_parts.specs.Scopes.{Scopes}
 use Rattle.dae_parse_states.specs.Frames.{ShowsFile, ShowsStack}
 use Rattle.dae_parse_states.specs.States.{Follows}
 use Rattle.dae_parse_states.specs.Bottom.{IsEmptyAt, IsBottomState}

@@ -11,7 +11,7 @@ ghost use Rattle.dae_parse.specs.Reached.{Comes};
 
 use crate::turn::{Turn, take_turn};
 use dae_parse_nodes::no_externals;
-use dae_parse_scope::Scope;
+use dae_parse_parts::Scope;
 use dae_parse_states::{Before, Doing, Machine, Rest};
 use dae_tree::Token;
 use std::alloc::{AllocError, Global};

@@ -8,9 +8,9 @@ use Rattle.dae_tree.specs.Lists.{Parameter}
 use Rattle.dae_parse_grammar.specs.Frames.{Frame, Open, state, gave_declarator, of_parameter, awaits_declarator}
 use Rattle.dae_parse_grammar.specs.Machine.{parameters_onto}
 use Rattle.dae_parse_grammar.specs.Standing.{Holds, now_parameters}
-use Rattle.dae_parse_scope.specs.declared.scope.Binding.{Binding}
-use Rattle.dae_parse_scope.specs.Scopes.{innermost}
-use Rattle.dae_parse_scope.specs.Shown.{pair_of, bound_all}
+use Rattle.dae_parse_parts.specs.declared.scope.Binding.{Binding}
+use Rattle.dae_parse_parts.specs.Scopes.{innermost}
+use Rattle.dae_parse_parts.specs.ShownNames.{pair_of, bound_all}
 
 bound_all_adds : (bindings : List (Binding Bool)) (names : Names) → bound_all bindings names ≡ bound_all bindings [] ++ names
 bound_all_adds [] names = refl

@@ -34,7 +34,7 @@ use Rattle.dae_parse_nodes.specs.declared.values.Declared.{Declared}
 use Rattle.dae_parse_nodes.specs.declared.values.ParameterList.{ParameterList}
 use Rattle.dae_parse_nodes.specs.declared.values.Loop.{Loop}
 use Rattle.dae_parse_parts.specs.Shown.{Shows, ShowsList, in_box, box_value}
-use Rattle.dae_parse_scope.specs.Shown.{bound_all}
+use Rattle.dae_parse_parts.specs.ShownNames.{bound_all}
 
 -- ---- expressions
 

@@ -7,13 +7,13 @@ ghost use Rattle.dae_tree.specs.Grammar.{void_alone};
 ghost use Rattle.dae_tree.specs.Lists as lists;
 ghost use Rattle.dae_parse_grammar.specs.Frames as frames;
 ghost use Rattle.dae_parse_grammar.specs.Machine.{closed_by, parameters_onto};
-ghost use Rattle.dae_parse_scope.specs.Shown.{bound_all};
+ghost use Rattle.dae_parse_parts.specs.ShownNames.{bound_all};
 ghost use Rattle.dae_parse_nodes.specs.Parts.{ShowsOperand, ShowsSpecified, ShowsDeclared, ShowsParameterList, ShowsParameters};
 
 use crate::values::{Declared, Operand, ParameterList, Specified};
 use dae_base::Place;
 use dae_parse_parts::{Read, beside, flat, longer, over};
-use dae_parse_scope::Binding;
+use dae_parse_parts::Binding;
 use dae_tree::{Declarator, Name, Parameter};
 use std::alloc::{AllocError, Global};
 

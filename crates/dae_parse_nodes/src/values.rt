@@ -2,7 +2,7 @@
 
 use dae_base::Place;
 use dae_parse_parts::Read;
-use dae_parse_scope::Binding;
+use dae_parse_parts::Binding;
 use dae_tree::{Declarator, Expression, Name, Parameter, Seen, Specifier, Statement};
 
 /// An expression that was read, its level, and the place of its first token.

@@ -2,7 +2,7 @@
 use Rattle.std.proofs.Common.{◌≡◌, ℕ, Bool, true, false, if◌then◌else◌, nat_eq, List, [], ◌∷◌, Option, Some, refl}
 use Rattle.std.specs.Option.{unwrap_or}
 use Rattle.dae_tree.specs.Names.{Names, is_type}
-use Rattle.dae_parse_scope.specs.Scopes.{bound_to}
+use Rattle.dae_parse_parts.specs.Scopes.{bound_to}
 
 by_test : (b is : Bool) (o : Option Bool) (x : Bool) → unwrap_or o false ≡ x → unwrap_or (if b then Some is else o) false ≡ (if b then is else x)
 by_test true is o x h = refl

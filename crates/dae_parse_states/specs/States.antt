@@ -4,7 +4,7 @@ use Rattle.std.specs.declared.alloc.AllocError.{AllocError}
 use Rattle.dae_tree.specs.Marks.{Mark}
 use Rattle.dae_tree.specs.Names.{Names}
 use Rattle.dae_parse_grammar.specs.Frames as plain
-use Rattle.dae_parse_scope.specs.Scopes.{Scopes}
+use Rattle.dae_parse_parts.specs.Scopes.{Scopes}
 use Rattle.dae_parse_states.specs.Frames.{ShowsDoing, ShowsStack}
 use Rattle.dae_parse_states.specs.declared.frames.Frame.{Frame}
 use Rattle.dae_parse_states.specs.declared.frames.Doing.{Doing}

@@ -10,7 +10,7 @@ ghost use Rattle.dae_parse_states.specs.States.{frames_of, Popped};
 use crate::frames::Frame;
 use crate::rest::Rest;
 use dae_parse_nodes::{Declared, Specified};
-use dae_parse_scope::Scope;
+use dae_parse_parts::Scope;
 use std::alloc::{AllocError, Global};
 
 /// The machine that reads trees: the tokens that are left, the names in scope, and what comes behind the part that is read.

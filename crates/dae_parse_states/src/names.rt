@@ -5,7 +5,7 @@ ghost use Rattle.dae_tree.specs.Names.{is_type};
 ghost use Rattle.dae_tree.specs.Words as words;
 
 use crate::rest::Rest;
-use dae_parse_scope::Scope;
+use dae_parse_parts::Scope;
 use dae_tree::Seen;
 
 /// Whether a name is the name of a type.

@@ -7,7 +7,7 @@ use dae_parse_nodes::{
     no_declarators, no_members, no_parameters, no_specifiers, parenthesised, pointer,
     with_declarator, with_member, with_parameter, with_structure_body, with_word,
 };
-use dae_parse_scope::Binding;
+use dae_parse_parts::Binding;
 use dae_tree::{BinaryOperator, Keyword, Name, Seen};
 use std::alloc::{AllocError, Global};
 use std::test::Fail;

@@ -3,7 +3,7 @@ use Rattle.dae_parse_states.specs.declared.frames.Frame.{Frame}
 use Rattle.dae_parse_states.specs.declared.frames.Frame.TheVariants as frame
 use Rattle.dae_parse_states.specs.declared.frames.DeclaratorFrame.{DeclaratorFrame}
 use Rattle.dae_parse_grammar.specs.Frames as plain
-use Rattle.dae_parse_scope.specs.Scopes.{Scopes}
+use Rattle.dae_parse_parts.specs.Scopes.{Scopes}
 use Rattle.dae_parse_states.specs.Frames.{ShowsStack, manner_of}
 use Rattle.dae_parse_states.specs.States.{frames_of, outside_stack}
 use Rattle.dae_parse.proofs.Popped.{popped_in_group}

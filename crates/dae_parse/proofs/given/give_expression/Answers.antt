@@ -4,7 +4,7 @@ use Rattle.dae_parse_states.specs.declared.frames.Frame.TheVariants as frame
 use Rattle.dae_parse_states.specs.declared.frames.ExpressionFrame.{ExpressionFrame}
 use Rattle.dae_tree.specs.Trees.{Expression}
 use Rattle.dae_parse_grammar.specs.Frames as plain
-use Rattle.dae_parse_scope.specs.Scopes.{Scopes}
+use Rattle.dae_parse_parts.specs.Scopes.{Scopes}
 use Rattle.dae_parse_nodes.specs.Parts.{ShowsOptional}
 use Rattle.dae_parse_states.specs.Frames.{ShowsStack, ShowsHead}
 use Rattle.dae_parse_states.specs.States.{frames_of, outside_stack}

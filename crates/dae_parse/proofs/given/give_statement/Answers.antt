@@ -7,7 +7,7 @@ use Rattle.dae_tree.specs.Names.{Names}
 use Rattle.dae_tree.specs.Marks.{Mark}
 use Rattle.dae_parse_grammar.specs.Taken.{tokens_of}
 use Rattle.dae_parse_grammar.specs.Frames as plain
-use Rattle.dae_parse_scope.specs.Scopes.{Scopes}
+use Rattle.dae_parse_parts.specs.Scopes.{Scopes}
 use Rattle.dae_parse_nodes.specs.Parts.{ShowsOptional, ShowsLoop, ShowsSpecified, ShowsDeclared}
 use Rattle.dae_parse_states.specs.Frames.{ShowsStack}
 use Rattle.dae_parse_states.specs.States.{frames_of, outside_stack}

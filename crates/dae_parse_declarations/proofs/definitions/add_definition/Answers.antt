@@ -3,7 +3,7 @@ use Rattle.dae_tree.specs.Depth.{place_of_specifiers}
 use Rattle.dae_tree.specs.Statements.{spell_external}
 use Rattle.dae_tree.specs.Trees as tree
 use Rattle.dae_parse_grammar.specs.Taken.{externals_before}
-use Rattle.dae_parse_scope.specs.Scopes.{Scopes, closed_to}
+use Rattle.dae_parse_parts.specs.Scopes.{Scopes, closed_to}
 use Rattle.dae_parse_declarations.proofs.Counts.{taken_of, length_of, defined_too_long}
 use Rattle.dae_parse_declarations.proofs.definitions.add_definition.Goals as goal
 

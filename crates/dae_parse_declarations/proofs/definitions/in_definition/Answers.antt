@@ -4,7 +4,7 @@ use Rattle.dae_tree.specs.Spelling.{spell_specifiers, spell_declarator}
 use Rattle.dae_tree.specs.Statements.{spell_statement}
 use Rattle.dae_parse_grammar.specs.Machine.{defined}
 use Rattle.dae_parse_grammar.specs.Taken.{stack_taken}
-use Rattle.dae_parse_scope.specs.Scopes.{Scopes}
+use Rattle.dae_parse_parts.specs.Scopes.{Scopes}
 use Rattle.dae_parse_states.specs.declared.frames.Frame.{Frame}
 use Rattle.dae_parse_states.specs.declared.frames.Frame.TheVariants as frame
 use Rattle.dae_parse_states.specs.declared.frames.DeclarationFrame.{DeclarationFrame}

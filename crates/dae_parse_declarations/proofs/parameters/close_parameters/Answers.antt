@@ -4,8 +4,8 @@ use Rattle.dae_tree.specs.Grammar.{void_alone}
 use Rattle.dae_tree.specs.Names.{Names}
 use Rattle.dae_tree.specs.Trees.{no_parameters}
 use Rattle.dae_parse_grammar.specs.Machine.{parameters_onto, closed_by}
-use Rattle.dae_parse_scope.specs.Scopes.{Scopes, innermost, closed_to}
-use Rattle.dae_parse_scope.specs.Shown.{bound_all}
+use Rattle.dae_parse_parts.specs.Scopes.{Scopes, innermost, closed_to}
+use Rattle.dae_parse_parts.specs.ShownNames.{bound_all}
 use Rattle.dae_parse_nodes.specs.Parts.{ShowsDeclared}
 use Rattle.dae_parse_states.specs.States.{outside_stack}
 use Rattle.dae_parse_declarations.proofs.Inner.{same_names}

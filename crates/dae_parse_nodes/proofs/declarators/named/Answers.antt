@@ -1,9 +1,9 @@
 use Rattle.std.proofs.Common.{Bool, List, refl, sym, ap}
 use Rattle.dae_tree.specs.Trees as tree
-use Rattle.dae_parse_scope.specs.declared.scope.Binding.{Binding}
+use Rattle.dae_parse_parts.specs.declared.scope.Binding.{Binding}
 use Rattle.dae_parse_grammar.specs.FirstPlaces.{firsts_declarator}
 use Rattle.dae_parse_parts.proofs.Laws.{shows_leaf}
-use Rattle.dae_parse_scope.specs.Shown.{bound_all}
+use Rattle.dae_parse_parts.specs.ShownNames.{bound_all}
 use Rattle.dae_tree.specs.Views.{view_declarator}
 use Rattle.dae_parse_nodes.proofs.declarators.named.Goals as goal
 

@@ -4,7 +4,7 @@ use Rattle.dae_base.proofs.Laws.{ap_two}
 use Rattle.dae_tree.specs.Trees as tree
 use Rattle.dae_parse_nodes.proofs.Declaring.{place_at_first, chosen_then, chosen_else}
 use Rattle.dae_parse_nodes.proofs.declarators.parameter_function.Goals.{then-bare, else-bare}
-use Rattle.dae_parse_scope.specs.Shown.{bound_all}
+use Rattle.dae_parse_parts.specs.ShownNames.{bound_all}
 use Rattle.dae_tree.specs.Names.{is_bare}
 use Rattle.std.specs.Prelude.{true, false}
 use Rattle.dae_parse_grammar.specs.Machine.{parameters_onto}

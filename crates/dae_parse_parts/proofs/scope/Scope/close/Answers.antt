@@ -1,7 +1,7 @@
 use Rattle.std.proofs.Common.{◌≡◌, ◌∷◌, [], ◌++◌, length, subst}
-use Rattle.dae_parse_scope.specs.Shown.{AreWithin}
-use Rattle.dae_parse_scope.proofs.Shown.{closed_shown}
-use Rattle.dae_parse_scope.proofs.scope.Scope.close.Goals as goal
+use Rattle.dae_parse_parts.specs.ShownNames.{AreWithin}
+use Rattle.dae_parse_parts.proofs.NamesShown.{closed_shown}
+use Rattle.dae_parse_parts.proofs.scope.Scope.close.Goals as goal
 
 pub returns-in-Some : goal.returns-in-Some
 returns-in-Some g c =

@@ -1,9 +1,9 @@
 -- Tables of names as lists.
 use Rattle.std.proofs.Common.{◌≡◌, ℕ, ◌+◌, ◌-◌, ◌<◌, ◌≤◌, List, [], ◌∷◌, ◌++◌, map, length, take, drop, get_or, reverse, subst, refl, ap, sym, ◌∙◌, append_assoc, append-nil, arith}
 use Rattle.std.proofs.lemmas.List.{take_rest, get_or-reverse, reverse-append, take-append-le, take-append-drop, take_more, length-take}
-use Rattle.dae_parse_scope.specs.declared.scope.Binding.{Binding}
-use Rattle.dae_parse_scope.specs.Scopes.{Scopes, bound, closed, innermost}
-use Rattle.dae_parse_scope.specs.Shown.{pair_of, shown, cuts, shown_outside, bound_all, Fall, AreWithin}
+use Rattle.dae_parse_parts.specs.declared.scope.Binding.{Binding}
+use Rattle.dae_parse_parts.specs.Scopes.{Scopes, bound, closed, innermost}
+use Rattle.dae_parse_parts.specs.ShownNames.{pair_of, shown, cuts, shown_outside, bound_all, Fall, AreWithin}
 
 pub shown_more : {B : Type 0} → (bs : List (Binding B)) (b : Binding B) → shown (bs ++ b ∷ []) ≡ pair_of b ∷ shown bs
 shown_more bs b = ap (map pair_of) (reverse-append bs (b ∷ []))

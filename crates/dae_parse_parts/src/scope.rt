@@ -1,8 +1,8 @@
 // What names stand for in scopes that open and close, the innermost first.
 
 ghost use Rattle.std.specs.Prelude.{◌≡◌, ◌∷◌, [], IfOk};
-ghost use Rattle.dae_parse_scope.specs.Scopes.{bound_to, bound, opened, closed, innermost};
-ghost use Rattle.dae_parse_scope.specs.Shown.{bound_all};
+ghost use Rattle.dae_parse_parts.specs.Scopes.{bound_to, bound, opened, closed, innermost};
+ghost use Rattle.dae_parse_parts.specs.ShownNames.{bound_all};
 
 use std::alloc::{AllocError, Global};
 use std::marker::Model;
@@ -24,8 +24,8 @@ pub struct Scope<B> {
 
 impl<B> Model for Scope<B> {
     ghost use Rattle.std.specs.Prelude.{length};
-    ghost use Rattle.dae_parse_scope.specs.Scopes.{Scopes};
-    ghost use Rattle.dae_parse_scope.specs.Shown.{shown, shown_outside, AreWithin};
+    ghost use Rattle.dae_parse_parts.specs.Scopes.{Scopes};
+    ghost use Rattle.dae_parse_parts.specs.ShownNames.{shown, shown_outside, AreWithin};
 
     ghost Value = { Scopes B };
 

@@ -1,6 +1,6 @@
 use Rattle.std.proofs.Common.{◌≡◌, ◌-◌, length, get_or, arith}
-use Rattle.dae_parse_scope.proofs.Shown.{inner_shown}
-use Rattle.dae_parse_scope.proofs.scope.Scope.inner.Goals as goal
+use Rattle.dae_parse_parts.proofs.NamesShown.{inner_shown}
+use Rattle.dae_parse_parts.proofs.scope.Scope.inner.Goals as goal
 
 pub returns : goal.returns
 returns g c =

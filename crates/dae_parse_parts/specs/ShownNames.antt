@@ -1,6 +1,6 @@
 -- A table of names, the latest last, with the lengths at which its open scopes began, the innermost last.
 use Rattle.std.specs.Prelude.{ℕ, ◌≤◌, List, [], ◌∷◌, map, take, reverse}
-use Rattle.dae_parse_scope.specs.declared.scope.Binding.{Binding}
+use Rattle.dae_parse_parts.specs.declared.scope.Binding.{Binding}
 
 abbrev pub pair_of : {B : Type 0} → Binding B → ℕ × B
 pair_of b = (b.name, b.bound)

@@ -1,6 +1,6 @@
 use Rattle.std.proofs.Common.{◌∙◌}
-use Rattle.dae_parse_scope.proofs.Shown.{bound_next}
-use Rattle.dae_parse_scope.proofs.scope.Scope.bind_all.Goals as goal
+use Rattle.dae_parse_parts.proofs.NamesShown.{bound_next}
+use Rattle.dae_parse_parts.proofs.scope.Scope.bind_all.Goals as goal
 
 pub loop-binding-preserved : goal.loop-binding-preserved
 loop-binding-preserved g c =
