@@ -1,2 +1,6 @@
 pub mod Rest
 pub mod Nested
+mod Totals
+mod Found
+mod Ordered
+pub mod LawsOfBudgets

@@ -1,1 +1,4 @@
 pub mod Decoupled
+pub mod Kinds
+pub mod Tallies
+pub mod Laws

@@ -4,11 +4,18 @@
 // does what the form does, and that the numbers are enough for each round. Nothing fails but for want of memory.
 #![tactic(auto)]
 
+pub use depths::budget;
+pub use laws::groups_are_small;
 pub use program::{Decoupled, decouple};
 pub use scope::is_scoped;
 
+mod depths;
 mod ends;
+mod kinds;
+mod laws;
 mod loops;
 mod names;
 mod program;
 mod scope;
+mod tally;
+mod uses;

@@ -4,8 +4,8 @@ ghost use Rattle.std.specs.Prelude.{◌≤◌, IfOk};
 ghost use Rattle.dae_ir.specs.Scope.{IsScoped};
 ghost use Rattle.dae_split_pair.specs.Decoupled.{IsDecoupled};
 
+use crate::budget;
 use dae_base::{Depths, Items};
-use dae_budget::budget;
 use dae_ir::{Class, Ir, Pair};
 use dae_slice::classes;
 use dae_split::split;

@@ -6,10 +6,10 @@ ghost use Rattle.dae_ir.specs.Code.{Do};
 ghost use Rattle.dae_ir.specs.Streams.{Actions, step_onto};
 ghost use Rattle.dae_ir.specs.declared.form.Operand.TheVariants.{Number};
 ghost use Rattle.dae_ir.specs.declared.stream.Action.TheVariants.{Issue};
-ghost use Rattle.dae_budget.specs.Tallies.{HasSmallGroups};
+ghost use Rattle.dae_split_pair.specs.Tallies.{HasSmallGroups};
 
 use dae_base::{Depths, Items, LoadKind, Place, Side, Text};
-use dae_budget::budget;
+use dae_split_pair::budget;
 use dae_ir::{Action, Mark, Operand, Pair, Step, Stream, StreamFunction};
 use std::alloc::{AllocError, Global};
 use std::test::Fail;

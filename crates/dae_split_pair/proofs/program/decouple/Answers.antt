@@ -1,6 +1,6 @@
 use Rattle.std.proofs.Common.{◌<◌, arith}
 use Rattle.dae_ir_pair.proofs.Laws.{budget_covers, budget_is_within_cap, program_kept}
-use Rattle.dae_budget.proofs.LawsOfBudgets.{small_groups, pair_ordered}
+use Rattle.dae_split_pair.proofs.LawsOfBudgets.{small_groups, pair_ordered}
 use Rattle.dae_split_pair.proofs.program.decouple.Goals as goal
 
 pub budget-budget-requires : goal.budget-budget-requires

@@ -1,4 +1,0 @@
-mod Totals
-mod Found
-mod Ordered
-pub mod LawsOfBudgets
