@@ -7,7 +7,7 @@ use Rattle.dae_base.specs.declared.Side.{Side}
 use Rattle.dae_base.specs.declared.Side.TheVariants.{A, E}
 use Rattle.dae_ir.specs.declared.stream.Pair.{Pair}
 use Rattle.dae_ir.specs.declared.stream.Stream.{Stream}
-use Rattle.dae_link_uses.specs.Uses.{IsUnused, AllOfSide, AllUntouched, IsBalanced}
+use Rattle.dae_link_faithful.specs.Uses.{IsUnused, AllOfSide, AllUntouched, IsBalanced}
 use Rattle.dae_select.specs.Layouts.{is_a}
 use Rattle.dae_link_sides.specs.Sides.{HasUsesOf}
 

@@ -12,7 +12,7 @@ use Rattle.dae_ir.specs.declared.stream.Class.{Class}
 use Rattle.dae_ir.specs.declared.stream.Pair.{Pair}
 use Rattle.dae_ir.specs.Programs.{AreClassesOf, IsPairOf}
 use Rattle.dae_ir.specs.Budgets.{IsBudgetOf}
-use Rattle.dae_link_uses.specs.Uses.{IsUnused}
+use Rattle.dae_link_faithful.specs.Uses.{IsUnused}
 use Rattle.dae_link_faithful.specs.Made.{IsMade, IsReady}
 use Rattle.dae_machine_runs.specs.Promises.{DoesForm}
 use Rattle.dae_select.specs.declared.growing.PlacedWord.{PlacedWord}

@@ -10,7 +10,7 @@ use dae_image::Image;
 use dae_ir::Pair;
 use dae_link_faithful::made_does_form;
 use dae_link_sides::{CodeError, side_code};
-use dae_link_uses::pair_uses;
+use dae_link_faithful::pair_uses;
 use std::alloc::Global;
 
 /// The image of a pair: its two codes and its budget with the data, the names of the files, and marks of the words at which

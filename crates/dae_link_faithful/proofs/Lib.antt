@@ -10,3 +10,11 @@ mod Entries
 mod Ready
 mod Joined
 mod Usable
+mod Access
+mod Quiet
+mod Sided
+mod Rounds
+mod Taking
+mod Counting
+mod Exact
+pub mod LawsOfUses

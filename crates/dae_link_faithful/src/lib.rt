@@ -4,6 +4,10 @@
 
 ghost use Rattle.dae_link_faithful.specs.Made.{MadeDoesForm};
 
+pub use laws::{code_uses, pair_uses};
+
+mod laws;
+
 /// An image that is made of the two streams of a form does the form, in every order of steps.
 pub fn made_does_form()
     ensures { MadeDoesForm }

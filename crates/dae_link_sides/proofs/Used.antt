@@ -15,8 +15,8 @@ use Rattle.dae_select_walks.specs.Agrees.{Plan}
 use Rattle.dae_select_walks.specs.Homes.{IsHome}
 use Rattle.dae_select_walks.specs.declared.Home.{Home}
 use Rattle.dae_select_blocks.specs.Code.{function_code}
-use Rattle.dae_link_uses.specs.Uses.{queue_in, queue_at, IsUnused, LeavesAlone, AllOfSide, AllUntouched}
-use Rattle.dae_link_uses.proofs.LawsOfUses.{function_uses, start_uses, alone_append, alone_split}
+use Rattle.dae_link_faithful.specs.Uses.{queue_in, queue_at, IsUnused, LeavesAlone, AllOfSide, AllUntouched}
+use Rattle.dae_link_faithful.proofs.LawsOfUses.{function_uses, start_uses, alone_append, alone_split}
 use Rattle.dae_select.specs.Layouts.{is_a, plan_of, variables_of}
 use Rattle.dae_select.specs.declared.layouts.Layouts.{Layouts}
 use Rattle.dae_link_sides.specs.Placed.{functions_code, opening_code}

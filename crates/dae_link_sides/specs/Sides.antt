@@ -12,7 +12,7 @@ use Rattle.dae_ir.specs.declared.stream.Stream.{Stream}
 use Rattle.dae_ir.specs.declared.stream.StreamFunction.{StreamFunction}
 use Rattle.dae_select_blocks.specs.Code.{start_code}
 use Rattle.dae_select_blocks.specs.Laws.{opened_with}
-use Rattle.dae_link_uses.specs.Uses.{IsUnused, AllOfSide, AllUntouched}
+use Rattle.dae_link_faithful.specs.Uses.{IsUnused, AllOfSide, AllUntouched}
 use Rattle.dae_select.specs.Layouts.{is_a, plan_of, variables_of}
 use Rattle.dae_select.specs.declared.growing.PlacedWord.{PlacedWord}
 use Rattle.dae_select.specs.declared.layouts.FunctionLayout.{FunctionLayout}

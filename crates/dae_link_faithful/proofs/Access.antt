@@ -15,7 +15,7 @@ use Rattle.dae_encode.specs.Uses.{queue_use}
 use Rattle.dae_ir.specs.Deeds.{told_on, heard_on}
 use Rattle.dae_ir.specs.Programs.{side}
 use Rattle.dae_select_blocks.proofs.LawsOfBlocks.{low}
-use Rattle.dae_link_uses.specs.Uses.{queue_of, queue_in}
+use Rattle.dae_link_faithful.specs.Uses.{queue_of, queue_in}
 
 -- an instruction of plain registers
 abbrev pub IsPlain : Form → Type 0

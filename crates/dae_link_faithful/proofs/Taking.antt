@@ -23,7 +23,7 @@ use Rattle.dae_ir.specs.declared.stream.Action.TheVariants.{Set, Issue, Own, Rec
 use Rattle.dae_ir.specs.declared.stream.Branch.{Branch}
 use Rattle.dae_ir.specs.declared.stream.Branch.TheVariants.{Silent, Tells, Hears}
 use Rattle.dae_ir_pair.specs.Budget.{Covers}
-use Rattle.dae_link_uses.proofs.Rounds.{regions_ok, Has, StandOk, rounds_have, every_each, PartTaken, LastTaken, ETakes, ATakes, e_takes, a_takes}
+use Rattle.dae_link_faithful.proofs.Rounds.{regions_ok, Has, StandOk, rounds_have, every_each, PartTaken, LastTaken, ETakes, ATakes, e_takes, a_takes}
 
 module _ (d : Depths) where
   -- what A may do, and E

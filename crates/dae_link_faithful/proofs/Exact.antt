@@ -26,9 +26,9 @@ use Rattle.dae_ir.specs.declared.stream.Branch.{Branch}
 use Rattle.dae_ir.specs.declared.stream.Branch.TheVariants.{Silent, Tells, Hears}
 use Rattle.dae_ir.specs.declared.stream.StreamFunction.{StreamFunction}
 use Rattle.dae_ir_pair.specs.Budget.{Covers, BudgetCovers}
-use Rattle.dae_link_uses.specs.Uses.{action_queue, branch_queue, IsOfSide, AllUntouched, IsBalanced}
-use Rattle.dae_link_uses.proofs.Counting.{AllCode, all_counted, largest_zero, standing, stands_zero}
-use Rattle.dae_link_uses.proofs.Taking.{AMay, EMay, HearsWith, stream_a, stream_e}
+use Rattle.dae_link_faithful.specs.Uses.{action_queue, branch_queue, IsOfSide, AllUntouched, IsBalanced}
+use Rattle.dae_link_faithful.proofs.Counting.{AllCode, all_counted, largest_zero, standing, stands_zero}
+use Rattle.dae_link_faithful.proofs.Taking.{AMay, EMay, HearsWith, stream_a, stream_e}
 
 no_queue : {X : Type 0} (q : Queue) → None ≡ Some q → X
 no_queue q e = absurd (let x : None ≡ Some q = e in cc)

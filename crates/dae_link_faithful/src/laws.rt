@@ -1,6 +1,6 @@
 // What is proved of the queues that words and actions use.
 
-ghost use Rattle.dae_link_uses.specs.Uses.{CodeUses, StartUses, PairUses};
+ghost use Rattle.dae_link_faithful.specs.Uses.{CodeUses, StartUses, PairUses};
 
 use dae_ir_pair::budget_covers;
 

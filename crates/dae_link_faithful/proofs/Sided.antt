@@ -47,9 +47,9 @@ use Rattle.dae_select_walks.specs.Agrees.{Plan}
 use Rattle.dae_select_blocks.specs.Blocks.{number_code, register_or, source, operation_code, immediate_code, exchanged_code, behind_or, combine_registers, binary_code, value_code, fetch, move_code, keep, test_code, call_number, issue_code, address_code, take_code, fail_code, over, align_code, bounds_code, room_code, check_code, hear_code, jump_over, jump_back, leave_code, jump_words, branch_inst, opposite, one_way, goes_by, goes_code, frames_room_code, lower, is_immediate, tell_number_code, against_zero, immediate_of, extend_code, compare_code, takes_number, compare_number_code, compare_registers, compare_operands, back_offset, goes_back}
 use Rattle.dae_select_walks.specs.Compiled.{is_told}
 use Rattle.dae_select_blocks.specs.Code.{leaves_first, is_near, has_bottom, told_by, branch_by, ahead_by, before_branch, back_branch, either_one, reads_once, with_home, early_code, late_code, standing_behind, placed_code, needed_code, block_code, action_code, branch_code, code_of, entry_code, function_code, finish_code, start_code, does_nothing, past_code, written_last}
-use Rattle.dae_link_uses.specs.Uses.{queue_in, action_queue, branch_queue, IsOfSide, AreOfSide, IsUntouched, LeavesAlone}
-use Rattle.dae_link_uses.proofs.Access.{IsPlain, plain, loads_for_e, loads_own, gives_address, pushes_datum, pushes_copy, pushes_message, takes_load, takes_own, takes_copy, takes_message, takes_load_left, takes_load_right, takes_copy_left, takes_copy_right, pushes_flag, sends_datum}
-use Rattle.dae_link_uses.proofs.Quiet.{immediate_form, exchanged_form, AllPlain, plain_append, number_plain, register_low, keep_plain, source_low, fetch_plain, move_is, value_plain, system_plain, stop_plain, leave_plain, call_plain, entry_plain, finish_plain, start_plain, over_plain, past_plain, back_jump_plain, branch_form, branch_plain, goes_plain, test_writes, Writes, tell_number_writes}
+use Rattle.dae_link_faithful.specs.Uses.{queue_in, action_queue, branch_queue, IsOfSide, AreOfSide, IsUntouched, LeavesAlone}
+use Rattle.dae_link_faithful.proofs.Access.{IsPlain, plain, loads_for_e, loads_own, gives_address, pushes_datum, pushes_copy, pushes_message, takes_load, takes_own, takes_copy, takes_message, takes_load_left, takes_load_right, takes_copy_left, takes_copy_right, pushes_flag, sends_datum}
+use Rattle.dae_link_faithful.proofs.Quiet.{immediate_form, exchanged_form, AllPlain, plain_append, number_plain, register_low, keep_plain, source_low, fetch_plain, move_is, value_plain, system_plain, stop_plain, leave_plain, call_plain, entry_plain, finish_plain, start_plain, over_plain, past_plain, back_jump_plain, branch_form, branch_plain, goes_plain, test_writes, Writes, tell_number_writes}
 use Rattle.dae_select_blocks.specs.Sizes.{is_short}
 use Rattle.dae_select_blocks.proofs.LawsOfBlocks.{operation_is, passed_on, by_pairs, Suits, suits_behind}
 

@@ -1,5 +1,0 @@
-use Rattle.dae_link_uses.proofs.Exact.{pair_uses}
-use Rattle.dae_link_uses.proofs.laws.pair_uses.Goals as goal
-
-pub returns : goal.returns
-returns c = pair_uses c.budget_covers.ensures
