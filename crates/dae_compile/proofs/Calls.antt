@@ -27,7 +27,7 @@ use Rattle.dae_ir.specs.declared.stream.Action.{Action}
 use Rattle.dae_ir.specs.declared.stream.Action.TheVariants.{Tell, Hear}
 use Rattle.dae_ir_pair.proofs.Laws.{streams_are_small}
 use Rattle.dae_select_blocks.specs.Sizes.{one_call, calls_in, most_words_in}
-use Rattle.dae_link_sides.specs.Sizes.{most_of_functions, most_words}
+use Rattle.dae_link.specs.Sizes.{most_of_functions, most_words}
 use Rattle.dae_link.specs.Linked.{HasShortCode, IsTooLong}
 use Rattle.dae_compile.specs.Generated.{calls_of_form, words_of_functions, words_of_form, IsShort}
 

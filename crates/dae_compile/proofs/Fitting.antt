@@ -6,8 +6,8 @@ use Rattle.dae_image.specs.declared.Image.{Image}
 use Rattle.dae_image.specs.Contents.{is_name}
 use Rattle.dae_ir.specs.declared.form.Ir.{Ir}
 use Rattle.dae_machine_runs.specs.Promises.{DoesForm}
-use Rattle.dae_link_sides.specs.declared.error.CodeError.{CodeError}
-use Rattle.dae_link_sides.specs.declared.error.CodeError.TheVariants as errors
+use Rattle.dae_link.specs.declared.error.CodeError.{CodeError}
+use Rattle.dae_link.specs.declared.error.CodeError.TheVariants as errors
 use Rattle.dae_program.specs.declared.program.Program.{Program}
 use Rattle.dae_lower_forms.specs.Lowered.{HasRoom}
 use Rattle.dae_link.specs.Linked.{IsCompiledOf}

@@ -29,7 +29,7 @@ use Rattle.dae_ir.specs.declared.stream.Branch.{Branch}
 use Rattle.dae_ir.specs.declared.stream.Branch.TheVariants.{Silent, Tells, Hears}
 use Rattle.dae_select_walks.specs.Live.{Ways, ways, behind, none, in_operand, in_option, in_test, in_value, in_check, in_arguments, reads, sets, is, decided, after, live, lives, turn, body_ways, step_ways, nowhere, parameters_of, function_lives}
 use Rattle.dae_regalloc.specs.Seen.{AreBelow}
-use Rattle.dae_link_sides.specs.Settled.{HasAtMost}
+use Rattle.dae_link.specs.Settled.{HasAtMost}
 use Rattle.dae_compile.proofs.Names.{ProbeIn, OptionIn, ResultIn, ArgumentsIn, ActionIn, BranchIn, AreIn, stream_in}
 
 module _ (n : ℕ) where

@@ -9,7 +9,7 @@ use Rattle.dae_ir.specs.declared.stream.Class.{Class}
 use Rattle.dae_ir.specs.declared.stream.Pair.{Pair}
 use Rattle.dae_ir.specs.declared.stream.Stream.{Stream}
 use Rattle.dae_select_walks.specs.Homes.{frame_words}
-use Rattle.dae_link_sides.specs.Settled.{IsTooDeep, IsPrivateWithin}
+use Rattle.dae_link.specs.Settled.{IsTooDeep, IsPrivateWithin}
 use Rattle.dae_link.specs.Linked.{HasPrivateWithin, HasTooDeep}
 use Rattle.dae_compile.specs.Generated.{HaveAtMost, HasFramesWithin, NeedsTooMuch}
 use Rattle.dae_compile.proofs.Own.{stream_at_most}

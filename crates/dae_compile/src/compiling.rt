@@ -13,7 +13,7 @@ use dae_accept::{CompileError, accept, read_are_within};
 use dae_base::{Items, Text};
 use dae_cli_options::Options;
 use dae_compile_promise::later_forms_do_programs;
-use dae_link_sides::CodeError;
+use dae_link::CodeError;
 use dae_lower_bounds::sets_bounded;
 use dae_sizes::{
     definitions_are_short, forms_are_within, frames_are_within, functions_initialise_constants,

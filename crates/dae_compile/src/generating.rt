@@ -6,14 +6,14 @@ ghost use Rattle.dae_link_faithful.specs.Made.{IsReady};
 ghost use Rattle.dae_machine_runs.specs.Promises.{DoesForm};
 ghost use Rattle.dae_link.specs.Linked.{IsCompiledOf};
 ghost use Rattle.dae_report.specs.Reports.{IsReportOf};
-ghost use Rattle.dae_link_sides.specs.declared.error.CodeError.TheVariants as errors;
+ghost use Rattle.dae_link.specs.declared.error.CodeError.TheVariants as errors;
 ghost use Rattle.dae_compile.specs.Generated.{FitsMachine, HasFramesWithin, IsShort, NeedsTooMuch, words_of_form};
 
 use dae_base::{Items, Text};
 use dae_image::Image;
 use dae_ir::Ir;
 use dae_link::link;
-use dae_link_sides::CodeError;
+use dae_link::CodeError;
 use dae_report::{Report, count};
 use dae_split_pair::decouple;
 use std::alloc::Global;

@@ -8,7 +8,7 @@ use Rattle.dae_image.specs.declared.LineMark.{LineMark}
 use Rattle.dae_image.specs.declared.Image.{Image}
 use Rattle.dae_ir.specs.declared.stream.Pair.{Pair}
 use Rattle.dae_select.specs.declared.growing.PlacedWord.{PlacedWord}
-use Rattle.dae_link_sides.specs.Sides.{HasPlaces}
+use Rattle.dae_link.specs.Sides.{HasPlaces}
 use Rattle.dae_link.specs.declared.marks.MarkRoom.{MarkRoom}
 use Rattle.dae_link.specs.Linked.{HasMarks, room_of}
 use Rattle.dae_link.specs.Marked.{IsMarkFrom, IsMarkOf, mark_at, is_marked, marks_after, marks_a, line_marks}

@@ -9,7 +9,7 @@ use Rattle.dae_ir.specs.declared.stream.Pair.{Pair}
 use Rattle.dae_ir.specs.declared.stream.Stream.{Stream}
 use Rattle.dae_link_faithful.specs.Uses.{IsUnused, AllOfSide, AllUntouched, IsBalanced}
 use Rattle.dae_select.specs.Layouts.{is_a}
-use Rattle.dae_link_sides.specs.Sides.{HasUsesOf}
+use Rattle.dae_link.specs.Sides.{HasUsesOf}
 
 of_side : (stream : Stream) (s : Side) (words : List ℕ) → stream.side ≡ s → HasUsesOf stream words → AllOfSide (is_a s) stream.functions → (q : Queue) → IsUnused s q words ↔ AllUntouched (is_a s) q stream.functions
 of_side stream s words same uses = subst (λ (t : Side). AllOfSide (is_a t) stream.functions → (q : Queue) → IsUnused t q words ↔ AllUntouched (is_a t) q stream.functions) same uses

@@ -3,3 +3,11 @@ mod Fitting
 mod Exact
 mod Marking
 mod Among
+mod Same
+mod Standing
+mod Looked
+mod Settling
+mod Sizes
+mod Sided
+mod Used
+mod Registers

@@ -17,8 +17,8 @@ use Rattle.dae_ir.specs.declared.stream.StreamFunction.{StreamFunction}
 use Rattle.dae_select_blocks.specs.Laws.{opened_with}
 use Rattle.dae_select.specs.Layouts.{is_a}
 use Rattle.dae_link_faithful.specs.Made.{IsSide, IsMade, parameters_in, stream}
-use Rattle.dae_link_sides.specs.Sides as sides
-use Rattle.dae_link_sides.specs.Sides.{IsStreamIn, IsCodeOf}
+use Rattle.dae_link.specs.Sides as sides
+use Rattle.dae_link.specs.Sides.{IsStreamIn, IsCodeOf}
 
 -- ---- what a stream says of its functions is what the form says
 

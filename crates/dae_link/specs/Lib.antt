@@ -1,2 +1,6 @@
 pub mod Linked
 pub mod Marked
+pub mod Settled
+pub mod Placed
+pub mod Sides
+pub mod Sizes

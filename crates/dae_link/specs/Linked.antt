@@ -16,9 +16,9 @@ use Rattle.dae_link_faithful.specs.Uses.{IsUnused}
 use Rattle.dae_link_faithful.specs.Made.{IsMade, IsReady}
 use Rattle.dae_machine_runs.specs.Promises.{DoesForm}
 use Rattle.dae_select.specs.declared.growing.PlacedWord.{PlacedWord}
-use Rattle.dae_link_sides.specs.Sides.{HasLimits, HasPlaces, HasRegisters}
-use Rattle.dae_link_sides.specs.Settled.{IsTooDeep, IsPrivateWithin}
-use Rattle.dae_link_sides.specs.Sizes.{most_words}
+use Rattle.dae_link.specs.Sides.{HasLimits, HasPlaces, HasRegisters}
+use Rattle.dae_link.specs.Settled.{IsTooDeep, IsPrivateWithin}
+use Rattle.dae_link.specs.Sizes.{most_words}
 use Rattle.dae_link.specs.Marked.{IsMarkOf, line_marks}
 use Rattle.dae_link.specs.declared.marks.MarkRoom.{MarkRoom}
 

@@ -1,16 +1,15 @@
 // The image of a pair.
 
 ghost use Rattle.std.specs.Prelude.{◌≡◌, IfOk, IfErr};
-ghost use Rattle.dae_link_sides.specs.declared.error.CodeError.TheVariants as errors;
+ghost use Rattle.dae_link.specs.declared.error.CodeError.TheVariants as errors;
 ghost use Rattle.dae_link.specs.Linked.{CanLink, HasGiven, HasMarks, HasPrivateWithin, HasShortCode, HasTooDeep, IsCompiled, IsFaithful, IsTooLong};
 
 use crate::marks::{MarkRoom, marks_of};
+use crate::{CodeError, side_code};
 use dae_base::{Depths, Items, Text};
 use dae_image::Image;
 use dae_ir::Pair;
-use dae_link_faithful::made_does_form;
-use dae_link_sides::{CodeError, side_code};
-use dae_link_faithful::pair_uses;
+use dae_link_faithful::{made_does_form, pair_uses};
 use std::alloc::Global;
 
 /// The image of a pair: its two codes and its budget with the data, the names of the files, and marks of the words at which

@@ -1,0 +1,111 @@
+-- What is settled of the function of a number.
+use Rattle.std.proofs.Common.{◌≡◌, ℕ, zero, suc, ◌≤◌, ◌<◌, ◌^◌, Bool, true, false, List, [], ◌∷◌, length, refl, ap, sym, subst, arith}
+use Rattle.std.specs.Prelude.{Option, Some, None, slice_get, nat_lt}
+use Rattle.std.specs.List.{AllByRecursion, AllZip}
+use Rattle.std.proofs.lemmas.Bool.Decides.{nat_tests}
+use Rattle.std.proofs.lemmas.Bool.{or_left, or_right}
+use Rattle.dae_ir.specs.Classes.{VariableSet}
+use Rattle.dae_ir.specs.SetFirst.{parameters_set}
+use Rattle.dae_ir.specs.Streams.{actions_of}
+use Rattle.dae_ir.specs.declared.stream.StreamFunction.{StreamFunction}
+use Rattle.dae_select_walks.specs.Homes.{IsHome, AreApart, frame_words, home_in}
+use Rattle.dae_select_walks.specs.Live.{live, lives, nowhere}
+use Rattle.dae_select_walks.specs.declared.Home.{Home}
+use Rattle.dae_select_walks.specs.declared.Home.TheVariants.{Register, Slot}
+use Rattle.dae_select_blocks.specs.Wanted.{IsRight}
+use Rattle.dae_regalloc.specs.Seen.{AreBelow}
+use Rattle.dae_select.specs.Tables.{IsNear}
+use Rattle.dae_select.specs.Layouts.{homes_at, variables_at, entry_at, frame_at}
+use Rattle.dae_select.specs.declared.layouts.FunctionLayout.{FunctionLayout}
+use Rattle.dae_link.specs.Settled.{IsLayoutOf, IsFrameWithin}
+use Rattle.dae_link.specs.Sides.{body_in, parameters_in, frame_in}
+
+pub zip_long : (fs : List StreamFunction) (ls : List FunctionLayout) → AllZip IsLayoutOf fs ls → length ls ≡ length fs
+zip_long [] [] h = refl
+zip_long [] (l ∷ ls) h = absurd h
+zip_long (f ∷ fs) [] h = absurd h
+zip_long (f ∷ fs) (l ∷ ls) h = ap suc (zip_long fs ls h.1)
+
+abbrev pub IsLayoutAt : Option StreamFunction → Option FunctionLayout → Type 0
+IsLayoutAt None None = Unit {0}
+IsLayoutAt None (Some l) = ⊥
+IsLayoutAt (Some f) None = ⊥
+IsLayoutAt (Some f) (Some l) = IsLayoutOf f l
+
+pub layout_at : (fs : List StreamFunction) (ls : List FunctionLayout) → AllZip IsLayoutOf fs ls → (g : ℕ) → IsLayoutAt (slice_get fs g) (slice_get ls g)
+layout_at [] [] h g = tt
+layout_at [] (l ∷ ls) h g = absurd h
+layout_at (f ∷ fs) [] h g = absurd h
+layout_at (f ∷ fs) (l ∷ ls) h zero = h.0
+layout_at (f ∷ fs) (l ∷ ls) h (suc g) = layout_at fs ls h.1 g
+
+-- ---- homes
+
+beyond : (homes : List Home) (v : ℕ) → length homes ≤ v → home_in homes v ≡ Register 8
+beyond [] v le = refl
+beyond (h ∷ homes) zero le = absurd (omega arith)
+beyond (h ∷ homes) (suc v) le = beyond homes v (omega arith)
+
+pub each_home : (f : Option StreamFunction) (l : Option FunctionLayout) → IsLayoutAt f l → (v : ℕ) → IsHome (variables_at l) (home_in (homes_at l) v)
+each_home None None is v = refl
+each_home None (Some l) is v = absurd is
+each_home (Some f) None is v = absurd is
+each_home (Some f) (Some l) is v = by (nat_lt v l.variables) refl
+  where
+    by : (b : Bool) → nat_lt v l.variables ≡ b → IsHome l.variables (home_in l.homes v)
+    by true t = is.homes.each v (grind (arith, nat_tests))
+    by false t =
+        let count = is.count in
+        let le : length l.homes ≤ v = grind (arith, nat_tests) in
+        subst (λ (h : Home). IsHome l.variables h) (sym (beyond l.homes v le)) refl
+
+pub is_near : (count : ℕ) (h : Home) → IsHome count h → count < 2 ^ 26 → IsNear h
+is_near count (Register r) is few = tt
+is_near count (Slot i) is few = omega arith
+
+pub is_few : (f : Option StreamFunction) (l : Option FunctionLayout) → IsLayoutAt f l → variables_at l < 2 ^ 26
+is_few None None is = omega arith
+is_few None (Some l) is = absurd is
+is_few (Some f) None is = absurd is
+is_few (Some f) (Some l) is = let few = is.few in omega arith
+
+pub is_first : (f : Option StreamFunction) (l : Option FunctionLayout) → IsLayoutAt f l → entry_at l < 2 ^ 30
+is_first None None is = omega arith
+is_first None (Some l) is = absurd is
+is_first (Some f) None is = absurd is
+is_first (Some f) (Some l) is = let e = is.entry in omega arith
+
+pub same_frame : (f : Option StreamFunction) (l : Option FunctionLayout) → IsLayoutAt f l → frame_in f ≡ frame_at l
+same_frame None None is = refl
+same_frame None (Some l) is = absurd is
+same_frame (Some f) None is = absurd is
+same_frame (Some f) (Some l) is = sym is.frame
+
+pub frame_within : (largest : ℕ) (ls : List FunctionLayout) → AllByRecursion (IsFrameWithin largest) ls → 19 ≤ largest → (g : ℕ) → frame_words (variables_at (slice_get ls g)) ≤ largest
+frame_within largest [] h least g = least
+frame_within largest (l ∷ ls) h least zero = h.0
+frame_within largest (l ∷ ls) h least (suc g) = frame_within largest ls h.1 least g
+
+-- ---- places
+
+rights : (home : ℕ → Home) (n : ℕ) (places : List VariableSet) → AllByRecursion (AreApart home) places → AllByRecursion (AreBelow n) places → AllByRecursion (IsRight home n) places
+rights home n [] apart inside = tt
+rights home n (set ∷ places) apart inside = (record { apart = apart.0; scope = inside.0 }, rights home n places apart.1 inside.1)
+
+pub right_at : (f : Option StreamFunction) (l : Option FunctionLayout) → IsLayoutAt f l → AllByRecursion (IsRight (home_in (homes_at l)) (variables_at l)) (lives (body_in f) nowhere)
+right_at None None is = tt
+right_at None (Some l) is = absurd is
+right_at (Some f) None is = absurd is
+right_at (Some f) (Some l) is = rights (home_in l.homes) l.variables (lives (actions_of f.body) nowhere) is.homes.apart.1 is.inside.1
+
+pub reads_at : (f : Option StreamFunction) (l : Option FunctionLayout) → IsLayoutAt f l → (u : ℕ) → live (body_in f) nowhere u ≡ true → u < variables_at l
+reads_at None None is u h = absurd cc
+reads_at None (Some l) is u h = absurd is
+reads_at (Some f) None is u h = absurd is
+reads_at (Some f) (Some l) is u h = is.inside.0 u (or_left _ _ h)
+
+pub apart_at : (f : Option StreamFunction) (l : Option FunctionLayout) → IsLayoutAt f l → AreApart (home_in (homes_at l)) (parameters_set (parameters_in f))
+apart_at None None is u v hu hv other = absurd (grind (arith, nat_tests))
+apart_at None (Some l) is u v hu hv other = absurd is
+apart_at (Some f) None is u v hu hv other = absurd is
+apart_at (Some f) (Some l) is u v hu hv other = is.homes.apart.0 u v (or_right _ _ hu) (or_right _ _ hv) other

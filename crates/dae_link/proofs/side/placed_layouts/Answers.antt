@@ -1,0 +1,16 @@
+use Rattle.std.proofs.Common.{length, ap, sym, ◌∙◌}
+use Rattle.dae_link.proofs.Looked.{zip_long}
+use Rattle.dae_link.proofs.Sided.{small_unplaced}
+use Rattle.dae_link.proofs.side.placed_layouts.Goals as goal
+
+pub finish_of-requires : goal.finish_of-requires
+finish_of-requires c = small_unplaced c.args.stream.now c.args.layouts.now c.requires.unplaced
+
+pub first_of-requires : goal.first_of-requires
+first_of-requires c = small_unplaced c.args.stream.now c.args.layouts.now c.requires.unplaced
+
+pub place-requires-clause-small : goal.place-requires-clause-small
+place-requires-clause-small c = small_unplaced c.args.stream.now c.args.layouts.now c.requires.unplaced
+
+pub place-requires-clause-count : goal.place-requires-clause-count
+place-requires-clause-count c = zip_long _ _ c.requires.unplaced.functions ∙ ap length (sym c.as_slice.ensures)

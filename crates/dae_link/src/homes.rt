@@ -1,0 +1,104 @@
+// What is settled of a side before its functions have places: homes, frames and private memory.
+
+ghost use Rattle.std.specs.Prelude.{◌≡◌, ◌≢◌, ℕ, ◌-◌, ◌*◌, ◌≤◌, ◌<◌, ◌^◌, ◌∷◌, [], length, IfOk, IfErr};
+ghost use Rattle.std.specs.List.{AllByRecursion, AllZip};
+ghost use Rattle.dae_select.specs.Layouts.{AreSmall};
+ghost use Rattle.dae_link.specs.Settled.{IsLayoutOf, IsFrameWithin, AreTooMany, IsTooDeep, AreUnplaced};
+ghost use Rattle.dae_link.specs.declared.error.CodeError.TheVariants as errors;
+
+use crate::error::CodeError;
+use crate::{MOST_FRAME, MOST_PRIVATE};
+use dae_base::Items;
+use dae_ir::{Stream, StreamFunction};
+use dae_regalloc::allocate;
+use dae_select::{FunctionLayout, Layouts};
+use std::alloc::Global;
+
+/// The words that a private frame has besides the slots.
+const KEPT_WORDS: u32 = 19;
+
+/// The number of variables, where their frame isn't too large.
+fn count_of(homes: usize) -> Result<u32, CodeError>
+    ensures ok { IfOk result (λ count. (count ≡ homes) × (count < 2 ^ 26 - 19)) }
+    ensures err { IfErr result (λ e. (e ≡ errors.Private) × (2 ^ 26 - 19 ≤ homes)) }
+{
+    if homes > (MOST_FRAME - KEPT_WORDS) as usize {
+        return Err(CodeError::Private);
+    }
+    Ok(homes as u32)
+}
+
+/// The homes of a function's variables, at first at word 0.
+fn layout_of(alloc: Global, function: &StreamFunction) -> Result<FunctionLayout, CodeError>
+    ensures layout { IfOk result (λ layout. IsLayoutOf function.now layout) }
+    ensures code { IfErr result (λ e. e ≢ errors.Code) }
+    ensures private { IfErr result (λ e. e ≡ errors.Private → AreTooMany (function.now ∷ [])) }
+{
+    let homes = allocate(alloc, function.parameters, function.body.as_slice())?;
+    Ok(FunctionLayout {
+        variables: count_of(homes.len())?,
+        homes: Items::from_vec(homes),
+        frame: function.frame,
+        entry: 0,
+        start: 0,
+    })
+}
+
+fn layouts_of(alloc: Global, functions: &[StreamFunction]) -> Result<Vec<FunctionLayout>, CodeError>
+    ensures layouts { IfOk result (λ layouts. AllZip IsLayoutOf functions.now layouts.items) }
+    ensures code { IfErr result (λ e. e ≢ errors.Code) }
+    ensures private { IfErr result (λ e. e ≡ errors.Private → AreTooMany functions.now) }
+{
+    let mut layouts = Vec::new(alloc);
+    for index in 0..functions.len() {
+        layouts.push(layout_of(alloc, &functions[index])?)?;
+    }
+    Ok(layouts)
+}
+
+/// The words of the largest private frame.
+fn largest_frame(layouts: &[FunctionLayout]) -> u32
+    requires { AllByRecursion (λ l. l.variables < 2 ^ 26 - 19) layouts.now }
+    ensures all { AllByRecursion (IsFrameWithin result) layouts.now }
+    ensures few { (n : ℕ) → 19 ≤ n → AllByRecursion (IsFrameWithin n) layouts.now → result ≤ n }
+    ensures least { 19 ≤ result }
+    ensures most { result < 2 ^ 26 }
+{
+    let mut largest = KEPT_WORDS;
+    for layout in layouts {
+        largest = largest.max(KEPT_WORDS + layout.variables);
+    }
+    largest
+}
+
+/// The words of private memory for calls so deep.
+fn private_words(calls: u16, largest: u32) -> Result<u32, CodeError>
+    ensures ok { IfOk result (λ words. (words ≡ calls * largest) × (words ≤ 2 ^ 28)) }
+    ensures err { IfErr result (λ e. (e ≡ errors.Private) × (2 ^ 28 < calls * largest)) }
+{
+    let words = u64::from(calls) * u64::from(largest);
+    if words > u64::from(MOST_PRIVATE) {
+        return Err(CodeError::Private);
+    }
+    Ok(words as u32)
+}
+
+/// The homes and frames of a stream's functions, all at word 0.
+pub fn unplaced_layouts(alloc: Global, stream: &Stream) -> Result<Layouts, CodeError>
+    ensures layouts { IfOk result (λ layouts. AreUnplaced stream.now layouts) }
+    ensures code { IfErr result (λ e. e ≢ errors.Code) }
+    ensures private { IfErr result (λ e. e ≡ errors.Private → IsTooDeep stream.now) }
+{
+    let functions = layouts_of(alloc, stream.functions.as_slice())?;
+    let largest = largest_frame(functions.as_slice());
+    let private = private_words(stream.calls, largest)?;
+    Ok(Layouts {
+        side: stream.side,
+        functions: Items::from_vec(functions),
+        finish: 0,
+        largest,
+        private,
+        limit: stream.calls,
+        memory: stream.memory,
+    })
+}

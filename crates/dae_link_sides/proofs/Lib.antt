@@ -1,8 +1,0 @@
-mod Same
-mod Standing
-mod Looked
-mod Settling
-mod Sizes
-mod Sided
-mod Used
-mod Registers

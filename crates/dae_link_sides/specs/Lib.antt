@@ -1,4 +1,0 @@
-pub mod Settled
-pub mod Placed
-pub mod Sides
-pub mod Sizes
