@@ -5,7 +5,7 @@ use Rattle.std.specs.List.{All, list_all}
 use Rattle.dae_image.specs.declared.Image.{Image}
 use Rattle.dae_image.specs.Contents.{is_name}
 use Rattle.dae_ir.specs.declared.form.Ir.{Ir}
-use Rattle.dae_machine_runs.specs.Promises.{DoesForm}
+use Rattle.dae_machine_rounds.specs.Promises.{DoesForm}
 use Rattle.dae_link.specs.declared.error.CodeError.{CodeError}
 use Rattle.dae_link.specs.declared.error.CodeError.TheVariants as errors
 use Rattle.dae_program.specs.declared.program.Program.{Program}

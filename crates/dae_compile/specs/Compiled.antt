@@ -6,7 +6,7 @@ use Rattle.dae_image.specs.declared.Image.{Image}
 use Rattle.dae_ir.specs.Form.{form_of}
 use Rattle.dae_ir.specs.declared.form.Function.{Function}
 use Rattle.dae_ir.specs.declared.form.Ir.{Ir}
-use Rattle.dae_machine_runs.specs.Promises.{DoesForm}
+use Rattle.dae_machine_rounds.specs.Promises.{DoesForm}
 use Rattle.dae_program.specs.declared.program.Program.{Program}
 use Rattle.dae_lower_formed.specs.Formed.{IsLowered}
 use Rattle.dae_link.specs.Linked.{IsCompiledOf}

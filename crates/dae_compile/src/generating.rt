@@ -3,7 +3,7 @@
 ghost use Rattle.std.specs.Prelude.{◌≡◌, ◌≤◌, ◌<◌, ◌^◌, IfOk, IfErr};
 ghost use Rattle.dae_ir_pair.specs.Budget.{IsWithinCap};
 ghost use Rattle.dae_link_faithful.specs.Made.{IsReady};
-ghost use Rattle.dae_machine_runs.specs.Promises.{DoesForm};
+ghost use Rattle.dae_machine_rounds.specs.Promises.{DoesForm};
 ghost use Rattle.dae_link.specs.Linked.{IsCompiledOf};
 ghost use Rattle.dae_report.specs.Reports.{IsReportOf};
 ghost use Rattle.dae_link.specs.declared.error.CodeError.TheVariants as errors;

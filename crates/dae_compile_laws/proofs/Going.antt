@@ -10,7 +10,7 @@ use Rattle.dae_ir.specs.Scope.{IsScoped}
 use Rattle.dae_ir.specs.declared.form.Ir.{Ir}
 use Rattle.dae_machine.specs.Opened.{setup_of, opened}
 use Rattle.dae_machine.proofs.LawsOfRuns.{runs_deeper}
-use Rattle.dae_machine_runs.specs.Promises.{DoesForm}
+use Rattle.dae_machine_rounds.specs.Promises.{DoesForm}
 use Rattle.dae_meaning.specs.Results.{Result, Over, Going, Halted, Astray, world_of}
 use Rattle.dae_meaning.specs.Alike.{Alike, BothAt, BothOver, FirstStrays, IsFront}
 use Rattle.dae_meaning.specs.Variables.{Env}

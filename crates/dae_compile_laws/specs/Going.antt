@@ -9,7 +9,7 @@ use Rattle.dae_ir.specs.declared.form.Ir.{Ir}
 use Rattle.dae_machine.specs.declared.Pick.{Pick}
 use Rattle.dae_machine.specs.Machine.{State, Runs}
 use Rattle.dae_machine.specs.Opened.{setup_of, opened}
-use Rattle.dae_machine_runs.specs.Promises.{DoesForm}
+use Rattle.dae_machine_rounds.specs.Promises.{DoesForm}
 use Rattle.dae_meaning.specs.Alike.{IsFront}
 use Rattle.dae_meaning.specs.Results.{Going}
 use Rattle.dae_meaning.specs.Worlds.{World}

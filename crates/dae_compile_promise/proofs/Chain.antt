@@ -33,7 +33,7 @@ use Rattle.dae_lower.specs.Keeping.{IsOver}
 use Rattle.dae_lower_formed.specs.Formed.{IsLowered}
 use Rattle.dae_lower_formed.specs.Order.{DoesTheSame, IsKeptByFewer}
 use Rattle.dae_machine_rounds.specs.Order.{InOrder}
-use Rattle.dae_machine_runs.specs.Promises.{DoesForm, Ends}
+use Rattle.dae_machine_rounds.specs.Promises.{DoesForm, Ends}
 use Rattle.dae_compile_promise.specs.Promises.{OnlyEnds, IsAtEnd, KeepsMeaning, IsLaterForm, ImageKeepsMeaning, LaterFormsDoPrograms}
 use Rattle.dae_compile_promise.proofs.Main.{IsOverResult, main_is_over}
 

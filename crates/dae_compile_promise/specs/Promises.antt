@@ -20,7 +20,7 @@ use Rattle.dae_program.specs.Programs.{meaning_of, program_end, start, GoesOn}
 use Rattle.dae_program.specs.declared.program.Program.{Program}
 use Rattle.dae_lower_formed.specs.Formed.{IsLowered}
 use Rattle.dae_lower_formed.specs.Order.{DoesTheSame, IsKeptByFewer}
-use Rattle.dae_machine_runs.specs.Promises.{DoesForm}
+use Rattle.dae_machine_rounds.specs.Promises.{DoesForm}
 
 -- ---- every run
 

@@ -14,7 +14,7 @@ use Rattle.dae_ir.specs.Programs.{AreClassesOf, IsPairOf}
 use Rattle.dae_ir.specs.Budgets.{IsBudgetOf}
 use Rattle.dae_link_faithful.specs.Uses.{IsUnused}
 use Rattle.dae_link_faithful.specs.Made.{IsMade, IsReady}
-use Rattle.dae_machine_runs.specs.Promises.{DoesForm}
+use Rattle.dae_machine_rounds.specs.Promises.{DoesForm}
 use Rattle.dae_select.specs.declared.growing.PlacedWord.{PlacedWord}
 use Rattle.dae_link.specs.Sides.{HasLimits, HasPlaces, HasRegisters}
 use Rattle.dae_link.specs.Settled.{IsTooDeep, IsPrivateWithin}

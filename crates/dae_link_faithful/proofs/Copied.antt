@@ -10,7 +10,7 @@ use Rattle.dae_ir.specs.declared.form.Test.{Test}
 use Rattle.dae_ir.specs.declared.stream.Part.{Part}
 use Rattle.dae_ir.specs.declared.stream.Part.TheVariants.{Sets, Loads, Tests}
 use Rattle.dae_ir_pair.specs.Budget.{AtMost}
-use Rattle.dae_machine_runs.proofs.Laws.{IsRegion}
+use Rattle.dae_machine_rounds.proofs.LawsOfRuns.{IsRegion}
 use Rattle.dae_select_walks.specs.Agrees.{Plan}
 use Rattle.dae_link_faithful.proofs.Wanted.{PartsWanted, ItemWanted, TestWanted, RoundWanted, DecisionWanted, RoundsWanted}
 

@@ -16,8 +16,8 @@ use Rattle.dae_ir.specs.declared.stream.Pair.{Pair}
 use Rattle.dae_machine_rounds.specs.Spots.{Ends, point, Spot, spot}
 use Rattle.dae_machine.specs.Walks.{Walks}
 use Rattle.dae_machine_rounds.specs.Sides.{Implements}
-use Rattle.dae_machine_runs.specs.Promises.{Begins, DoesForm}
-use Rattle.dae_machine_runs.proofs.Laws.{does_form}
+use Rattle.dae_machine_rounds.specs.Promises.{Begins, DoesForm}
+use Rattle.dae_machine_rounds.proofs.LawsOfRuns.{does_form}
 use Rattle.dae_select_walks.specs.Live.{none, live, nowhere}
 use Rattle.dae_select_walks.specs.Facts.{unknown, outs}
 use Rattle.dae_select_walks.specs.Agrees.{Moment, Stands}

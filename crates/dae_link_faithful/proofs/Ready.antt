@@ -25,7 +25,7 @@ use Rattle.dae_link_faithful.proofs.Usable.{IsUsable, ItemNumbers, TestNumbers, 
 use Rattle.dae_link_faithful.proofs.Streams.{found}
 use Rattle.dae_link_faithful.proofs.Wanted.{CallWanted, ItemWanted, FormWanted, rounds_wanted, side_wanted}
 use Rattle.dae_link_faithful.proofs.Copied.{each_zip, rounds_copied}
-use Rattle.dae_machine_runs.proofs.Laws.{rounds_ok}
+use Rattle.dae_machine_rounds.proofs.LawsOfRuns.{rounds_ok}
 use Rattle.dae_ir_pair.specs.Budget.{AtMost}
 use Rattle.dae_ir.specs.Rounds.{Decision, Rounds, rounds, is_copied}
 use Rattle.dae_link_faithful.proofs.Entries.{entry_given, arguments_apart, main_reads}

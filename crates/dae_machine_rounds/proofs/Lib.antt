@@ -12,3 +12,16 @@ mod Landing
 mod Groups
 mod Control
 pub mod Laws
+mod Turned
+mod Stretches
+mod Sided
+mod RegionsA
+mod RegionsE
+mod RegionEnds
+mod RegionRounds
+mod Regions
+mod Calls
+mod Whole
+mod Forms
+mod Example
+pub mod LawsOfRuns

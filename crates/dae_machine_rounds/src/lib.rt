@@ -4,10 +4,10 @@
 // proofs/Laws.antt.
 #![tactic(auto)]
 
-ghost use Rattle.std.specs.Prelude.{List};
-ghost use Rattle.dae_machine.specs.declared.Pick.{Pick};
 ghost use Rattle.dae_machine.specs.Machine.{Setup, State, Runs};
+ghost use Rattle.dae_machine.specs.declared.Pick.{Pick};
 ghost use Rattle.dae_machine_rounds.specs.Order.{InOrder};
+ghost use Rattle.std.specs.Prelude.{List};
 
 /// A list of rounds is a run.
 pub fn order_is_a_run()

@@ -39,12 +39,12 @@ use Rattle.dae_machine_rounds.specs.Spots.{Ends as Here, point, Spot, spot}
 use Rattle.dae_machine_rounds.specs.Sides.{Implements}
 use Rattle.dae_base.specs.Budgets.{Reaches}
 use Rattle.dae_base.proofs.Laws.{bytes-append, zero_bytes}
-use Rattle.dae_machine_runs.specs.Promises.{Begins, OnlyEnds, EndsAs, Ends, Continues, Tells, DoesForm}
+use Rattle.dae_machine_rounds.specs.Promises.{Begins, OnlyEnds, EndsAs, Ends, Continues, Tells, DoesForm}
 use Rattle.dae_machine_rounds.proofs.Laws.{Counts, IsSound, order_run}
 use Rattle.dae_machine.proofs.LawsOfRuns.{memory_length, data_fit}
 use Rattle.std.proofs.lemmas.List.Elements.{recursion_from_All}
-use Rattle.dae_machine_runs.proofs.Calls.{body_of}
-use Rattle.dae_machine_runs.proofs.Whole.{ends_as, has_run, onward}
+use Rattle.dae_machine_rounds.proofs.Calls.{body_of}
+use Rattle.dae_machine_rounds.proofs.Whole.{ends_as, has_run, onward}
 
 -- ---- a final state is so with any depths
 

@@ -24,11 +24,11 @@ use Rattle.dae_machine_rounds.specs.Spots.{Ends, point, Point, Spot, spot}
 use Rattle.dae_machine_rounds.specs.Sides.{Implements}
 use Rattle.dae_machine.specs.Walks.{nothing}
 use Rattle.dae_machine_rounds.specs.Order.{InOrder, Round, picks_of, Rounds}
-use Rattle.dae_machine_runs.specs.Promises.{Begins, OnlyEnds, EndsAs}
+use Rattle.dae_machine_rounds.specs.Promises.{Begins, OnlyEnds, EndsAs}
 use Rattle.dae_machine.specs.Walks.{state_of, Grants, ends}
 use Rattle.dae_machine.proofs.LawsOfRuns.{ran_a, ran_e}
 use Rattle.dae_machine_rounds.proofs.Laws.{Counts, resting, GoesOn, level, IsSound, Stands, Ended, Lands, then_order, order_run, rest_empty, one_round}
-use Rattle.dae_machine_runs.proofs.Calls.{body_of, calls_land}
+use Rattle.dae_machine_rounds.proofs.Calls.{body_of, calls_land}
 
 often_few : (e : Pick → Bool) (ps : List Pick) → often e ps ≤ length ps
 often_few e [] = omega arith

@@ -15,9 +15,9 @@ use Rattle.dae_ir_pair.specs.Budget.{OwnWithin, Covers, AWithin, EWithin, AtMost
 use Rattle.dae_machine_rounds.specs.Spots.{Ends, point, Waiting, Spot}
 use Rattle.dae_machine_rounds.specs.Sides.{Implements}
 use Rattle.dae_machine_rounds.proofs.Laws.{exits, Lands}
-use Rattle.dae_machine_runs.proofs.Regions.{ItemOfA, region_a_lands, region_e_lands}
-use Rattle.dae_machine_runs.proofs.RegionRounds.{IsRegion, rounds_ok}
-use Rattle.dae_machine_runs.proofs.Stretches.{RoundFits, DecisionFits, CallsLand, code_lands}
+use Rattle.dae_machine_rounds.proofs.Regions.{ItemOfA, region_a_lands, region_e_lands}
+use Rattle.dae_machine_rounds.proofs.RegionRounds.{IsRegion, rounds_ok}
+use Rattle.dae_machine_rounds.proofs.Stretches.{RoundFits, DecisionFits, CallsLand, code_lands}
 
 module _ (setup : Setup) (p : Program) (of : ℕ → Classes) (cap : ℕ) where
   abbrev pub body_of : Bool → ℕ → Actions

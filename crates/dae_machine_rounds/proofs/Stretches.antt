@@ -22,7 +22,7 @@ use Rattle.dae_machine_rounds.proofs.Laws.{level, exits, least_of, IsSound, Stan
 use Rattle.dae_machine.specs.Walks.{nothing}
 use Rattle.dae_machine_rounds.specs.Order.{Round as Turn_of, none}
 use Rattle.dae_core.specs.Queues.{Queues}
-use Rattle.dae_machine_runs.proofs.Turned.{IsTold, one_is_none, told_group, told_region}
+use Rattle.dae_machine_rounds.proofs.Turned.{IsTold, one_is_none, told_group, told_region}
 
 abbrev no_round : Turn_of
 no_round = record { access = []; fills = []; execute = []; hears = []; drains = [] }

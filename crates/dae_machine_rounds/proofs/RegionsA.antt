@@ -25,8 +25,8 @@ use Rattle.dae_ir_pair.specs.Budget.{is_own_part, is_test, any_part, OwnWithin}
 use Rattle.dae_core.specs.Queues.{Queues}
 use Rattle.dae_machine_rounds.specs.Spots.{Arrives, Behind, After, Body, Turn, point, left, skipped, Waiting, spot, breaks, continues}
 use Rattle.dae_machine_rounds.proofs.Laws.{LoadsWords, does_to, Does, here, Counts, Loads, resting, sending, words_for, HasRoom, Comes, parts_come, with_al, IsMessage, silent, message_is, rest_is}
-use Rattle.dae_machine_runs.proofs.Turned.{inside_turn}
-use Rattle.dae_machine_runs.proofs.Sided.{exit, still_itself, still_ticked, Reached, Does_as, List_does, Spare_does, spare_less, IsBlock, then_does, moved, branch_does, loop_does}
+use Rattle.dae_machine_rounds.proofs.Turned.{inside_turn}
+use Rattle.dae_machine_rounds.proofs.Sided.{exit, still_itself, still_ticked, Reached, Does_as, List_does, Spare_does, spare_less, IsBlock, then_does, moved, branch_does, loop_does}
 
 -- one stretch and another and another
 pub bind_assoc : (r : Result Env) (f g : Run Env) → (r ▷ f) ▷ g ≡ r ▷ (λ env w. f env w ▷ g)

@@ -35,9 +35,9 @@ use Rattle.dae_machine_rounds.specs.Follows.{IsFit, halts}
 use Rattle.dae_machine_rounds.specs.Spots.{weight, Spot, Came, Moves, acts, goes_behind, ends_body, ends_step, breaks, continues, branches, tells, hears, enters, calls_it, returns, goes_back}
 use Rattle.dae_machine.specs.Walks.{Goes, stays, quiet}
 use Rattle.dae_machine_rounds.specs.Sides.{Walked}
-use Rattle.dae_machine_runs.specs.Promises.{OnlyEnds}
-use Rattle.dae_machine_runs.proofs.Calls.{body_of}
-use Rattle.dae_machine_runs.proofs.Whole.{ends_as}
+use Rattle.dae_machine_rounds.specs.Promises.{OnlyEnds}
+use Rattle.dae_machine_rounds.proofs.Calls.{body_of}
+use Rattle.dae_machine_rounds.proofs.Whole.{ends_as}
 
 -- ---- the program, and a machine with its code
 

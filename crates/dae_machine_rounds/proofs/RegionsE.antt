@@ -25,9 +25,9 @@ use Rattle.dae_ir.specs.declared.stream.Last.TheVariants.{Prints}
 use Rattle.dae_ir_pair.specs.Budget.{is_test, any_part}
 use Rattle.dae_machine_rounds.specs.Spots.{Arrives, Behind, After, Body, Turn, Point, point, left, skipped, Waiting, Spot, spot, breaks, continues}
 use Rattle.dae_machine_rounds.proofs.Laws.{LoadsWords, does_to, Does, here, resting, with_al, parts_taken, IsMessage, silent, message_is, emit_does}
-use Rattle.dae_machine_runs.proofs.Turned.{inside_turn}
-use Rattle.dae_machine_runs.proofs.Sided.{exit, Still, still_itself, still_ticked, still_on, Reached, Does_as, List_does, spare_less, then_does, moved, branch_does, loop_does}
-use Rattle.dae_machine_runs.proofs.RegionsA.{item_of, run_parts, parts_then}
+use Rattle.dae_machine_rounds.proofs.Turned.{inside_turn}
+use Rattle.dae_machine_rounds.proofs.Sided.{exit, Still, still_itself, still_ticked, still_on, Reached, Does_as, List_does, spare_less, then_does, moved, branch_does, loop_does}
+use Rattle.dae_machine_rounds.proofs.RegionsA.{item_of, run_parts, parts_then}
 
 module _ (setup : Setup) (p : Program) (body : ℕ → Actions) (m : List ℕ) (calls : List Waiting) (of : ℕ → Classes) (c : Classes) (cap n : ℕ) (size : length m ≡ setup.memory) (words : LoadsWords m) where
   -- what E sets in its region, A doesn't need, and a load is for nobody

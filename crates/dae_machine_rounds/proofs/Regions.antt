@@ -39,11 +39,11 @@ use Rattle.dae_machine.specs.Walks.{state_of, Grants, ends, grants}
 use Rattle.dae_machine.proofs.LawsOfRuns.{ran_e}
 use Rattle.dae_machine.proofs.LawsOfRuns.{often-append}
 use Rattle.dae_machine_rounds.proofs.Laws.{loads_words, Does, did_a, did_e, does_both, does_one, does_same, held, resting, none_waits, with_al, level, exits, IsSound, Stands, Arrived, Lands, one_each, Part, play, ends_with, rest_words, rest_empty, arrives, no_move}
-use Rattle.dae_machine_runs.proofs.Sided.{exit, IsBlock, Still, Does_as}
-use Rattle.dae_machine_runs.proofs.RegionsA.{whole_region_a}
-use Rattle.dae_machine_runs.proofs.RegionsE.{region_e_does}
-use Rattle.dae_machine_runs.proofs.RegionEnds.{WayFits, NotGoing, stays_fit, no_loop_ends, way_a, going_a, way_e, going_e}
-use Rattle.dae_machine_runs.proofs.Stretches.{RegionLands}
+use Rattle.dae_machine_rounds.proofs.Sided.{exit, IsBlock, Still, Does_as}
+use Rattle.dae_machine_rounds.proofs.RegionsA.{whole_region_a}
+use Rattle.dae_machine_rounds.proofs.RegionsE.{region_e_does}
+use Rattle.dae_machine_rounds.proofs.RegionEnds.{WayFits, NotGoing, stays_fit, no_loop_ends, way_a, going_a, way_e, going_e}
+use Rattle.dae_machine_rounds.proofs.Stretches.{RegionLands}
 
 -- the silent instructions before a message is taken
 record Before (setup : Setup) (p : Processor) (n : ℕ) : Type 0 where

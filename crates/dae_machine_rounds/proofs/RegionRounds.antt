@@ -9,7 +9,7 @@ use Rattle.dae_ir.specs.Rounds.{Round, Group, Alone, Region, Rounds, Decision, S
 use Rattle.dae_ir.specs.declared.form.Item.{Item}
 use Rattle.dae_ir.specs.declared.form.Test.{Test}
 use Rattle.dae_ir.specs.declared.stream.Part.{Part}
-use Rattle.dae_machine_runs.proofs.Sided.{IsBlock}
+use Rattle.dae_machine_rounds.proofs.Sided.{IsBlock}
 
 pub record IsOneSided (f : Item → Bool) (code : Form) : Type 0 where
   pub block : IsBlock code

@@ -1,5 +1,0 @@
--- What the crate with the code of a pair cites: from its code and its beginning on both sides to what is promised of every
--- run of its image.
-pub use Rattle.dae_machine_runs.proofs.Forms.{does_form}
-pub use Rattle.dae_machine_runs.proofs.Calls.{body_of}
-pub use Rattle.dae_machine_runs.proofs.RegionRounds.{IsRegion, rounds_ok}
