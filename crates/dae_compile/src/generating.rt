@@ -12,8 +12,7 @@ ghost use Rattle.dae_compile.specs.Generated.{FitsMachine, HasFramesWithin, IsSh
 use dae_base::{Items, Text};
 use dae_image::Image;
 use dae_ir::Ir;
-use dae_link::link;
-use dae_link::CodeError;
+use dae_link::{CodeError, link};
 use dae_report::{Report, count};
 use dae_split_pair::decouple;
 use std::alloc::Global;

@@ -17,8 +17,7 @@ use dae_base::Place;
 use dae_parse_nodes::{
     Declared, absent, empty_function, named, no_parameters, no_specifiers, unsized_array,
 };
-use dae_parse_parts::CONDITIONAL;
-use dae_parse_parts::Scope;
+use dae_parse_parts::{CONDITIONAL, Scope};
 use dae_parse_states::{
     DeclaratorFrame, Doing, ExpressionFrame, Frame, Machine, Manner, Open, Presence, Rest,
     SpecifiersFrame, begins_specifiers,

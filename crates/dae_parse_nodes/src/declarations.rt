@@ -13,8 +13,7 @@ ghost use Rattle.dae_parse_nodes.specs.Parts.{ShowsOperand, ShowsSpecified, Show
 
 use crate::values::{Declared, Operand, Specified};
 use dae_base::Place;
-use dae_parse_parts::Depths;
-use dae_parse_parts::{Read, beside, longer, over};
+use dae_parse_parts::{Depths, Read, beside, longer, over};
 use dae_tree::{Block, Declaration, External, Initialiser, Item, Statement, TrailingComma};
 use std::alloc::{AllocError, Global};
 

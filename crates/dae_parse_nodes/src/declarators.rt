@@ -12,8 +12,7 @@ ghost use Rattle.dae_parse_nodes.specs.Parts.{ShowsOperand, ShowsSpecified, Show
 
 use crate::values::{Declared, Operand, ParameterList, Specified};
 use dae_base::Place;
-use dae_parse_parts::{Read, beside, flat, longer, over};
-use dae_parse_parts::Binding;
+use dae_parse_parts::{Binding, Read, beside, flat, longer, over};
 use dae_tree::{Declarator, Name, Parameter};
 use std::alloc::{AllocError, Global};
 

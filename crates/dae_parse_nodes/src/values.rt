@@ -1,8 +1,7 @@
 // What is kept beside the tree of a part: of operands, specifiers, declarators, parameters, bodies and loops.
 
 use dae_base::Place;
-use dae_parse_parts::Read;
-use dae_parse_parts::Binding;
+use dae_parse_parts::{Binding, Read};
 use dae_tree::{Declarator, Expression, Name, Parameter, Seen, Specifier, Statement};
 
 /// An expression that was read, its level, and the place of its first token.

@@ -1,13 +1,12 @@
 // Small parts of a parser: trees at the greatest depth, and what parts over others keep of them.
 
 use dae_base::Place;
-use dae_parse_parts::GREATEST_DEPTH;
 use dae_parse_nodes::{
     Body, Declared, Operand, ParameterList, Specified, binary, function, identifier, named,
     no_declarators, no_members, no_parameters, no_specifiers, parenthesised, pointer,
     with_declarator, with_member, with_parameter, with_structure_body, with_word,
 };
-use dae_parse_parts::Binding;
+use dae_parse_parts::{Binding, GREATEST_DEPTH};
 use dae_tree::{BinaryOperator, Keyword, Name, Seen};
 use std::alloc::{AllocError, Global};
 use std::test::Fail;

@@ -9,8 +9,8 @@ ghost use Rattle.dae_ir.specs.declared.stream.Action.TheVariants.{Issue};
 ghost use Rattle.dae_split_pair.specs.Tallies.{HasSmallGroups};
 
 use dae_base::{Depths, Items, LoadKind, Place, Side, Text};
-use dae_split_pair::budget;
 use dae_ir::{Action, Mark, Operand, Pair, Step, Stream, StreamFunction};
+use dae_split_pair::budget;
 use std::alloc::{AllocError, Global};
 use std::test::Fail;
 

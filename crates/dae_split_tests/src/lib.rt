@@ -1,4 +1,4 @@
-// Tests of dae_slice, dae_split, dae_budget and dae_split_pair: small forms with their classes, streams and budgets.
+// Tests of dae_slice, dae_split and dae_split_pair: small forms with their classes, streams and budgets.
 #![tactic(auto)]
 
 #[cfg(test)]
