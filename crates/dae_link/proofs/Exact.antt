@@ -8,7 +8,7 @@ use Rattle.dae_base.specs.declared.Side.TheVariants.{A, E}
 use Rattle.dae_ir.specs.declared.stream.Pair.{Pair}
 use Rattle.dae_ir.specs.declared.stream.Stream.{Stream}
 use Rattle.dae_link_faithful.specs.Uses.{IsUnused, AllOfSide, AllUntouched, IsBalanced}
-use Rattle.dae_select.specs.Layouts.{is_a}
+use Rattle.dae_select_values.specs.Sides.{is_a}
 use Rattle.dae_link.specs.Sides.{HasUsesOf}
 
 of_side : (stream : Stream) (s : Side) (words : List ℕ) → stream.side ≡ s → HasUsesOf stream words → AllOfSide (is_a s) stream.functions → (q : Queue) → IsUnused s q words ↔ AllUntouched (is_a s) q stream.functions

@@ -14,9 +14,9 @@ use Rattle.dae_select_walks.specs.declared.Home.{Home}
 use Rattle.dae_select_walks.specs.declared.Home.TheVariants.{Register, Slot}
 use Rattle.dae_select_blocks.specs.Wanted.{IsRight}
 use Rattle.dae_regalloc.specs.Seen.{AreBelow}
-use Rattle.dae_select.specs.Tables.{IsNear}
-use Rattle.dae_select.specs.Layouts.{homes_at, variables_at, entry_at, frame_at}
-use Rattle.dae_select.specs.declared.layouts.FunctionLayout.{FunctionLayout}
+use Rattle.dae_select_values.specs.Tables.{IsNear}
+use Rattle.dae_select_calls.specs.Layouts.{homes_at, variables_at, entry_at, frame_at}
+use Rattle.dae_select_calls.specs.declared.layouts.FunctionLayout.{FunctionLayout}
 use Rattle.dae_link.specs.Settled.{IsLayoutOf, IsFrameWithin}
 use Rattle.dae_link.specs.Sides.{body_in, parameters_in, frame_in}
 

@@ -15,7 +15,7 @@ use Rattle.dae_ir.specs.declared.stream.Pair.{Pair}
 use Rattle.dae_ir.specs.declared.stream.Stream.{Stream}
 use Rattle.dae_ir.specs.declared.stream.StreamFunction.{StreamFunction}
 use Rattle.dae_select_blocks.specs.Laws.{opened_with}
-use Rattle.dae_select.specs.Layouts.{is_a}
+use Rattle.dae_select_values.specs.Sides.{is_a}
 use Rattle.dae_link_faithful.specs.Made.{IsSide, IsMade, parameters_in, stream}
 use Rattle.dae_link.specs.Sides as sides
 use Rattle.dae_link.specs.Sides.{IsStreamIn, IsCodeOf}

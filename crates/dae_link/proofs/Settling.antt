@@ -6,8 +6,8 @@ use Rattle.std.specs.List.{AllByRecursion, AllZip}
 use Rattle.dae_ir.specs.declared.stream.Stream.{Stream}
 use Rattle.dae_ir.specs.declared.stream.StreamFunction.{StreamFunction}
 use Rattle.dae_select_walks.specs.Homes.{frame_words}
-use Rattle.dae_select.specs.declared.layouts.FunctionLayout.{FunctionLayout}
-use Rattle.dae_select.specs.declared.layouts.Layouts.{Layouts}
+use Rattle.dae_select_calls.specs.declared.layouts.FunctionLayout.{FunctionLayout}
+use Rattle.dae_select_calls.specs.declared.layouts.Layouts.{Layouts}
 use Rattle.dae_link.specs.Settled.{IsLayoutOf, IsFrameWithin, HasAtMost, IsTooDeep, IsPrivateWithin, AreUnplaced}
 
 pub zip_more : (fs : List StreamFunction) (ls : List FunctionLayout) (f : StreamFunction) (l : FunctionLayout) → AllZip IsLayoutOf fs ls → IsLayoutOf f l → AllZip IsLayoutOf (fs ++ f ∷ []) (ls ++ l ∷ [])

@@ -30,10 +30,11 @@ use Rattle.dae_select_blocks.specs.Fits.{Fits}
 use Rattle.dae_select_blocks.specs.Wanted.{IsPlanOf, IsLinked}
 use Rattle.dae_select_blocks.specs.Laws.{opened_with}
 use Rattle.dae_select_blocks.proofs.LawsOfBlocks.{words_are_code, fit_append, function_fits, start_fits, finish_fits, code_take, code_drop, opening_short}
-use Rattle.dae_select.specs.Tables.{IsNear}
-use Rattle.dae_select.specs.Layouts.{is_a, homes_at, variables_at, entry_at, start_at, frame_at, plan_of, variables_of, AreSmall}
-use Rattle.dae_select.specs.declared.layouts.FunctionLayout.{FunctionLayout}
-use Rattle.dae_select.specs.declared.layouts.Layouts.{Layouts}
+use Rattle.dae_select_values.specs.Tables.{IsNear}
+use Rattle.dae_select_values.specs.Sides.{is_a}
+use Rattle.dae_select_calls.specs.Layouts.{homes_at, variables_at, entry_at, start_at, frame_at, plan_of, variables_of, AreSmall}
+use Rattle.dae_select_calls.specs.declared.layouts.FunctionLayout.{FunctionLayout}
+use Rattle.dae_select_calls.specs.declared.layouts.Layouts.{Layouts}
 use Rattle.dae_link_faithful.specs.Made.{IsSide, HasCode, HasStart, setting_of}
 use Rattle.dae_link.specs.Settled.{AreUnplaced}
 use Rattle.dae_link.specs.Placed.{functions_code, opening_code, whole_code, placed}

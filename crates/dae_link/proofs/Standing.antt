@@ -12,8 +12,8 @@ use Rattle.dae_select_walks.specs.Live.{live, nowhere}
 use Rattle.dae_select_walks.specs.Agrees.{Plan}
 use Rattle.dae_select_blocks.specs.Code.{entry_code, function_code}
 use Rattle.dae_select_blocks.proofs.LawsOfBlocks.{words_are_code}
-use Rattle.dae_select.specs.Layouts.{entry_at, start_at}
-use Rattle.dae_select.specs.declared.layouts.FunctionLayout.{FunctionLayout}
+use Rattle.dae_select_calls.specs.Layouts.{entry_at, start_at}
+use Rattle.dae_select_calls.specs.declared.layouts.FunctionLayout.{FunctionLayout}
 use Rattle.dae_link.specs.Placed.{functions_code, placed}
 use Rattle.dae_link.specs.Sides.{body_in}
 

@@ -17,8 +17,9 @@ use Rattle.dae_select_walks.specs.declared.Home.{Home}
 use Rattle.dae_select_blocks.specs.Code.{function_code}
 use Rattle.dae_link_faithful.specs.Uses.{queue_in, queue_at, IsUnused, LeavesAlone, AllOfSide, AllUntouched}
 use Rattle.dae_link_faithful.proofs.LawsOfUses.{function_uses, start_uses, alone_append, alone_split}
-use Rattle.dae_select.specs.Layouts.{is_a, plan_of, variables_of}
-use Rattle.dae_select.specs.declared.layouts.Layouts.{Layouts}
+use Rattle.dae_select_values.specs.Sides.{is_a}
+use Rattle.dae_select_calls.specs.Layouts.{plan_of, variables_of}
+use Rattle.dae_select_calls.specs.declared.layouts.Layouts.{Layouts}
 use Rattle.dae_link.specs.Placed.{functions_code, opening_code}
 use Rattle.dae_link.specs.Settled.{AreUnplaced}
 use Rattle.dae_link.specs.Sides.{HasUsesOf, at_places, code_at}

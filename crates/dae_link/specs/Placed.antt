@@ -10,7 +10,7 @@ use Rattle.dae_select_blocks.specs.Code.{entry_code, function_code, start_code, 
 use Rattle.dae_select.specs.Grown.{advance}
 use Rattle.dae_select.specs.Growing.{function_places}
 use Rattle.dae_select.specs.declared.growing.PlacedWord.{PlacedWord}
-use Rattle.dae_select.specs.declared.layouts.FunctionLayout.{FunctionLayout}
+use Rattle.dae_select_calls.specs.declared.layouts.FunctionLayout.{FunctionLayout}
 
 -- the code of the functions from the k-th on
 abbrev pub functions_code : Plan → (ℕ → ℕ) → ℕ → List StreamFunction → List Inst

@@ -8,8 +8,8 @@ use Rattle.dae_select_walks.specs.Homes.{AreHomes, frame_words, home_in}
 use Rattle.dae_select_walks.specs.Live.{function_lives}
 use Rattle.dae_regalloc.specs.Given.{AreFew, IsRegister}
 use Rattle.dae_regalloc.specs.Seen.{AreBelow}
-use Rattle.dae_select.specs.declared.layouts.FunctionLayout.{FunctionLayout}
-use Rattle.dae_select.specs.declared.layouts.Layouts.{Layouts}
+use Rattle.dae_select_calls.specs.declared.layouts.FunctionLayout.{FunctionLayout}
+use Rattle.dae_select_calls.specs.declared.layouts.Layouts.{Layouts}
 
 -- where around no place of the function more than 18 variables are live, each has a register
 abbrev pub KeepsInRegisters : StreamFunction → FunctionLayout → Type 0

@@ -13,10 +13,11 @@ use Rattle.dae_ir.specs.declared.stream.StreamFunction.{StreamFunction}
 use Rattle.dae_select_blocks.specs.Code.{start_code}
 use Rattle.dae_select_blocks.specs.Laws.{opened_with}
 use Rattle.dae_link_faithful.specs.Uses.{IsUnused, AllOfSide, AllUntouched}
-use Rattle.dae_select.specs.Layouts.{is_a, plan_of, variables_of}
+use Rattle.dae_select_values.specs.Sides.{is_a}
+use Rattle.dae_select_calls.specs.Layouts.{plan_of, variables_of}
 use Rattle.dae_select.specs.declared.growing.PlacedWord.{PlacedWord}
-use Rattle.dae_select.specs.declared.layouts.FunctionLayout.{FunctionLayout}
-use Rattle.dae_select.specs.declared.layouts.Layouts.{Layouts}
+use Rattle.dae_select_calls.specs.declared.layouts.FunctionLayout.{FunctionLayout}
+use Rattle.dae_select_calls.specs.declared.layouts.Layouts.{Layouts}
 use Rattle.dae_link_faithful.specs.Made.{IsSide}
 use Rattle.dae_link.specs.Placed.{functions_code, opening_code, whole_code, placed, functions_places}
 use Rattle.dae_link.specs.Settled.{KeepsInRegisters}

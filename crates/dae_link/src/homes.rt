@@ -2,7 +2,7 @@
 
 ghost use Rattle.std.specs.Prelude.{◌≡◌, ◌≢◌, ℕ, ◌-◌, ◌*◌, ◌≤◌, ◌<◌, ◌^◌, ◌∷◌, [], length, IfOk, IfErr};
 ghost use Rattle.std.specs.List.{AllByRecursion, AllZip};
-ghost use Rattle.dae_select.specs.Layouts.{AreSmall};
+ghost use Rattle.dae_select_calls.specs.Layouts.{AreSmall};
 ghost use Rattle.dae_link.specs.Settled.{IsLayoutOf, IsFrameWithin, AreTooMany, IsTooDeep, AreUnplaced};
 ghost use Rattle.dae_link.specs.declared.error.CodeError.TheVariants as errors;
 
@@ -11,7 +11,7 @@ use crate::{MOST_FRAME, MOST_PRIVATE};
 use dae_base::Items;
 use dae_ir::{Stream, StreamFunction};
 use dae_regalloc::allocate;
-use dae_select::{FunctionLayout, Layouts};
+use dae_select_calls::{FunctionLayout, Layouts};
 use std::alloc::Global;
 
 /// The words that a private frame has besides the slots.

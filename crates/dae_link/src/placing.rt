@@ -1,7 +1,7 @@
 // Functions get their places in the code of a side, one behind the other.
 
 ghost use Rattle.std.specs.Prelude.{◌≡◌, ◌≢◌, ◌+◌, ◌≤◌, ◌<◌, ◌^◌, length, IfOk, IfErr};
-ghost use Rattle.dae_select.specs.Layouts.{AreSmall};
+ghost use Rattle.dae_select_calls.specs.Layouts.{AreSmall};
 ghost use Rattle.dae_link.specs.Placed.{moved};
 ghost use Rattle.dae_link.specs.Sides.{placed_by, word_behind};
 ghost use Rattle.dae_link.specs.declared.error.CodeError.TheVariants as errors;
@@ -10,7 +10,8 @@ use crate::MOST_WORDS;
 use crate::error::CodeError;
 use dae_base::Items;
 use dae_ir::StreamFunction;
-use dae_select::{FunctionLayout, Layouts, function_code};
+use dae_select::function_code;
+use dae_select_calls::{FunctionLayout, Layouts};
 use std::alloc::{AllocError, Global};
 
 /// The word behind so many words of code.

@@ -3,7 +3,7 @@
 ghost use Rattle.std.specs.Prelude.{◌≡◌, ◌≢◌, ℕ, ◌+◌, ◌*◌, ◌≤◌, ◌<◌, ◌^◌, ◌++◌, length, IfOk, IfErr, OnOk};
 ghost use Rattle.std.specs.List.{All};
 ghost use Rattle.dae_select_blocks.specs.Code.{start_code};
-ghost use Rattle.dae_select.specs.Layouts.{plan_of, AreSmall};
+ghost use Rattle.dae_select_calls.specs.Layouts.{plan_of, AreSmall};
 ghost use Rattle.dae_link.specs.declared.error.CodeError.TheVariants as errors;
 ghost use Rattle.dae_link.specs.Settled.{AreUnplaced, IsPrivateWithin, IsTooDeep};
 ghost use Rattle.dae_link.specs.Placed.{opening_code};
@@ -18,7 +18,8 @@ use crate::words::{encode_all, opening_code, whole_code};
 use dae_base::Items;
 use dae_encode::Inst;
 use dae_ir::Stream;
-use dae_select::{Layouts, PlacedWord, start_code};
+use dae_select::PlacedWord;
+use dae_select_calls::{Layouts, start_code};
 use std::alloc::{AllocError, Global};
 
 /// The code of one side: its words, how many words of private memory it needs, and the words at which actions begin, in

@@ -4,13 +4,14 @@ ghost use Rattle.std.specs.Prelude.{◌≡◌, ℕ, ◌≤◌, ◌<◌, ◌^◌,
 ghost use Rattle.std.specs.List.{All, AllByRecursion};
 ghost use Rattle.dae_encode.specs.Spelling.{InRange, encoded};
 ghost use Rattle.dae_select.specs.Grown.{advance};
-ghost use Rattle.dae_select.specs.Layouts.{plan_of, AreSmall};
+ghost use Rattle.dae_select_calls.specs.Layouts.{plan_of, AreSmall};
 ghost use Rattle.dae_link.specs.Placed.{opening_code};
 ghost use Rattle.dae_link.specs.Sides.{functions_by, whole_by, begins_by, places_by};
 
 use dae_encode::{Inst, encode};
 use dae_ir::{Stream, StreamFunction};
-use dae_select::{Layouts, PlacedWord, finish_code, function_code, start_code};
+use dae_select::{PlacedWord, function_code};
+use dae_select_calls::{Layouts, finish_code, start_code};
 use std::alloc::{AllocError, Global};
 
 /// Words of a function's code, behind so many other words, with their places.

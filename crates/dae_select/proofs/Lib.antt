@@ -1,7 +1,4 @@
 mod Counted
-mod Distances
-mod Listed
 mod Stacked
 mod Sizes
 mod InFront
-mod Powers

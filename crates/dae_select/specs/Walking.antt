@@ -16,9 +16,9 @@ use Rattle.dae_select_blocks.specs.Blocks.{jump_over}
 use Rattle.dae_select_blocks.specs.Code.{call_code, action_code, block_code, branch_code}
 use Rattle.dae_select.specs.Grown.{Grown, acting}
 use Rattle.dae_select.specs.Growing.{IsCodeOf, IsStepCode}
-use Rattle.dae_select.specs.Makings.{plan_by, variables_by, by_jal}
-use Rattle.dae_select.specs.declared.calling.Callee.{Callee}
-use Rattle.dae_select.specs.declared.making.Making.{Making}
+use Rattle.dae_select_calls.specs.Makings.{plan_by, variables_by, by_jal}
+use Rattle.dae_select_calls.specs.declared.calling.Callee.{Callee}
+use Rattle.dae_select_calls.specs.declared.making.Making.{Making}
 use Rattle.dae_select.specs.declared.making.Exits.{Exits}
 use Rattle.dae_select.specs.declared.making.Onward.{Onward}
 use Rattle.dae_select.specs.declared.making.Around.{Around}

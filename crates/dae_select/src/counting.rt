@@ -7,10 +7,10 @@ ghost use Rattle.dae_ir.specs.Streams.{actions_of, step_onto};
 ghost use Rattle.dae_select_blocks.specs.Sizes.{one_call, most_words_in, is_short};
 ghost use Rattle.dae_select_blocks.specs.Code.{is_near};
 ghost use Rattle.dae_select.specs.Counting.{capped};
-ghost use Rattle.dae_select.specs.Jumps.{is_jal};
+ghost use Rattle.dae_select_values.specs.Jumps.{is_jal};
 
-use crate::jumping::JumpForm;
 use dae_ir::{Action, Step};
+use dae_select_values::JumpForm;
 
 /// Code that may have so many words is no longer short.
 const LONG: u64 = 131_072;

@@ -4,21 +4,10 @@
 
 pub use functions::{FunctionCode, function_code};
 pub use growing::PlacedWord;
-pub use layouts::{FunctionLayout, Layouts};
-pub use opening::{finish_code, start_code};
 
-mod accessing;
-mod assigning;
-mod calling;
-mod checking;
 mod counting;
-mod fetching;
 mod functions;
 mod growing;
-mod jumping;
-mod layouts;
 mod making;
-mod numbers;
-mod opening;
 mod pairing;
 mod walking;

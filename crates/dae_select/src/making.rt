@@ -1,24 +1,10 @@
-// What the code of a function is made from.
+// What the code of a step is made from besides: where it leads, how things stand around it, and tests with their places.
 
-use crate::jumping::JumpForm;
-use crate::layouts::Layouts;
 use dae_base::Place;
 use dae_ir::Branch;
 use dae_select_facts::Known;
 use dae_select_live::LiveSet;
-use dae_select_walks::{Home, Need, Standing};
-use std::alloc::Global;
-
-/// What the code of a function is made from: what is settled of its side, its number, the homes of its variables, and the form
-/// of the jumps in it.
-#[derive(Drop)]
-pub struct Making<'l> {
-    pub alloc: Global,
-    pub layouts: &'l Layouts,
-    pub function: u32,
-    pub homes: &'l [Home],
-    pub jumps: JumpForm,
-}
+use dae_select_walks::{Need, Standing};
 
 /// Where a Break goes and a Continue: what is live there, and how many words lie between the end of the code and there.
 #[derive(Drop)]

@@ -11,15 +11,16 @@ ghost use Rattle.dae_select_walks.specs.declared.Standing.TheVariants.{Early as 
 ghost use Rattle.dae_select_walks.specs.declared.Home.TheVariants.{Register as IsRegister};
 ghost use Rattle.dae_ir.specs.declared.form.Value.TheVariants.{Binary as IsBinary, Holds as IsHolds};
 ghost use Rattle.dae_select.specs.Growing.{standing_between, step_before, IsTakenBy};
-ghost use Rattle.dae_select.specs.Tables.{AreNear};
+ghost use Rattle.dae_select_values.specs.Tables.{AreNear};
 
-use crate::assigning::{compare, extend, operation, set_code, value_code};
-use crate::fetching::{fetch, home_of, keep, register_or, source};
-use crate::numbers::{compare_number, exchanged, immediate, takes_number};
 use dae_encode::Inst;
 use dae_ir::{Action, Operand, Step, Test, Value};
 use dae_meaning::Operator;
 use dae_select_live::LiveSet;
+use dae_select_values::{
+    compare, compare_number, exchanged, extend, fetch, home_of, immediate, keep, operation,
+    register_or, set_code, source, takes_number, value_code,
+};
 use dae_select_walks::{Home, Standing};
 use std::alloc::AllocError;
 

@@ -13,31 +13,28 @@ ghost use Rattle.dae_select.specs.Grown.{glue, acting, in_front};
 ghost use Rattle.dae_select.specs.Growing.{IsTakenBy, IsTakenByStep};
 ghost use Rattle.dae_select.specs.Growing.{first_test, bottom_of, words_behind, turned, IsNearTurn, facts_in_tail};
 ghost use Rattle.dae_select.specs.declared.making.PlacedBranch.{PlacedBranch as ATest};
-ghost use Rattle.dae_select.specs.Makings.{by_jal, IsSound};
+ghost use Rattle.dae_select_calls.specs.Makings.{by_jal, IsSound};
 ghost use Rattle.dae_select.specs.Walking.{called_by, action_by, block_by, branch_to, IsStepBy, IsListBy};
 ghost use Rattle.dae_select_walks.specs.Edges.{is_then};
 ghost use Rattle.dae_select_walks.specs.Homes.{home_in};
-ghost use Rattle.dae_select.specs.Tables.{AreNear};
+ghost use Rattle.dae_select_values.specs.Tables.{AreNear};
 
-use crate::accessing::{
-    address_code, call_number, hear_code, issue_code, stop_code, system_code, take_code,
-};
-use crate::assigning::set_code;
-use crate::calling::{Callee, call_code, leave_code};
-use crate::checking::{check_code, placed_code};
 use crate::counting::is_near;
-use crate::fetching::{home_of, move_code};
 use crate::growing::GrowingCode;
-use crate::jumping::{back_branch, branch_code, jump_back, jump_over, jump_words};
-use crate::making::{Around, Exits, Making, Onward, PlacedBranch};
+use crate::making::{Around, Exits, Onward, PlacedBranch};
 use crate::pairing::{late_code, standing_between, taking_code};
 use dae_base::{LoadKind, Place};
 use dae_encode::Inst;
 use dae_ir::{Action, Argument, Branch, Operand, Step};
+use dae_select_calls::{Callee, Making, call_code, check_code, leave_code, placed_code};
 use dae_select_facts::{
     Known, all_before, facts_at_turn, facts_behind_turn, facts_in_list, facts_past_if, only_leaves,
 };
 use dae_select_live::{LiveSet, live_at_turn, live_before_action, live_with_branch};
+use dae_select_values::{
+    address_code, back_branch, branch_code, call_number, hear_code, home_of, issue_code, jump_back,
+    jump_over, jump_words, move_code, set_code, stop_code, system_code, take_code,
+};
 use dae_select_walks::{Edge, Home, Need, Standing};
 use std::alloc::{AllocError, Global};
 

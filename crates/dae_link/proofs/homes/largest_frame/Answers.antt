@@ -2,7 +2,7 @@ use Rattle.std.proofs.Common.{◌≡◌, ◌+◌, ◌-◌, ◌<◌, ◌^◌, ◌
 use Rattle.std.specs.List.{AllByRecursion}
 use Rattle.std.proofs.lemmas.List.{take_more, take_all}
 use Rattle.dae_base.proofs.Laws.{drop_at}
-use Rattle.dae_select.specs.declared.layouts.FunctionLayout.{FunctionLayout}
+use Rattle.dae_select_calls.specs.declared.layouts.FunctionLayout.{FunctionLayout}
 use Rattle.dae_link.specs.Settled.{IsFrameWithin}
 use Rattle.dae_link.proofs.Settling.{frames_more, most_more}
 use Rattle.dae_link.proofs.homes.largest_frame.Goals as goal

@@ -1,6 +1,6 @@
 use Rattle.std.specs.Prelude.{ℕ, ◌-◌, ◌≤◌, ◌<◌, ◌^◌, take, drop}
 use Rattle.std.specs.List.{AllByRecursion}
-use Rattle.dae_select.specs.declared.layouts.FunctionLayout.{FunctionLayout}
+use Rattle.dae_select_calls.specs.declared.layouts.FunctionLayout.{FunctionLayout}
 use Rattle.dae_link.specs.Settled.{IsFrameWithin}
 use Rattle.dae_link.proofs.homes.largest_frame.Given as goal
 

@@ -2,7 +2,7 @@ use Rattle.std.proofs.Common.{◌≡◌, ◌+◌, ◌++◌, List, [], ◌∷◌,
 use Rattle.std.proofs.lemmas.List.{take_more, take_all}
 use Rattle.std.specs.List.{AllZip}
 use Rattle.dae_ir.specs.declared.stream.StreamFunction.{StreamFunction}
-use Rattle.dae_select.specs.declared.layouts.FunctionLayout.{FunctionLayout}
+use Rattle.dae_select_calls.specs.declared.layouts.FunctionLayout.{FunctionLayout}
 use Rattle.dae_link.specs.Settled.{IsLayoutOf}
 use Rattle.dae_link.proofs.Settling.{zip_more}
 use Rattle.dae_link.proofs.homes.layouts_of.Goals as goal

@@ -1,5 +1,5 @@
 use Rattle.std.specs.Prelude.{◌≡◌, ◌+◌, ◌++◌, ◌≤◌, ◌^◌, length, drop}
-use Rattle.dae_select.specs.Layouts.{plan_of, variables_of}
+use Rattle.dae_select_calls.specs.Layouts.{plan_of, variables_of}
 use Rattle.dae_link.specs.Placed.{functions_code, placed}
 use Rattle.dae_link.proofs.placing.place.Given as goal
 

@@ -1,6 +1,6 @@
 use Rattle.std.proofs.Common.{sym, subst}
-use Rattle.dae_select.specs.Layouts.{AreSmall}
-use Rattle.dae_select.specs.declared.layouts.Layouts.{Layouts}
+use Rattle.dae_select_calls.specs.Layouts.{AreSmall}
+use Rattle.dae_select_calls.specs.declared.layouts.Layouts.{Layouts}
 use Rattle.dae_link.proofs.Sided.{small_placed}
 use Rattle.dae_link.proofs.side.placed_code.Goals as goal
 

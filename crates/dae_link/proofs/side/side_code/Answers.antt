@@ -3,7 +3,7 @@ use Rattle.std.specs.List.{AllByRecursion}
 use Rattle.std.proofs.lemmas.List.{length-map}
 use Rattle.dae_encode.specs.Spelling.{InRange, encoded}
 use Rattle.dae_encode.specs.declared.Inst.{Inst}
-use Rattle.dae_select.specs.Layouts.{plan_of, variables_of}
+use Rattle.dae_select_calls.specs.Layouts.{plan_of, variables_of}
 use Rattle.dae_select.specs.declared.growing.PlacedWord.{PlacedWord}
 use Rattle.dae_link.specs.Sides.{HasUsesOf, IsCodeOf, at_places, code_at, opening_by, places_by}
 use Rattle.dae_link.proofs.Settling.{private_within}

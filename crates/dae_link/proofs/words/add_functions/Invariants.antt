@@ -1,5 +1,5 @@
 use Rattle.std.specs.Prelude.{◌≡◌, ◌++◌, drop, length}
-use Rattle.dae_select.specs.Layouts.{plan_of, variables_of}
+use Rattle.dae_select_calls.specs.Layouts.{plan_of, variables_of}
 use Rattle.dae_link.specs.Placed.{functions_code, functions_places}
 use Rattle.dae_link.proofs.words.add_functions.Given as goal
 

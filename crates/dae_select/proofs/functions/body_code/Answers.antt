@@ -1,7 +1,7 @@
 use Rattle.std.proofs.lemmas.Result.{IfOk-weaker}
 use Rattle.dae_ir.specs.Streams.{actions_of}
 use Rattle.dae_select_facts.specs.Knowns.{facts_by}
-use Rattle.dae_select.specs.Makings.{plan_by, variables_by, by_jal}
+use Rattle.dae_select_calls.specs.Makings.{plan_by, variables_by, by_jal}
 use Rattle.dae_select.proofs.Stacked.{bare}
 use Rattle.dae_select.proofs.functions.body_code.Goals as goal
 

@@ -14,7 +14,7 @@ use Rattle.dae_select.specs.Grown.{Grown, from_front}
 use Rattle.dae_select_walks.specs.declared.Standing.TheVariants.{Settled}
 use Rattle.dae_select.specs.Growing.{marked_code}
 use Rattle.dae_select_blocks.specs.Sizes.{is_short}
-use Rattle.dae_select.specs.Layouts.{plan_of, variables_of}
+use Rattle.dae_select_calls.specs.Layouts.{plan_of, variables_of}
 use Rattle.dae_select.proofs.InFront.{same_code}
 use Rattle.dae_select.proofs.functions.function_code.Goals as goal
 

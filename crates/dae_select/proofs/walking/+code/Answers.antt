@@ -15,7 +15,7 @@ use Rattle.dae_select_facts.specs.Knowns.{facts_by}
 use Rattle.dae_select_facts.specs.Along.{facts_after, facts_at, IsBefore}
 use Rattle.dae_select_facts.proofs.LawsOfFacts.{facts_next}
 use Rattle.dae_select.specs.Growing.{bottom_of, words_behind, turned, facts_in_tail, IsCodeOf, step_before, standing_before}
-use Rattle.dae_select.specs.Makings.{plan_by, variables_by, by_jal}
+use Rattle.dae_select_calls.specs.Makings.{plan_by, variables_by, by_jal}
 use Rattle.dae_select.proofs.Sizes.{deepest, first_in_if, second_in_if, first_in_loop, second_in_loop, list_below, rest_below, step_below}
 use Rattle.dae_select.proofs.Stacked.{acted, branched, near_turn, looped, none_done, one_more, moved_code, before_is, stands_at_end, stands_before, taken_behind}
 use Rattle.dae_select.proofs.walking.+code.Goals as goal

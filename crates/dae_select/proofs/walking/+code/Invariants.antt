@@ -5,7 +5,7 @@ use Rattle.dae_select_facts.specs.Knowns.{facts_by}
 use Rattle.dae_select_facts.specs.Along.{facts_at}
 use Rattle.dae_select_live.specs.Members.{member}
 use Rattle.dae_select.specs.Growing.{IsCodeOf, step_before, standing_before}
-use Rattle.dae_select.specs.Makings.{plan_by, variables_by, by_jal}
+use Rattle.dae_select_calls.specs.Makings.{plan_by, variables_by, by_jal}
 use Rattle.dae_select.proofs.walking.+code.Given as goal
 
 abbrev pub invariant-list_code-loop-index : goal.invariant-list_code-loop-index

@@ -4,7 +4,7 @@ use Rattle.dae_ir.specs.Classes.{VariableSet}
 use Rattle.dae_select_walks.specs.Live.{is}
 use Rattle.dae_select_live.specs.Members.{member}
 use Rattle.dae_select_blocks.specs.Code.{call_code}
-use Rattle.dae_select.specs.Makings.{plan_by, variables_by}
+use Rattle.dae_select_calls.specs.Makings.{plan_by, variables_by}
 use Rattle.dae_select.proofs.walking.called_code.Goals as goal
 
 pub returns : goal.returns

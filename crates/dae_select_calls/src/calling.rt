@@ -1,0 +1,307 @@
+// The blocks of calls and returns, and the code that a function begins with.
+
+ghost use Rattle.std.specs.Prelude.{◌≡◌, ◌+◌, ◌++◌, ◌<◌, ◌^◌, ◌%◌, ◌&&◌, nat_lt, IfOk, OnOk};
+ghost use Rattle.dae_select_blocks.specs.Blocks.{waits_at, arguments_code, argument_code, is_register, save_code, restore_code, deeper_code, back_code, result_code, leave_code};
+ghost use Rattle.dae_select_blocks.specs.Code.{some_below, filtered, registers_in, call_code, entry_code};
+ghost use Rattle.dae_select_calls.specs.Layouts.{plan_of, AreSmall};
+ghost use Rattle.dae_select_calls.specs.Makings.{plan_by, variables_by, IsSound};
+ghost use Rattle.dae_select_walks.specs.Live.{with_all};
+ghost use Rattle.dae_select_values.specs.Tables.{IsNear, AreNear};
+ghost use Rattle.dae_select_live.specs.Members.{member};
+ghost use Rattle.dae_select_walks.specs.Homes.{kept_at, home_in};
+
+use crate::layouts::Layouts;
+use crate::making::Making;
+use dae_base::Side;
+use dae_encode::Inst;
+use dae_ir::{Argument, Operand};
+use dae_select_live::LiveSet;
+use dae_select_values::{
+    enter_code, fetch, home_of, keep, less_code, load_code, more_code, move_code, register_or,
+    source, store_code,
+};
+use dae_select_walks::Home;
+use std::alloc::{AllocError, Global};
+
+/// The registers that variables may have.
+const HOME_REGISTERS: [u8; 18] = [
+    8, 9, 11, 12, 13, 14, 15, 16, 18, 19, 20, 21, 22, 23, 24, 25, 26, 27,
+];
+
+/// The word of a frame in which a register is kept across a call.
+fn kept_at(register: u8) -> u8
+    ensures { result ≡ kept_at register }
+{
+    if register < 10 {
+        register.saturating_sub(7)
+    } else if register < 17 {
+        register - 8
+    } else {
+        register - 9
+    }
+}
+
+fn waits_at(home: Home) -> u32
+    requires { IsNear home }
+    ensures same { result ≡ waits_at home }
+    ensures near { result < 2 ^ 27 + 256 }
+{
+    match home {
+        Home::Register(register) => u32::from(kept_at(register)),
+        Home::Slot(slot) => 19 + slot,
+    }
+}
+
+fn argument_code(
+    code: &mut Vec<Inst>,
+    making: &Making,
+    callee: u32,
+    argument: Argument,
+) -> Result<(), AllocError>
+    requires { IsSound making.now }
+    ensures { OnOk result (code.new.items ≡ code.old.items
+        ++ argument_code (plan_by making.now) making.now.function callee argument) }
+{
+    fetch(code, making.homes, 5, argument.operand)?;
+    let place = waits_at(making.layouts.home(callee, argument.parameter));
+    let words = 19 + making.layouts.variables(making.function);
+    store_code(
+        code,
+        source(making.homes, 5, argument.operand),
+        words + place,
+    )
+}
+
+/// The arguments of a call go where the function that is called finds its parameters.
+fn arguments_code(
+    code: &mut Vec<Inst>,
+    making: &Making,
+    callee: u32,
+    arguments: &[Argument],
+) -> Result<(), AllocError>
+    requires { IsSound making.now }
+    ensures { OnOk result (code.new.items ≡ code.old.items
+        ++ arguments_code (plan_by making.now) making.now.function callee arguments.now) }
+{
+    for index in (0..arguments.len()).rev() {
+        argument_code(code, making, callee, arguments[index])?;
+    }
+    Ok(())
+}
+
+/// The register of a home comes into a set of registers.
+fn hold_home(held: &mut LiveSet, home: Home) -> Result<(), AllocError>
+    ensures { OnOk result (member held.new
+        ≡ with_all (λ r. is_register r home) (member held.old)) }
+{
+    match home {
+        Home::Register(register) => held.insert(u32::from(register)),
+        Home::Slot(_) => Ok(()),
+    }
+}
+
+/// The register in which a variable is, of those below so many, comes into a set of registers.
+fn hold(held: &mut LiveSet, homes: &[Home], variables: u32, variable: u32) -> Result<(), AllocError>
+    ensures { OnOk result (member held.new ≡ with_all (λ r.
+        nat_lt variable variables && is_register r (home_in homes.now variable))
+        (member held.old)) }
+{
+    if variable < variables {
+        hold_home(held, home_of(homes, variable))
+    } else {
+        Ok(())
+    }
+}
+
+/// The registers in which a live variable is, by one pass over the live variables.
+fn held_registers(
+    alloc: Global,
+    homes: &[Home],
+    variables: u32,
+    live: &LiveSet,
+) -> Result<LiveSet, AllocError>
+    ensures { IfOk result (λ held. member held ≡ (λ r. some_below variables (λ v.
+        member live.now v && is_register r (home_in homes.now v)))) }
+{
+    let mut held = LiveSet::new(alloc);
+    for variable in live.variables() {
+        hold(&mut held, homes, variables, *variable)?;
+    }
+    Ok(held)
+}
+
+fn registers_among(alloc: Global, held: &LiveSet, registers: &[u8]) -> Result<Vec<u8>, AllocError>
+    ensures { IfOk result (λ found. found.items ≡ filtered (member held.now) registers.now) }
+{
+    let mut found = Vec::new(alloc);
+    for register in registers {
+        if held.contains(u32::from(*register)) {
+            found.push(*register)?;
+        }
+    }
+    Ok(found)
+}
+
+/// Those of some registers in which a live variable is.
+fn live_among(
+    alloc: Global,
+    homes: &[Home],
+    variables: u32,
+    live: &LiveSet,
+    registers: &[u8],
+) -> Result<Vec<u8>, AllocError>
+    ensures { IfOk result (λ found. found.items ≡ filtered (λ r. some_below variables (λ v.
+        member live.now v && is_register r (home_in homes.now v))) registers.now) }
+{
+    let held = held_registers(alloc, homes, variables, live)?;
+    registers_among(alloc, &held, registers)
+}
+
+/// The registers in which a live variable is.
+fn registers_in(
+    alloc: Global,
+    homes: &[Home],
+    variables: u32,
+    live: &LiveSet,
+) -> Result<Vec<u8>, AllocError>
+    ensures { IfOk result (λ registers. registers.items
+        ≡ registers_in (home_in homes.now) variables (member live.now)) }
+{
+    live_among(alloc, homes, variables, live, &HOME_REGISTERS)
+}
+
+fn save_code(code: &mut Vec<Inst>, registers: &[u8]) -> Result<(), AllocError>
+    ensures { OnOk result (code.new.items ≡ code.old.items ++ save_code registers.now) }
+{
+    for register in registers {
+        store_code(code, *register, u32::from(kept_at(*register)))?;
+    }
+    Ok(())
+}
+
+fn restore_code(code: &mut Vec<Inst>, registers: &[u8]) -> Result<(), AllocError>
+    ensures { OnOk result (code.new.items ≡ code.old.items ++ restore_code registers.now) }
+{
+    for register in registers {
+        load_code(code, *register, u32::from(kept_at(*register)))?;
+    }
+    Ok(())
+}
+
+/// The low word of a frame's bytes.
+fn low_word(frame: u64) -> u32
+    ensures { result ≡ frame % 2 ^ 32 }
+{
+    (frame % 4_294_967_296) as u32
+}
+
+/// The frames of the function that is called follow the caller's; on A the call is one deeper.
+fn deeper_code(code: &mut Vec<Inst>, layouts: &Layouts, function: u32) -> Result<(), AllocError>
+    requires { AreSmall layouts.now }
+    ensures { OnOk result (code.new.items ≡ code.old.items
+        ++ deeper_code (plan_of layouts.now) function) }
+{
+    more_code(code, 3, low_word(layouts.frame(function)))?;
+    more_code(code, 2, 4 * (19 + layouts.variables(function)))?;
+    match layouts.side {
+        Side::A => code.extend_from_slice(&[Inst::Addi(10, 10, 1)]),
+        Side::E => Ok(()),
+    }
+}
+
+/// The frames are given up again.
+fn back_code(code: &mut Vec<Inst>, layouts: &Layouts, function: u32) -> Result<(), AllocError>
+    requires { AreSmall layouts.now }
+    ensures { OnOk result (code.new.items ≡ code.old.items
+        ++ back_code (plan_of layouts.now) function) }
+{
+    less_code(code, 3, low_word(layouts.frame(function)))?;
+    less_code(code, 2, 4 * (19 + layouts.variables(function)))?;
+    match layouts.side {
+        Side::A => code.extend_from_slice(&[Inst::Addi(10, 10, -1)]),
+        Side::E => Ok(()),
+    }
+}
+
+fn result_code(
+    code: &mut Vec<Inst>,
+    homes: &[Home],
+    variable: Option<u32>,
+) -> Result<(), AllocError>
+    requires { AreNear homes.now }
+    ensures { OnOk result (code.new.items ≡ code.old.items
+        ++ result_code (home_in homes.now) variable) }
+{
+    match variable {
+        None => Ok(()),
+        Some(variable) => {
+            let home = home_of(homes, variable);
+            code.push(Inst::Addi(register_or(5, home), 6, 0))?;
+            keep(code, home)
+        }
+    }
+}
+
+/// What a call names: the variable that gets the result, the function, and the arguments.
+#[derive(Clone, Copy)]
+pub struct Callee {
+    pub result: Option<u32>,
+    pub function: u32,
+}
+
+/// The block of a call, where these variables are live behind it, the result aside.
+pub fn call_code(
+    code: &mut Vec<Inst>,
+    making: &Making,
+    callee: Callee,
+    arguments: &[Argument],
+    live: &LiveSet,
+) -> Result<(), AllocError>
+    requires { IsSound making.now }
+    ensures { OnOk result (code.new.items ≡ code.old.items
+        ++ call_code (plan_by making.now) (variables_by making.now) making.now.function
+        callee.result callee.function arguments.now (member live.now)) }
+{
+    let layouts = making.layouts;
+    let variables = layouts.variables(making.function);
+    arguments_code(code, making, callee.function, arguments)?;
+    let registers = registers_in(making.alloc, making.homes, variables, live)?;
+    save_code(code, registers.as_slice())?;
+    deeper_code(code, layouts, making.function)?;
+    enter_code(code, layouts.entry(callee.function))?;
+    back_code(code, layouts, making.function)?;
+    restore_code(code, registers.as_slice())?;
+    result_code(code, making.homes, callee.result)
+}
+
+/// The block of a return.
+pub fn leave_code(
+    code: &mut Vec<Inst>,
+    homes: &[Home],
+    answer: Option<Operand>,
+) -> Result<(), AllocError>
+    requires { AreNear homes.now }
+    ensures { OnOk result (code.new.items ≡ code.old.items
+        ++ leave_code (home_in homes.now) answer) }
+{
+    match answer {
+        None => code.extend_from_slice(&[Inst::Lw(1, 2, 0), Inst::Jalr(0, 1, 0)]),
+        Some(operand) => {
+            move_code(code, homes, 6, operand)?;
+            code.extend_from_slice(&[Inst::Lw(1, 2, 0), Inst::Jalr(0, 1, 0)])
+        }
+    }
+}
+
+/// The code that a function begins with, where these variables are live behind it.
+pub fn entry_code(code: &mut Vec<Inst>, making: &Making, live: &LiveSet) -> Result<(), AllocError>
+    requires { IsSound making.now }
+    ensures { OnOk result (code.new.items ≡ code.old.items
+        ++ entry_code (plan_by making.now) (variables_by making.now) making.now.function
+        (member live.now)) }
+{
+    code.push(Inst::Sw(2, 1, 0))?;
+    let variables = making.layouts.variables(making.function);
+    let registers = registers_in(making.alloc, making.homes, variables, live)?;
+    restore_code(code, registers.as_slice())
+}

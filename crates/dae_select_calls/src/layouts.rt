@@ -1,0 +1,87 @@
+// What is settled before the code of a side is made.
+
+ghost use Rattle.std.specs.Prelude.{◌≡◌};
+ghost use Rattle.dae_select_calls.specs.Layouts.{plan_of, variables_of, AreSmall};
+ghost use Rattle.dae_select_values.specs.Tables.{AreNear};
+ghost use Rattle.dae_select_walks.specs.Homes.{home_in};
+
+use dae_base::{Items, Side};
+use dae_select_values::home_of;
+use dae_select_walks::Home;
+
+/// What is settled of a function: the homes of its variables, how many variables there are, the bytes of its frame in
+/// common memory, the word at which it is entered, and the word at which its actions begin.
+#[derive(Drop)]
+pub struct FunctionLayout {
+    pub homes: Items<Home>,
+    pub variables: u32,
+    pub frame: u64,
+    pub entry: u32,
+    pub start: u32,
+}
+
+/// What is settled of a side: its functions, the word that main returns to, the most words of a private frame, the words
+/// of private memory, the call limit, and the bytes of common memory.
+#[derive(Drop)]
+pub struct Layouts {
+    pub side: Side,
+    pub functions: Items<FunctionLayout>,
+    pub finish: u32,
+    pub largest: u32,
+    pub private: u32,
+    pub limit: u16,
+    pub memory: u32,
+}
+
+impl Layouts {
+    /// The homes of a function's variables.
+    pub fn homes(&self, function: u32) -> &[Home]
+        ensures homes { home_in result.now ≡ (plan_of self.now).home function }
+        ensures near { AreSmall self.now → AreNear result.now }
+    {
+        match self.functions.as_slice().get(function as usize) {
+            Some(layout) => layout.homes.as_slice(),
+            None => &[],
+        }
+    }
+
+    /// The home of a variable of a function.
+    pub fn home(&self, function: u32, variable: u32) -> Home
+        ensures { result ≡ (plan_of self.now).home function variable }
+    {
+        match self.functions.as_slice().get(function as usize) {
+            Some(layout) => home_of(layout.homes.as_slice(), variable),
+            None => Home::Register(8),
+        }
+    }
+
+    /// The word at which a function is entered.
+    pub fn entry(&self, function: u32) -> u32
+        ensures { result ≡ (plan_of self.now).entry function }
+    {
+        match self.functions.as_slice().get(function as usize) {
+            Some(layout) => layout.entry,
+            None => 0,
+        }
+    }
+
+    /// The number of variables of a function.
+    pub fn variables(&self, function: u32) -> u32
+        ensures { result ≡ variables_of self.now function }
+    {
+        match self.functions.as_slice().get(function as usize) {
+            Some(layout) => layout.variables,
+            None => 0,
+        }
+    }
+
+    /// The bytes of a function's frame in common memory.
+    pub fn frame(&self, function: u32) -> u64
+        ensures { result ≡ (plan_of self.now).frame function }
+    {
+        match self.functions.as_slice().get(function as usize) {
+            Some(layout) => layout.frame,
+            None => 0,
+        }
+    }
+}

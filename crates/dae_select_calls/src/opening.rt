@@ -1,0 +1,57 @@
+// The code that a side begins with, and what main returns to.
+
+ghost use Rattle.std.specs.Prelude.{◌≡◌, ◌-◌, ◌++◌, ◌∷◌, [], pos, if◌then◌else◌, IfOk, OnOk};
+ghost use Rattle.dae_encode.specs.declared.Inst.TheVariants.{Addi};
+ghost use Rattle.dae_select_blocks.specs.Blocks.{number_code};
+ghost use Rattle.dae_select_blocks.specs.Code.{start_code, finish_code};
+ghost use Rattle.dae_select_values.specs.Sides.{is_a};
+ghost use Rattle.dae_select_calls.specs.Layouts.{plan_of, AreSmall};
+
+use crate::layouts::Layouts;
+use dae_base::Side;
+use dae_encode::Inst;
+use dae_select_values::{enter_code, number_code};
+use std::alloc::{AllocError, Global};
+
+/// On A common memory has so many addresses, and main stands at depth 1.
+fn counts_code(code: &mut Vec<Inst>, side: Side, memory: u32) -> Result<(), AllocError>
+    ensures { OnOk result (code.new.items ≡ code.old.items
+        ++ (if is_a side then number_code 4 (memory - 16) ++ Addi 10 0 (pos 1) ∷ [] else [])) }
+{
+    match side {
+        Side::A => {
+            number_code(code, 4, memory.saturating_sub(16))?;
+            code.extend_from_slice(&[Inst::Addi(10, 0, 1)])
+        }
+        Side::E => Ok(()),
+    }
+}
+
+/// The code that begins: frames begin at this address of common memory, and main is called.
+pub fn start_code(
+    alloc: Global,
+    layouts: &Layouts,
+    main: u32,
+    frames: u32,
+) -> Result<Vec<Inst>, AllocError>
+    requires { AreSmall layouts.now }
+    ensures { IfOk result (λ code. code.items ≡ start_code (plan_of layouts.now) main frames) }
+{
+    let mut code = Vec::new(alloc);
+    number_code(&mut code, 3, frames)?;
+    counts_code(&mut code, layouts.side, layouts.memory)?;
+    enter_code(&mut code, layouts.entry(main))?;
+    Ok(code)
+}
+
+/// What main returns to: the processor halts, E with main's result.
+pub fn finish_code(code: &mut Vec<Inst>, side: Side) -> Result<(), AllocError>
+    ensures { OnOk result (code.new.items ≡ code.old.items ++ finish_code (is_a side)) }
+{
+    match side {
+        Side::A => code.extend_from_slice(&[Inst::Ecall]),
+        Side::E => {
+            code.extend_from_slice(&[Inst::Addi(10, 6, 0), Inst::Addi(17, 0, 0), Inst::Ecall])
+        }
+    }
+}

@@ -1,0 +1,4 @@
+pub mod Sides
+pub mod Tables
+pub mod Fronts
+pub mod Jumps

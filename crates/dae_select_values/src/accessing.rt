@@ -1,0 +1,139 @@
+// The blocks of accesses to queues and memory, of printing and of halting.
+
+ghost use Rattle.std.specs.Prelude.{◌≡◌, ◌++◌, ◌∷◌, [], OnOk};
+ghost use Rattle.dae_select_blocks.specs.Blocks.{source, fetch, issue_code, address_code, take_code, call_number, system_code, hear_code, stop_code};
+ghost use Rattle.dae_select_values.specs.Sides.{is_a};
+ghost use Rattle.dae_select_walks.specs.Homes.{home_in};
+ghost use Rattle.dae_select_values.specs.Tables.{IsNear, AreNear};
+
+use crate::fetching::{fetch, keep, move_code, register_or, source};
+use dae_base::{LoadKind, Side, Width};
+use dae_encode::Inst;
+use dae_ir::Operand;
+use dae_meaning::Spelling;
+use dae_select_walks::Home;
+use std::alloc::AllocError;
+
+fn issue_inst(kind: LoadKind, queue: u8, base: u8) -> Inst
+    ensures { result ≡ issue_code kind queue base }
+{
+    match kind {
+        LoadKind::I8 => Inst::Lb(queue, base, 0),
+        LoadKind::U8 => Inst::Lbu(queue, base, 0),
+        LoadKind::I16 => Inst::Lh(queue, base, 0),
+        LoadKind::U16 => Inst::Lhu(queue, base, 0),
+        LoadKind::I32 => Inst::Lw(queue, base, 0),
+    }
+}
+
+/// A slot of a load queue, x30 or x31, is reserved for a load from the address that an operand is.
+pub fn issue_code(
+    code: &mut Vec<Inst>,
+    homes: &[Home],
+    kind: LoadKind,
+    queue: u8,
+    operand: Operand,
+) -> Result<(), AllocError>
+    requires { AreNear homes.now }
+    ensures { OnOk result (code.new.items ≡ code.old.items ++ (fetch (home_in homes.now) 5 operand
+        ++ issue_code kind queue (source (home_in homes.now) 5 operand) ∷ [])) }
+{
+    fetch(code, homes, 5, operand)?;
+    code.push(issue_inst(kind, queue, source(homes, 5, operand)))?;
+    Ok(())
+}
+
+fn address_inst(width: Width, base: u8) -> Inst
+    ensures { result ≡ address_code width base }
+{
+    match width {
+        Width::B1 => Inst::Sb(base, 30, 0),
+        Width::B2 => Inst::Sh(base, 30, 0),
+        Width::B4 => Inst::Sw(base, 30, 0),
+    }
+}
+
+/// The address of a store is pushed.
+pub fn address_code(
+    code: &mut Vec<Inst>,
+    homes: &[Home],
+    width: Width,
+    operand: Operand,
+) -> Result<(), AllocError>
+    requires { AreNear homes.now }
+    ensures { OnOk result (code.new.items ≡ code.old.items ++ (fetch (home_in homes.now) 5 operand
+        ++ address_code width (source (home_in homes.now) 5 operand) ∷ [])) }
+{
+    fetch(code, homes, 5, operand)?;
+    code.push(address_inst(width, source(homes, 5, operand)))?;
+    Ok(())
+}
+
+/// What is at the front of a queue goes home.
+pub fn take_code(code: &mut Vec<Inst>, queue: u8, home: Home) -> Result<(), AllocError>
+    requires { IsNear home }
+    ensures { OnOk result (code.new.items ≡ code.old.items ++ take_code queue home) }
+{
+    code.push(Inst::Addi(register_or(5, home), queue, 0))?;
+    keep(code, home)
+}
+
+/// The number of the environment call that prints so.
+pub fn call_number(spelling: Spelling) -> u8
+    ensures { result ≡ call_number spelling }
+{
+    match spelling {
+        Spelling::Byte => 1,
+        Spelling::Signed => 2,
+        Spelling::Unsigned => 3,
+        Spelling::Hexadecimal => 4,
+    }
+}
+
+/// An environment call of this number with an operand.
+pub fn system_code(
+    code: &mut Vec<Inst>,
+    homes: &[Home],
+    number: u8,
+    operand: Operand,
+) -> Result<(), AllocError>
+    requires { AreNear homes.now }
+    ensures { OnOk result (code.new.items ≡ code.old.items
+        ++ system_code (home_in homes.now) number operand) }
+{
+    move_code(code, homes, 10, operand)?;
+    code.extend_from_slice(&[Inst::Addi(17, 0, i32::from(number)), Inst::Ecall])
+}
+
+/// A message is taken, and for a code other than 0 the processor halts.
+pub fn hear_code(code: &mut Vec<Inst>, side: Side) -> Result<(), AllocError>
+    ensures { OnOk result (code.new.items ≡ code.old.items ++ hear_code (is_a side)) }
+{
+    match side {
+        Side::A => code.extend_from_slice(&[Inst::Addi(5, 29, 0), Inst::Beq(5, 0, 8), Inst::Ecall]),
+        Side::E => code.extend_from_slice(&[
+            Inst::Addi(10, 29, 0),
+            Inst::Beq(10, 0, 12),
+            Inst::Addi(17, 0, 5),
+            Inst::Ecall,
+        ]),
+    }
+}
+
+/// The processor halts, E with a status.
+pub fn stop_code(
+    code: &mut Vec<Inst>,
+    side: Side,
+    homes: &[Home],
+    status: Option<Operand>,
+) -> Result<(), AllocError>
+    requires { AreNear homes.now }
+    ensures { OnOk result (code.new.items ≡ code.old.items
+        ++ stop_code (is_a side) (home_in homes.now) status) }
+{
+    match (side, status) {
+        (Side::A, _) => code.extend_from_slice(&[Inst::Ecall]),
+        (Side::E, None) => system_code(code, homes, 0, Operand::Number(0)),
+        (Side::E, Some(operand)) => system_code(code, homes, 0, operand),
+    }
+}
