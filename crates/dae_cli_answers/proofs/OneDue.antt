@@ -10,7 +10,7 @@ use Rattle.dae_cli_options.specs.declared.options.Options.{Options}
 use Rattle.dae_cli_drive.specs.Images.{DueOfImage}
 use Rattle.dae_cli_drive.specs.Puts.{Answer, told}
 use Rattle.dae_cli_drive.proofs.Laws.{one_of_image}
-use Rattle.dae_cli_files.specs.Shelves.{IsTold, ShelfSeen}
+use Rattle.dae_cli_drive.specs.Shelves.{IsTold, ShelfSeen}
 use Rattle.dae_big.specs.Texts.{big_name, big_text}
 use Rattle.dae_cli_source_jobs.specs.Reporting.{DueOfReporting, due_compiled, due_not_compiled}
 use Rattle.dae_cli_refusals.specs.Refusals.{refusal_line}

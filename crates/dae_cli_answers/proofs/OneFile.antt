@@ -7,10 +7,10 @@ use Rattle.dae_image.proofs.Laws.{same_image}
 use Rattle.dae_cli_drive.specs.Images.{IsSingle}
 use Rattle.dae_cli_drive.specs.Notes.{image_line}
 use Rattle.dae_cli_drive.specs.Puts.{Answer, Put, told}
-use Rattle.dae_cli_files.specs.ImageFiles.{DueOfBytes, due_image, due_no_image, due_memory_to_decode, DueOfImageFile, due_bytes, due_no_bytes, due_memory_for_bytes}
-use Rattle.dae_cli_files.specs.Keeping.{DueOfKeeping, due_kept, due_not_kept, due_memory_to_keep}
-use Rattle.dae_cli_files.specs.Shelves.{IsTold, ShelfSeen}
-use Rattle.dae_cli_files.specs.TextFiles.{DueOfImageAndText, due_no_bytes_first, due_both, due_memory_for_bytes_first, DueOfTextFile, due_text, due_not_got, due_long, due_memory_for_text}
+use Rattle.dae_cli_drive.specs.ImageFiles.{DueOfBytes, due_image, due_no_image, due_memory_to_decode, DueOfImageFile, due_bytes, due_no_bytes, due_memory_for_bytes}
+use Rattle.dae_cli_drive.specs.Keeping.{DueOfKeeping, due_kept, due_not_kept, due_memory_to_keep}
+use Rattle.dae_cli_drive.specs.Shelves.{IsTold, ShelfSeen}
+use Rattle.dae_cli_drive.specs.TextFiles.{DueOfImageAndText, due_no_bytes_first, due_both, due_memory_for_bytes_first, DueOfTextFile, due_text, due_not_got, due_long, due_memory_for_text}
 use Rattle.dae_cli_answers.specs.One.{IsSeenWhole}
 
 -- ---- images

@@ -5,7 +5,7 @@ use Rattle.dae_cli_options.specs.declared.options.Options.{Options}
 use Rattle.dae_cli_options.specs.declared.options.RunOptions.{RunOptions}
 use Rattle.dae_cli_drive.specs.Images.{DueOfImage}
 use Rattle.dae_cli_drive.specs.Puts.{Answer}
-use Rattle.dae_cli_files.specs.Shelves.{ShelfSeen}
+use Rattle.dae_cli_drive.specs.Shelves.{ShelfSeen}
 use Rattle.dae_cli_source_jobs.specs.Fetching.{AreFetched, IsFirstNotFetched, IsNotFetched, not_got, too_long, most_source}
 use Rattle.dae_cli_source_jobs.specs.Sources.{DueOfFiles, DueOfTexts, due_fetched, due_not_fetched, due_memory_to_fetch, due_of_image, due_refused, due_memory_to_compile}
 use Rattle.dae_cli_words.specs.Asked.{Asked}

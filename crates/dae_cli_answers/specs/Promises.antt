@@ -18,7 +18,7 @@ use Rattle.dae_cli_command.specs.Answers.{IsDue}
 use Rattle.dae_cli_drive.specs.Images.{DueOfImage}
 use Rattle.dae_cli_drive.specs.Notes.{budget_line, ended_line, running_line, show_puts, steps_line, trapped_line}
 use Rattle.dae_cli_drive.specs.Puts.{Answer, Out, Note}
-use Rattle.dae_cli_files.specs.Shelves.{ShelfSeen}
+use Rattle.dae_cli_drive.specs.Shelves.{ShelfSeen}
 use Rattle.dae_cli_source_jobs.specs.Fetching.{AreFetched, most_source}
 use Rattle.dae_cli_words.specs.Asked.{Run, Big}
 use Rattle.dae_cli_words.specs.Words.{SpellsJob}

@@ -2,7 +2,7 @@
 ghost use Rattle.std.specs.Prelude.{◌≢◌, ℕ, List};
 ghost use Rattle.dae_cli_drive.specs.Puts.{Answer};
 ghost use Rattle.dae_cli_command.specs.Answers.{IsDue};
-ghost use Rattle.dae_cli_files.specs.Shelves.{ShelfSeen};
+ghost use Rattle.dae_cli_drive.specs.Shelves.{ShelfSeen};
 ghost use Rattle.dae_cli_answers.specs.One.{AreOne, IsSeenWhole};
 ghost use Rattle.dae_cli_answers.specs.Promises.{IsNeverStuck, RunsKeepMeaning, RunsOfFilesKeepMeaning, RunsOfNumbersKeepMeaning};
 ghost use Rattle.dae_cli_answers.specs.TimedPromises.{TimedRunsKeepMeaning};

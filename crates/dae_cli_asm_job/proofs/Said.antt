@@ -6,9 +6,9 @@ use Rattle.dae_image.specs.declared.Image.{Image}
 use Rattle.dae_cli_drive.specs.Images.{IsSingle}
 use Rattle.dae_cli_drive.specs.Lines.{memory_line}
 use Rattle.dae_cli_drive.specs.Puts.{Answer, told}
-use Rattle.dae_cli_files.specs.ImageFiles.{NoneOf}
-use Rattle.dae_cli_files.specs.Shelves.{ShelfSeen}
-use Rattle.dae_cli_files.specs.TextFiles.{DueOfTextFile, due_text, due_not_got, due_long, due_memory_for_text}
+use Rattle.dae_cli_drive.specs.ImageFiles.{NoneOf}
+use Rattle.dae_cli_drive.specs.Shelves.{ShelfSeen}
+use Rattle.dae_cli_drive.specs.TextFiles.{DueOfTextFile, due_text, due_not_got, due_long, due_memory_for_text}
 use Rattle.dae_cli_asm_job.specs.Assembling.{DueOfAssembly, due_said, due_fault, due_memory_to_assemble, DueOfAssemblyFile, IsAssembledOf, error_line}
 
 text_without : {text : List ℕ} {DueOf : Image → Answer → Type 0} {a : Answer} → DueOfAssembly text NoneOf a → DueOfAssembly text DueOf a

@@ -9,9 +9,9 @@ use Rattle.dae_image.specs.Spelling.{spelling_2}
 use Rattle.dae_io.specs.Sinks.{SinkState}
 use Rattle.dae_cli_drive.specs.Lines.{memory_line}
 use Rattle.dae_cli_drive.specs.Puts.{Answer, told}
-use Rattle.dae_cli_files.specs.Keeping.{DueOfKeeping, KeepsAtMostOnce}
-use Rattle.dae_cli_files.specs.Shelves.{KeepsNothing, ShelfSeen}
-use Rattle.dae_cli_files.specs.TextFiles.{DueOfTextFile, IsTextOfFile}
+use Rattle.dae_cli_drive.specs.Keeping.{DueOfKeeping, KeepsAtMostOnce}
+use Rattle.dae_cli_drive.specs.Shelves.{KeepsNothing, ShelfSeen}
+use Rattle.dae_cli_drive.specs.TextFiles.{DueOfTextFile, IsTextOfFile}
 
 -- an assembly text may have so many bytes
 abbrev pub most_assembly : ℕ

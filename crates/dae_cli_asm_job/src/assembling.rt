@@ -5,14 +5,14 @@ ghost use Rattle.dae_image.specs.Images.{contents};
 ghost use Rattle.dae_image.specs.Spelling.{spelling_2};
 ghost use Rattle.dae_io.specs.Told.{TellsSame};
 ghost use Rattle.dae_cli_drive.specs.Puts.{GivesNotesDue, TellsOrWants, stop_answer};
-ghost use Rattle.dae_cli_files.specs.ImageFiles.{NoneOf};
-ghost use Rattle.dae_cli_files.specs.Keeping.{DueOfKeeping, KeepsAtMostOnce, TellsBut, kept_line};
-ghost use Rattle.dae_cli_files.specs.Shelves.{KeepsNothing, shelf_seen};
+ghost use Rattle.dae_cli_drive.specs.ImageFiles.{NoneOf};
+ghost use Rattle.dae_cli_drive.specs.Keeping.{DueOfKeeping, KeepsAtMostOnce, TellsBut, kept_line};
+ghost use Rattle.dae_cli_drive.specs.Shelves.{KeepsNothing, shelf_seen};
 ghost use Rattle.dae_cli_asm_job.specs.Assembling.{DueOfAssembling, DueOfAssembly, DueOfAssemblyFile, IsAssembledOf, KeepsAssembledOnce, error_line};
 
 use dae_asm::{AsmError, assemble};
 use dae_cli_drive::Stop;
-use dae_cli_files::{keep_bytes, kept_line, text_of_file};
+use dae_cli_drive::{keep_bytes, kept_line, text_of_file};
 use dae_image::{Image, write};
 use dae_io::{Shelf, Sink};
 use std::alloc::{AllocError, Global};

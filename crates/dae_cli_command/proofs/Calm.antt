@@ -5,7 +5,7 @@ use Rattle.dae_io.specs.Faults.{Rose}
 use Rattle.dae_io.specs.Told.{TellsSame}
 use Rattle.dae_io.proofs.Laws.{never_rises}
 use Rattle.dae_cli_drive.specs.Puts.{Put, Out, Note, Answer, Sinks, IsFailed, Gives, gives_whole, gives_part}
-use Rattle.dae_cli_files.specs.Keeping.{TellsBut}
+use Rattle.dae_cli_drive.specs.Keeping.{TellsBut}
 use Rattle.dae_cli_words.specs.Asked.{Asked}
 use Rattle.dae_cli_words.specs.Words.{SpellsJob}
 use Rattle.dae_cli_command.specs.Leaving.{Leaves, kept_by}

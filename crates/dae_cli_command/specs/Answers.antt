@@ -5,9 +5,9 @@ use Rattle.dae_cli_debug_job.specs.Debugging.{DueOfDebugging, long_line as long_
 use Rattle.dae_cli_drive.specs.Images.{DueOfImage}
 use Rattle.dae_cli_drive.specs.Lines.{memory_line, words_line}
 use Rattle.dae_cli_drive.specs.Puts.{Answer, told}
-use Rattle.dae_cli_files.specs.ImageFiles.{DueOfImageFile}
-use Rattle.dae_cli_files.specs.Shelves.{ShelfSeen}
-use Rattle.dae_cli_files.specs.TextFiles.{DueOfImageAndText}
+use Rattle.dae_cli_drive.specs.ImageFiles.{DueOfImageFile}
+use Rattle.dae_cli_drive.specs.Shelves.{ShelfSeen}
+use Rattle.dae_cli_drive.specs.TextFiles.{DueOfImageAndText}
 use Rattle.dae_cli_guard_job.specs.Guarding.{DueOfGuard, long_line as long_certificate_line, most_certificate}
 use Rattle.dae_cli_listing_job.specs.Listings.{DueOfListing, DueOfShortImageFile}
 use Rattle.dae_cli_source_jobs.specs.Kept.{DueOfKept}

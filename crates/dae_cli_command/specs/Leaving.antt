@@ -3,8 +3,8 @@ use Rattle.std.specs.Prelude.{◌≡◌, ◌⊎◌, ℕ, List, Option, None, Som
 use Rattle.dae_io.specs.Sinks.{SinkState}
 use Rattle.dae_io.specs.Told.{TellsSame}
 use Rattle.dae_cli_asm_job.specs.Assembling.{KeepsAssembledOnce}
-use Rattle.dae_cli_files.specs.Keeping.{TellsBut}
-use Rattle.dae_cli_files.specs.Shelves.{KeepsNothing, ShelfSeen}
+use Rattle.dae_cli_drive.specs.Keeping.{TellsBut}
+use Rattle.dae_cli_drive.specs.Shelves.{KeepsNothing, ShelfSeen}
 use Rattle.dae_cli_source_jobs.specs.Kept.{KeepsFilesOnce}
 use Rattle.dae_cli_words.specs.Asked.{Asked, Compile, Asm}
 use Rattle.dae_cli_words.specs.Words.{SpellsJob}

@@ -2,7 +2,7 @@
 ghost use Rattle.std.specs.Prelude.{◌≡◌, ◌≢◌, map, string_bytes, None};
 ghost use Rattle.dae_io.specs.Told.{TellsSame};
 ghost use Rattle.dae_cli_drive.specs.Puts.{Answer, GivesDue, sinks};
-ghost use Rattle.dae_cli_files.specs.Shelves.{calm_told, shelf_seen};
+ghost use Rattle.dae_cli_drive.specs.Shelves.{calm_told, shelf_seen};
 ghost use Rattle.dae_cli_command.specs.Answers.{IsDue};
 ghost use Rattle.dae_cli_command.specs.Leaving.{KeepsAsAsked, Leaves};
 

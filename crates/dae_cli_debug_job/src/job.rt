@@ -1,14 +1,14 @@
 // The job: the image of a file and the script of another.
 ghost use Rattle.std.specs.Prelude.{◌≡◌, ◌≢◌};
 ghost use Rattle.dae_cli_drive.specs.Puts.{GivesDue, sinks};
-ghost use Rattle.dae_cli_files.specs.Shelves.{KeepsNothing, shelf_seen};
-ghost use Rattle.dae_cli_files.specs.TextFiles.{DueOfImageAndText};
+ghost use Rattle.dae_cli_drive.specs.Shelves.{KeepsNothing, shelf_seen};
+ghost use Rattle.dae_cli_drive.specs.TextFiles.{DueOfImageAndText};
 ghost use Rattle.dae_cli_debug_job.specs.Debugging.{DueOfCommands, DueOfDebugging, IsOpened, long_line, most_script};
 
 use crate::opening::{Opened, open_session};
 use crate::serving::serve;
 use dae_cli_drive::{Line, put_budget, tell_end, tell_refusal};
-use dae_cli_files::image_and_text;
+use dae_cli_drive::image_and_text;
 use dae_cli_options::DepthOptions;
 use dae_image::Image;
 use dae_io::{Shelf, Sink};

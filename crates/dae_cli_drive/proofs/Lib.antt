@@ -7,3 +7,10 @@ mod Executed
 mod OneAnswer
 pub mod LawsOfTurns
 pub mod Laws
+mod Longest
+mod NoImage
+mod Limits
+mod Seen
+mod Fetched
+mod Kept
+pub mod LawsOfFiles

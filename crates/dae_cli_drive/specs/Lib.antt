@@ -4,3 +4,7 @@ pub mod Pieces
 pub mod Notes
 pub mod Turns
 pub mod Images
+pub mod Shelves
+pub mod ImageFiles
+pub mod TextFiles
+pub mod Keeping

@@ -1,12 +1,12 @@
 // The job `guard`: whether the text of a file is a certificate that no run of an image is stuck.
 ghost use Rattle.std.specs.Prelude.{◌≡◌, ◌≤◌, ◌++◌, codes, decimal, length};
 ghost use Rattle.dae_cli_drive.specs.Puts.{GivesNotes, GivesNotesDue, told};
-ghost use Rattle.dae_cli_files.specs.Shelves.{KeepsNothing, shelf_seen};
-ghost use Rattle.dae_cli_files.specs.TextFiles.{DueOfImageAndText};
+ghost use Rattle.dae_cli_drive.specs.Shelves.{KeepsNothing, shelf_seen};
+ghost use Rattle.dae_cli_drive.specs.TextFiles.{DueOfImageAndText};
 ghost use Rattle.dae_cli_guard_job.specs.Guarding.{DueOfGuard, answer_of, long_line, most_certificate, refused_line};
 
 use dae_cli_drive::{Line, Stop, depth_line, noted};
-use dae_cli_files::image_and_text;
+use dae_cli_drive::image_and_text;
 use dae_cli_options::DepthOptions;
 use dae_guard_walk::GuardAnswer;
 use dae_image::Image;

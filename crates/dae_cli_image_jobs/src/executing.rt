@@ -2,11 +2,11 @@
 ghost use Rattle.std.specs.Prelude.{◌≡◌};
 ghost use Rattle.dae_cli_drive.specs.Images.{DueOfImage};
 ghost use Rattle.dae_cli_drive.specs.Puts.{GivesDue, sinks};
-ghost use Rattle.dae_cli_files.specs.ImageFiles.{DueOfImageFile};
-ghost use Rattle.dae_cli_files.specs.Shelves.{KeepsNothing, shelf_seen};
+ghost use Rattle.dae_cli_drive.specs.ImageFiles.{DueOfImageFile};
+ghost use Rattle.dae_cli_drive.specs.Shelves.{KeepsNothing, shelf_seen};
 
 use dae_cli_drive::{RunOptions, run_image};
-use dae_cli_files::image_of_file;
+use dae_cli_drive::image_of_file;
 use dae_io::{Shelf, Sink};
 use std::alloc::Global;
 

@@ -5,9 +5,9 @@ use Rattle.dae_image.specs.Images.{contents}
 use Rattle.dae_listing.specs.Canon.{canon}
 use Rattle.dae_cli_drive.specs.Lines.{memory_line}
 use Rattle.dae_cli_drive.specs.Puts.{Answer, Out, answer, told}
-use Rattle.dae_cli_files.specs.ImageFiles.{DueOfBytes}
-use Rattle.dae_cli_files.specs.Shelves.{ShelfSeen}
-use Rattle.dae_cli_files.specs.TextFiles.{DueOfTextFile}
+use Rattle.dae_cli_drive.specs.ImageFiles.{DueOfBytes}
+use Rattle.dae_cli_drive.specs.Shelves.{ShelfSeen}
+use Rattle.dae_cli_drive.specs.TextFiles.{DueOfTextFile}
 
 -- so many bytes may the file of an image have that is listed
 abbrev pub most_listed : ℕ

@@ -2,11 +2,11 @@
 ghost use Rattle.std.specs.Prelude.{◌≡◌, ◌≢◌, [], ◌∷◌, IfErr, IfOk};
 ghost use Rattle.dae_io.specs.Sinks.{SinkState};
 ghost use Rattle.dae_cli_drive.specs.Puts.{Gives, GivesDue, Out, answer, sinks, stop_answer};
-ghost use Rattle.dae_cli_files.specs.Shelves.{KeepsNothing, shelf_seen};
+ghost use Rattle.dae_cli_drive.specs.Shelves.{KeepsNothing, shelf_seen};
 ghost use Rattle.dae_cli_listing_job.specs.Listings.{DueOfListing, DueOfShortImageFile};
 
 use dae_cli_drive::Stop;
-use dae_cli_files::{image_of, text_of_file};
+use dae_cli_drive::{image_of, text_of_file};
 use dae_io::{Shelf, Sink};
 use dae_listing::disassemble;
 use std::alloc::Global;

@@ -14,8 +14,8 @@ use Rattle.dae_cli_options.specs.Names.{begins_with_dash, is_file_name}
 use Rattle.dae_cli_options.specs.declared.options.Options.{Options}
 use Rattle.dae_cli_drive.specs.Lines.{memory_line}
 use Rattle.dae_cli_drive.specs.Puts.{Answer, told}
-use Rattle.dae_cli_files.specs.ImageFiles.{NoneOf}
-use Rattle.dae_cli_files.specs.Shelves.{ShelfSeen}
+use Rattle.dae_cli_drive.specs.ImageFiles.{NoneOf}
+use Rattle.dae_cli_drive.specs.Shelves.{ShelfSeen}
 use Rattle.dae_compile.specs.Images.{IsImageOf}
 use Rattle.dae_cli_source_jobs.specs.Fetching.{AreFetched, IsFirstNotFetched, most_source}
 use Rattle.dae_cli_source_jobs.specs.Sources.{DueOfFiles, due_fetched, due_not_fetched, due_memory_to_fetch, DueOfTexts, due_of_image, due_refused, due_memory_to_compile, IsImageOfFiles}

@@ -3,7 +3,7 @@ use Rattle.std.specs.Prelude.{◌≡◌, ◌⊎◌, ℕ, ◌-◌, ◌<◌, ◌�
 use Rattle.dae_cli_drive.specs.Lines.{read_line}
 use Rattle.dae_cli_drive.specs.Puts.{Answer, told}
 use Rattle.dae_cli_refusals.specs.Refusals.{too_long_line}
-use Rattle.dae_cli_files.specs.Shelves.{FailsToFetch, IsTold, ShelfSeen}
+use Rattle.dae_cli_drive.specs.Shelves.{FailsToFetch, IsTold, ShelfSeen}
 
 -- how many bytes the sources of a job may have
 abbrev pub most_source : ℕ

@@ -7,8 +7,8 @@ use Rattle.dae_io.specs.Sinks.{SinkState}
 use Rattle.dae_cli_options.specs.declared.options.Options.{Options}
 use Rattle.dae_cli_drive.specs.Notes.{budget_line}
 use Rattle.dae_cli_drive.specs.Puts.{Answer, Note, Put}
-use Rattle.dae_cli_files.specs.Keeping.{DueOfKeeping, KeepsAtMostOnce}
-use Rattle.dae_cli_files.specs.Shelves.{KeepsNothing, ShelfSeen}
+use Rattle.dae_cli_drive.specs.Keeping.{DueOfKeeping, KeepsAtMostOnce}
+use Rattle.dae_cli_drive.specs.Shelves.{KeepsNothing, ShelfSeen}
 use Rattle.dae_cli_source_jobs.specs.Sources.{IsImageOfFiles}
 
 -- the line with an image's budget

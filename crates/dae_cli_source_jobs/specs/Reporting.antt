@@ -6,8 +6,8 @@ use Rattle.dae_cli_options.specs.declared.options.Options.{Options}
 use Rattle.dae_cli_drive.specs.Lines.{memory_line}
 use Rattle.dae_cli_drive.specs.Notes.{budget_line}
 use Rattle.dae_cli_drive.specs.Puts.{Answer, Note, Out, answer, told}
-use Rattle.dae_cli_files.specs.ImageFiles.{NoneOf}
-use Rattle.dae_cli_files.specs.Shelves.{ShelfSeen}
+use Rattle.dae_cli_drive.specs.ImageFiles.{NoneOf}
+use Rattle.dae_cli_drive.specs.Shelves.{ShelfSeen}
 use Rattle.dae_cli_source_jobs.specs.Sources.{DueOfFiles, IsCompilationOfFiles}
 
 -- what is due for an image and its report: the budget on note, and the report on out, whole in one put; or memory was wanting

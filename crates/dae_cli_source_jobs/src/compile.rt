@@ -6,14 +6,14 @@ ghost use Rattle.dae_io.specs.Told.{TellsSame};
 ghost use Rattle.dae_cli_options.specs.Names.{AreFiles};
 ghost use Rattle.dae_cli_drive.specs.Notes.{budget_line};
 ghost use Rattle.dae_cli_drive.specs.Puts.{GivesNotesDue};
-ghost use Rattle.dae_cli_files.specs.Keeping.{TellsBut, kept_line};
-ghost use Rattle.dae_cli_files.specs.Shelves.{shelf_seen};
+ghost use Rattle.dae_cli_drive.specs.Keeping.{TellsBut, kept_line};
+ghost use Rattle.dae_cli_drive.specs.Shelves.{shelf_seen};
 ghost use Rattle.dae_cli_source_jobs.specs.Kept.{DueOfKept, KeepsFilesOnce, KeepsImageOnce};
 ghost use Rattle.dae_cli_source_jobs.specs.Sources.{DueOfFiles};
 
 use crate::sources::image_of_files;
 use dae_cli_drive::{Stop, budget_line};
-use dae_cli_files::{keep_bytes, kept_line};
+use dae_cli_drive::{keep_bytes, kept_line};
 use dae_compile::Options;
 use dae_image::{Image, write};
 use dae_io::{Shelf, Sink};

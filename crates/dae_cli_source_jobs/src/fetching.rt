@@ -5,7 +5,7 @@ ghost use Rattle.dae_accept.specs.Read.{texts_in};
 ghost use Rattle.dae_cli_drive.specs.Lines.{memory_line};
 ghost use Rattle.dae_cli_drive.specs.Puts.{stop_answer, told};
 ghost use Rattle.dae_cli_source_jobs.specs.Fetching.{AreFetched, IsFirstNotFetched, IsNotFetched, most_source};
-ghost use Rattle.dae_cli_files.specs.Shelves.{IsTold, shelf_seen};
+ghost use Rattle.dae_cli_drive.specs.Shelves.{IsTold, shelf_seen};
 
 use dae_cli_drive::{Stop, fetched};
 use dae_cli_refusals::too_long_line;

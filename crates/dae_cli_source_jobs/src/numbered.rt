@@ -5,7 +5,7 @@ ghost use Rattle.dae_accept.specs.Read.{IsShort, texts_in};
 ghost use Rattle.dae_big.specs.Texts.{big_name, big_text};
 ghost use Rattle.dae_cli_drive.specs.Images.{DueOfImage};
 ghost use Rattle.dae_cli_drive.specs.Puts.{GivesDue, sinks, stop_answer};
-ghost use Rattle.dae_cli_files.specs.ImageFiles.{NoneOf};
+ghost use Rattle.dae_cli_drive.specs.ImageFiles.{NoneOf};
 ghost use Rattle.dae_compile.specs.Images.{IsImageOf};
 ghost use Rattle.dae_cli_source_jobs.specs.Numbers.{DueOfBig};
 

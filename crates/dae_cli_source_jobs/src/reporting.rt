@@ -4,7 +4,7 @@ ghost use Rattle.dae_io.specs.Sinks.{SinkState};
 ghost use Rattle.dae_cli_options.specs.Names.{AreFiles};
 ghost use Rattle.dae_cli_drive.specs.Notes.{budget_line};
 ghost use Rattle.dae_cli_drive.specs.Puts.{Gives, GivesDue, Out, answer, sinks};
-ghost use Rattle.dae_cli_files.specs.Shelves.{KeepsNothing, shelf_seen};
+ghost use Rattle.dae_cli_drive.specs.Shelves.{KeepsNothing, shelf_seen};
 ghost use Rattle.dae_report.specs.Lines.{report_line};
 ghost use Rattle.dae_cli_source_jobs.specs.Reporting.{DueOfCompiled, DueOfReporting};
 

@@ -3,7 +3,7 @@ ghost use Rattle.std.specs.Prelude.{◌≡◌, map, string_bytes};
 ghost use Rattle.dae_cli_options.specs.Names.{AreFiles};
 ghost use Rattle.dae_cli_drive.specs.Images.{DueOfImage};
 ghost use Rattle.dae_cli_drive.specs.Puts.{GivesDue, sinks};
-ghost use Rattle.dae_cli_files.specs.Shelves.{KeepsNothing, shelf_seen};
+ghost use Rattle.dae_cli_drive.specs.Shelves.{KeepsNothing, shelf_seen};
 ghost use Rattle.dae_cli_source_jobs.specs.Sources.{DueOfFiles};
 
 use crate::options::SourceOptions;

@@ -1,13 +1,13 @@
 // The job: the image of a file is run tick by tick.
 ghost use Rattle.std.specs.Prelude.{◌≡◌};
 ghost use Rattle.dae_cli_drive.specs.Puts.{GivesDue, sinks};
-ghost use Rattle.dae_cli_files.specs.ImageFiles.{DueOfImageFile};
-ghost use Rattle.dae_cli_files.specs.Shelves.{KeepsNothing, shelf_seen};
+ghost use Rattle.dae_cli_drive.specs.ImageFiles.{DueOfImageFile};
+ghost use Rattle.dae_cli_drive.specs.Shelves.{KeepsNothing, shelf_seen};
 ghost use Rattle.dae_cli_time_job.specs.Due.{DueOfTiming};
 
 use crate::images::time_image;
 use crate::options::TimeOptions;
-use dae_cli_files::image_of_file;
+use dae_cli_drive::image_of_file;
 use dae_io::{Shelf, Sink};
 use std::alloc::Global;
 

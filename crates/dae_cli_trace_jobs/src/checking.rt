@@ -1,12 +1,12 @@
 // The job `check`: whether the text of a file is a trace of an image.
 ghost use Rattle.std.specs.Prelude.{◌≡◌, ◌≤◌, ◌++◌, codes, decimal, length};
 ghost use Rattle.dae_cli_drive.specs.Puts.{GivesNotes, GivesNotesDue, told};
-ghost use Rattle.dae_cli_files.specs.Shelves.{KeepsNothing, shelf_seen};
-ghost use Rattle.dae_cli_files.specs.TextFiles.{DueOfImageAndText};
+ghost use Rattle.dae_cli_drive.specs.Shelves.{KeepsNothing, shelf_seen};
+ghost use Rattle.dae_cli_drive.specs.TextFiles.{DueOfImageAndText};
 ghost use Rattle.dae_cli_trace_jobs.specs.Checking.{DueOfChecking, answer_of, long_line, most_trace, not_a_run_line};
 
 use dae_cli_drive::{Line, depth_line, ended_line, noted, put_budget, trapped_line};
-use dae_cli_files::image_and_text;
+use dae_cli_drive::image_and_text;
 use dae_cli_options::DepthOptions;
 use dae_image::Image;
 use dae_io::{Shelf, Sink};

@@ -6,12 +6,12 @@ ghost use Rattle.dae_machine.specs.Tries.{Stepped};
 ghost use Rattle.dae_trace.specs.Lines.{line};
 ghost use Rattle.dae_cli_drive.specs.Puts.{GivesDue, sinks};
 ghost use Rattle.dae_cli_drive.specs.Turns.{Rested};
-ghost use Rattle.dae_cli_files.specs.ImageFiles.{DueOfImageFile};
-ghost use Rattle.dae_cli_files.specs.Shelves.{KeepsNothing, shelf_seen};
+ghost use Rattle.dae_cli_drive.specs.ImageFiles.{DueOfImageFile};
+ghost use Rattle.dae_cli_drive.specs.Shelves.{KeepsNothing, shelf_seen};
 ghost use Rattle.dae_cli_trace_jobs.specs.Tracing.{DueOfLines, DueOfTracing, TracesTo};
 
 use dae_cli_drive::{Driven, Line, put_budget, tell_end, tell_refusal};
-use dae_cli_files::image_of_file;
+use dae_cli_drive::image_of_file;
 use dae_cli_options::RunOptions;
 use dae_image::Image;
 use dae_io::{Shelf, Sink, SinkFailed};

@@ -1,6 +1,6 @@
 use Rattle.std.proofs.Common.{inl, inr, ◌∙◌}
 use Rattle.dae_cli_drive.specs.Puts.{stop_answer}
-use Rattle.dae_cli_files.proofs.Laws.{held_before, keeping_before, once_before}
+use Rattle.dae_cli_drive.proofs.LawsOfFiles.{held_before, keeping_before, once_before}
 use Rattle.dae_cli_asm_job.proofs.Said.{file_with, file_without}
 use Rattle.dae_cli_asm_job.proofs.assembling.asm.Goals as goal
 

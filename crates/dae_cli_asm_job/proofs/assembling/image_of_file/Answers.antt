@@ -1,5 +1,5 @@
 use Rattle.std.proofs.lemmas.Result.{IfErr-weaker, err_from_is_err_and}
-use Rattle.dae_cli_files.proofs.Laws.{due_of_no_text, due_of_text}
+use Rattle.dae_cli_drive.proofs.LawsOfFiles.{due_of_no_text, due_of_text}
 use Rattle.dae_cli_asm_job.proofs.assembling.image_of_file.Goals as goal
 
 pub returns-in_err-text-clause-err : goal.returns-in_err-text-clause-err

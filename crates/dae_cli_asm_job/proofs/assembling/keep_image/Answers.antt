@@ -1,8 +1,8 @@
 use Rattle.std.proofs.Common.{◌≡◌, ◌⊎◌, inl, inr, ℕ, ◌∙◌, refl, rules}
 use Rattle.dae_image.specs.Images.{contents}
 use Rattle.dae_image.specs.Spelling.{spelling_2}
-use Rattle.dae_cli_files.specs.Keeping.{due_memory_to_keep}
-use Rattle.dae_cli_files.proofs.Laws.{none_kept, once_kept, then_kept}
+use Rattle.dae_cli_drive.specs.Keeping.{due_memory_to_keep}
+use Rattle.dae_cli_drive.proofs.LawsOfFiles.{none_kept, once_kept, then_kept}
 use Rattle.dae_cli_asm_job.proofs.assembling.keep_image.Goals as goal
 
 pub returns-in_default-clause-gives : goal.returns-in_default-clause-gives

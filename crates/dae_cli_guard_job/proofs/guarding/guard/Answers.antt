@@ -1,5 +1,5 @@
 use Rattle.dae_cli_drive.specs.Puts.{stop_answer}
-use Rattle.dae_cli_files.proofs.Laws.{due_of_both, due_of_not_both}
+use Rattle.dae_cli_drive.proofs.LawsOfFiles.{due_of_both, due_of_not_both}
 use Rattle.dae_cli_guard_job.proofs.guarding.guard.Goals as goal
 
 pub returns-in-Ok-clause-gives : goal.returns-in-Ok-clause-gives

@@ -1,6 +1,6 @@
 use Rattle.std.proofs.lemmas.Result.{err_from_is_err_and}
-use Rattle.dae_cli_files.proofs.Laws.{due_of_no_bytes, due_of_no_text, due_of_text}
-use Rattle.dae_cli_files.specs.ImageFiles.{due_image}
+use Rattle.dae_cli_drive.proofs.LawsOfFiles.{due_of_no_bytes, due_of_no_text, due_of_text}
+use Rattle.dae_cli_drive.specs.ImageFiles.{due_image}
 use Rattle.dae_cli_listing_job.specs.Listings.{due_listing, due_memory_to_list}
 use Rattle.dae_cli_listing_job.proofs.listing.listing_of_file.Goals as goal
 

@@ -3,8 +3,8 @@ use Rattle.dae_image.specs.Images.{contents}
 use Rattle.dae_image.specs.Spelling.{spelling_2}
 use Rattle.dae_io.specs.Sinks.{IsPut, IsPutFailed}
 use Rattle.dae_cli_drive.specs.Notes.{budget_line}
-use Rattle.dae_cli_files.specs.Keeping.{due_memory_to_keep}
-use Rattle.dae_cli_files.proofs.Laws.{none_kept, not_begun, once_kept, one_noted, then_kept}
+use Rattle.dae_cli_drive.specs.Keeping.{due_memory_to_keep}
+use Rattle.dae_cli_drive.proofs.LawsOfFiles.{none_kept, not_begun, once_kept, one_noted, then_kept}
 use Rattle.dae_cli_source_jobs.proofs.compile.keep_image.Goals as goal
 
 pub returns-in_default-clause-gives : goal.returns-in_default-clause-gives

@@ -1,5 +1,5 @@
 use Rattle.dae_cli_drive.specs.Puts.{stop_answer}
-use Rattle.dae_cli_files.proofs.Laws.{due_of_image, due_of_no_image}
+use Rattle.dae_cli_drive.proofs.LawsOfFiles.{due_of_image, due_of_no_image}
 use Rattle.dae_cli_trace_jobs.proofs.tracing.trace.Goals as goal
 
 pub returns-in-Ok-clause-gives : goal.returns-in-Ok-clause-gives

@@ -1,4 +1,0 @@
-pub mod Shelves
-pub mod ImageFiles
-pub mod TextFiles
-pub mod Keeping
