@@ -1,6 +1,6 @@
 use Rattle.dae_cli_drive.specs.Puts.{stop_answer}
 use Rattle.dae_cli_drive.proofs.LawsOfFiles.{due_of_no_image, due_of_image}
-use Rattle.dae_cli_image_jobs.proofs.executing.exec.Goals as goal
+use Rattle.dae_cli_drive.proofs.executing.exec.Goals as goal
 
 pub returns-in-Ok-clause-gives : goal.returns-in-Ok-clause-gives
 returns-in-Ok-clause-gives g c =
