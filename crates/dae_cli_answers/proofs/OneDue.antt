@@ -13,7 +13,7 @@ use Rattle.dae_cli_drive.proofs.Laws.{one_of_image}
 use Rattle.dae_cli_drive.specs.Shelves.{IsTold, ShelfSeen}
 use Rattle.dae_big.specs.Texts.{big_name, big_text}
 use Rattle.dae_cli_source_jobs.specs.Reporting.{DueOfReporting, due_compiled, due_not_compiled}
-use Rattle.dae_cli_refusals.specs.Refusals.{refusal_line}
+use Rattle.dae_cli_source_jobs.specs.Refusals.{refusal_line}
 use Rattle.dae_cli_source_jobs.specs.Fetching.{AreFetched, IsFirstNotFetched, IsNotFetched, not_got, too_long, most_source}
 use Rattle.dae_cli_source_jobs.specs.Kept.{DueOfKept}
 use Rattle.dae_cli_source_jobs.specs.Sources.{DueOfFiles, DueOfTexts, due_fetched, due_not_fetched, due_memory_to_fetch, due_of_image, due_refused, due_memory_to_compile}

@@ -12,7 +12,7 @@ use Rattle.dae_io.specs.Faults.{Rose}
 use Rattle.dae_cli_drive.specs.Images.{DueOfImage}
 use Rattle.dae_cli_drive.specs.Puts.{Answer, told}
 use Rattle.dae_cli_drive.specs.Shelves.{ShelfSeen}
-use Rattle.dae_cli_refusals.specs.Refusals.{refusal_line}
+use Rattle.dae_cli_source_jobs.specs.Refusals.{refusal_line}
 use Rattle.dae_cli_source_jobs.specs.Reporting.{DueOfCompiled}
 use Rattle.dae_cli_source_jobs.specs.Fetching.{AreFetched, most_source}
 use Rattle.dae_cli_source_jobs.specs.Kept.{DueOfKept}

@@ -9,7 +9,7 @@ use Rattle.dae_cli_drive.specs.Lines.{memory_line, read_line}
 use Rattle.dae_cli_drive.specs.Puts.{Answer, told}
 use Rattle.dae_cli_drive.specs.Shelves.{IsTold, ShelfSeen}
 use Rattle.dae_cli_drive.proofs.LawsOfFiles.{fails_before, longer_text, seen_by, told_before}
-use Rattle.dae_cli_refusals.specs.Refusals.{too_long_line}
+use Rattle.dae_cli_source_jobs.specs.Refusals.{too_long_line}
 use Rattle.dae_cli_source_jobs.specs.Fetching.{AreFetched, IsFirstNotFetched, IsNotFetched, not_got, too_long}
 
 -- the texts from the next one on

@@ -2,7 +2,7 @@
 use Rattle.std.specs.Prelude.{◌≡◌, ◌⊎◌, ℕ, ◌-◌, ◌<◌, ◌≤◌, List, [], ◌∷◌, length, Option}
 use Rattle.dae_cli_drive.specs.Lines.{read_line}
 use Rattle.dae_cli_drive.specs.Puts.{Answer, told}
-use Rattle.dae_cli_refusals.specs.Refusals.{too_long_line}
+use Rattle.dae_cli_source_jobs.specs.Refusals.{too_long_line}
 use Rattle.dae_cli_drive.specs.Shelves.{FailsToFetch, IsTold, ShelfSeen}
 
 -- how many bytes the sources of a job may have

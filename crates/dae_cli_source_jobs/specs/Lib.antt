@@ -3,3 +3,4 @@ pub mod Sources
 pub mod Kept
 pub mod Reporting
 pub mod Numbers
+pub mod Refusals

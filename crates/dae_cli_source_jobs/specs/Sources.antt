@@ -10,7 +10,7 @@ use Rattle.dae_cli_options.specs.declared.options.Options.{Options}
 use Rattle.dae_cli_drive.specs.Lines.{memory_line}
 use Rattle.dae_cli_drive.specs.Puts.{Answer, told}
 use Rattle.dae_cli_drive.specs.Shelves.{ShelfSeen}
-use Rattle.dae_cli_refusals.specs.Refusals.{refusal_line}
+use Rattle.dae_cli_source_jobs.specs.Refusals.{refusal_line}
 use Rattle.dae_cli_source_jobs.specs.Fetching.{AreFetched, IsFirstNotFetched, most_source}
 
 -- what is due for texts whose files have these names: for an image of theirs; or they are refused; or memory was wanting

@@ -12,8 +12,7 @@ ghost use Rattle.dae_cli_source_jobs.specs.Kept.{DueOfKept, KeepsFilesOnce, Keep
 ghost use Rattle.dae_cli_source_jobs.specs.Sources.{DueOfFiles};
 
 use crate::sources::image_of_files;
-use dae_cli_drive::{Stop, budget_line};
-use dae_cli_drive::{keep_bytes, kept_line};
+use dae_cli_drive::{Stop, budget_line, keep_bytes, kept_line};
 use dae_compile::Options;
 use dae_image::{Image, write};
 use dae_io::{Shelf, Sink};

@@ -7,8 +7,8 @@ ghost use Rattle.dae_cli_drive.specs.Puts.{stop_answer, told};
 ghost use Rattle.dae_cli_source_jobs.specs.Fetching.{AreFetched, IsFirstNotFetched, IsNotFetched, most_source};
 ghost use Rattle.dae_cli_drive.specs.Shelves.{IsTold, shelf_seen};
 
+use crate::too_long_line;
 use dae_cli_drive::{Stop, fetched};
-use dae_cli_refusals::too_long_line;
 use dae_io::Shelf;
 use std::alloc::Global;
 

@@ -4,6 +4,7 @@
 #![tactic(auto)]
 
 pub use compile::compile_files;
+pub use lines::{refusal_line, too_long_line};
 pub use numbered::big;
 pub use options::SourceOptions;
 pub use reporting::report;
@@ -11,6 +12,7 @@ pub use running::run;
 
 mod compile;
 mod fetching;
+mod lines;
 mod numbered;
 mod options;
 mod reporting;

@@ -11,9 +11,9 @@ ghost use Rattle.dae_compile.specs.Images.{IsCompilationOf};
 ghost use Rattle.dae_cli_source_jobs.specs.Sources.{DueOfFiles, DueOfTexts, IsCompilationOfFiles, IsImageOfFiles};
 
 use crate::fetching::fetch_all;
+use crate::refusal_line;
 use dae_base::{Items, Text};
 use dae_cli_drive::Stop;
-use dae_cli_refusals::refusal_line;
 use dae_compile::{CompileError, Compiled, Options, compile};
 use dae_image::Image;
 use dae_io::Shelf;

@@ -1,6 +1,6 @@
 use Rattle.std.proofs.Common.{rules, arith}
 use Rattle.std.proofs.lemmas.Result.{err_from_is_err_and}
-use Rattle.dae_cli_refusals.specs.Refusals.{too_long_line}
+use Rattle.dae_cli_source_jobs.specs.Refusals.{too_long_line}
 use Rattle.dae_cli_drive.proofs.LawsOfFiles.{whole_text}
 use Rattle.dae_cli_source_jobs.proofs.OnWay.{long_text, not_fetched, not_read}
 use Rattle.dae_cli_source_jobs.proofs.fetching.fetch_one.Goals as goal

@@ -1,5 +1,5 @@
 use Rattle.std.proofs.Common.{rules}
-use Rattle.dae_cli_refusals.specs.Refusals.{refusal_line}
+use Rattle.dae_cli_source_jobs.specs.Refusals.{refusal_line}
 use Rattle.std.specs.Prelude.{map, string_bytes}
 use Rattle.dae_cli_source_jobs.specs.Sources.{due_refused, due_memory_to_compile}
 use Rattle.dae_cli_source_jobs.proofs.Stopped.{are_names, texts_stop}

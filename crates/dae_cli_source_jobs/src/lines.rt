@@ -1,6 +1,6 @@
 // The lines for texts that are refused.
 ghost use Rattle.std.specs.Prelude.{◌≡◌, [], IfOk, map, slice_get, string_bytes, unwrap_or};
-ghost use Rattle.dae_cli_refusals.specs.Refusals.{construct_name, join_line, lex_line, place_text, refusal_line, refused_line, refused_twice_line, rule_name, too_long_line, tree_line};
+ghost use Rattle.dae_cli_source_jobs.specs.Refusals.{construct_name, join_line, lex_line, place_text, refusal_line, refused_line, refused_twice_line, rule_name, too_long_line, tree_line};
 
 use dae_accept::CompileError;
 use dae_base::Place;
