@@ -9,7 +9,7 @@ use Rattle.dae_machine_rounds.specs.Promises.{DoesForm}
 use Rattle.dae_link.specs.declared.error.CodeError.{CodeError}
 use Rattle.dae_link.specs.declared.error.CodeError.TheVariants as errors
 use Rattle.dae_program.specs.declared.program.Program.{Program}
-use Rattle.dae_lower_forms.specs.Lowered.{HasRoom}
+use Rattle.dae_lower_programs.specs.Lowered.{HasRoom}
 use Rattle.dae_link.specs.Linked.{IsCompiledOf}
 use Rattle.dae_report.specs.Reports.{IsReportOf}
 use Rattle.dae_compile.specs.declared.generating.Compiled.{Compiled}

@@ -8,7 +8,7 @@ ghost use Rattle.dae_compile_promise.specs.Promises.{KeepsMeaning};
 ghost use Rattle.dae_link.specs.declared.error.CodeError.TheVariants as errors;
 ghost use Rattle.dae_ir.specs.Scope.{IsScoped};
 ghost use Rattle.dae_ir.specs.SetFirst.{IsFunctionSetFirst};
-ghost use Rattle.dae_lower_forms.specs.Lowered.{HasRoom};
+ghost use Rattle.dae_lower_programs.specs.Lowered.{HasRoom};
 ghost use Rattle.dae_compile.specs.Compiled.{AreCompiledFrom, HasTooMuchPrivate, HasTooMuchCode, IsFinalForm};
 
 use crate::{Compiled, generate};
@@ -17,7 +17,7 @@ use dae_base::{Items, Text};
 use dae_compile_promise::image_keeps_meaning;
 use dae_ir::Ir;
 use dae_link::CodeError;
-use dae_lower_forms::lower;
+use dae_lower_programs::lower;
 use dae_program::Program;
 use std::alloc::{AllocError, Global};
 

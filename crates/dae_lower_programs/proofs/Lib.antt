@@ -6,3 +6,7 @@ mod Arguments
 mod Searching
 mod Parted
 mod Turns
+mod Closing
+mod Wholes
+mod Lists
+mod Room

@@ -1,3 +1,6 @@
 pub mod Made
 pub mod Parts
 pub mod Switching
+pub mod Functions
+pub mod Invocations
+pub mod Lowered

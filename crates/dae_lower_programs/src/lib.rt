@@ -5,12 +5,15 @@
 pub use continuing::arms_continue;
 pub use initialising::{put_all, zero};
 pub use printing::print;
+pub use programs::lower;
 pub use statements::make_statements;
 pub use switching::{begin_switch, do_arm, end_switch};
 
 mod blocks;
 mod continuing;
+mod functions;
 mod initialising;
 mod printing;
+mod programs;
 mod statements;
 mod switching;

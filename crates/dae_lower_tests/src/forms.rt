@@ -2,7 +2,7 @@
 
 use dae_base::{Items, Place, Text};
 use dae_ir::{Item, Operand, Statement as FormStatement};
-use dae_lower_forms::lower;
+use dae_lower_programs::lower;
 use dae_meaning::Spelling;
 use dae_program::{Expression, Function, Program, Statement};
 use std::alloc::{AllocError, Global};

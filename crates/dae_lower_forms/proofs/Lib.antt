@@ -1,4 +1,0 @@
-mod Closing
-mod Wholes
-mod Lists
-mod Room

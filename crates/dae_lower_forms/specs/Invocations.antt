@@ -1,8 +1,0 @@
--- How a function is invoked.
-use Rattle.std.specs.Prelude.{Bool, true, false}
-use Rattle.dae_lower_forms.specs.declared.functions.Invocation.{Invocation}
-use Rattle.dae_lower_forms.specs.declared.functions.Invocation.TheVariants.{Startup, Call}
-
-abbrev pub at_startup : Invocation → Bool
-at_startup Startup = true
-at_startup Call = false
