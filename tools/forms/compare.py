@@ -9,7 +9,7 @@ programs are those of tools/meaning/programs.txt and those of the seeds from FIR
 It also prints the most variables and the most items of a function for each token of its definition.
 
 `write` puts each program as numbers into a file of FOLDER. The program crate whose sources are main.txt and print.txt beside this
-file (with another ending, so that they stand outside of the gate), over dae_accept and dae_lower_forms, prints the form of
+file (with another ending, so that they stand outside of the gate), over dae_accept and dae_lower_programs, prints the form of
 each: `rt try --cases FOLDER > GOT`. `compare` reads these lines, runs each form, and ends with 1 where something differs."""
 
 import os

@@ -11,8 +11,7 @@ ghost use Rattle.dae_cli_drive.specs.Shelves.{KeepsNothing, shelf_seen};
 ghost use Rattle.dae_cli_asm_job.specs.Assembling.{DueOfAssembling, DueOfAssembly, DueOfAssemblyFile, IsAssembledOf, KeepsAssembledOnce, error_line};
 
 use dae_asm::{AsmError, assemble};
-use dae_cli_drive::Stop;
-use dae_cli_drive::{keep_bytes, kept_line, text_of_file};
+use dae_cli_drive::{Stop, keep_bytes, kept_line, text_of_file};
 use dae_image::{Image, write};
 use dae_io::{Shelf, Sink};
 use std::alloc::{AllocError, Global};

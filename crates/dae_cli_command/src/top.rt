@@ -8,9 +8,8 @@ ghost use Rattle.dae_cli_command.specs.Leaving.{KeepsAsAsked, Leaves};
 
 use dae_cli_asm_job::asm;
 use dae_cli_debug_job::{DebugFiles, debug};
-use dae_cli_drive::{Stop, noted};
+use dae_cli_drive::{Stop, exec, noted};
 use dae_cli_guard_job::guard;
-use dae_cli_drive::exec;
 use dae_cli_listing_job::dis;
 use dae_cli_source_jobs::{SourceOptions, big, compile_files, report, run};
 use dae_cli_time_job::{TimeOptions, time};

@@ -7,8 +7,7 @@ ghost use Rattle.dae_cli_debug_job.specs.Debugging.{DueOfCommands, DueOfDebuggin
 
 use crate::opening::{Opened, open_session};
 use crate::serving::serve;
-use dae_cli_drive::{Line, put_budget, tell_end, tell_refusal};
-use dae_cli_drive::image_and_text;
+use dae_cli_drive::{Line, image_and_text, put_budget, tell_end, tell_refusal};
 use dae_cli_options::DepthOptions;
 use dae_image::Image;
 use dae_io::{Shelf, Sink};

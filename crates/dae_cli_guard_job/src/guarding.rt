@@ -5,8 +5,7 @@ ghost use Rattle.dae_cli_drive.specs.Shelves.{KeepsNothing, shelf_seen};
 ghost use Rattle.dae_cli_drive.specs.TextFiles.{DueOfImageAndText};
 ghost use Rattle.dae_cli_guard_job.specs.Guarding.{DueOfGuard, answer_of, long_line, most_certificate, refused_line};
 
-use dae_cli_drive::{Line, Stop, depth_line, noted};
-use dae_cli_drive::image_and_text;
+use dae_cli_drive::{Line, Stop, depth_line, image_and_text, noted};
 use dae_cli_options::DepthOptions;
 use dae_guard_walk::GuardAnswer;
 use dae_image::Image;

@@ -5,8 +5,7 @@ ghost use Rattle.dae_cli_drive.specs.Puts.{Gives, GivesDue, Out, answer, sinks, 
 ghost use Rattle.dae_cli_drive.specs.Shelves.{KeepsNothing, shelf_seen};
 ghost use Rattle.dae_cli_listing_job.specs.Listings.{DueOfListing, DueOfShortImageFile};
 
-use dae_cli_drive::Stop;
-use dae_cli_drive::{image_of, text_of_file};
+use dae_cli_drive::{Stop, image_of, text_of_file};
 use dae_io::{Shelf, Sink};
 use dae_listing::disassemble;
 use std::alloc::Global;

@@ -5,8 +5,9 @@ ghost use Rattle.dae_cli_drive.specs.Shelves.{KeepsNothing, shelf_seen};
 ghost use Rattle.dae_cli_drive.specs.TextFiles.{DueOfImageAndText};
 ghost use Rattle.dae_cli_trace_jobs.specs.Checking.{DueOfChecking, answer_of, long_line, most_trace, not_a_run_line};
 
-use dae_cli_drive::{Line, depth_line, ended_line, noted, put_budget, trapped_line};
-use dae_cli_drive::image_and_text;
+use dae_cli_drive::{
+    Line, depth_line, ended_line, image_and_text, noted, put_budget, trapped_line,
+};
 use dae_cli_options::DepthOptions;
 use dae_image::Image;
 use dae_io::{Shelf, Sink};

@@ -10,8 +10,7 @@ ghost use Rattle.dae_cli_drive.specs.ImageFiles.{DueOfImageFile};
 ghost use Rattle.dae_cli_drive.specs.Shelves.{KeepsNothing, shelf_seen};
 ghost use Rattle.dae_cli_trace_jobs.specs.Tracing.{DueOfLines, DueOfTracing, TracesTo};
 
-use dae_cli_drive::{Driven, Line, put_budget, tell_end, tell_refusal};
-use dae_cli_drive::image_of_file;
+use dae_cli_drive::{Driven, Line, image_of_file, put_budget, tell_end, tell_refusal};
 use dae_cli_options::RunOptions;
 use dae_image::Image;
 use dae_io::{Shelf, Sink, SinkFailed};

@@ -1,4 +1,4 @@
-// Tests of dae_lower_forms: a small program with its form.
+// Tests of dae_lower_programs: a small program with its form.
 #![tactic(auto)]
 
 #[cfg(test)]
