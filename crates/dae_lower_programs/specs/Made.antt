@@ -1,13 +1,10 @@
 -- What statements in memory are made to.
-use Rattle.std.specs.Prelude.{◌≡◌, ℕ, List, [], ◌∷◌}
+use Rattle.std.specs.Prelude.{◌≡◌, ℕ, List}
 use Rattle.dae_ir.specs.declared.form.Statement.{Statement}
 use Rattle.dae_lower.specs.Lowering.{Made}
 use Rattle.dae_lower_expressions.specs.declared.lowerer.Lowerer.{Lowerer}
 use Rattle.dae_lower_expressions.specs.Lowered.{IsBlock, State, state_of}
 use Rattle.dae_lower_maker.specs.Counting.{never}
-use Rattle.dae_program.specs.declared.statements.Arm.{Arm}
-use Rattle.dae_program.specs.Trees.{Arms, no_arms, arm_then}
-use Rattle.dae_program.specs.Views.{view_statements}
 
 -- nothing is still to come before and behind, and what is made are statements of their own
 pub record WholeBlock (made : ℕ → Made (Unit {0})) (a b : State) (inner : List Statement) : Type 0 where
