@@ -89,14 +89,10 @@ pub fn push_affine(
     ensures { OnOk result
         (facts.new.items ≡ facts.old.items ++ affine_fact variable affine) }
 {
-    match affine {
-        None => Ok(()),
-        Some(affine) => {
-            if affine.scale == 0 || affine.base == variable {
-                Ok(())
-            } else {
-                facts.push(Fact::Equals(variable, affine))
-            }
+    if let Some(affine) = affine {
+        if affine.scale != 0 && affine.base != variable {
+            facts.push(Fact::Equals(variable, affine))?;
         }
     }
+    Ok(())
 }
