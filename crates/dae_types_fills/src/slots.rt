@@ -235,7 +235,7 @@ fn first_part(checker: &Checker, slot: Slot, shape: Shape) -> Result<Slot, Check
         (parts_of slot.offset slot.type_id shape ∷ view_stack slot.rest.items)))) }
 {
     let part = parts_of(slot.offset, slot.type_id, shape);
-    match start_of(checker, part)? {
+    match start_of(checker, part) {
         Some(start) => before_rest(start, slot.rest),
         None => behind(checker, slot),
     }
