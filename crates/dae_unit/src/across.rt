@@ -1,7 +1,7 @@
 // The same type in two files.
 
 ghost use Rattle.std.specs.List.{AllByRecursion};
-ghost use Rattle.std.specs.Prelude.{◌≡◌, ◌&&◌, ℕ, suc, ◌+◌, ◌<◌, ◌≤◌, ◌∷◌, ◌++◌, [], IfOk, MatchOption, OnOk, length, filter, option_copied, slice_get, is_some};
+ghost use Rattle.std.specs.Prelude.{false, ◌≡◌, ◌&&◌, ℕ, suc, ◌+◌, ◌<◌, ◌≤◌, ◌∷◌, ◌++◌, [], IfOk, MatchOption, OnOk, length, filter, option_copied, slice_get, is_some};
 ghost use Rattle.dae_types_kinds.specs.Types.{counts_agree, layout_of, shape_of};
 ghost use Rattle.dae_types_typed.specs.Sound.{bytes_of, is_member_of, tables_of};
 ghost use Rattle.dae_unit.specs.Across.{same_tag, tag_of, members_within, structures_within, shapes_within, same_plain, same_within_files, same_across};
