@@ -78,12 +78,16 @@ pub fn repeat_from(
         (Loop heading.place (view_some heading.test) (as_statements body) (view_some heading.step)
         Done)) }
 {
-    let repeated = repeat(alloc, heading.place, heading.test, body, heading.step)?;
-    match heading.start {
-        Some(e) => append(
-            alone(alloc, Statement::Evaluate(heading.first, e))?,
-            repeated,
-        ),
+    let TypedHeading {
+        place,
+        first,
+        start,
+        test,
+        step,
+    } = heading;
+    let repeated = repeat(alloc, place, test, body, step)?;
+    match start {
+        Some(e) => append(alone(alloc, Statement::Evaluate(first, e))?, repeated),
         None => Ok(repeated),
     }
 }

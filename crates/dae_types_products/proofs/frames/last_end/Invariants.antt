@@ -1,4 +1,4 @@
-use Rattle.std.proofs.Common.{◌≡◌, ◌<◌, ◌^◌, ◌×◌, drop, max}
+use Rattle.std.proofs.Common.{◌≡◌, ◌<◌, ◌^◌, drop, max}
 use Rattle.dae_types_tables.specs.Seen.{tables}
 use Rattle.dae_types_typed.specs.Frames.{last_end}
 use Rattle.dae_types_products.proofs.frames.last_end.Given as goal
