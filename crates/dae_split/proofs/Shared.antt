@@ -89,6 +89,21 @@ module _ (by_a outside : Bool) (of : ℕ → Classes) (c : Classes) (cap : ℕ) 
       nested_loop of c cap mn m rest outside by_a p q r (none_inside outside c (Loop m p q Done)) ∙ rw (b_is, first_is, second_is, x_is, tells_is, out_is, sym stands_is, stood) refl in
       rw (empty) (put (projected outside by_a of c cap mn rest) ∙ put_loop _ ∙ ap (onto ms) (sym shared) ∙ close outside whole)
 
+module _ (by_a outside : Bool) (of : ℕ → Classes) (c : Classes) (cap : ℕ) (m : Place) (stands tells : Bool)
+    (os ms ns : List Step) (on mn : ℕ) (og ng : List Part) (b : Mark) (b_is : b ≡ mark m mn) (x : Action) (x_is : x ≡ region_message by_a) (empty : ng ≡ [])
+    (close : (o : Bool) (k : Rounds) → Makes (projected o by_a of c cap) os on ms mn k (closed og k)) (left : stands ≡ false)
+    (put : Adds (when tells b x) ms ns) where
+  pub if_left : (t : Test) (p q : Form)
+      → stands ≡ stands_in by_a (region outside c (If m t p q Done)) → tells ≡ tells_in (region outside c (If m t p q Done)) (If m t p q Done)
+      → (k : Form) → Makes (projected outside by_a of c cap) os on ns mn (rounds c cap outside k ng) (rounds c cap outside (If m t p q k) og)
+  if_left t p q stands_is tells_is k =
+      let rest = rounds c cap outside k [] in
+      let r = region outside c (If m t p q Done) in
+      let whole = one_sided r m (If m t p q Done) rest (If m (decision c t) (rounds c cap outside p []) (rounds c cap outside q []) rest) in
+      let shared : projected outside by_a of c cap mn whole ≡ when tells b x (projected outside by_a of c cap mn rest) =
+      nested_if of c cap mn m rest outside by_a t p q r (none_inside outside c (If m t p q Done)) ∙ rw (b_is, x_is, tells_is, sym stands_is, left) refl in
+      rw (empty) (put (projected outside by_a of c cap mn rest) ∙ ap (onto ms) (sym shared) ∙ close outside whole)
+
 pub at_code : (view : ℕ → Rounds → Actions) (c : Classes) (cap : ℕ) (outside : Bool) (os ns : List Step) (on nn : ℕ) (og : List Part) (y : Rounds) (p q : Form) → p ≡ q
     → Makes view os on ns nn y (rounds c cap outside q og) → Makes view os on ns nn y (rounds c cap outside p og)
 at_code view c cap outside os ns on nn og y p q e h = subst (λ (code : Form). Makes view os on ns nn y (rounds c cap outside code og)) (sym e) h

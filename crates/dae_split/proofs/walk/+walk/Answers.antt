@@ -1,5 +1,5 @@
 use Rattle.std.proofs.Common.{ℕ, ◌+◌, ◌*◌, ◌<◌, List, [], ap, ◌∙◌, subst, arith}
-use Rattle.std.proofs.lemmas.Bool.{not-false}
+use Rattle.std.proofs.lemmas.Bool.{not-false, not-true}
 use Rattle.dae_ir.specs.Code.{Done, If, Loop}
 use Rattle.dae_ir.specs.Form.{Form, before, form_of}
 use Rattle.dae_ir.specs.Classes.{classes_of}
@@ -10,7 +10,7 @@ use Rattle.dae_ir.specs.declared.form.Statement.{Statement}
 use Rattle.dae_split.specs.Making.{is_a, lies_outside, projected, stands_in, is_outside, tells_in}
 use Rattle.dae_split.proofs.Calls.{calls_in_if, calls_in_loop, calls_from, calls_at}
 use Rattle.dae_ir.proofs.Laws.{before_if, before_loop}
-use Rattle.dae_split.proofs.Shared.{if_made, loop_made, at_code}
+use Rattle.dae_split.proofs.Shared.{if_made, if_left, loop_made, at_code}
 use Rattle.dae_split.proofs.Sizes.{deepest, first_in_if, second_in_if, first_in_loop, second_in_loop, list_below, item_below}
 use Rattle.dae_split.proofs.Upto.{one_more, all_made}
 use Rattle.dae_split.proofs.walk.+walk.Goals as goal
@@ -50,6 +50,25 @@ add_statement-list-requires-in-Loop-2 t c =
       subst (λ (n : ℕ). 2 * deepest c.deref-in-Loop-2.result.now + 1 < n) c.decreases below,
       calls_at a.functions.now _ _ c.deref-in-Loop-2.ensures.value (calls_in_loop a.functions.now i.place i.body i.step a.statement.now i.is c.requires.fit).1,
     )
+
+pub add_statement-returns-then-not-plan-clause-made : goal.add_statement-returns-then-not-plan-clause-made
+add_statement-returns-then-not-plan-clause-made t c k =
+    let a = c.args in
+    let i = c.in-If in
+    let by_a = is_a a.task.side in
+    let of = classes_of a.tables.now in
+    let cl = of a.task.function in
+    let plan = c.plan_of-plan in
+    let old = a.x.now in
+    let mid = c.close.new.x in
+    let same = λ (rest : Form). ap (λ (s : Statement). before s rest) i.is ∙ before_if i.place i.test i.p i.q rest in
+    at_code (projected (lies_outside a.zone) by_a of cl a.task.cap) cl a.task.cap (lies_outside a.zone) old.steps.items c.put.new.steps.items old.number mid.number old.group.items _ (before a.statement.now k) (If i.place i.test (form_of i.p.items) (form_of i.q.items) k) (same k)
+    (if_left by_a (lies_outside a.zone) of cl a.task.cap i.place plan.result.stands plan.result.tells old.steps.items mid.steps.items c.put.new.steps.items
+    old.number mid.number old.group.items mid.group.items c.at-mark.result c.at-mark.ensures c.region_message.result c.region_message.ensures c.in_ok-close-in-If.ensures.group c.in_ok-close-in-If.ensures.made
+    (not-true plan.result.stands c.if-not-plan.true) c.in_ok-put-in-If.ensures
+    i.test (form_of i.p.items) (form_of i.q.items)
+    (plan.ensures.stands ∙ ap (λ (code : Form). stands_in by_a (region (lies_outside a.zone) cl code)) (same Done))
+    (plan.ensures.tells ∙ ap (λ (code : Form). tells_in (region (lies_outside a.zone) cl code) code) (same Done)) k)
 
 pub add_statement-returns-in_ok-put-in-If-2-clause-made : goal.add_statement-returns-in_ok-put-in-If-2-clause-made
 add_statement-returns-in_ok-put-in-If-2-clause-made t c k =
