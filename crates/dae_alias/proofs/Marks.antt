@@ -1,5 +1,5 @@
 -- Marks of the loads that are repeated.
-use Rattle.std.proofs.Common.{◌≡◌, ◌⊎◌, ℕ, zero, suc, ◌+◌, ◌<◌, ◌≤◌, Bool, true, false, ◌&&◌, ◌||◌, nat_eq, if◌then◌else◌, List, [], ◌∷◌, ◌++◌, length, drop, get_or, set, Option, Some, None, inl, inr, refl, ap, sym, ◌∙◌, subst, arith}
+use Rattle.std.proofs.Common.{◌≡◌, ◌⊎◌, ℕ, zero, suc, ◌+◌, ◌<◌, ◌≤◌, Bool, true, false, ◌&&◌, ◌||◌, nat_eq, if◌then◌else◌, List, [], ◌∷◌, ◌++◌, length, drop, drop_of_length-le, get_or, set, Option, Some, None, inl, inr, refl, ap, sym, ◌∙◌, subst, arith}
 use Rattle.std.proofs.Math.Bool.{or_assoc, or-false}
 use Rattle.std.proofs.lemmas.Bool.{eqb-true}
 use Rattle.std.proofs.lemmas.List.{get_or-set_same, get_or-set_other, length-append, length-set}
@@ -248,4 +248,13 @@ marked_next ss start i s old new marks marks' lt is so_far m =
       told = λ n. m.told n (form_of (drop (i + 1) ss)) ∙ ap (λ (c : Form). marked marks n || repeated_from n old c) (sym split) ∙ so_far.told n;
       count = (let a = m.loads in let b = so_far.count in let c = ap loads_in split in let d = loads_behind s (form_of (drop (i + 1) ss)) in omega (arith, a, b, c, d));
       at = m.at;
+    }
+
+-- behind the last one all were met
+pub marked_all : (ss : List Statement) (start : List Bool) (i : ℕ) (w : Walk) (marks : List Bool) → length ss ≤ i → MarkedTo ss start i w marks → MarksAll ss start marks
+marked_all ss start i w marks past so_far =
+    let none : drop i ss ≡ [] = drop_of_length-le ss past in
+    record {
+      told = λ n. sym (or-false (marked marks n)) ∙ sym (ap (λ (l : List Statement). marked marks n || repeated_from n w (form_of l)) none) ∙ so_far.told n;
+      loads = (let a = so_far.at.count in let b = so_far.count in let c = ap (λ (l : List Statement). loads_in (form_of l)) none in omega (arith, a, b, c));
     }

@@ -11,6 +11,6 @@ mod Longest
 mod NoImage
 mod Limits
 mod Seen
-mod Fetched
+mod Contents
 mod Kept
 pub mod LawsOfFiles

@@ -5,7 +5,9 @@ ghost use Rattle.dae_cli_drive.specs.Puts.{GivesDue, sinks};
 ghost use Rattle.dae_cli_drive.specs.ImageFiles.{DueOfImageFile};
 ghost use Rattle.dae_cli_drive.specs.Shelves.{KeepsNothing, shelf_seen};
 
-use dae_cli_drive::{RunOptions, image_of_file, run_image};
+use crate::image::run_image;
+use crate::images::image_of_file;
+use dae_cli_options::RunOptions;
 use dae_io::{Shelf, Sink};
 use std::alloc::Global;
 

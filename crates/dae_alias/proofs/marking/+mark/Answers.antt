@@ -2,7 +2,7 @@ use Rattle.std.proofs.Common.{◌≡◌, List, inl, inr, length, sym, subst, ari
 use Rattle.dae_ir.specs.declared.form.Statement.{Statement}
 use Rattle.dae_alias.specs.declared.walking.Walk.{Walk}
 use Rattle.dae_alias.specs.Marking.{Marks, MarksAll}
-use Rattle.dae_alias.proofs.Marks.{marked_next, if_marks, loop_marks}
+use Rattle.dae_alias.proofs.Marks.{marked_all, marked_next, if_marks, loop_marks}
 use Rattle.dae_alias.proofs.marking.+mark.Goals as goal
 
 pub mark_statement-returns-in_ok-mark_item-in-Simple :
@@ -32,3 +32,7 @@ pub mark_statements-loop-statement-preserved : goal.mark_statements-loop-stateme
 mark_statements-loop-statement-preserved t c =
     marked_next c.args.statements.now c.args.marks.now.items c.loop-statement.statement-index c.statement-item.result c.loop-statement.walk c.mark_statement.new.walk c.loop-statement.marks.items c.mark_statement.new.marks.items
     c.loop-statement-test.true c.statement-item.is c.loop-statement.invariant c.in_ok-mark_statement.ensures
+
+pub mark_statements-returns : goal.mark_statements-returns
+mark_statements-returns t c =
+    marked_all c.args.statements.now c.args.marks.now.items c.loop-statement.statement-index c.loop-statement.walk c.loop-statement.marks.items c.loop-statement-test.false c.loop-statement.invariant

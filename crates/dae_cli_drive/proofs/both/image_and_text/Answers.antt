@@ -1,5 +1,5 @@
 use Rattle.std.proofs.lemmas.Result.{err_from_is_err_and}
-use Rattle.dae_cli_drive.proofs.Fetched.{file_is_image, first_no_image, first_not_got, second_not_got}
+use Rattle.dae_cli_drive.proofs.Contents.{file_is_image, first_no_image, first_not_got, second_not_got}
 use Rattle.dae_cli_drive.proofs.Longest.{front_of}
 use Rattle.dae_cli_drive.proofs.Seen.{nothing_kept, text_before, text_is_before}
 use Rattle.dae_cli_drive.proofs.both.image_and_text.Goals as goal

@@ -1,5 +1,5 @@
 use Rattle.std.proofs.lemmas.Result.{IfErr-weaker, IfOk-weaker, err_from_is_err_and}
-use Rattle.dae_cli_drive.proofs.Fetched.{file_is_image, file_no_image, file_not_got}
+use Rattle.dae_cli_drive.proofs.Contents.{file_is_image, file_no_image, file_not_got}
 use Rattle.dae_cli_drive.proofs.Longest.{front_of}
 use Rattle.dae_cli_drive.proofs.images.image_of_file.Goals as goal
 
