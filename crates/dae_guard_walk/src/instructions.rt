@@ -10,6 +10,7 @@ ghost use Rattle.dae_ranges.specs.Ranges.{each};
 ghost use Rattle.dae_guard.specs.Moves.{moved, private};
 ghost use Rattle.dae_guard.specs.Walk.{terms_of};
 ghost use Rattle.dae_guard.specs.Kept.{AreProper, HasRoom, IsProper, QueuesHold, waiting_of};
+ghost use Rattle.dae_guard.specs.Waiting.{given};
 ghost use Rattle.dae_guard_walk.specs.Spots.{side_of};
 ghost use Rattle.dae_guard_walk.specs.Steps.{AreFine, listed, called_of};
 ghost use Rattle.dae_guard_walk.specs.Picks.{ComesOf, afters};

@@ -27,7 +27,7 @@ use Rattle.dae_types_kinds.specs.declared.values.Category.TheVariants as categor
 use Rattle.dae_types_kinds.specs.declared.values.Known.{Known}
 use Rattle.dae_types_kinds.specs.declared.values.Known.TheVariants as known
 use Rattle.dae_types_kinds.specs.Tables.{Tables}
-use Rattle.dae_types_kinds.specs.Types.{shape_of, is_integer, is_pointer, is_scalar, is_void, is_structure, pointee, points_to_void, same, int_id, layout_at}
+use Rattle.dae_types_kinds.specs.Types.{shape_of, is_integer, is_pointer, is_scalar, is_void, is_structure, pointee, points_to_void, same, int_id, layout_at, word_for}
 use Rattle.dae_types_kinds.specs.Values.{Typed, is_constant_zero, is_zero, is_null_pointer, is_null, Deed, Operates, Compares, Combination, Words, PointerFirst, PointerSecond, Distance, Pointers, plain, number, valued_by, is_object, stored_in, changes, changed, load_kind, known_as, converted_by, converted, cast_to, null_pointer, further, scaled, sum_of, difference_of, deed, is_difference, is_equality, is_comparison, is_sum, are_comparable, compared_as, summed_as, combination, tree_by, address_tree, known_by, operated, is_unsigned_for, type_for, indexed, indexed_behind, indexed_back, distance, combined_as, subscripted, starred, negated, complemented, inverted, known_not, member_value, member_in, member_by, known_further, target_of, assigned, updated_by, updated, stepped, conditional_by, conditional_as, either_category, known_if, known_branch, comma, library_of, routine_type, result_of, listed, first_of_list, call_tree, called}
 use Rattle.dae_types_rules.specs.Sites.{AtScalar, AtInteger, AtCast, AtAddress}
 use Rattle.dae_lower_bounds.specs.Voids.{is_void as is_void_tree, is_void_test, void_in, void_in_target, void_in_all}
@@ -441,5 +441,5 @@ returns_at xs (Some r) h = h
 pub called_honest : (p : Place) (s : Tables) (n : ℕ) (es : List Expression) → Kept s → void_in_list es ≤ 0 → Honest s.shapes (called p s n es)
 called_honest p s n es k h =
     let o = slice_get s.routines n in
-    subst (λ u. Honest s.shapes (plain (call_tree p n (library_of o) es) (result_of u))) (sym (shape_is s (routine_type o)))
-    (call_honest p s n (library_of o) (routine_type o) es k (returns_at s.shapes o (all_at (IsRoutineIn s.shapes) s.routines n k.routines)) h)
+    subst (λ u. Honest s.shapes (plain (call_tree p (word_for n) (library_of o) es) (result_of u))) (sym (shape_is s (routine_type o)))
+    (call_honest p s (word_for n) (library_of o) (routine_type o) es k (returns_at s.shapes o (all_at (IsRoutineIn s.shapes) s.routines n k.routines)) h)
