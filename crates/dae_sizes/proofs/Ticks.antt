@@ -24,7 +24,7 @@ use Rattle.dae_types_kinds.specs.declared.tables.LibraryFunction.TheVariants as 
 use Rattle.dae_types_kinds.specs.declared.tables.Storage.{Storage}
 use Rattle.dae_types_kinds.specs.declared.tables.Storage.TheVariants as storage
 use Rattle.dae_types_kinds.specs.Tables.{Tables, with_shape, with_use}
-use Rattle.dae_types_kinds.specs.Types.{shape_of, is_void, is_integer, layout_at, int_id}
+use Rattle.dae_types_kinds.specs.Types.{shape_of, is_void, is_integer, layout_at, int_id, word_for}
 use Rattle.dae_types_kinds.specs.Values.{Typed, plain, number, valued_by, local_type, stored_in, named, load_kind, read_by, valued, changes, changed, known_as, converted_by, converted, further, scaled, sum_of, difference_of, Deed, Operates, Compares, deed, Combination, Words, PointerFirst, PointerSecond, Distance, Pointers, combination, known_by, tree_by, address_tree, is_unsigned_for, type_for, operated, indexed, indexed_behind, indexed_back, distance, combined_as, subscripted, starred, negated, complemented, inverted, known_not, member_value, member_in, member_by, known_further, target_of, assigned, updated_by, updated, stepped, conditional_by, conditional_as, either_category, known_if, known_branch, listed, first_of_list, call_tree, called, is_difference, library_of}
 use Rattle.dae_sizes.specs.Written.{ticks, ticks_of_target, ticks_of_all}
 use Rattle.dae_sizes.proofs.Within.{Got, same, stays}
@@ -279,4 +279,4 @@ call_ticks p n (Some library.Abort) es = omega arith
 call_ticks p n l es = let h = listed_ticks es in omega (arith, h)
 
 pub called_ticks : (p : Place) (s : Tables) (n : ℕ) (es : List Expression) → place_ticks (called p s n es) ≤ 3 + list_ticks es
-called_ticks p s n es = let h = call_ticks p n (library_of (slice_get s.routines n)) es in omega (arith, h)
+called_ticks p s n es = let h = call_ticks p (word_for n) (library_of (slice_get s.routines n)) es in omega (arith, h)

@@ -26,7 +26,7 @@ use Rattle.dae_types_kinds.specs.declared.tables.Local.{Local}
 use Rattle.dae_types_kinds.specs.declared.tables.Storage.{Storage}
 use Rattle.dae_types_kinds.specs.declared.tables.Storage.TheVariants as storage
 use Rattle.dae_types_kinds.specs.Tables.{Tables, with_shape, with_use, set_local, written_at}
-use Rattle.dae_types_kinds.specs.Types.{same as same_type, shape_of, is_void, is_integer, layout_at, composite, composite_shape, composite_within, int_id}
+use Rattle.dae_types_kinds.specs.Types.{same as same_type, shape_of, is_void, is_integer, layout_at, composite, composite_shape, composite_within, int_id, word_for}
 use Rattle.dae_types_kinds.specs.Values.{Typed, plain, is_indirect, is_null, common, number, valued_by, local_type, stored_in, named, load_kind, read_by, valued, changes, changed, known_as, converted_by, converted, further, scaled, sum_of, difference_of, Deed, Operates, Compares, deed, Combination, Words, PointerFirst, PointerSecond, Distance, Pointers, combination, known_by, tree_by, address_tree, is_unsigned_for, type_for, operated, indexed, indexed_behind, indexed_back, distance, combined_as, subscripted, starred, marked, negated, complemented, inverted, known_not, member_value, member_in, member_by, known_further, target_of, assigned, updated_by, updated, stepped, joined_pointers, joined_shape, joined, conditional_by, conditional_as, either_category, known_if, known_branch, listed, first_of_list, call_tree, called, is_difference, library_of}
 use Rattle.dae_void_laws.proofs.Laws.{either_has}
 use Rattle.dae_sizes.specs.Weights.{if_checked, weight, weight_of_target, weight_of_all}
@@ -334,4 +334,4 @@ module _ (c : ℕ) (low : c ≤ 1) where
   call_weighs p n l es = let h = listed_weighs c es in omega (arith, h)
 
   pub called_weighs : (p : Place) (s : Tables) (n : ℕ) (es : List Expression) → weight c (called p s n es).tree ≤ 3 + weight_of_list c es
-  called_weighs p s n es = call_weighs p n (library_of (slice_get s.routines n)) es
+  called_weighs p s n es = call_weighs p (word_for n) (library_of (slice_get s.routines n)) es
