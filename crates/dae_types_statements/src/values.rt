@@ -33,7 +33,7 @@ pub fn condition(checker: &mut Checker, e: &Tree) -> Result<Expression, CheckErr
 #[inline(never)]
 pub fn optional_condition(
     checker: &mut Checker,
-    e: &Option<Tree>,
+    e: &Option<Box<Tree>>,
 ) -> Result<Option<Expression>, CheckError>
     ensures { FollowsBy view_some checker.new result (plan_test (view_optional e.now)) checker.old }
 {
@@ -47,7 +47,7 @@ pub fn optional_condition(
 #[inline(never)]
 pub fn optional_value(
     checker: &mut Checker,
-    e: &Option<Tree>,
+    e: &Option<Box<Tree>>,
 ) -> Result<Option<Expression>, CheckError>
     ensures { FollowsBy view_some checker.new result
         (plan_optional (view_optional e.now)) checker.old }
@@ -59,7 +59,7 @@ pub fn optional_value(
 }
 
 /// The place of the expression at the start of a `for`, or else this one.
-pub fn starting_place(place: Place, start: &Option<Tree>) -> Place
+pub fn starting_place(place: Place, start: &Option<Box<Tree>>) -> Place
     ensures { result ≡ starting_place place (view_optional start.now) }
 {
     match start {
@@ -92,7 +92,7 @@ pub fn give_back(
     checker: &mut Checker,
     place: Place,
     around: Surrounding,
-    e: &Option<Tree>,
+    e: &Option<Box<Tree>>,
 ) -> Result<Vec<Statement>, CheckError>
     ensures { GivesStatements checker.new result
         (plan_return place around (view_optional e.now)) checker.old }
