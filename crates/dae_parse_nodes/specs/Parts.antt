@@ -108,8 +108,8 @@ ShowsEnumerators = ShowsList view_entry firsts_entry
 
 -- ---- declarators
 
-abbrev pub ShowsDeclarator : Read Declarator → tree.Declarator → Type 0
-ShowsDeclarator = Shows view_declarator firsts_declarator
+abbrev pub ShowsDeclarator : Read (Box Declarator Global) → tree.Declarator → Type 0
+ShowsDeclarator = Shows (in_box view_declarator) firsts_declarator
 
 abbrev pub number_of : Option Name → Option ℕ
 number_of None = None

@@ -30,7 +30,7 @@ view_value None = None
 view_value (Some v) = Some (v.0, view_initialiser v.1)
 
 abbrev pub view_item : Item → tree.Item
-view_item i = record { declarator = view_declarator i.declarator; initialiser = view_value i.initialiser }
+view_item i = record { declarator = view_declarator i.declarator.value; initialiser = view_value i.initialiser }
 
 abbrev pub view_items : List Item → List tree.Item
 view_items [] = []
@@ -71,7 +71,7 @@ views_statements (s ∷ ss) = tree.statement_then (view_statement s) (views_stat
 abbrev pub view_external : External → tree.External
 view_external (external.Declaration d) = tree.Declared (view_declaration d)
 view_external (external.Definition ws d b) =
-    tree.Defined (views_specifiers ws.items) (view_declarator d) b.place (view_declarations b.declarations.items) (views_statements b.statements.items)
+    tree.Defined (views_specifiers ws.items) (view_declarator d.value) b.place (view_declarations b.declarations.items) (views_statements b.statements.items)
 
 -- a file's tree
 abbrev pub view_externals : List External → List tree.External

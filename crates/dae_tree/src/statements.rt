@@ -14,7 +14,7 @@ pub enum Initialiser {
 /// A declarator of a declaration, with the place of `=` and the initialiser or without.
 #[derive(Drop)]
 pub struct Item {
-    pub declarator: Declarator,
+    pub declarator: Box<Declarator>,
     pub initialiser: Option<(Place, Initialiser)>,
 }
 
@@ -79,5 +79,5 @@ pub struct Heading {
 #[derive(Drop)]
 pub enum External {
     Declaration(Declaration),
-    Definition(Vec<Specifier>, Declarator, Block),
+    Definition(Vec<Specifier>, Box<Declarator>, Block),
 }
