@@ -292,7 +292,7 @@ fn switch(
         (plan_switch place (done_value value) around (view_statement one.now)) checker.old }
 {
     let arms = switch_body(checker, in_switch(around), one)?;
-    branch(checker.alloc, place, value.tree, arms)
+    branch(checker.alloc, place, Box::into_inner(value.tree), arms)
 }
 
 /// The body of a switch: a block.

@@ -26,7 +26,8 @@ pub fn condition(checker: &mut Checker, e: &Tree) -> Result<Expression, CheckErr
     ensures { FollowsBy view checker.new result (plan_condition (view_tree e.now)) checker.old }
 {
     let x = expression(checker, e)?;
-    test(checker, e.place(), x)
+    let tree = test(checker, e.place(), x)?;
+    Ok(Box::into_inner(tree))
 }
 
 /// The condition of a `for`, if it has one.
@@ -53,7 +54,7 @@ pub fn optional_value(
         (plan_optional (view_optional e.now)) checker.old }
 {
     match e {
-        Some(e) => Ok(Some(operand(checker, e)?.tree)),
+        Some(e) => Ok(Some(Box::into_inner(operand(checker, e)?.tree))),
         None => Ok(None),
     }
 }
