@@ -45,7 +45,7 @@ pub fn in_size(
 pub fn in_enumerator(
     machine: &mut Machine<'_>,
     value: Operand,
-    body: Body,
+    body: Box<Body>,
     list: Read<Vec<Enumerator>>,
     name: Name,
     place: Place,
@@ -143,7 +143,7 @@ pub fn of_sizeof(
 pub fn of_member(
     machine: &mut Machine<'_>,
     declared: Declared,
-    body: Body,
+    body: Box<Body>,
     members: Read<Vec<Member>>,
     specified: Specified,
     before: Read<Vec<Declarator>>,

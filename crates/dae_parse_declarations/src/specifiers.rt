@@ -170,7 +170,7 @@ pub fn for_parameter(
 pub fn for_member(
     machine: &mut Machine<'_>,
     specified: Specified,
-    body: Body,
+    body: Box<Body>,
     members: Read<Vec<Member>>,
 ) -> Result<Option<Doing>, AllocError>
     ensures { (ws : Specifiers) (b : plain.Body) (ms : List lists.MemberLine)

@@ -1,5 +1,6 @@
 -- What the machine's frames show of those of the grammar's machine.
-use Rattle.std.specs.Prelude.{◌≡◌, ℕ, Bool, true, false, List, [], ◌∷◌, Option, Some, None, length}
+use Rattle.std.specs.Prelude.{◌≡◌, ℕ, Bool, true, false, List, [], ◌∷◌, Option, Some, None, Box, length}
+use Rattle.std.specs.declared.alloc.Global.{Global}
 use Rattle.dae_tree.specs.Grammar as manners
 use Rattle.dae_tree.specs.Depth.{first_too_long}
 use Rattle.dae_tree.specs.Trees.{no_specifiers}
@@ -65,12 +66,12 @@ is_allowed function_body.Excluded = false
 abbrev pub ShowsBefore : Specified → List tree.Specifier → Type 0
 ShowsBefore s before = ShowsSpecified s (specifiers_onto before no_specifiers)
 
-pub record ShowsBody (b : Body) (a : plain.Body) : Type 0 where
-  pub place : b.place ≡ a.place
-  pub tag : b.tag ≡ a.tag
-  pub brace : b.brace ≡ a.brace
-  pub seen : b.seen ≡ a.seen
-  pub before : ShowsBefore b.before a.before
+pub record ShowsBody (b : Box Body Global) (a : plain.Body) : Type 0 where
+  pub place : b.value.place ≡ a.place
+  pub tag : b.value.tag ≡ a.tag
+  pub brace : b.value.brace ≡ a.brace
+  pub seen : b.value.seen ≡ a.seen
+  pub before : ShowsBefore b.value.before a.before
 
 pub record ShowsOpen (o : Open) (a : plain.Open) : Type 0 where
   pub declared : ShowsDeclared o.declared a.declarator
