@@ -184,14 +184,15 @@ pub fn read_loop_test(
         Steps machine.old result machine.new (loop_tested word paren a first) }
 {
     if let Some(second) = machine.rest.take_sign(Sign::Semicolon) {
-        return Ok(Some(Doing::Stepping(Loop {
+        let parts = Loop {
             word,
             paren,
             start,
             first,
             test: None,
             second,
-        })));
+        };
+        return Ok(Some(Doing::Stepping(Box::new(machine.alloc, parts)?)));
     }
     machine.push(Frame::Expression(ExpressionFrame::InLoopTest(word, paren, start, first)))?;
     Ok(Some(Doing::Seek(COMMA)))
@@ -199,8 +200,11 @@ pub fn read_loop_test(
 
 /// Behind the second semicolon of a `for`.
 #[tactic(auto, using(crate::proofs::OtherwiseStatements::stepped_otherwise))]
-pub fn read_loop_step(machine: &mut Machine<'_>, parts: Loop) -> Result<Option<Doing>, AllocError>
-    ensures { (a : plain.Loop) → ShowsLoop parts a →
+pub fn read_loop_step(
+    machine: &mut Machine<'_>,
+    parts: Box<Loop>,
+) -> Result<Option<Doing>, AllocError>
+    ensures { (a : plain.Loop) → ShowsLoop parts.value a →
         Steps machine.old result machine.new (stepped a) }
 {
     if machine.rest.take_sign(Sign::RightParen).is_some() {

@@ -108,14 +108,14 @@ pub fn do_body(
 pub fn for_body(
     machine: &mut Machine<'_>,
     found: Read<Box<Statement>>,
-    parts: Loop,
+    parts: Box<Loop>,
     step: Option<Operand>,
 ) -> Result<Option<Doing>, AllocError>
     ensures { (b : StatementTree) (l : plain.Loop) (e : Option Expression) → ShowsStatement found b
-        → ShowsLoop parts l → ShowsOptional step e
+        → ShowsLoop parts.value l → ShowsOptional step e
         → Steps machine.old result machine.new (statement_given b (plain.for_body l e)) }
 {
-    let whole = for_statement(machine.alloc, parts, step, found)?;
+    let whole = for_statement(machine.alloc, Box::into_inner(parts), step, found)?;
     Ok(Some(Doing::GaveStatement(whole, StatementKind::Other)))
 }
 

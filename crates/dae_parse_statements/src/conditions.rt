@@ -104,14 +104,15 @@ pub fn in_loop_test(
         return Ok(None);
     };
     let test = Some(test);
-    Ok(Some(Doing::Stepping(Loop {
+    let parts = Loop {
         word,
         paren,
         start,
         first,
         test,
         second,
-    })))
+    };
+    Ok(Some(Doing::Stepping(Box::new(machine.alloc, parts)?)))
 }
 
 /// Behind the third expression of a `for` (C90 6.6.5.3).
@@ -119,9 +120,9 @@ pub fn in_loop_test(
 pub fn in_step(
     machine: &mut Machine<'_>,
     step: Operand,
-    parts: Loop,
+    parts: Box<Loop>,
 ) -> Result<Option<Doing>, AllocError>
-    ensures { (e : Expression) (l : plain.Loop) → ShowsOperand step e → ShowsLoop parts l →
+    ensures { (e : Expression) (l : plain.Loop) → ShowsOperand step e → ShowsLoop parts.value l →
         Steps machine.old result machine.new (expression_given e (plain.in_step l)) }
 {
     if machine.rest.take_sign(Sign::RightParen).is_none() {
