@@ -27,18 +27,18 @@ pub struct Setting {
 #[cycle(statement)]
 #[derive(Drop)]
 pub enum Statement {
-    Evaluate(Place, Expression),
+    Evaluate(Place, Box<Expression>),
     /// An initialised aggregate of so many bytes from an offset in the frame on: zeros, and then the items.
     Initialise(Place, u32, u32, Vec<Setting>),
     Print(Place, Vec<Expression>, Vec<Piece>),
-    If(Place, Expression, Vec<Statement>, Vec<Statement>),
+    If(Place, Box<Expression>, Vec<Statement>, Vec<Statement>),
     /// `while` and `for`: a test or none, the body, and what follows each turn, or nothing.
-    Loop(Place, Option<Expression>, Vec<Statement>, Option<Expression>),
-    Do(Place, Vec<Statement>, Expression),
-    Switch(Place, Expression, Vec<Arm>),
+    Loop(Place, Option<Box<Expression>>, Vec<Statement>, Option<Box<Expression>>),
+    Do(Place, Vec<Statement>, Box<Expression>),
+    Switch(Place, Box<Expression>, Vec<Arm>),
     Break(Place),
     Continue(Place),
-    Return(Place, Option<Expression>),
+    Return(Place, Option<Box<Expression>>),
 }
 
 /// Statements of a switch with the labels before the first of them, in order, converted to the type of the switch's value.

@@ -37,12 +37,9 @@ fn returned(
     ensures { MakesStatements result (returned place around.is_main (view e.value)) }
 {
     if around.is_main {
-        alone(
-            alloc,
-            Statement::Evaluate(place, Expression::Exit(place, e)),
-        )
+        let exit = boxed(alloc, Expression::Exit(place, e))?;
+        alone(alloc, Statement::Evaluate(place, exit))
     } else {
-        let e = Box::into_inner(e);
         alone(alloc, Statement::Return(place, Some(e)))
     }
 }
@@ -94,10 +91,8 @@ pub fn return_nothing(
 {
     if around.is_main {
         let zero = boxed(alloc, Expression::Number(0))?;
-        alone(
-            alloc,
-            Statement::Evaluate(place, Expression::Exit(place, zero)),
-        )
+        let exit = boxed(alloc, Expression::Exit(place, zero))?;
+        alone(alloc, Statement::Evaluate(place, exit))
     } else {
         alone(alloc, Statement::Return(place, None))
     }

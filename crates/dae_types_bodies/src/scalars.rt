@@ -81,10 +81,7 @@ fn set_to(
     ensures { MakesStatements result (set_to place (tables checker.now) number (view value.value)) }
 {
     let tree = assigned_to(checker, place, number, value)?;
-    alone(
-        checker.alloc,
-        Statement::Evaluate(place, Box::into_inner(tree)),
-    )
+    alone(checker.alloc, Statement::Evaluate(place, tree))
 }
 
 /// Sets a local scalar to 0.

@@ -147,8 +147,7 @@ fn plain(checker: &mut Checker, e: &Tree) -> Result<Vec<Statement>, CheckError>
     ensures { GivesStatements checker.new result (plan_plain e.now) checker.old }
 {
     let x = operand(checker, e)?;
-    let tree = Box::into_inner(x.tree);
-    alone(checker.alloc, Statement::Evaluate(e.place(), tree))
+    alone(checker.alloc, Statement::Evaluate(e.place(), x.tree))
 }
 
 /// An expression as a statement: a call of `printf`, or another one.

@@ -2,7 +2,8 @@
 
 ghost use Rattle.std.specs.Prelude.{◌≡◌};
 ghost use Rattle.dae_tree.specs.Views.{view as view_tree, view_optional};
-ghost use Rattle.dae_program.specs.Views.{view, view_some};
+ghost use Rattle.dae_program.specs.Views.{view_some};
+ghost use Rattle.dae_types_folding.specs.Views.{view_boxed};
 ghost use Rattle.dae_types_file_plans.specs.Statements.{label_at, plan_condition, plan_optional, plan_return, plan_test, starting_place};
 ghost use Rattle.dae_types_tables.specs.Seen.{Follows, FollowsBy};
 ghost use Rattle.dae_types_values.specs.Results.{GivesValue};
@@ -22,12 +23,12 @@ use dae_types_walk::{constant_value, expression, operand};
 
 /// A condition, which must be a scalar.
 #[inline(never)]
-pub fn condition(checker: &mut Checker, e: &Tree) -> Result<Expression, CheckError>
-    ensures { FollowsBy view checker.new result (plan_condition (view_tree e.now)) checker.old }
+pub fn condition(checker: &mut Checker, e: &Tree) -> Result<Box<Expression>, CheckError>
+    ensures { FollowsBy view_boxed checker.new result
+        (plan_condition (view_tree e.now)) checker.old }
 {
     let x = expression(checker, e)?;
-    let tree = test(checker, e.place(), x)?;
-    Ok(Box::into_inner(tree))
+    test(checker, e.place(), x)
 }
 
 /// The condition of a `for`, if it has one.
@@ -35,7 +36,7 @@ pub fn condition(checker: &mut Checker, e: &Tree) -> Result<Expression, CheckErr
 pub fn optional_condition(
     checker: &mut Checker,
     e: &Option<Box<Tree>>,
-) -> Result<Option<Expression>, CheckError>
+) -> Result<Option<Box<Expression>>, CheckError>
     ensures { FollowsBy view_some checker.new result (plan_test (view_optional e.now)) checker.old }
 {
     match e {
@@ -49,12 +50,12 @@ pub fn optional_condition(
 pub fn optional_value(
     checker: &mut Checker,
     e: &Option<Box<Tree>>,
-) -> Result<Option<Expression>, CheckError>
+) -> Result<Option<Box<Expression>>, CheckError>
     ensures { FollowsBy view_some checker.new result
         (plan_optional (view_optional e.now)) checker.old }
 {
     match e {
-        Some(e) => Ok(Some(Box::into_inner(operand(checker, e)?.tree))),
+        Some(e) => Ok(Some(operand(checker, e)?.tree)),
         None => Ok(None),
     }
 }
