@@ -6,7 +6,7 @@ use dae_meaning::Spelling;
 
 /// What `printf` prints: a byte of the format, an argument, or the bytes that an argument points to. Arguments are numbered
 /// from 0.
-#[derive(Clone, Copy, PartialEq, Eq)]
+#[derive(Clone, Copy)]
 pub enum Piece {
     Byte(u8),
     Word(Spelling, u32),
