@@ -5,8 +5,8 @@ use Rattle.std.specs.declared.alloc.Global.{Global}
 use Rattle.dae_parse_nodes.specs.declared.values.Loop.{Loop}
 use Rattle.dae_parse_nodes.specs.Parts.{ShowsOptional, ShowsSpecified, ShowsDeclared, ShowsLoop}
 use Rattle.dae_parse_grammar.specs.Frames as plain
-use Rattle.dae_parse_states.specs.declared.frames.Frame.{Frame}
-use Rattle.dae_parse_states.specs.declared.frames.Frame.TheVariants as frame
+use Rattle.dae_parse_states.specs.Kept.{Frame}
+use Rattle.dae_parse_states.specs.Kept as frame
 use Rattle.dae_parse_states.specs.declared.frames.ExpressionFrame.TheVariants as expression
 use Rattle.dae_parse_states.specs.declared.frames.DeclaratorFrame.TheVariants as declarator
 use Rattle.dae_parse_states.specs.declared.frames.StatementFrame.TheVariants as statement

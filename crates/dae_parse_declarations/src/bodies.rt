@@ -18,7 +18,7 @@ use dae_parse_nodes::{
     with_enumeration_body, with_plain_enumerator, with_structure, with_structure_body,
 };
 use dae_parse_parts::{CONDITIONAL, Read};
-use dae_parse_states::{Doing, ExpressionFrame, Frame, Machine, SpecifiersFrame, TagKind};
+use dae_parse_states::{Doing, ExpressionFrame, Machine, SpecifiersFrame, TagKind};
 use dae_tree::{Enumerator, Member, Name, Seen, Sign, TrailingComma};
 use std::alloc::{AllocError, Global};
 
@@ -126,7 +126,7 @@ pub fn read_member(
     if has_members(&members) && machine.rest.take_sign(Sign::RightBrace).is_some() {
         return Ok(Some(close_structure(machine.alloc, body, members)?));
     }
-    machine.push(Frame::Specifiers(SpecifiersFrame::ForMember(body, members)))?;
+    machine.push_specifiers(SpecifiersFrame::ForMember(body, members))?;
     let before = no_specifiers(machine.alloc);
     Ok(Some(Doing::Specifying(Seen::nothing(), before)))
 }
@@ -176,7 +176,7 @@ pub fn read_enumerator_value(
         → Steps machine.old result machine.new (enumerator_followed b es name) }
 {
     if let Some(place) = machine.rest.take_sign(Sign::Assign) {
-        machine.push(Frame::Expression(ExpressionFrame::InEnumerator(body, list, name, place)))?;
+        machine.push_expression(ExpressionFrame::InEnumerator(body, list, name, place))?;
         return Ok(Some(Doing::Seek(CONDITIONAL)));
     }
     machine.scope.bind(name.number, false)?;

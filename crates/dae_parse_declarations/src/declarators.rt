@@ -19,7 +19,7 @@ use dae_parse_nodes::{
 };
 use dae_parse_parts::{CONDITIONAL, Scope};
 use dae_parse_states::{
-    DeclaratorFrame, Doing, ExpressionFrame, Frame, Machine, Manner, Open, Presence, Rest,
+    DeclaratorFrame, Doing, ExpressionFrame, Machine, Manner, Open, Presence, Rest,
     SpecifiersFrame, begins_specifiers,
 };
 use dae_tree::{Keyword, Seen, Sign};
@@ -125,7 +125,7 @@ fn read_parenthesis(
     let Some(paren) = machine.rest.take_sign(Sign::LeftParen) else {
         return Ok(None);
     };
-    machine.push(Frame::Declarator(DeclaratorFrame::InGroup(paren, manner)))?;
+    machine.push_declarator(DeclaratorFrame::InGroup(paren, manner))?;
     Ok(Some(Doing::Declaring(manner, Presence::Required)))
 }
 
@@ -170,7 +170,7 @@ pub fn read_qualifier(
         qualifiers.push(qualifier)?;
         return Ok(Some(Doing::Qualifying(manner, place, qualifiers)));
     }
-    machine.push(Frame::Declarator(DeclaratorFrame::BehindStar(place, qualifiers)))?;
+    machine.push_declarator(DeclaratorFrame::BehindStar(place, qualifiers))?;
     Ok(Some(Doing::Declaring(manner, Presence::Optional)))
 }
 
@@ -208,7 +208,7 @@ pub fn read_size(
         let whole = unsized_array(machine.alloc, declared, place)?;
         return Ok(Some(Doing::Suffixing(manner, whole)));
     }
-    machine.push(Frame::Expression(ExpressionFrame::InSize(declared, place, manner)))?;
+    machine.push_expression(ExpressionFrame::InSize(declared, place, manner))?;
     Ok(Some(Doing::Seek(CONDITIONAL)))
 }
 
@@ -229,14 +229,14 @@ pub fn read_parameters(
     }
     machine.scope.open()?;
     let none = no_parameters(machine.alloc);
-    machine.push(Frame::Specifiers(SpecifiersFrame::ForParameter(
+    machine.push_specifiers(SpecifiersFrame::ForParameter(
         Open {
             declared,
             place,
             manner,
         },
         none,
-    )))?;
+    ))?;
     let before = no_specifiers(machine.alloc);
     Ok(Some(Doing::Specifying(Seen::nothing(), before)))
 }

@@ -16,7 +16,7 @@ use crate::nodes::{
 use dae_base::Place;
 use dae_parse_nodes::{Loop, Operand};
 use dae_parse_parts::Read;
-use dae_parse_states::{Doing, Frame, Head, Inside, Machine, StatementFrame, StatementKind};
+use dae_parse_states::{Doing, Head, Inside, Machine, StatementFrame, StatementKind};
 use dae_tree::{Keyword, Statement};
 use std::alloc::AllocError;
 
@@ -33,7 +33,7 @@ pub fn then_branch(
         Steps machine.old result machine.new (statement_given b (plain.then_branch place paren e)) }
 {
     if machine.rest.take_word(Keyword::Else).is_some() {
-        machine.push(Frame::Statement(StatementFrame::ElseBranch(place, paren, test, found)))?;
+        machine.push_statement(StatementFrame::ElseBranch(place, paren, test, found))?;
         return Ok(Some(Doing::Stating));
     }
     let whole = if_statement(machine.alloc, place, paren, test, found)?;

@@ -38,8 +38,8 @@ use Rattle.dae_parse_states.specs.declared.frames.DeclarationFrame.{DeclarationF
 use Rattle.dae_parse_states.specs.declared.frames.DeclarationFrame.TheVariants as declaration
 use Rattle.dae_parse_states.specs.declared.frames.StatementFrame.{StatementFrame}
 use Rattle.dae_parse_states.specs.declared.frames.StatementFrame.TheVariants as statement
-use Rattle.dae_parse_states.specs.declared.frames.Frame.{Frame}
-use Rattle.dae_parse_states.specs.declared.frames.Frame.TheVariants as frame
+use Rattle.dae_parse_states.specs.Kept.{Frame}
+use Rattle.dae_parse_states.specs.Kept as frame
 use Rattle.dae_parse_states.specs.declared.frames.Doing.{Doing}
 use Rattle.dae_parse_states.specs.declared.frames.Doing.TheVariants as doing
 

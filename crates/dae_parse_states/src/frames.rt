@@ -156,12 +156,12 @@ pub enum StatementFrame {
 /// What comes behind a part that is read, by what it awaits.
 #[derive(Drop)]
 pub enum Frame {
-    Expression(ExpressionFrame),
-    Specifiers(SpecifiersFrame),
-    Declarator(DeclaratorFrame),
-    Initialiser(InitialiserFrame),
-    Declaration(DeclarationFrame),
-    Statement(StatementFrame),
+    Expression(Box<ExpressionFrame>),
+    Specifiers(Box<SpecifiersFrame>),
+    Declarator(Box<DeclaratorFrame>),
+    Initialiser(Box<InitialiserFrame>),
+    Declaration(Box<DeclarationFrame>),
+    Statement(Box<StatementFrame>),
 }
 
 /// What the machine does.
