@@ -13,7 +13,7 @@ pub struct Later {
 }
 
 /// Whether assignments are added or removed.
-#[derive(Clone, Copy, PartialEq, Eq, Debug)]
+#[derive(Clone, Copy)]
 pub enum Change {
     Add,
     Remove,

@@ -21,7 +21,7 @@ use dae_program::{Function, Links, Program, Slot};
 use std::alloc::{AllocError, Global};
 
 /// How a function is invoked: at the program's startup, as main is, or by calls.
-#[derive(Clone, Copy, PartialEq, Eq, Debug)]
+#[derive(Clone, Copy)]
 pub enum Invocation {
     Startup,
     Call,

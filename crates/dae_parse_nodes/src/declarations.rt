@@ -24,7 +24,7 @@ pub fn value(operand: Operand) -> Read<Initialiser>
 {
     let Read { tree, depths } = operand.read;
     let tree = match tree {
-        Some(value) => Some(Initialiser::Value(Box::into_inner(value))),
+        Some(value) => Some(Initialiser::Value(value)),
         None => None,
     };
     Read { tree, depths }

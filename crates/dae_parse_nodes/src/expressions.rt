@@ -227,7 +227,7 @@ pub fn sizeof_type(
         Some((specifiers, declarator)) => {
             let name = TypeName {
                 specifiers,
-                declarator,
+                declarator: Box::into_inner(declarator),
             };
             let name = Box::new(alloc, name)?;
             Some(Box::new(alloc, Expression::SizeofType(place, paren, name))?)
@@ -261,7 +261,7 @@ pub fn cast(
             let (declarator, operand) = rest;
             let name = TypeName {
                 specifiers,
-                declarator,
+                declarator: Box::into_inner(declarator),
             };
             let name = Box::new(alloc, name)?;
             Some(Box::new(alloc, Expression::Cast(place, name, operand))?)

@@ -11,7 +11,7 @@ ghost use Rattle.dae_parse_nodes.specs.Parts.{specifier_word, says_typedef, void
 
 use crate::values::{Body, Declared, Operand, Specified};
 use dae_base::Place;
-use dae_parse_parts::{Read, beside, flat, longer, over};
+use dae_parse_parts::{Read, beside, flat, longer, over, unbox};
 use dae_tree::{Declarator, Enumerator, Keyword, Member, Name, Specifier, TrailingComma};
 use std::alloc::{AllocError, Global};
 
@@ -223,7 +223,7 @@ pub fn with_declarator(
     ensures { (ds : List tree.Declarator) (d : tree.Declarator) → ShowsDeclarators before ds
         → ShowsDeclared declared d → IfOk result (λ r. ShowsDeclarators r (d ∷ ds)) }
 {
-    longer(before, declared.read)
+    longer(before, unbox(declared.read))
 }
 
 /// A declaration of members more.

@@ -46,7 +46,8 @@ fn main_body(alloc: Global, offset: u32) -> Result<TypedFunction, AllocError> {
     let address = Box::new(alloc, Expression::Address(0, offset))?;
     let value = Box::new(alloc, Expression::Read(HERE, LoadKind::I32, false, address))?;
     let mut body = Vec::new(alloc);
-    body.push(Statement::Evaluate(HERE, Expression::Exit(HERE, value)))?;
+    let exit = Box::new(alloc, Expression::Exit(HERE, value))?;
+    body.push(Statement::Evaluate(HERE, exit))?;
     Ok(TypedFunction {
         routine: 0,
         name: Text::from_str(alloc, "main")?,
