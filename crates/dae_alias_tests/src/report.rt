@@ -5,7 +5,7 @@ use dae_alias::reuse;
 use dae_base::{Depths, Items, LoadKind, Width};
 use dae_ir::{Class, Ir, Operand, Statement};
 use dae_meaning::Spelling;
-use dae_report::{Report, count, report_line};
+use dae_report::{Report, can_count, count, report_line};
 use std::alloc::{AllocError, Global};
 
 const NOBODY: Class = Class { a: false, e: false };
@@ -14,8 +14,13 @@ const A: Class = Class { a: true, e: false };
 
 const E: Class = Class { a: false, e: true };
 
-// The report of a form of one function, with these classes.
+// The report of a form of one function, with these classes; none where there is too much to count.
 fn counted(alloc: Global, ir: &Ir, classes: &[Class]) -> Result<Report, AllocError> {
+    if !can_count(ir) {
+        return Ok(Report {
+            functions: Items::new(alloc),
+        });
+    }
     let mut row = Items::new(alloc);
     for class in classes {
         row.push(*class)?;

@@ -5,3 +5,4 @@ mod Names
 mod Own
 mod Private
 mod Calls
+mod Counting
