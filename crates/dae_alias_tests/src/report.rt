@@ -1,7 +1,7 @@
 // What a report counts of small forms, as an independent implementation has it.
 
+use crate::reuse::reused;
 use crate::steps::{Step, below, branch, program, repeat, statements};
-use dae_alias::reuse;
 use dae_base::{Depths, Items, LoadKind, Width};
 use dae_ir::{Class, Ir, Operand, Statement};
 use dae_meaning::Spelling;
@@ -67,7 +67,7 @@ fn a_square(rt: HostRuntime) -> Result<(), AllocError> {
     let alloc = rt.alloc();
     let before = counted(alloc, &square(alloc)?, &[E, E, E, E])?;
     assert!(rt; has_counts(&before, "main", [0, 3, 2, 0, 0]));
-    let turned = reuse(alloc, square(alloc)?)?;
+    let turned = reused(alloc, square(alloc)?)?;
     let after = counted(alloc, &turned, &[E, E, E, E, E])?;
     assert!(rt; has_counts(&after, "main", [0, 2, 2, 0, 0]));
     let line = report_line(alloc, &BUDGET, &after)?;

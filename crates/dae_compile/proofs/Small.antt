@@ -1,6 +1,7 @@
 -- The image of texts is small, and their program has one where memory isn't wanting.
 use Rattle.std.proofs.Common.{◌≡◌, ◌⊎◌, ℕ, zero, suc, ◌+◌, ◌-◌, ◌*◌, ◌^◌, ◌<◌, ◌≤◌, true, ◌&&◌, List, [], ◌∷◌, length, None, inl, inr, refl, ap, sym, subst, arith}
 use Rattle.std.proofs.lemmas.Bool.{false≢true, and_parts}
+use Rattle.std.proofs.lemmas.Bool.Decides.{nat_tests}
 use Rattle.std.specs.Prelude.{slice_get, IfOk, Result, Ok, Err}
 use Rattle.std.specs.List.{AllByRecursion, list_all}
 use Rattle.dae_base.specs.declared.Place.{Place}
@@ -24,12 +25,12 @@ use Rattle.dae_ir_pair.specs.Sizes.{burden, item_burden}
 use Rattle.dae_sizes.specs.Promise.{burdens_of, DefinitionsAreShort, FormsAreWithin, FramesAreWithin, HasFrameWithin, IsForm}
 use Rattle.dae_sizes.specs.Sources.{AreUpTo, bytes_in, tokens_in}
 use Rattle.dae_accept.specs.Origins.{IsOfFiles, ReadAreWithin}
-use Rattle.dae_alias.specs.Forms.{AreReused, IsReusedFunction}
+use Rattle.dae_alias.specs.Forms.{AreReused, IsReusedFunction, is_reusable}
 use Rattle.dae_alias.specs.Laws.{ReuseStaysSmall}
 use Rattle.dae_alias.specs.Reuse.{loads_in as reuse_loads, reused}
 use Rattle.dae_alias.specs.Stretches.{nothing}
 use Rattle.dae_lower_formed.specs.Code.{loaded_burden, loads_in}
-use Rattle.dae_compile.specs.Compiled.{IsCompiledFrom, IsFinalForm, HasTooMuchPrivate, HasTooMuchCode}
+use Rattle.dae_compile.specs.Compiled.{IsCompiledFrom, IsFinalForm, HasFewVariables, HasTooMuchPrivate, HasTooMuchCode}
 use Rattle.dae_compile.specs.Sizes.{private_beside, words_beside, AreSmallBy, IsSmallBy, IsSmallBeside}
 
 -- ---- words of code
@@ -180,3 +181,16 @@ never_deep short frames texts p calls few o h =
     let lowered = of.lowered in
     let all = later_frames greatest_length first.functions ir.functions of.small (frames o.files first greatest_length (form_in texts p first o lowered.form) (short o.files o.typed o.from)) in
     not_large calls few (subst (λ c. (2 ^ 26 ≤ 65536) ⊎ (2 ^ 28 < c * 65536)) of.depth (h.needs (8 * greatest_length - 19) (have_at_most greatest_length ir all)))
+
+-- ---- words number variables
+
+one_reusable : (g : FormFunction) → HasFrameWithin greatest_length g → is_reusable g ≡ true
+one_reusable g frame = let l = same_loads (form_of g.body) in grind (arith, nat_tests)
+
+all_reusable : (gs : List FormFunction) → AllByRecursion (HasFrameWithin greatest_length) gs → list_all is_reusable gs ≡ true
+all_reusable [] all = refl
+all_reusable (g ∷ gs) all = rw (one_reusable g all.0) (all_reusable gs all.1)
+
+pub few_variables : DefinitionsAreShort → FramesAreWithin → (texts : List (List ℕ)) (p : Program) → IsOfFiles texts p → HasFewVariables p
+few_variables short frames texts p o first lowered =
+    all_reusable first.functions (frames o.files first greatest_length (form_in texts p first o lowered.form) (short o.files o.typed o.from))

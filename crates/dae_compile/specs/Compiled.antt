@@ -1,6 +1,7 @@
 -- What an image is that is compiled from a program, and what a program is that has none.
-use Rattle.std.specs.Prelude.{◌≡◌, ℕ, ◌^◌, ◌<◌}
-use Rattle.std.specs.List.{AllByRecursion}
+use Rattle.std.specs.Prelude.{◌≡◌, ℕ, ◌^◌, ◌<◌, true}
+use Rattle.std.specs.List.{AllByRecursion, list_all}
+use Rattle.dae_alias.specs.Forms.{is_reusable}
 use Rattle.dae_alias.specs.Stretches.{HasNoSecond}
 use Rattle.dae_image.specs.declared.Image.{Image}
 use Rattle.dae_ir.specs.Form.{form_of}
@@ -15,6 +16,10 @@ use Rattle.dae_compile_promise.specs.Promises.{IsLaterForm}
 use Rattle.dae_compile.specs.Generated.{HasFramesWithin, IsShort, NeedsTooMuch, words_of_form}
 use Rattle.dae_compile.specs.declared.generating.Compiled.{Compiled}
 use Rattle.dae_compile.specs.Sizes.{AreSmallBy}
+
+-- words number the variables of its lowered form, and one more for each load
+abbrev pub HasFewVariables : Program → Type 0
+HasFewVariables p = (first : Ir) → IsLowered p first → list_all is_reusable first.functions ≡ true
 
 -- A form of a program, under a limit on calls: it is the lowered form, or one that passes made of it. It means what the lowered
 -- form means, and is little larger. No stretch of it holds two loads of one kind from one symbolic address, where each store

@@ -9,10 +9,10 @@ ghost use Rattle.dae_link.specs.declared.error.CodeError.TheVariants as errors;
 ghost use Rattle.dae_ir.specs.Scope.{IsScoped};
 ghost use Rattle.dae_ir.specs.SetFirst.{IsFunctionSetFirst};
 ghost use Rattle.dae_lower_programs.specs.Lowered.{HasRoom};
-ghost use Rattle.dae_compile.specs.Compiled.{AreCompiledFrom, HasTooMuchPrivate, HasTooMuchCode, IsFinalForm};
+ghost use Rattle.dae_compile.specs.Compiled.{AreCompiledFrom, HasFewVariables, HasTooMuchPrivate, HasTooMuchCode, IsFinalForm};
 
 use crate::{Compiled, generate};
-use dae_alias::{forms_are_reused, reuse, reuse_stays_small};
+use dae_alias::{ReuseError, forms_are_reused, reuse, reuse_stays_small};
 use dae_base::{Items, Text};
 use dae_compile_promise::image_keeps_meaning;
 use dae_ir::Ir;
@@ -29,6 +29,7 @@ fn see_bytes(bytes: &[u8])
 /// A final form of a program, with at most so many calls inside one another: the lowered form with its loads reused. It is well
 /// made, sets each variable before it reads it, and has room in its memory. An error is want of memory.
 fn final_form(alloc: Global, program: &Program, calls: u16) -> Result<Ir, AllocError>
+    requires { HasFewVariables program.now }
     ensures made { IfOk result (IsFinalForm program.now calls) }
     ensures scoped { IfOk result IsScoped }
     ensures first { IfOk result (λ ir. AllByRecursion IsFunctionSetFirst ir.functions) }
@@ -37,13 +38,16 @@ fn final_form(alloc: Global, program: &Program, calls: u16) -> Result<Ir, AllocE
     forms_are_reused();
     reuse_stays_small();
     let lowered = lower(alloc, program, calls)?;
-    let ir = reuse(alloc, lowered)?;
-    Ok(ir)
+    match reuse(alloc, lowered) {
+        Ok(ir) => Ok(ir),
+        Err(ReuseError::Memory) => Err(AllocError),
+        Err(ReuseError::Variables) => unreachable!(),
+    }
 }
 
 /// The image of a program and the report of its form, with at most so many calls inside one another, where a group holds at most `cap` loads
 /// for E and as many copies, from 1 to 64; the names are those of its files. In every order of steps it does what
-/// the program means.
+/// the program means. Words must number the variables of its functions.
 ///
 /// # Errors
 ///
@@ -56,6 +60,7 @@ pub fn compile_program(
     cap: u8,
     names: Items<Text>,
 ) -> Result<Compiled, CodeError>
+    requires variables { HasFewVariables program }
     requires least { 64 ≤ program.memory }
     requires aligned { program.memory % 16 ≡ 0 }
     requires called { 1 ≤ calls }

@@ -1,15 +1,21 @@
-use Rattle.std.proofs.Common.{◌∙◌}
+use Rattle.std.proofs.Common.{sym, ◌∙◌}
+use Rattle.std.proofs.lemmas.Bool.{false≢true}
 use Rattle.dae_alias.specs.Forms.{KeepsForm}
 use Rattle.dae_compile_promise.specs.Promises.{IsLaterForm}
 use Rattle.dae_compile.proofs.Fitting.{room_later}
 use Rattle.dae_compile.proofs.Small.{functions_small}
 use Rattle.dae_compile.proofs.programs.final_form.Goals as goal
 
-pub returns-clause-made : goal.returns-clause-made
-returns-clause-made c =
+pub unreachable-requires : goal.unreachable-requires
+unreachable-requires c =
     let made = c.in_ok-lowered.ensures in
-    let reused = c.in_ok-ir.ensures in
-    let keeps : KeepsForm c.in_ok-lowered.lowered c.in_ok-ir.ir = c.forms_are_reused.ensures c.in_ok-lowered.lowered c.in_ok-ir.ir made.scoped reused in
+    false≢true (sym (c.in-Err-Variables.ensures.many c.in-Err-Variables.field-0-is) ∙ c.requires c.in_ok-lowered.lowered made.lowered)
+
+pub returns-in-Ok-clause-made : goal.returns-in-Ok-clause-made
+returns-in-Ok-clause-made c =
+    let made = c.in_ok-lowered.ensures in
+    let reused = c.in-Ok.ensures.reused in
+    let keeps : KeepsForm c.in_ok-lowered.lowered c.in-Ok.ir = c.forms_are_reused.ensures c.in_ok-lowered.lowered c.in-Ok.ir made.scoped reused in
     record {
       first = c.in_ok-lowered.lowered;
       lowered = made.lowered;
@@ -19,22 +25,22 @@ returns-clause-made c =
       depth = reused.calls ∙ made.calls;
     }
 
-pub returns-clause-scoped : goal.returns-clause-scoped
-returns-clause-scoped c =
+pub returns-in-Ok-clause-scoped : goal.returns-in-Ok-clause-scoped
+returns-in-Ok-clause-scoped c =
     let made = c.in_ok-lowered.ensures in
-    let keeps : KeepsForm c.in_ok-lowered.lowered c.in_ok-ir.ir = c.forms_are_reused.ensures c.in_ok-lowered.lowered c.in_ok-ir.ir made.scoped c.in_ok-ir.ensures in
+    let keeps : KeepsForm c.in_ok-lowered.lowered c.in-Ok.ir = c.forms_are_reused.ensures c.in_ok-lowered.lowered c.in-Ok.ir made.scoped c.in-Ok.ensures.reused in
     keeps.scoped
 
-pub returns-clause-first : goal.returns-clause-first
-returns-clause-first c =
+pub returns-in-Ok-clause-first : goal.returns-in-Ok-clause-first
+returns-in-Ok-clause-first c =
     let made = c.in_ok-lowered.ensures in
-    let keeps : KeepsForm c.in_ok-lowered.lowered c.in_ok-ir.ir = c.forms_are_reused.ensures c.in_ok-lowered.lowered c.in_ok-ir.ir made.scoped c.in_ok-ir.ensures in
+    let keeps : KeepsForm c.in_ok-lowered.lowered c.in-Ok.ir = c.forms_are_reused.ensures c.in_ok-lowered.lowered c.in-Ok.ir made.scoped c.in-Ok.ensures.reused in
     keeps.first made.first
 
-pub returns-clause-room : goal.returns-clause-room
-returns-clause-room c =
+pub returns-in-Ok-clause-room : goal.returns-in-Ok-clause-room
+returns-in-Ok-clause-room c =
     let made = c.in_ok-lowered.ensures in
-    let reused = c.in_ok-ir.ensures in
-    let keeps : KeepsForm c.in_ok-lowered.lowered c.in_ok-ir.ir = c.forms_are_reused.ensures c.in_ok-lowered.lowered c.in_ok-ir.ir made.scoped reused in
-    let later : IsLaterForm c.in_ok-lowered.lowered c.in_ok-ir.ir = record { memory = reused.memory; frames = reused.frames; calls = reused.calls; keeps = keeps } in
-    room_later _ c.in_ok-lowered.lowered c.in_ok-ir.ir later made.room
+    let reused = c.in-Ok.ensures.reused in
+    let keeps : KeepsForm c.in_ok-lowered.lowered c.in-Ok.ir = c.forms_are_reused.ensures c.in_ok-lowered.lowered c.in-Ok.ir made.scoped reused in
+    let later : IsLaterForm c.in_ok-lowered.lowered c.in-Ok.ir = record { memory = reused.memory; frames = reused.frames; calls = reused.calls; keeps = keeps } in
+    room_later _ c.in_ok-lowered.lowered c.in-Ok.ir later made.room
