@@ -1,5 +1,5 @@
-use Rattle.std.proofs.Common.{◌≡◌, List, inl, inr, length, sym, subst, arith}
-use Rattle.dae_ir.specs.declared.form.Statement.{Statement}
+use Rattle.std.proofs.Common.{◌≡◌, List, inl, inr, length, sym, subst, arith, rules}
+use Rattle.dae_ir.specs.declared.form.Statement.{Statement, the_lemmas}
 use Rattle.dae_alias.specs.declared.walking.Walk.{Walk}
 use Rattle.dae_alias.specs.Marking.{Marks, MarksAll}
 use Rattle.dae_alias.specs.Meeting.{known_in}
@@ -39,7 +39,10 @@ mark_statements-loop-statement-preserved t c =
       seldom = further_seldom (known_in c.loop-statement.walk) (known_in c.mark_statement.new.walk) c.loop-statement.statement-index so_far.seldom one.once;
     }
 
-pub mark_statements-mark_statement-requires-clause-seldom : goal.mark_statements-mark_statement-requires-clause-seldom
-mark_statements-mark_statement-requires-clause-seldom t c =
-    let so_far = c.loop-statement.invariant in
-    still_seldom (known_in c.loop-statement.walk) c.loop-statement.statement-index (length c.args.statements.now) so_far.seldom c.loop-statement-test.true (omega arith)
+pub mark_statements-mark_statement-requires : goal.mark_statements-mark_statement-requires
+mark_statements-mark_statement-requires t c =
+    let so_far = c.loop-statement.invariant in let marked = so_far.marked in
+    (search (rules, the_lemmas), record {
+      at = marked.at;
+      seldom = still_seldom (known_in c.loop-statement.walk) c.loop-statement.statement-index (length c.args.statements.now) so_far.seldom c.loop-statement-test.true (omega arith);
+    })
