@@ -41,8 +41,10 @@ mark_statements-loop-statement-preserved t c =
 
 pub mark_statements-mark_statement-requires : goal.mark_statements-mark_statement-requires
 mark_statements-mark_statement-requires t c =
-    let so_far = c.loop-statement.invariant in let marked = so_far.marked in
-    (search (rules, the_lemmas), record {
-      at = marked.at;
-      seldom = still_seldom (known_in c.loop-statement.walk) c.loop-statement.statement-index (length c.args.statements.now) so_far.seldom c.loop-statement-test.true (omega arith);
-    })
+    let so_far = c.loop-statement.invariant in let marked = so_far.marked in (
+      search (rules, the_lemmas),
+      record {
+        at = marked.at;
+        seldom = still_seldom (known_in c.loop-statement.walk) c.loop-statement.statement-index (length c.args.statements.now) so_far.seldom c.loop-statement-test.true (omega arith);
+      },
+    )
