@@ -1,5 +1,5 @@
 -- The image of texts is small, and their program has one where memory isn't wanting.
-use Rattle.std.proofs.Common.{◌≡◌, ◌⊎◌, ℕ, zero, suc, ◌+◌, ◌-◌, ◌*◌, ◌^◌, ◌<◌, ◌≤◌, true, ◌&&◌, List, [], ◌∷◌, length, None, inl, inr, refl, ap, sym, subst, arith}
+use Rattle.std.proofs.Common.{◌≡◌, ◌⊎◌, ℕ, zero, suc, ◌+◌, ◌-◌, ◌*◌, ◌^◌, ◌<◌, ◌≤◌, true, ◌&&◌, List, [], ◌∷◌, ◌++◌, length, None, inl, inr, refl, ap, sym, subst, arith, length-append}
 use Rattle.std.proofs.lemmas.Bool.{false≢true, and_parts}
 use Rattle.std.proofs.lemmas.Bool.Decides.{nat_tests}
 use Rattle.std.specs.Prelude.{slice_get, IfOk, Result, Ok, Err}
@@ -22,8 +22,11 @@ use Rattle.dae_select_walks.specs.Homes.{frame_words}
 use Rattle.dae_compile.specs.Generated.{calls_of_form, is_call, words_of_form, words_of_functions, HasFramesWithin, HaveAtMost, IsShort, NeedsTooMuch}
 use Rattle.dae_lower_formed.specs.Formed.{AreFormsOf, IsFormOf, IsLowered}
 use Rattle.dae_ir_pair.specs.Sizes.{burden, item_burden}
-use Rattle.dae_sizes.specs.Promise.{burdens_of, DefinitionsAreShort, FormsAreWithin, FramesAreWithin, HasFrameWithin, IsForm}
-use Rattle.dae_sizes.specs.Sources.{AreUpTo, bytes_in, tokens_in}
+use Rattle.dae_sizes.specs.Promise.{burdens_of, DefinitionsAreShort, FormsAreWithin, FramesAreWithin, FunctionsAreCounted, HasFrameWithin, IsForm}
+use Rattle.dae_sizes.specs.Sources.{ArePlanned, AreTypedAs, AreUpTo, bytes_in, count_functions, start_by, tokens_in}
+use Rattle.dae_types_typed.specs.declared.files.FileParts.{FileParts}
+use Rattle.dae_types_typed.specs.declared.files.TypedFunction.{TypedFunction}
+use Rattle.dae_unit.specs.Meanings.{function_of, functions_from, functions_in}
 use Rattle.dae_accept.specs.Origins.{IsOfFiles, ReadAreWithin}
 use Rattle.dae_alias.specs.Forms.{AreReused, IsReusedFunction, is_reusable}
 use Rattle.dae_alias.specs.Laws.{ReuseStaysSmall}
@@ -194,3 +197,27 @@ all_reusable (g ∷ gs) all = rw (one_reusable g all.0) (all_reusable gs all.1)
 pub few_variables : DefinitionsAreShort → FramesAreWithin → (texts : List (List ℕ)) (p : Program) → IsOfFiles texts p → HasFewVariables p
 few_variables short frames texts p o first lowered =
     all_reusable first.functions (frames o.files first greatest_length (form_in texts p first o lowered.form) (short o.files o.typed o.from))
+
+-- ---- words number functions
+
+functions_long : (done : List Function) (k : ℕ) (fs : List TypedFunction) → length (functions_in done k fs) ≡ length done + length fs
+functions_long done k [] = omega arith
+functions_long done k (f ∷ fs) = let h = functions_long (done ++ function_of k f ∷ []) k fs in let l = length-append done (function_of k f ∷ []) in omega (arith, h, l)
+
+all_long : (done : List Function) (k : ℕ) (ts : List FileParts) → length (functions_from done k ts) ≡ length done + count_functions ts
+all_long done k [] = omega arith
+all_long done k (t ∷ ts) = let h = all_long (functions_in done k t.functions) (suc k) ts in let l = functions_long done k t.functions in omega (arith, h, l)
+
+planned : (cs : List Contents) (ts : List FileParts) → AreTypedAs cs ts → ArePlanned cs ts
+planned [] [] h = tt
+planned [] (t ∷ ts) h = absurd h
+planned (c ∷ cs) [] h = absurd h
+planned (c ∷ cs) (t ∷ ts) h = let one = h.0 in ((start_by c one.numbers, one.typed), planned cs ts h.1)
+
+pub few_functions : FunctionsAreCounted → ReadAreWithin → (texts : List (List ℕ)) (p : Program) → IsOfFiles texts p → length p.functions < 2 ^ 32
+few_functions counted read texts p o =
+    let long = all_long [] 0 o.typed in
+    let same = ap (λ (fs : List Function). length fs) o.functions in
+    let half = counted o.files o.typed (planned o.files o.typed o.from) in
+    let few = read texts o.files o.read in
+    let most : tokens_in o.files ≤ 65536 = few.0 in omega (arith, long, same, half, most)

@@ -1,6 +1,6 @@
 // The image of a typed program, and its report.
 
-ghost use Rattle.std.specs.Prelude.{◌≡◌, ◌<◌, ◌≤◌, ◌%◌, length, IfErr, IfOk, IsTrue};
+ghost use Rattle.std.specs.Prelude.{◌≡◌, ◌<◌, ◌≤◌, ◌%◌, ◌^◌, length, IfErr, IfOk, IsTrue};
 ghost use Rattle.std.specs.List.{All, AllByRecursion, list_all};
 ghost use Rattle.dae_image.specs.Contents.{is_name};
 ghost use Rattle.dae_ir_pair.specs.Budget.{IsWithinCap};
@@ -29,7 +29,8 @@ fn see_bytes(bytes: &[u8])
 /// A final form of a program, with at most so many calls inside one another: the lowered form with its loads reused. It is well
 /// made, sets each variable before it reads it, and has room in its memory. An error is want of memory.
 fn final_form(alloc: Global, program: &Program, calls: u16) -> Result<Ir, AllocError>
-    requires { HasFewVariables program.now }
+    requires functions { length program.now.functions < 2 ^ 32 }
+    requires variables { HasFewVariables program.now }
     ensures made { IfOk result (IsFinalForm program.now calls) }
     ensures scoped { IfOk result IsScoped }
     ensures first { IfOk result (λ ir. AllByRecursion IsFunctionSetFirst ir.functions) }
@@ -47,7 +48,7 @@ fn final_form(alloc: Global, program: &Program, calls: u16) -> Result<Ir, AllocE
 
 /// The image of a program and the report of its form, with at most so many calls inside one another, where a group holds at most `cap` loads
 /// for E and as many copies, from 1 to 64; the names are those of its files. In every order of steps it does what
-/// the program means. Words must number the variables of its functions.
+/// the program means. Words must number its functions, and the variables of each.
 ///
 /// # Errors
 ///
@@ -60,6 +61,7 @@ pub fn compile_program(
     cap: u8,
     names: Items<Text>,
 ) -> Result<Compiled, CodeError>
+    requires functions { length program.functions < 2 ^ 32 }
     requires variables { HasFewVariables program }
     requires least { 64 ≤ program.memory }
     requires aligned { program.memory % 16 ≡ 0 }

@@ -9,7 +9,7 @@ use Rattle.dae_compile.proofs.programs.final_form.Goals as goal
 pub unreachable-requires : goal.unreachable-requires
 unreachable-requires c =
     let made = c.in_ok-lowered.ensures in
-    false≢true (sym (c.in-Err-Variables.ensures.many c.in-Err-Variables.field-0-is) ∙ c.requires c.in_ok-lowered.lowered made.lowered)
+    false≢true (sym (c.in-Err-Variables.ensures.many c.in-Err-Variables.field-0-is) ∙ c.requires.variables c.in_ok-lowered.lowered made.lowered)
 
 pub returns-in-Ok-clause-made : goal.returns-in-Ok-clause-made
 returns-in-Ok-clause-made c =
