@@ -11,7 +11,7 @@ use dae_image::{Image, LineMark};
 use dae_ir::Ir;
 use dae_link::link;
 use dae_machine::{End, Machine, Rest, Schedule, Turn, Words};
-use dae_regalloc::allocate;
+use dae_regalloc::{allocate, can_number};
 use dae_select_walks::Home;
 use dae_split_pair::{decouple, is_scoped};
 use std::alloc::{AllocError, Global};
@@ -273,6 +273,9 @@ fn are_in_registers(alloc: Global, ir: &Ir) -> Result<bool, AllocError> {
     let made = decouple(alloc, ir, 4)?;
     for stream in [&made.pair.a, &made.pair.e] {
         if let Some(function) = stream.functions.as_slice().first() {
+            if !can_number(function.body.as_slice()) {
+                return Ok(false);
+            }
             let homes = allocate(alloc, function.parameters, function.body.as_slice())?;
             if !homes.as_slice().iter().all(is_register) {
                 return Ok(false);

@@ -12,7 +12,7 @@ ghost use Rattle.dae_link.specs.Sides.{HasLimits, HasPlaces, HasRegisters, HasUs
 
 use crate::MOST_WORDS;
 use crate::error::CodeError;
-use crate::homes::unplaced_layouts;
+use crate::homes::{are_numberable, unplaced_layouts};
 use crate::placing::place;
 use crate::words::{encode_all, opening_code, whole_code};
 use dae_base::Items;
@@ -112,6 +112,9 @@ pub fn side_code(alloc: Global, stream: &Stream) -> Result<SideCode, CodeError>
     ensures deep { IfErr result (λ e. e ≡ errors.Private → IsTooDeep stream.now) }
 {
     if stream.functions.len() > MOST_WORDS as usize {
+        return Err(CodeError::Code);
+    }
+    if !are_numberable(stream) {
         return Err(CodeError::Code);
     }
     let layouts = unplaced_layouts(alloc, stream)?;

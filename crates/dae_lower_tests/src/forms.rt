@@ -13,8 +13,12 @@ const PLACE: Place = Place {
     col: 1,
 };
 
+ghost use Rattle.std.specs.Prelude.{◌<◌, ◌^◌, IfOk, length};
+
 // A main that prints a line feed and exits with status 7.
-fn small(alloc: Global) -> Result<Program, AllocError> {
+fn small(alloc: Global) -> Result<Program, AllocError>
+    ensures { IfOk result (λ p. length p.functions < 2 ^ 32) }
+{
     let byte = Box::new(alloc, Expression::Number(10))?;
     let status = Box::new(alloc, Expression::Number(7))?;
     let mut body = Items::new(alloc);

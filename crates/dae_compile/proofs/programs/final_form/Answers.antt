@@ -4,8 +4,15 @@ use Rattle.dae_webs.specs.Forms.{KeepsFormExactly}
 use Rattle.dae_compile_promise.specs.Promises.{IsLaterForm}
 use Rattle.dae_compile.proofs.Fitting.{room_later}
 use Rattle.dae_compile.proofs.Passes.{final_keeps, final_later}
-use Rattle.dae_compile.proofs.Small.{functions_small}
+use Rattle.dae_compile.proofs.Prepared.{all_reusable, functions_small, renamed_prepared}
 use Rattle.dae_compile.proofs.programs.final_form.Goals as goal
+
+pub reuse_loads-requires : goal.reuse_loads-requires
+reuse_loads-requires c =
+    let made = c.in_ok-lowered.ensures in
+    let named = c.in_ok-renamed.ensures in
+    all_reusable c.in_ok-lowered.lowered.functions c.in_ok-renamed.renamed.functions (renamed_prepared c.renaming_keeps_sizes.ensures c.in_ok-lowered.lowered.functions c.in_ok-renamed.renamed.functions named.functions)
+    (c.requires.variables c.in_ok-lowered.lowered made.lowered)
 
 pub returns-clause-made : goal.returns-clause-made
 returns-clause-made c =
@@ -18,7 +25,8 @@ returns-clause-made c =
       first = c.in_ok-lowered.lowered;
       lowered = made.lowered;
       later = final_later c.in_ok-lowered.lowered c.in_ok-renamed.renamed c.in_ok-ir.ir named reused keeps;
-      small = functions_small c.renaming_keeps_sizes.ensures c.reuse_stays_small.ensures c.in_ok-lowered.lowered.functions c.in_ok-renamed.renamed.functions c.in_ok-ir.ir.functions named.functions reused.functions;
+      small = functions_small c.reuse_stays_small.ensures c.in_ok-lowered.lowered.functions c.in_ok-renamed.renamed.functions c.in_ok-ir.ir.functions
+          (renamed_prepared c.renaming_keeps_sizes.ensures c.in_ok-lowered.lowered.functions c.in_ok-renamed.renamed.functions named.functions) reused.functions;
       no_second = keeps.no_second;
       depth = reused.calls ∙ named.calls ∙ made.calls;
     }
