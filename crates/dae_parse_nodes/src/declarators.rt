@@ -36,7 +36,7 @@ pub fn named(alloc: Global, name: Name) -> Result<Declared, AllocError>
     ensures { IfOk result (λ r. ShowsDeclared r (tree.Named name)) }
 {
     let tree = Box::new(alloc, Declarator::Named(name))?;
-    let read = over(alloc, name.place, flat(alloc, tree))?;
+    let read = over(name.place, flat(alloc, tree))?;
     let parameters = Vec::new(alloc);
     Ok(Declared {
         read,
@@ -64,7 +64,7 @@ pub fn pointer(
         bare: _,
         parameters,
     } = declared;
-    let Read { tree, depths } = over(alloc, place, read)?;
+    let Read { tree, depths } = over(place, read)?;
     let tree = match tree {
         Some(d) => {
             let whole = Declarator::Pointer(place, qualifiers, d);
