@@ -3,3 +3,4 @@ mod Stacked
 mod Sizes
 mod InFront
 mod Words
+mod Untaken
