@@ -14,6 +14,7 @@ use Rattle.dae_alias.specs.Forms.{AreReused, IsReusedFunction, is_reusable}
 use Rattle.dae_alias.specs.Laws.{ReuseStaysSmall}
 use Rattle.dae_alias.specs.Reuse.{loads_in as reuse_loads, reused}
 use Rattle.dae_alias.specs.Stretches.{nothing}
+use Rattle.dae_elide.specs.Forms.{IsElidedFunction, AreElidedFunctions, ElisionKeepsSizes}
 use Rattle.dae_webs.specs.Current.{own_webs}
 use Rattle.dae_webs.specs.Renamed.{renamed_code}
 use Rattle.dae_webs.specs.Forms.{IsRenamedOrSame, AreRenamedFunctions}
@@ -61,6 +62,12 @@ ArePrepared [] [] = Unit {0}
 ArePrepared [] (g ∷ gs) = ⊥
 ArePrepared (f ∷ fs) [] = ⊥
 ArePrepared (f ∷ fs) (g ∷ gs) = IsPrepared f g × ArePrepared fs gs
+
+-- what is as large as a prepared function, and has as many variables, is prepared too
+prepared_on : (f g h : Function) → IsPrepared f g → (loaded_burden (form_of h.body) ≡ loaded_burden (form_of g.body)) × (loads_in (form_of h.body) ≡ loads_in (form_of g.body)) → h.variables ≡ g.variables → IsPrepared f h
+prepared_on f g h made weight same =
+    let more = made.variables in
+    record { burden = weight.0 ∙ made.burden; loads = weight.1 ∙ made.loads; variables = omega (arith, more, same) }
 
 -- ---- variables renamed by webs
 
@@ -111,6 +118,26 @@ renamed_prepared sizes (f ∷ fs) [] named = absurd named
 renamed_prepared sizes (f ∷ fs) (g ∷ gs) named =
     let weight = renamed_weighs sizes f g named.0 in
     (record { burden = weight.0; loads = weight.1; variables = renamed_variables f g named.0 }, renamed_prepared sizes fs gs named.1)
+
+-- ---- without the checks that are known to pass
+
+elided_weighs : ElisionKeepsSizes → (memory : ℕ) (f g : Function) → IsElidedFunction memory f g
+    → (loaded_burden (form_of g.body) ≡ loaded_burden (form_of f.body)) × (loads_in (form_of g.body) ≡ loads_in (form_of f.body))
+elided_weighs sizes memory f g is =
+    let s = sizes memory f g is in
+    let calls = s.tallies (λ item. bit (is_call item)) (λ t. 0) (λ width v. refl) in
+    let loads = s.tallies (λ item. bit (is_load_into (λ v. true) item)) (λ t. 0) (λ width v. refl) in
+    (same_weight (form_of g.body) (form_of f.body) s.size calls loads, loads)
+
+pub elided_prepared : ElisionKeepsSizes → (memory : ℕ) (fs gs hs : List Function) → ArePrepared fs gs → AreElidedFunctions memory gs hs → ArePrepared fs hs
+elided_prepared sizes memory [] [] [] made is = tt
+elided_prepared sizes memory [] [] (h ∷ hs) made is = absurd is
+elided_prepared sizes memory [] (g ∷ gs) hs made is = absurd made
+elided_prepared sizes memory (f ∷ fs) [] hs made is = absurd made
+elided_prepared sizes memory (f ∷ fs) (g ∷ gs) [] made is = absurd is
+elided_prepared sizes memory (f ∷ fs) (g ∷ gs) (h ∷ hs) made is =
+    let one = is.0 in
+    (prepared_on f g h made.0 (elided_weighs sizes memory g h one) one.variables, elided_prepared sizes memory fs gs hs made.1 is.1)
 
 -- ---- loads reused
 

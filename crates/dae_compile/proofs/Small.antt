@@ -11,31 +11,18 @@ use Rattle.dae_tree.specs.Files.{Contents}
 use Rattle.dae_program.specs.declared.program.Function.{Function}
 use Rattle.dae_program.specs.declared.program.Program.{Program}
 use Rattle.dae_program.specs.Lawful.{is_lawful, is_lawful_in, is_lawful_memory, is_main, is_ready, is_well_placed, spares}
-use Rattle.dae_ir.specs.Code.{Done, Do, If, Loop}
 use Rattle.dae_ir.specs.Form.{Form, form_of}
-use Rattle.dae_ir.specs.Sizes.{bit, form_size, is_load_into, item_weight}
 use Rattle.dae_ir.specs.declared.form.Function.{Function as FormFunction}
 use Rattle.dae_ir.specs.declared.form.Ir.{Ir}
-use Rattle.dae_ir.specs.declared.form.Item.{Item}
-use Rattle.dae_ir.specs.declared.form.Item.TheVariants.{Assign, Load, Store, Print, Expect, Break, Continue, Call, Return, Halt}
 use Rattle.dae_select_walks.specs.Homes.{frame_words}
 use Rattle.dae_compile.specs.Generated.{calls_of_form, is_call, words_of_form, words_of_functions, HasFramesWithin, HaveAtMost, IsShort, NeedsTooMuch}
 use Rattle.dae_lower_formed.specs.Formed.{AreFormsOf, IsFormOf, IsLowered}
-use Rattle.dae_ir_pair.specs.Sizes.{burden, item_burden}
 use Rattle.dae_sizes.specs.Promise.{burdens_of, DefinitionsAreShort, FormsAreWithin, FramesAreWithin, FunctionsAreCounted, HasFrameWithin, IsForm}
 use Rattle.dae_sizes.specs.Sources.{ArePlanned, AreTypedAs, AreUpTo, bytes_in, count_functions, start_by, tokens_in}
 use Rattle.dae_types_typed.specs.declared.files.FileParts.{FileParts}
 use Rattle.dae_types_typed.specs.declared.files.TypedFunction.{TypedFunction}
 use Rattle.dae_unit.specs.Meanings.{function_of, functions_from, functions_in}
 use Rattle.dae_accept.specs.Origins.{IsOfFiles, ReadAreWithin}
-use Rattle.dae_alias.specs.Forms.{AreReused, IsReusedFunction, is_reusable}
-use Rattle.dae_alias.specs.Laws.{ReuseStaysSmall}
-use Rattle.dae_alias.specs.Reuse.{loads_in as reuse_loads, reused}
-use Rattle.dae_alias.specs.Stretches.{nothing}
-use Rattle.dae_webs.specs.Current.{own_webs}
-use Rattle.dae_webs.specs.Renamed.{renamed_code}
-use Rattle.dae_webs.specs.Forms.{IsRenamedOrSame, AreRenamedFunctions}
-use Rattle.dae_webs.specs.Laws.{IsBlind, RenamingKeepsSizes}
 use Rattle.dae_lower_formed.specs.Code.{loaded_burden, loads_in}
 use Rattle.dae_compile.specs.Compiled.{IsCompiledFrom, IsFinalForm, HasFewVariables, HasTooMuchPrivate, HasTooMuchCode, LeavesNumbers}
 use Rattle.dae_compile.specs.Sizes.{private_beside, words_beside, AreSmallBy, IsSmallBy, IsSmallBeside}

@@ -1,12 +1,26 @@
-// The passes from form to form behind the lowering, with what each asks of the form before it.
+// The passes from form to form behind the lowering that ask something of the form before them.
 
 ghost use Rattle.std.specs.Prelude.{◌≡◌, IfOk, true};
 ghost use Rattle.std.specs.List.{list_all};
 ghost use Rattle.dae_alias.specs.Forms.{IsReuseOf, is_reusable};
+ghost use Rattle.dae_elide.specs.Forms.{IsElisionOf};
+ghost use Rattle.dae_ir.specs.Scope.{IsScoped};
 
 use dae_alias::{ReuseError, reuse};
+use dae_elide::elide_checks;
 use dae_ir::Ir;
+use dae_slice::classes;
 use std::alloc::{AllocError, Global};
+
+/// The form without the checks that are known to pass, by its least classes. An error is want of memory.
+pub fn without_known_checks(alloc: Global, ir: Ir) -> Result<Ir, AllocError>
+    requires { IsScoped ir }
+    ensures { IfOk result (IsElisionOf ir) }
+{
+    let tables = classes(alloc, &ir)?;
+    let new = elide_checks(alloc, ir, tables.as_slice())?;
+    Ok(new)
+}
 
 /// The form with its loads reused, where words number its variables and one more for each load. An error is want of memory.
 pub fn reuse_loads(alloc: Global, ir: Ir) -> Result<Ir, AllocError>

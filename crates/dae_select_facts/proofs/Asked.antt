@@ -3,8 +3,10 @@ use Rattle.std.proofs.Common.{◌≡◌, ℕ, ◌+◌, ◌<◌, ◌≤◌, Bool,
 use Rattle.std.proofs.lemmas.Bool.Decides.{nat_tests}
 use Rattle.dae_ir.specs.Streams.{Actions}
 use Rattle.dae_ir.specs.declared.form.Check.TheVariants.{Place}
+use Rattle.dae_ir.specs.declared.form.Operand.TheVariants.{Variable}
+use Rattle.dae_ir.specs.declared.form.Value.TheVariants.{Same}
 use Rattle.dae_ir.specs.declared.stream.Action.{Action}
-use Rattle.dae_ir.specs.declared.stream.Action.TheVariants.{Probe}
+use Rattle.dae_ir.specs.declared.stream.Action.TheVariants.{Set as Compute, Probe}
 use Rattle.dae_ir.specs.declared.stream.Step.{Step, Act, If', Loop'}
 use Rattle.dae_select_walks.specs.Facts.{Facts, need_of}
 use Rattle.dae_select_walks.specs.declared.Need.{Need}
@@ -45,6 +47,7 @@ one_asked steps asked more n s some is counted before = by (asks s) refl counted
 
 need_alike : (memory : ℕ) (f g : Facts) (a : Action) (k : Actions) → asks_for a ≡ false → need_of memory f a k ≡ need_of memory g a k
 need_alike memory f g (Probe (Place width x)) k e = absurd (true≢false e)
+need_alike memory f g (Compute v (Same (Variable u))) k e = refl
 need_alike memory f g _ k e = refl
 
 need_same : (memory : ℕ) (f g : Facts) (s : Step) (k : Actions) → asks s ≡ false → need_of_step memory f s k ≡ need_of_step memory g s k
