@@ -1,5 +1,5 @@
 -- The image of texts is small, and their program has one where memory isn't wanting.
-use Rattle.std.proofs.Common.{◌≡◌, ◌⊎◌, ℕ, zero, suc, ◌+◌, ◌-◌, ◌*◌, ◌^◌, ◌<◌, ◌≤◌, true, ◌&&◌, List, [], ◌∷◌, length, None, inl, inr, refl, ap, sym, subst, arith}
+use Rattle.std.proofs.Common.{◌≡◌, ◌⊎◌, ℕ, zero, suc, ◌+◌, ◌-◌, ◌*◌, ◌^◌, ◌<◌, ◌≤◌, true, ◌&&◌, List, [], ◌∷◌, length, None, inl, inr, refl, ap, sym, ◌∙◌, subst, arith}
 use Rattle.std.proofs.lemmas.Bool.{false≢true, and_parts}
 use Rattle.std.specs.Prelude.{slice_get, IfOk, Result, Ok, Err}
 use Rattle.std.specs.List.{AllByRecursion, list_all}
@@ -11,12 +11,14 @@ use Rattle.dae_program.specs.declared.program.Function.{Function}
 use Rattle.dae_program.specs.declared.program.Program.{Program}
 use Rattle.dae_program.specs.Lawful.{is_lawful, is_lawful_in, is_lawful_memory, is_main, is_ready, is_well_placed, spares}
 use Rattle.dae_ir.specs.Code.{Done, Do, If, Loop}
+use Rattle.dae_ir.specs.Classes.{Classes, classes_of}
 use Rattle.dae_ir.specs.Form.{Form, form_of}
 use Rattle.dae_ir.specs.Sizes.{bit, form_size, is_load_into, item_weight}
 use Rattle.dae_ir.specs.declared.form.Function.{Function as FormFunction}
 use Rattle.dae_ir.specs.declared.form.Ir.{Ir}
 use Rattle.dae_ir.specs.declared.form.Item.{Item}
 use Rattle.dae_ir.specs.declared.form.Item.TheVariants.{Assign, Load, Store, Print, Expect, Break, Continue, Call, Return, Halt}
+use Rattle.dae_ir.specs.declared.stream.Class.{Class}
 use Rattle.dae_select_walks.specs.Homes.{frame_words}
 use Rattle.dae_compile.specs.Generated.{calls_of_form, is_call, words_of_form, words_of_functions, HasFramesWithin, HaveAtMost, IsShort, NeedsTooMuch}
 use Rattle.dae_lower_formed.specs.Formed.{AreFormsOf, IsFormOf, IsLowered}
@@ -28,6 +30,9 @@ use Rattle.dae_alias.specs.Forms.{AreReused, IsReusedFunction}
 use Rattle.dae_alias.specs.Laws.{ReuseStaysSmall}
 use Rattle.dae_alias.specs.Reuse.{loads_in as reuse_loads, reused}
 use Rattle.dae_alias.specs.Stretches.{nothing}
+use Rattle.dae_commons.specs.Commoned.{commoned_code}
+use Rattle.dae_commons.specs.Forms.{rows_behind, AreCommonedFunctions, IsCommonedFunction}
+use Rattle.dae_commons.specs.Laws.{CommoningKeepsCounts, CountsAlike}
 use Rattle.dae_webs.specs.Current.{own_webs}
 use Rattle.dae_webs.specs.Renamed.{renamed_code}
 use Rattle.dae_webs.specs.Forms.{IsRenamedOrSame, AreRenamedFunctions}
@@ -100,6 +105,40 @@ renamed_variables : (f g : FormFunction) → IsRenamedOrSame f g → 2 * g.varia
 renamed_variables f g (inl same) = let e : g.variables ≡ f.variables = ap (λ (h : FormFunction). h.variables) same in omega (arith, e)
 renamed_variables f g (inr r) = r.most
 
+calls_alike : (c : Classes) → CountsAlike c (λ item. bit (is_call item))
+calls_alike c q (Assign v x) = refl
+calls_alike c q (Load v kind x) = refl
+calls_alike c q (Store width x y) = refl
+calls_alike c q (Print spelling x) = refl
+calls_alike c q (Expect check) = refl
+calls_alike c q Break = refl
+calls_alike c q Continue = refl
+calls_alike c q (Call v g xs) = refl
+calls_alike c q (Return x) = refl
+calls_alike c q (Halt x) = refl
+
+loads_alike : (c : Classes) → CountsAlike c (λ item. bit (is_load_into (λ v. true) item))
+loads_alike c q (Assign v x) = refl
+loads_alike c q (Load v kind x) = refl
+loads_alike c q (Store width x y) = refl
+loads_alike c q (Print spelling x) = refl
+loads_alike c q (Expect check) = refl
+loads_alike c q Break = refl
+loads_alike c q Continue = refl
+loads_alike c q (Call v g xs) = refl
+loads_alike c q (Return x) = refl
+loads_alike c q (Halt x) = refl
+
+-- nor does one weigh more, or have more loads, without its common subexpressions
+commoned_weighs : CommoningKeepsCounts → (c : Classes) (f g : FormFunction) → IsCommonedFunction c f g
+    → (loaded_burden (form_of g.body) ≡ loaded_burden (form_of f.body)) × (loads_in (form_of g.body) ≡ loads_in (form_of f.body))
+commoned_weighs counts c f g h =
+    let s = counts c [] (form_of f.body) in
+    let calls = s.tallies (λ item. bit (is_call item)) (λ t. 0) (calls_alike c) (λ q t. refl) in
+    let loads = s.tallies (λ item. bit (is_load_into (λ v. true) item)) (λ t. 0) (loads_alike c) (λ q t. refl) in
+    let weight = same_weight (commoned_code c [] (form_of f.body)) (form_of f.body) s.size calls loads in
+    (subst (λ (k : Form). loaded_burden k ≡ loaded_burden (form_of f.body)) (sym h.body) weight, subst (λ (k : Form). loads_in k ≡ loads_in (form_of f.body)) (sym h.body) loads)
+
 -- a function whose loads are then reused has an item and a variable more for at most every second load
 reused_small : ReuseStaysSmall → (f g : FormFunction) → IsReusedFunction f g
     → (28 * form_size (form_of g.body) + 42 * calls_of_form (form_of g.body) ≤ 14 * loaded_burden (form_of f.body)) × (2 * g.variables ≤ 2 * f.variables + loads_in (form_of f.body))
@@ -115,24 +154,30 @@ reused_small small f g is =
       omega (arith, half, l, more),
     )
 
-final_small : RenamingKeepsSizes → ReuseStaysSmall → (f h g : FormFunction) → IsRenamedOrSame f h → IsReusedFunction h g → IsSmallBy f g
-final_small sizes small f h g named is =
+final_small : RenamingKeepsSizes → CommoningKeepsCounts → ReuseStaysSmall → (c : Classes) (f h i g : FormFunction) → IsRenamedOrSame f h → IsCommonedFunction c h i → IsReusedFunction i g → IsSmallBy f g
+final_small sizes counts small c f h i g named common is =
     let weight = renamed_weighs sizes f h named in
+    let as_heavy = commoned_weighs counts c h i common in
     let more = renamed_variables f h named in
-    let by = reused_small small h g is in
+    let as_many : i.variables ≡ h.variables = common.variables in
+    let by = reused_small small i g is in
     let words = by.0 in
     let variables = by.1 in
-    let burdens = weight.0 in
-    let loads = weight.1 in
-    record { words = omega (arith, words, burdens); variables = omega (arith, more, variables, loads) }
+    let burdens : loaded_burden (form_of i.body) ≡ loaded_burden (form_of f.body) = as_heavy.0 ∙ weight.0 in
+    let loads : loads_in (form_of i.body) ≡ loads_in (form_of f.body) = as_heavy.1 ∙ weight.1 in
+    record { words = omega (arith, words, burdens); variables = omega (arith, more, as_many, variables, loads) }
 
-pub functions_small : RenamingKeepsSizes → ReuseStaysSmall → (fs hs gs : List FormFunction) → AreRenamedFunctions fs hs → AreReused hs gs → AreSmallBy fs gs
-functions_small sizes small [] [] [] named is = tt
-functions_small sizes small [] [] (g ∷ gs) named is = absurd is
-functions_small sizes small [] (h ∷ hs) gs named is = absurd named
-functions_small sizes small (f ∷ fs) [] gs named is = absurd named
-functions_small sizes small (f ∷ fs) (h ∷ hs) [] named is = absurd is
-functions_small sizes small (f ∷ fs) (h ∷ hs) (g ∷ gs) named is = (final_small sizes small f h g named.0 is.0, functions_small sizes small fs hs gs named.1 is.1)
+pub functions_small : RenamingKeepsSizes → CommoningKeepsCounts → ReuseStaysSmall → (tables : List (List Class)) (fs hs is gs : List FormFunction) → AreRenamedFunctions fs hs → AreCommonedFunctions tables hs is → AreReused is gs
+    → AreSmallBy fs gs
+functions_small sizes counts small tables [] [] [] [] named common re = tt
+functions_small sizes counts small tables [] [] [] (g ∷ gs) named common re = absurd re
+functions_small sizes counts small tables [] [] (i ∷ is) gs named common re = absurd common
+functions_small sizes counts small tables [] (h ∷ hs) is gs named common re = absurd named
+functions_small sizes counts small tables (f ∷ fs) [] is gs named common re = absurd named
+functions_small sizes counts small tables (f ∷ fs) (h ∷ hs) [] gs named common re = absurd common
+functions_small sizes counts small tables (f ∷ fs) (h ∷ hs) (i ∷ is) [] named common re = absurd re
+functions_small sizes counts small tables (f ∷ fs) (h ∷ hs) (i ∷ is) (g ∷ gs) named common re =
+    (final_small sizes counts small (classes_of tables 0) f h i g named.0 common.0 re.0, functions_small sizes counts small (rows_behind tables) fs hs is gs named.1 common.1 re.1)
 
 words_weigh : (fs gs : List FormFunction) → AreSmallBy fs gs → words_of_functions gs ≤ 14 * burdens_of fs
 words_weigh [] [] is = omega arith
