@@ -7,19 +7,23 @@ use Rattle.dae_meaning.specs.Results.{Result, At, Over}
 use Rattle.dae_meaning.specs.Variables.{Env}
 use Rattle.dae_meaning.specs.Worlds.{World}
 use Rattle.dae_meaning.proofs.Laws.{alike_then, alike_weaker}
-use Rattle.dae_ir.specs.Form.{form_of}
-use Rattle.dae_ir.specs.Classes.{Classes, AreAddressesClosed, classes_of}
-use Rattle.dae_ir.specs.Programs.{outcome, program_of}
+use Rattle.dae_ir.specs.Form.{Form, form_of}
+use Rattle.dae_ir.specs.Classes.{Classes, AreAddressesClosed, IsWithin, classes_of, is_by_a}
+use Rattle.dae_ir.specs.Programs.{AreClassesOf, outcome, program_of}
 use Rattle.dae_ir.specs.Scope.{IsScoped}
 use Rattle.dae_ir.specs.SetFirst.{IsFunctionSetFirst}
-use Rattle.dae_ir.specs.Sizes.{own_loads, conditions_a}
+use Rattle.dae_ir.specs.Sizes.{bit, is_load_into, own_loads, conditions_a}
 use Rattle.dae_ir.specs.declared.form.Function.{Function}
 use Rattle.dae_ir.specs.declared.form.Ir.{Ir}
+use Rattle.dae_ir.specs.declared.stream.Class.{Class}
 use Rattle.dae_alias.specs.Forms.{KeepsForm, IsReuseOf}
 use Rattle.dae_alias.specs.Laws.{Cheaper, SameResult}
+use Rattle.dae_alias.proofs.Slices.{bit_within, load_within, tally_within, test_within}
+use Rattle.dae_commons.specs.Forms.{rows_behind, AreCommonedFunctions, FormsAreCommoned, KeepsOutcomes}
 use Rattle.dae_elide.specs.Forms.{AreElidedFunctions, IsElisionOf, ChecksAreElided}
 use Rattle.dae_webs.specs.Forms.{AreRenamedFunctions, FormsAreRenamed, IsRenamingOf, HaveSameResult}
 use Rattle.dae_compile_promise.specs.Promises.{KeepsLowered, IsLaterForm}
+use Rattle.dae_compile.specs.Passes.{IsWithoutCommons}
 
 -- ---- ends
 
@@ -129,6 +133,53 @@ renamed_behind law ir new scoped is =
       });
     }
 
+-- ---- without common subexpressions
+
+loads_fewer : (c d : Classes) → IsWithin c.s d.s → (code : Form) → own_loads c code ≤ own_loads d code
+loads_fewer c d inside code =
+    tally_within (λ item. bit (is_load_into c.s item)) (λ item. bit (is_load_into d.s item)) (λ t. 0) (λ t. 0)
+    (λ item. bit_within (is_load_into c.s item) (is_load_into d.s item) (load_within c.s d.s inside item)) (λ t. (let none : 0 ≤ 0 = omega arith in none)) code
+
+conditions_fewer : (c d : Classes) → IsWithin c.s d.s → (code : Form) → conditions_a c code ≤ conditions_a d code
+conditions_fewer c d inside code =
+    tally_within (λ item. 0) (λ item. 0) (λ t. bit (is_by_a c.s t)) (λ t. bit (is_by_a d.s t))
+    (λ item. (let none : 0 ≤ 0 = omega arith in none)) (λ t. bit_within (is_by_a c.s t) (is_by_a d.s t) (test_within c.s d.s inside t)) code
+
+commoned_there : (tables : List (List Class)) (fs gs : List Function) → AreCommonedFunctions tables fs gs → (k : ℕ) (f : Function) → slice_get fs k ≡ Some f → (g : Function) × (slice_get gs k ≡ Some g)
+commoned_there tables [] gs a k f at = absurd (let c : None ≡ Some f = at in cc)
+commoned_there tables (f ∷ fs) [] a k h at = absurd a
+commoned_there tables (f ∷ fs) (g ∷ gs) a zero h at = (g, refl)
+commoned_there tables (f ∷ fs) (g ∷ gs) a (suc k) h at = commoned_there (rows_behind tables) fs gs a.1 k h at
+
+-- by the least classes, which are within all sets that keep what leads to addresses
+commoned_access : (tables : List (List Class)) (ir new : Ir) → AreClassesOf ir tables → KeepsOutcomes tables ir new → (of : ℕ → Classes) → AreAddressesClosed (program_of ir) (λ k. (of k).s) → HasNoMoreAccess ir new of
+commoned_access tables ir new least keeps of closed =
+    let c = least.closed in
+    record {
+      sets = classes_of tables;
+      closed = keeps.closed c.addresses;
+      most = λ k f g at at'. (let same = keeps.same k f g at at' in
+          let inside : IsWithin (classes_of tables k).s (of k).s = least.addresses (λ j. (of j).s) closed k in (
+            most_then _ _ _ (loads_fewer (classes_of tables k) (of k) inside (form_of f.body)) (at_most _ _ same.0),
+            most_then _ _ _ (conditions_fewer (classes_of tables k) (of k) inside (form_of f.body)) (at_most _ _ same.1),
+          ));
+    }
+
+pub commoned_behind : FormsAreCommoned → (ir new : Ir) → IsScoped ir → IsWithoutCommons ir new → IsBehind ir new
+commoned_behind law ir new scoped is =
+    let made = is.commoning in
+    let keeps = law is.tables ir new made in
+    record {
+      memory = made.memory;
+      frames = made.frames;
+      calls = made.calls;
+      there = commoned_there is.tables ir.functions new.functions made.functions;
+      meaning = λ n words size. equally (outcome ir n words) (outcome new n words) (keeps.outcomes n words);
+      scoped = keeps.scoped scoped;
+      first = keeps.first;
+      access = commoned_access is.tables ir new is.least keeps;
+    }
+
 -- ---- without the checks that are known to pass
 
 elided_there : (memory : ℕ) (fs gs : List Function) → AreElidedFunctions memory fs gs → (k : ℕ) (f : Function) → slice_get fs k ≡ Some f → (g : Function) × (slice_get gs k ≡ Some g)
@@ -158,10 +209,16 @@ elided_behind law ir new scoped is =
 -- ---- all passes
 
 -- before loads are reused
-pub passes_before : FormsAreRenamed → ChecksAreElided → (lowered named bare : Ir) → IsScoped lowered → IsRenamingOf lowered named → IsElisionOf named bare → IsBehind lowered bare
-passes_before webs checks lowered named bare scoped renamed elided =
-    let one = renamed_behind webs lowered named scoped renamed in
-    behind_both lowered named bare one (elided_behind checks named bare one.scoped elided)
+module _ (lowered named common bare : Ir) where
+  pub up_to_commons : FormsAreRenamed → FormsAreCommoned → IsScoped lowered → IsRenamingOf lowered named → IsWithoutCommons named common → IsBehind lowered common
+  up_to_commons webs commons scoped renamed without =
+      let one = renamed_behind webs lowered named scoped renamed in
+      behind_both lowered named common one (commoned_behind commons named common one.scoped without)
+
+  pub passes_before : FormsAreRenamed → FormsAreCommoned → ChecksAreElided → IsScoped lowered → IsRenamingOf lowered named → IsWithoutCommons named common → IsElisionOf common bare → IsBehind lowered bare
+  passes_before webs commons checks scoped renamed without elided =
+      let one = up_to_commons webs commons scoped renamed without in
+      behind_both lowered common bare one (elided_behind checks common bare one.scoped elided)
 
 -- and then they are
 module _ (lowered bare ir : Ir) (before : IsBehind lowered bare) (reused : IsReuseOf bare ir) (keeps : KeepsForm bare ir) where

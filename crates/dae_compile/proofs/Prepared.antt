@@ -4,24 +4,31 @@ use Rattle.std.proofs.Common.{◌≡◌, ℕ, ◌+◌, ◌-◌, ◌*◌, ◌^◌
 use Rattle.std.proofs.lemmas.Bool.{lt-ltb}
 use Rattle.std.specs.List.{AllByRecursion, list_all}
 use Rattle.dae_ir.specs.Code.{Done, Do, If, Loop}
+use Rattle.dae_ir.specs.Classes.{Classes, classes_of}
 use Rattle.dae_ir.specs.Form.{Form, form_of}
 use Rattle.dae_ir.specs.Sizes.{bit, form_size, is_load_into, item_weight}
 use Rattle.dae_ir.specs.declared.form.Function.{Function}
+use Rattle.dae_ir.specs.declared.form.Ir.{Ir}
 use Rattle.dae_ir.specs.declared.form.Item.{Item}
 use Rattle.dae_ir.specs.declared.form.Item.TheVariants.{Assign, Load, Store, Print, Expect, Break, Continue, Call, Return, Halt}
+use Rattle.dae_ir.specs.declared.stream.Class.{Class}
 use Rattle.dae_ir_pair.specs.Sizes.{burden, item_burden}
 use Rattle.dae_alias.specs.Forms.{AreReused, IsReusedFunction, is_reusable}
 use Rattle.dae_alias.specs.Laws.{ReuseStaysSmall}
 use Rattle.dae_alias.specs.Reuse.{loads_in as reuse_loads, reused}
 use Rattle.dae_alias.specs.Stretches.{nothing}
-use Rattle.dae_elide.specs.Forms.{IsElidedFunction, AreElidedFunctions, ElisionKeepsSizes}
+use Rattle.dae_commons.specs.Commoned.{commoned_code}
+use Rattle.dae_commons.specs.Forms.{rows_behind, AreCommonedFunctions, IsCommonedFunction}
+use Rattle.dae_commons.specs.Laws.{CommoningKeepsCounts, CountsAlike}
+use Rattle.dae_elide.specs.Forms.{IsElidedFunction, AreElidedFunctions, IsElisionOf, ElisionKeepsSizes}
 use Rattle.dae_webs.specs.Current.{own_webs}
 use Rattle.dae_webs.specs.Renamed.{renamed_code}
-use Rattle.dae_webs.specs.Forms.{IsRenamedOrSame, AreRenamedFunctions}
+use Rattle.dae_webs.specs.Forms.{IsRenamedOrSame, AreRenamedFunctions, IsRenamingOf}
 use Rattle.dae_webs.specs.Laws.{IsBlind, RenamingKeepsSizes}
 use Rattle.dae_lower_formed.specs.Code.{loaded_burden, loads_in}
 use Rattle.dae_compile.specs.Generated.{calls_of_form, is_call}
 use Rattle.dae_compile.specs.Compiled.{LeavesNumbers}
+use Rattle.dae_compile.specs.Passes.{IsWithoutCommons}
 use Rattle.dae_compile.specs.Sizes.{AreSmallBy, IsSmallBy}
 
 -- ---- what code weighs
@@ -119,6 +126,51 @@ renamed_prepared sizes (f ∷ fs) (g ∷ gs) named =
     let weight = renamed_weighs sizes f g named.0 in
     (record { burden = weight.0; loads = weight.1; variables = renamed_variables f g named.0 }, renamed_prepared sizes fs gs named.1)
 
+-- ---- without common subexpressions
+
+calls_alike : (c : Classes) → CountsAlike c (λ item. bit (is_call item))
+calls_alike c q (Assign v x) = refl
+calls_alike c q (Load v kind x) = refl
+calls_alike c q (Store width x y) = refl
+calls_alike c q (Print spelling x) = refl
+calls_alike c q (Expect check) = refl
+calls_alike c q Break = refl
+calls_alike c q Continue = refl
+calls_alike c q (Call v g xs) = refl
+calls_alike c q (Return x) = refl
+calls_alike c q (Halt x) = refl
+
+loads_alike : (c : Classes) → CountsAlike c (λ item. bit (is_load_into (λ v. true) item))
+loads_alike c q (Assign v x) = refl
+loads_alike c q (Load v kind x) = refl
+loads_alike c q (Store width x y) = refl
+loads_alike c q (Print spelling x) = refl
+loads_alike c q (Expect check) = refl
+loads_alike c q Break = refl
+loads_alike c q Continue = refl
+loads_alike c q (Call v g xs) = refl
+loads_alike c q (Return x) = refl
+loads_alike c q (Halt x) = refl
+
+commoned_weighs : CommoningKeepsCounts → (c : Classes) (f g : Function) → IsCommonedFunction c f g
+    → (loaded_burden (form_of g.body) ≡ loaded_burden (form_of f.body)) × (loads_in (form_of g.body) ≡ loads_in (form_of f.body))
+commoned_weighs counts c f g h =
+    let s = counts c [] (form_of f.body) in
+    let calls = s.tallies (λ item. bit (is_call item)) (λ t. 0) (calls_alike c) (λ q t. refl) in
+    let loads = s.tallies (λ item. bit (is_load_into (λ v. true) item)) (λ t. 0) (loads_alike c) (λ q t. refl) in
+    let weight = same_weight (commoned_code c [] (form_of f.body)) (form_of f.body) s.size calls loads in
+    (subst (λ (k : Form). loaded_burden k ≡ loaded_burden (form_of f.body)) (sym h.body) weight, subst (λ (k : Form). loads_in k ≡ loads_in (form_of f.body)) (sym h.body) loads)
+
+pub commoned_prepared : CommoningKeepsCounts → (tables : List (List Class)) (fs gs hs : List Function) → ArePrepared fs gs → AreCommonedFunctions tables gs hs → ArePrepared fs hs
+commoned_prepared counts tables [] [] [] made is = tt
+commoned_prepared counts tables [] [] (h ∷ hs) made is = absurd is
+commoned_prepared counts tables [] (g ∷ gs) hs made is = absurd made
+commoned_prepared counts tables (f ∷ fs) [] hs made is = absurd made
+commoned_prepared counts tables (f ∷ fs) (g ∷ gs) [] made is = absurd is
+commoned_prepared counts tables (f ∷ fs) (g ∷ gs) (h ∷ hs) made is =
+    let one = is.0 in
+    (prepared_on f g h made.0 (commoned_weighs counts (classes_of tables 0) g h one) one.variables, commoned_prepared counts (rows_behind tables) fs gs hs made.1 is.1)
+
 -- ---- without the checks that are known to pass
 
 elided_weighs : ElisionKeepsSizes → (memory : ℕ) (f g : Function) → IsElidedFunction memory f g
@@ -138,6 +190,15 @@ elided_prepared sizes memory (f ∷ fs) (g ∷ gs) [] made is = absurd is
 elided_prepared sizes memory (f ∷ fs) (g ∷ gs) (h ∷ hs) made is =
     let one = is.0 in
     (prepared_on f g h made.0 (elided_weighs sizes memory g h one) one.variables, elided_prepared sizes memory fs gs hs made.1 is.1)
+
+-- ---- all passes before loads are reused
+
+pub passes_prepared : (lowered named common bare : Ir) → RenamingKeepsSizes → CommoningKeepsCounts → ElisionKeepsSizes → IsRenamingOf lowered named → IsWithoutCommons named common → IsElisionOf common bare → ArePrepared lowered.functions bare.functions
+passes_prepared lowered named common bare webs commons checks renamed without elided =
+    let made = without.commoning in
+    let one = renamed_prepared webs lowered.functions named.functions renamed.functions in
+    let more = commoned_prepared commons without.tables lowered.functions named.functions common.functions one made.functions in
+    elided_prepared checks common.memory lowered.functions common.functions bare.functions more elided.functions
 
 -- ---- loads reused
 

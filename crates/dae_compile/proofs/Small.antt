@@ -1,7 +1,6 @@
 -- The image of texts is small, and their program has one where memory isn't wanting.
-use Rattle.std.proofs.Common.{◌≡◌, ◌⊎◌, ℕ, zero, suc, ◌+◌, ◌-◌, ◌*◌, ◌^◌, ◌<◌, ◌≤◌, true, ◌&&◌, List, [], ◌∷◌, ◌++◌, length, None, inl, inr, refl, ap, sym, subst, arith, length-append}
+use Rattle.std.proofs.Common.{◌≡◌, ◌⊎◌, ℕ, zero, suc, ◌+◌, ◌-◌, ◌*◌, ◌^◌, ◌<◌, ◌≤◌, true, ◌&&◌, List, [], ◌∷◌, ◌++◌, length, None, inl, inr, refl, ap, subst, arith, length-append}
 use Rattle.std.proofs.lemmas.Bool.{false≢true, and_parts}
-use Rattle.std.proofs.lemmas.Bool.Decides.{nat_tests}
 use Rattle.std.specs.Prelude.{slice_get, IfOk, Result, Ok, Err}
 use Rattle.std.specs.List.{AllByRecursion, list_all}
 use Rattle.dae_base.specs.declared.Place.{Place}
@@ -11,11 +10,11 @@ use Rattle.dae_tree.specs.Files.{Contents}
 use Rattle.dae_program.specs.declared.program.Function.{Function}
 use Rattle.dae_program.specs.declared.program.Program.{Program}
 use Rattle.dae_program.specs.Lawful.{is_lawful, is_lawful_in, is_lawful_memory, is_main, is_ready, is_well_placed, spares}
-use Rattle.dae_ir.specs.Form.{Form, form_of}
+use Rattle.dae_ir.specs.Form.{form_of}
 use Rattle.dae_ir.specs.declared.form.Function.{Function as FormFunction}
 use Rattle.dae_ir.specs.declared.form.Ir.{Ir}
 use Rattle.dae_select_walks.specs.Homes.{frame_words}
-use Rattle.dae_compile.specs.Generated.{calls_of_form, is_call, words_of_form, words_of_functions, HasFramesWithin, HaveAtMost, IsShort, NeedsTooMuch}
+use Rattle.dae_compile.specs.Generated.{words_of_form, words_of_functions, HasFramesWithin, HaveAtMost, IsShort, NeedsTooMuch}
 use Rattle.dae_lower_formed.specs.Formed.{AreFormsOf, IsFormOf, IsLowered}
 use Rattle.dae_sizes.specs.Promise.{burdens_of, DefinitionsAreShort, FormsAreWithin, FramesAreWithin, FunctionsAreCounted, HasFrameWithin, IsForm}
 use Rattle.dae_sizes.specs.Sources.{ArePlanned, AreTypedAs, AreUpTo, bytes_in, count_functions, start_by, tokens_in}
@@ -23,7 +22,7 @@ use Rattle.dae_types_typed.specs.declared.files.FileParts.{FileParts}
 use Rattle.dae_types_typed.specs.declared.files.TypedFunction.{TypedFunction}
 use Rattle.dae_unit.specs.Meanings.{function_of, functions_from, functions_in}
 use Rattle.dae_accept.specs.Origins.{IsOfFiles, ReadAreWithin}
-use Rattle.dae_lower_formed.specs.Code.{loaded_burden, loads_in}
+use Rattle.dae_lower_formed.specs.Code.{loads_in}
 use Rattle.dae_compile.specs.Compiled.{IsCompiledFrom, IsFinalForm, HasFewVariables, HasTooMuchPrivate, HasTooMuchCode, LeavesNumbers}
 use Rattle.dae_compile.specs.Sizes.{private_beside, words_beside, AreSmallBy, IsSmallBy, IsSmallBeside}
 

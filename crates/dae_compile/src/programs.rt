@@ -11,10 +11,11 @@ ghost use Rattle.dae_ir.specs.SetFirst.{IsFunctionSetFirst};
 ghost use Rattle.dae_lower_programs.specs.Lowered.{HasRoom};
 ghost use Rattle.dae_compile.specs.Compiled.{AreCompiledFrom, HasFewVariables, HasTooMuchPrivate, HasTooMuchCode, IsFinalForm};
 
-use crate::passes::{reuse_loads, without_known_checks};
+use crate::passes::{reuse_loads, without_commons, without_known_checks};
 use crate::{Compiled, generate};
 use dae_alias::{forms_are_reused, reuse_stays_small};
 use dae_base::{Items, Text};
+use dae_commons::{commoning_keeps_counts, forms_are_commoned};
 use dae_compile_promise::image_keeps_meaning;
 use dae_elide::{checks_are_elided, elision_keeps_sizes};
 use dae_ir::Ir;
@@ -30,8 +31,8 @@ fn see_bytes(bytes: &[u8])
 {}
 
 /// A final form of a program, with at most so many calls inside one another: the lowered form with its variables renamed by webs,
-/// then without the checks that are known to pass, and then with its loads reused. It is well made, sets each variable before it
-/// reads it, and has room in its memory. An error is want of memory.
+/// then without its common subexpressions, then without the checks that are known to pass, and then with its loads reused. It is well
+/// made, sets each variable before it reads it, and has room in its memory. An error is want of memory.
 fn final_form(alloc: Global, program: &Program, calls: u16) -> Result<Ir, AllocError>
     requires functions { length program.now.functions < 2 ^ 32 }
     requires variables { HasFewVariables program.now }
@@ -42,13 +43,16 @@ fn final_form(alloc: Global, program: &Program, calls: u16) -> Result<Ir, AllocE
 {
     forms_are_renamed();
     renaming_keeps_sizes();
+    forms_are_commoned();
+    commoning_keeps_counts();
     checks_are_elided();
     elision_keeps_sizes();
     forms_are_reused();
     reuse_stays_small();
     let lowered = lower(alloc, program, calls)?;
     let renamed = rename_webs(alloc, lowered)?;
-    let bare = without_known_checks(alloc, renamed)?;
+    let common = without_commons(alloc, renamed)?;
+    let bare = without_known_checks(alloc, common)?;
     let ir = reuse_loads(alloc, bare)?;
     Ok(ir)
 }

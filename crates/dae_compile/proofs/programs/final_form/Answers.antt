@@ -1,42 +1,46 @@
 use Rattle.std.proofs.Common.{◌∙◌}
 use Rattle.dae_alias.specs.Forms.{KeepsForm}
 use Rattle.dae_compile.proofs.Fitting.{room_later}
-use Rattle.dae_compile.proofs.Passes.{IsBehind, final_later, passes_before, renamed_behind}
-use Rattle.dae_compile.proofs.Prepared.{all_reusable, elided_prepared, functions_small, renamed_prepared}
+use Rattle.dae_compile.proofs.Passes.{IsBehind, final_later, passes_before, renamed_behind, up_to_commons}
+use Rattle.dae_compile.proofs.Prepared.{all_reusable, functions_small, passes_prepared}
 use Rattle.dae_compile.proofs.programs.final_form.Goals as goal
+
+pub without_commons-requires : goal.without_commons-requires
+without_commons-requires c =
+    let made = c.in_ok-lowered.ensures in
+    let one = renamed_behind c.forms_are_renamed.ensures c.in_ok-lowered.lowered c.in_ok-renamed.renamed made.scoped c.in_ok-renamed.ensures in
+    one.scoped
 
 pub without_known_checks-requires : goal.without_known_checks-requires
 without_known_checks-requires c =
+    let common = c.in_ok-common.common in
     let made = c.in_ok-lowered.ensures in
-    let one = renamed_behind c.forms_are_renamed.ensures c.in_ok-lowered.lowered c.in_ok-renamed.renamed made.scoped c.in_ok-renamed.ensures in
+    let one = up_to_commons c.in_ok-lowered.lowered c.in_ok-renamed.renamed common common c.forms_are_renamed.ensures c.forms_are_commoned.ensures made.scoped c.in_ok-renamed.ensures c.in_ok-common.ensures in
     one.scoped
 
 pub reuse_loads-requires : goal.reuse_loads-requires
 reuse_loads-requires c =
     let lowered = c.in_ok-lowered.lowered in
-    let named = c.in_ok-renamed.renamed in
     let bare = c.in_ok-bare.bare in
     let made = c.in_ok-lowered.ensures in
-    let renamed = c.in_ok-renamed.ensures in
-    let elided = c.in_ok-bare.ensures in
-    let one = renamed_prepared c.renaming_keeps_sizes.ensures lowered.functions named.functions renamed.functions in
-    let prepared = elided_prepared c.elision_keeps_sizes.ensures named.memory lowered.functions named.functions bare.functions one elided.functions in
+    let prepared = passes_prepared lowered c.in_ok-renamed.renamed c.in_ok-common.common bare c.renaming_keeps_sizes.ensures c.commoning_keeps_counts.ensures c.elision_keeps_sizes.ensures
+    c.in_ok-renamed.ensures c.in_ok-common.ensures c.in_ok-bare.ensures in
     all_reusable lowered.functions bare.functions prepared (c.requires.variables lowered made.lowered)
 
 pub returns-clause-made : goal.returns-clause-made
 returns-clause-made c =
     let lowered = c.in_ok-lowered.lowered in
     let named = c.in_ok-renamed.renamed in
+    let common = c.in_ok-common.common in
     let bare = c.in_ok-bare.bare in
     let ir = c.in_ok-ir.ir in
     let made = c.in_ok-lowered.ensures in
-    let renamed = c.in_ok-renamed.ensures in
-    let elided = c.in_ok-bare.ensures in
     let reused = c.in_ok-ir.ensures in
-    let before : IsBehind lowered bare = passes_before c.forms_are_renamed.ensures c.checks_are_elided.ensures lowered named bare made.scoped renamed elided in
+    let before : IsBehind lowered bare = passes_before lowered named common bare c.forms_are_renamed.ensures c.forms_are_commoned.ensures c.checks_are_elided.ensures made.scoped
+    c.in_ok-renamed.ensures c.in_ok-common.ensures c.in_ok-bare.ensures in
     let keeps : KeepsForm bare ir = c.forms_are_reused.ensures bare ir before.scoped reused in
-    let one = renamed_prepared c.renaming_keeps_sizes.ensures lowered.functions named.functions renamed.functions in
-    let prepared = elided_prepared c.elision_keeps_sizes.ensures named.memory lowered.functions named.functions bare.functions one elided.functions in
+    let prepared = passes_prepared lowered named common bare c.renaming_keeps_sizes.ensures c.commoning_keeps_counts.ensures c.elision_keeps_sizes.ensures
+    c.in_ok-renamed.ensures c.in_ok-common.ensures c.in_ok-bare.ensures in
     record {
       first = lowered;
       lowered = made.lowered;
@@ -50,18 +54,22 @@ pub returns-clause-scoped : goal.returns-clause-scoped
 returns-clause-scoped c =
     let lowered = c.in_ok-lowered.lowered in
     let bare = c.in_ok-bare.bare in
+    let ir = c.in_ok-ir.ir in
     let made = c.in_ok-lowered.ensures in
-    let before : IsBehind lowered bare = passes_before c.forms_are_renamed.ensures c.checks_are_elided.ensures lowered c.in_ok-renamed.renamed bare made.scoped c.in_ok-renamed.ensures c.in_ok-bare.ensures in
-    let keeps : KeepsForm bare c.in_ok-ir.ir = c.forms_are_reused.ensures bare c.in_ok-ir.ir before.scoped c.in_ok-ir.ensures in
+    let before : IsBehind lowered bare = passes_before lowered c.in_ok-renamed.renamed c.in_ok-common.common bare c.forms_are_renamed.ensures c.forms_are_commoned.ensures c.checks_are_elided.ensures made.scoped
+    c.in_ok-renamed.ensures c.in_ok-common.ensures c.in_ok-bare.ensures in
+    let keeps : KeepsForm bare ir = c.forms_are_reused.ensures bare ir before.scoped c.in_ok-ir.ensures in
     keeps.scoped
 
 pub returns-clause-first : goal.returns-clause-first
 returns-clause-first c =
     let lowered = c.in_ok-lowered.lowered in
     let bare = c.in_ok-bare.bare in
+    let ir = c.in_ok-ir.ir in
     let made = c.in_ok-lowered.ensures in
-    let before : IsBehind lowered bare = passes_before c.forms_are_renamed.ensures c.checks_are_elided.ensures lowered c.in_ok-renamed.renamed bare made.scoped c.in_ok-renamed.ensures c.in_ok-bare.ensures in
-    let keeps : KeepsForm bare c.in_ok-ir.ir = c.forms_are_reused.ensures bare c.in_ok-ir.ir before.scoped c.in_ok-ir.ensures in
+    let before : IsBehind lowered bare = passes_before lowered c.in_ok-renamed.renamed c.in_ok-common.common bare c.forms_are_renamed.ensures c.forms_are_commoned.ensures c.checks_are_elided.ensures made.scoped
+    c.in_ok-renamed.ensures c.in_ok-common.ensures c.in_ok-bare.ensures in
+    let keeps : KeepsForm bare ir = c.forms_are_reused.ensures bare ir before.scoped c.in_ok-ir.ensures in
     keeps.first (before.first made.first)
 
 pub returns-clause-room : goal.returns-clause-room
@@ -71,6 +79,7 @@ returns-clause-room c =
     let ir = c.in_ok-ir.ir in
     let made = c.in_ok-lowered.ensures in
     let reused = c.in_ok-ir.ensures in
-    let before : IsBehind lowered bare = passes_before c.forms_are_renamed.ensures c.checks_are_elided.ensures lowered c.in_ok-renamed.renamed bare made.scoped c.in_ok-renamed.ensures c.in_ok-bare.ensures in
+    let before : IsBehind lowered bare = passes_before lowered c.in_ok-renamed.renamed c.in_ok-common.common bare c.forms_are_renamed.ensures c.forms_are_commoned.ensures c.checks_are_elided.ensures made.scoped
+    c.in_ok-renamed.ensures c.in_ok-common.ensures c.in_ok-bare.ensures in
     let keeps : KeepsForm bare ir = c.forms_are_reused.ensures bare ir before.scoped reused in
     room_later _ lowered ir (final_later lowered bare ir before reused keeps) made.room
