@@ -1,9 +1,8 @@
 -- Statements are walked over one after the other.
-use Rattle.std.proofs.Common.{◌≡◌, ℕ, ◌+◌, ◌<◌, ◌≤◌, List, [], ◌∷◌, ◌++◌, length, drop, drop_of_length-le, get_or, Option, Some, refl, ap, sym, ◌∙◌, subst}
+use Rattle.std.proofs.Common.{◌≡◌, ℕ, ◌+◌, ◌<◌, ◌≤◌, List, [], ◌∷◌, ◌++◌, length, drop, get_or, Option, Some, refl, ap, sym, ◌∙◌, subst}
 use Rattle.std.specs.Prelude.{Vec}
 use Rattle.std.specs.declared.alloc.Global.{Global}
 use Rattle.dae_base.specs.declared.Place.{Place}
-use Rattle.dae_base.proofs.Laws.{drop_at}
 use Rattle.dae_ir.specs.Code.{Done, Do}
 use Rattle.dae_ir.specs.Form.{Form, before, form_of}
 use Rattle.dae_ir.specs.Classes.{Classes}
@@ -11,22 +10,11 @@ use Rattle.dae_ir.specs.declared.form.Item.{Item}
 use Rattle.dae_ir.specs.declared.form.Test.{Test}
 use Rattle.dae_ir.specs.declared.form.Statement.{Statement}
 use Rattle.dae_ir.specs.declared.form.Statement.TheVariants as statement
-use Rattle.dae_ir.proofs.Laws.{before_if, before_loop}
+use Rattle.dae_ir.proofs.Laws.{before_if, before_loop, rest, rest_one, rest_end, all_before, before_end, form_before}
 use Rattle.dae_commons.specs.declared.equations.Equation.{Equation}
 use Rattle.dae_commons.specs.Equations.{equations_in, met}
 use Rattle.dae_commons.specs.Copies.{propagated_test}
 use Rattle.dae_commons.specs.Commoned.{IsCommonedTo, IsCommonedList, commoned_item, known_behind, commoned_code, known_after}
-
--- ---- lists
-
-abbrev rest : ℕ → List Statement → Form
-rest i ss = form_of (drop i ss)
-
-rest_one : (ss : List Statement) (i : ℕ) (s : Statement) → i < length ss → s ≡ get_or ss i s → rest i ss ≡ before s (rest (i + 1) ss)
-rest_one ss i s lt is = ap form_of (drop_at ss i s lt is)
-
-rest_end : (ss : List Statement) (i : ℕ) → length ss ≤ i → rest i ss ≡ Done
-rest_end ss i le = ap form_of (drop_of_length-le ss {i = i} le)
 
 -- ---- a statement
 
@@ -63,19 +51,6 @@ module _ (c : Classes) (place : Place) (p q p' q' : Vec Statement Global) (old o
   }
 
 -- ---- a list
-
--- the form of statements, and then k
-abbrev pub all_before : List Statement → Form → Form
-all_before [] k = k
-all_before (s ∷ ss) k = before s (all_before ss k)
-
-before_end : (xs : List Statement) (s : Statement) (k : Form) → all_before (xs ++ s ∷ []) k ≡ all_before xs (before s k)
-before_end [] s k = refl
-before_end (x ∷ xs) s k = ap (before x) (before_end xs s k)
-
-form_before : (xs : List Statement) → form_of xs ≡ all_before xs Done
-form_before [] = refl
-form_before (x ∷ xs) = ap (before x) (form_before xs)
 
 -- the first i statements have become those
 pub record CommonedUpTo (c : Classes) (ss : List Statement) (i : ℕ) (old : List Equation) (now : Option (List Equation)) (out : List Statement) : Type 0 where

@@ -1,9 +1,8 @@
 -- Statements are walked over one after the other.
-use Rattle.std.proofs.Common.{◌≡◌, ℕ, ◌+◌, ◌<◌, ◌≤◌, List, [], ◌∷◌, ◌++◌, length, drop, drop_of_length-le, get_or, refl, ap, sym, ◌∙◌}
+use Rattle.std.proofs.Common.{◌≡◌, ℕ, ◌+◌, ◌<◌, ◌≤◌, List, [], ◌∷◌, ◌++◌, length, drop, get_or, refl, ap, sym, ◌∙◌}
 use Rattle.std.specs.Prelude.{Vec}
 use Rattle.std.specs.declared.alloc.Global.{Global}
 use Rattle.dae_base.specs.declared.Place.{Place}
-use Rattle.dae_base.proofs.Laws.{drop_at}
 use Rattle.dae_ir.specs.Code.{Done}
 use Rattle.dae_ir.specs.Classes.{VariableSet}
 use Rattle.dae_ir.specs.Form.{Form, before, form_of}
@@ -15,7 +14,7 @@ use Rattle.dae_ir.specs.declared.form.Statement.TheVariants as statement
 use Rattle.dae_ir.specs.declared.stream.Branch.TheVariants.{Silent}
 use Rattle.dae_ir.specs.declared.stream.Step.{Step}
 use Rattle.dae_ir.specs.declared.stream.Step.TheVariants as step
-use Rattle.dae_ir.proofs.Laws.{before_if, before_loop, onto_if, onto_loop}
+use Rattle.dae_ir.proofs.Laws.{before_if, before_loop, onto_if, onto_loop, rest, rest_one, rest_end, all_before, before_end, form_before}
 use Rattle.dae_select_walks.specs.Facts.{Facts, facts_in_first, facts_in_second, facts_past_if, facts_at_turn, facts_behind_turn, facts_past_loop}
 use Rattle.dae_elide.specs.Elided.{as_actions, elided}
 use Rattle.dae_elide.specs.Forms.{IsElidedFunction, AreElidedFunctions}
@@ -23,31 +22,9 @@ use Rattle.dae_elide.specs.Walked.{IsLike, IsElided}
 
 -- ---- lists
 
-abbrev rest : ℕ → List Statement → Form
-rest i ss = form_of (drop i ss)
-
-rest_one : (ss : List Statement) (i : ℕ) (s : Statement) → i < length ss → s ≡ get_or ss i s → rest i ss ≡ before s (rest (i + 1) ss)
-rest_one ss i s lt is = ap form_of (drop_at ss i s lt is)
-
-rest_end : (ss : List Statement) (i : ℕ) → length ss ≤ i → rest i ss ≡ Done
-rest_end ss i le = ap form_of (drop_of_length-le ss {i = i} le)
-
 onto_end : (xs : List Step) (s : Step) (k : Actions) → onto (xs ++ s ∷ []) k ≡ onto xs (step_onto s k)
 onto_end [] s k = refl
 onto_end (x ∷ xs) s k = ap (step_onto x) (onto_end xs s k)
-
--- the form of statements, and then k
-abbrev pub all_before : List Statement → Form → Form
-all_before [] k = k
-all_before (s ∷ ss) k = before s (all_before ss k)
-
-before_end : (xs : List Statement) (s : Statement) (k : Form) → all_before (xs ++ s ∷ []) k ≡ all_before xs (before s k)
-before_end [] s k = refl
-before_end (x ∷ xs) s k = ap (before x) (before_end xs s k)
-
-form_before : (xs : List Statement) → form_of xs ≡ all_before xs Done
-form_before [] = refl
-form_before (x ∷ xs) = ap (before x) (form_before xs)
 
 -- ---- steps like statements
 

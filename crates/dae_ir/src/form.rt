@@ -11,7 +11,7 @@ pub enum Operand {
 }
 
 /// A condition.
-#[derive(Clone, Copy)]
+#[derive(Clone, Copy, PartialEq, Eq)]
 pub struct Test {
     pub comparison: Comparison,
     pub left: Operand,
@@ -20,7 +20,7 @@ pub struct Test {
 
 /// What an assignment computes: an operand, its low bits extended to a word, an operation on two operands, 1 where a
 /// condition holds and else 0, or the address so many bytes behind the start of the running function's frame.
-#[derive(Clone, Copy)]
+#[derive(Clone, Copy, PartialEq, Eq)]
 pub enum Value {
     Same(Operand),
     Extended(LoadKind, Operand),
