@@ -1,7 +1,8 @@
 -- Sets by which variables are alike, and that keep what leads to addresses, keep it in code without its common subexpressions.
 use Rattle.std.proofs.Common.{◌≡◌, ℕ, ◌+◌, Bool, true, false, not, ◌&&◌, nat_eq, if◌then◌else◌, List, [], ◌∷◌, refl, ◌∙◌}
-use Rattle.std.proofs.lemmas.Bool.{false≢true, and_parts}
+use Rattle.std.proofs.lemmas.Bool.{and_parts}
 use Rattle.std.specs.Bool.{beq}
+use Rattle.dae_base.proofs.Laws.{beq_same}
 use Rattle.dae_ir.specs.Code.{Done, Do, If, Loop, Each}
 use Rattle.dae_ir.specs.Form.{Form}
 use Rattle.dae_ir.specs.Classes.{VariableSet, Classes, has, has_test, has_value, ArgumentsKept, AddressesKept}
@@ -19,18 +20,12 @@ use Rattle.dae_commons.specs.Equations.{equations_in}
 use Rattle.dae_commons.specs.Copies.{are_alike, source_in, is_copy, copy_source, propagated_operand, propagated_operands, propagated_test, propagated_value, holds_already, held_value, is_operand, computed_once}
 use Rattle.dae_commons.specs.Commoned.{commoned_item, known_behind_both, commoned_code, known_after}
 
-bits_same : (x y : Bool) → beq x y ≡ true → x ≡ y
-bits_same true true h = refl
-bits_same false false h = refl
-bits_same true false h = absurd (false≢true h)
-bits_same false true h = absurd (false≢true h)
-
 module _ (c : Classes) where
   abbrev s : VariableSet
   s = c.s
 
   alike_same : (u v : ℕ) → are_alike c u v ≡ true → s u ≡ s v
-  alike_same u v h = bits_same (s u) (s v) (and_parts (beq (s u) (s v)) (beq (c.needs u) (c.needs v)) h).0
+  alike_same u v h = beq_same (s u) (s v) (and_parts (beq (s u) (s v)) (beq (c.needs u) (c.needs v)) h).0
 
   source_same : (q : List Equation) (v : ℕ) → s (copy_source c q v) ≡ s v
   source_same [] v = refl

@@ -1,11 +1,10 @@
 -- Code without its common subexpressions does what the code does, with the same variables in the same world.
-use Rattle.std.proofs.Common.{◌≡◌, ℕ, zero, suc, ◌+◌, Bool, true, false, ◌||◌, nat_eq, if◌then◌else◌, List, [], length, Option, Some, None, refl, ap, ◌∙◌, subst}
-use Rattle.std.specs.Prelude.{nat_lt}
+use Rattle.std.proofs.Common.{◌≡◌, ℕ, zero, suc, Bool, true, false, nat_eq, if◌then◌else◌, List, [], length, Option, Some, None, refl, ap, ◌∙◌, subst}
 use Rattle.dae_base.specs.Words.{width_of, loaded}
 use Rattle.dae_meaning.specs.Worlds.{World, ticked, fetched}
 use Rattle.dae_meaning.specs.Results.{Result, At, Over, Next, Leaves, Skips, Returns, Run, ◌▷◌, ◌↻◌, turns, within, checked}
 use Rattle.dae_meaning.specs.Variables.{Env, put, entered}
-use Rattle.dae_meaning.specs.Operations.{misplaced, passed}
+use Rattle.dae_meaning.specs.Operations.{misplaced}
 use Rattle.dae_ir.specs.Code.{Done, Do, If, Loop, exec}
 use Rattle.dae_ir.specs.Form.{Form, Program, Calls, value, values, holds, computed, fault, called, ended, does, meaning, with_stored, with_printed, deeper, calls_of, all_loads}
 use Rattle.dae_ir.specs.Classes.{Classes}
@@ -15,6 +14,7 @@ use Rattle.dae_ir.specs.declared.form.Check.{Check}
 use Rattle.dae_ir.specs.declared.form.Check.TheVariants.{Place as Good, Zero, Room, Frame, Abort}
 use Rattle.dae_ir.specs.declared.form.Item.{Item}
 use Rattle.dae_ir.specs.declared.form.Item.TheVariants.{Assign, Load, Store, Print, Expect, Break, Continue, Call, Return, Halt}
+use Rattle.dae_ir.proofs.Laws.{same_room}
 use Rattle.dae_commons.specs.declared.equations.Equation.{Equation}
 use Rattle.dae_commons.specs.Equations.{AreTrue, without_variable, with_equation, equations_in, met}
 use Rattle.dae_commons.specs.Copies.{propagated_operands, propagated_value, propagated_check, is_operand, computed_once}
@@ -143,22 +143,17 @@ module _ (p q : Program) (frames : (g : ℕ) → q.frame g ≡ p.frame g) (limit
   abbrev runs_new : Form → Run Env
   runs_new code = exec (meaning q every calls') bound code
 
-  same_room : (g : ℕ) (e : Env) (w : World) → fault q (Room g) w e ≡ fault p (Room g) w e
-  same_room g e w =
-      ap (λ (limit : ℕ). passed (nat_lt limit (w.depth + 1) || nat_lt (length w.memory) (w.top + q.frame g))) limits
-      ∙ ap (λ (frame : ℕ). passed (nat_lt p.limit (w.depth + 1) || nat_lt (length w.memory) (w.top + frame))) (frames g)
-
   same_fault : (check : Check) (k : List Equation) (e : Env) (w : World) → AreTrue k w.frame e → fault q (propagated_check c k check) w e ≡ fault p check w e
   same_fault (Good width x) k e w t = ap (λ (y : ℕ). misplaced width y (length w.memory)) (value_same c w.frame e k t x)
   same_fault (Zero x) k e w t = ap (λ (y : ℕ). if nat_eq y 0 then Some 1 else None) (value_same c w.frame e k t x)
-  same_fault (Room g) k e w t = same_room g e w
+  same_fault (Room g) k e w t = same_room p q frames limits g e w
   same_fault Frame k e w t = refl
   same_fault Abort k e w t = refl
 
   same_call : (v g : ℕ) (xs ys : List Operand) (e : Env) (w : World) → values ys e ≡ values xs e → length ys ≡ length xs
       → does q every calls' (Call v g ys) e w ≡ does p every calls (Call v g xs) e w
   same_call v g xs ys e w h l =
-      ap (λ (o : Option ℕ). within o w (ended (λ (x : Env). put true v (x 0) e) w (calls' g (values ys e) (called ys w)))) (same_room g e w)
+      ap (λ (o : Option ℕ). within o w (ended (λ (x : Env). put true v (x 0) e) w (calls' g (values ys e) (called ys w)))) (same_room p q frames limits g e w)
       ∙ ap (λ (r : Result Env). within (fault p (Room g) w e) w (ended (λ (x : Env). put true v (x 0) e) w r)) (enters g (values ys e) (called ys w))
       ∙ rw (h, l) refl
 

@@ -3,8 +3,8 @@ use Rattle.std.proofs.Common.{◌≡◌, ℕ, ◌+◌, ◌<◌, ◌≤◌, List,
 use Rattle.std.specs.Prelude.{Vec}
 use Rattle.std.specs.declared.alloc.Global.{Global}
 use Rattle.dae_base.specs.declared.Place.{Place}
-use Rattle.dae_ir.specs.Code.{Done, Do}
-use Rattle.dae_ir.specs.Form.{Form, before, form_of}
+use Rattle.dae_ir.specs.Code.{Do}
+use Rattle.dae_ir.specs.Form.{Form, form_of}
 use Rattle.dae_ir.specs.Classes.{Classes}
 use Rattle.dae_ir.specs.declared.form.Item.{Item}
 use Rattle.dae_ir.specs.declared.form.Test.{Test}

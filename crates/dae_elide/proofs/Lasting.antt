@@ -1,7 +1,6 @@
 -- A form without some checks of places is as well made as before, sets each variable before it reads it, and its access side loads
 -- and decides as much.
 use Rattle.std.proofs.Common.{◌≡◌, ℕ, ◌+◌, ◌<◌, Bool, true, false, not, ◌&&◌, ◌||◌, nat_eq, List, length, refl, ap, sym, ◌∙◌, subst, arith}
-use Rattle.std.specs.Prelude.{slice_get}
 use Rattle.std.proofs.Math.Path.{fun_ext}
 use Rattle.std.proofs.lemmas.Bool.Decides.{nat_tests}
 use Rattle.dae_base.specs.declared.Width.{Width}
@@ -9,7 +8,7 @@ use Rattle.dae_ir.specs.Code.{Each}
 use Rattle.dae_ir.specs.Form.{Form}
 use Rattle.dae_ir.specs.Classes.{VariableSet, AddressesKept}
 use Rattle.dae_ir.specs.Rounds.{is_jump, stays}
-use Rattle.dae_ir.specs.Scope.{TestIn, ItemIn, TakesArguments, is_return, is_end, closes, never_returns}
+use Rattle.dae_ir.specs.Scope.{TestIn, ItemIn, is_return, is_end, closes, never_returns}
 use Rattle.dae_ir.specs.SetFirst.{form_flow, IsSetFirst, assured, with_set}
 use Rattle.dae_ir.specs.Sizes.{form_size, item_weight, tally}
 use Rattle.dae_ir.specs.declared.form.Operand.TheVariants.{Variable}
@@ -18,15 +17,11 @@ use Rattle.dae_ir.specs.declared.form.Function.{Function}
 use Rattle.dae_ir.specs.declared.form.Item.{Item}
 use Rattle.dae_ir.specs.declared.form.Item.TheVariants.{Assign, Load, Store, Print, Expect, Break, Continue, Call, Return, Halt}
 use Rattle.dae_ir.specs.declared.form.Test.{Test}
+use Rattle.dae_ir.proofs.Laws.{KeepsArguments}
 use Rattle.dae_elide.specs.Elided.{itself}
 use Rattle.dae_elide.proofs.Elides.{Elides, Ends, Keeps, Drops, Tests, Turns}
 
 -- ---- names
-
--- functions have as many parameters, and are as many
-pub record KeepsArguments (fs gs : List Function) : Type 0 where
-  pub count : length gs ≡ length fs
-  pub takes : (g count : ℕ) → TakesArguments (slice_get fs g) count → TakesArguments (slice_get gs g) count
 
 module _ (fs gs : List Function) (keeps : KeepsArguments fs gs) (n : ℕ) where
   item_in : (item : Item) → ItemIn fs n item → ItemIn gs n item

@@ -13,12 +13,13 @@ use Rattle.dae_ir.specs.Scope.{IsScoped, FunctionIn, IsMain, ItemIn, TestIn, Tak
 use Rattle.dae_ir.specs.SetFirst.{form_flow, IsSetFirst, IsFunctionSetFirst}
 use Rattle.dae_ir.specs.declared.form.Function.{Function}
 use Rattle.dae_ir.specs.declared.form.Ir.{Ir}
+use Rattle.dae_ir.proofs.Laws.{KeepsArguments}
 use Rattle.dae_select_walks.specs.Facts.{unknown}
 use Rattle.dae_elide.specs.Elided.{elided}
 use Rattle.dae_elide.specs.Forms.{IsElidedFunction, AreElidedFunctions, IsElisionOf, KeepsOutcome, ElisionKeepsSizes, ChecksAreElided}
 use Rattle.dae_elide.proofs.Running.{same_calls}
 use Rattle.dae_elide.proofs.Elides.{Elides, code_elides}
-use Rattle.dae_elide.proofs.Lasting.{KeepsArguments, names_in, stays_same, closes_same, never_same, first_kept, addresses_kept, counts_same, size_same}
+use Rattle.dae_elide.proofs.Lasting.{names_in, stays_same, closes_same, never_same, first_kept, addresses_kept, counts_same, size_same}
 
 -- ---- functions one by one
 

@@ -1,9 +1,7 @@
 -- A form without the checks that are known to pass does just what the form does.
-use Rattle.std.proofs.Common.{◌≡◌, ℕ, zero, suc, ◌+◌, Bool, true, false, ◌&&◌, nat_eq, if◌then◌else◌, List, [], length, Option, Some, None, refl, ap, sym, ◌∙◌, subst, arith}
-use Rattle.std.specs.Prelude.{nat_lt, ◌||◌}
-use Rattle.std.proofs.Math.Path.{fun_ext}
+use Rattle.std.proofs.Common.{◌≡◌, ℕ, zero, suc, ◌+◌, Bool, true, false, ◌&&◌, nat_eq, if◌then◌else◌, List, [], length, Option, Some, None, refl, ap, sym, ◌∙◌, subst}
+use Rattle.std.specs.Prelude.{nat_lt}
 use Rattle.std.proofs.lemmas.Bool.{and_parts}
-use Rattle.std.proofs.lemmas.Bool.Decides.{nat_tests}
 use Rattle.dae_base.specs.Words.{width_of, loaded}
 use Rattle.dae_base.specs.declared.Width.{Width}
 use Rattle.dae_base.proofs.Laws.{stored_length}
@@ -11,6 +9,7 @@ use Rattle.dae_meaning.specs.Worlds.{World, KeepsMemory, ticked, fetched, back}
 use Rattle.dae_meaning.specs.Results.{Result, At, Over, Next, Leaves, Skips, Returns, Run, ◌▷◌, ◌↻◌, turns, world_of, within, checked}
 use Rattle.dae_meaning.specs.Variables.{Env, VariableSet, put, entered}
 use Rattle.dae_meaning.specs.Operations.{misplaced, passed}
+use Rattle.dae_meaning.proofs.Laws.{own_put}
 use Rattle.dae_ir.specs.Code.{Done, Do, If, Loop, exec}
 use Rattle.dae_ir.specs.Form.{Form, Program, Calls, value, values, holds, computed, fault, called, deeper, ended, with_stored, with_printed, meaning, calls_of}
 use Rattle.dae_ir.specs.Laws.{Counting}
@@ -20,18 +19,11 @@ use Rattle.dae_ir.specs.declared.form.Check.TheVariants.{Place as Good, Zero, Ro
 use Rattle.dae_ir.specs.declared.form.Item.TheVariants.{Assign, Load, Store, Print, Expect, Break, Continue, Call, Return, Halt}
 use Rattle.dae_ir.specs.declared.stream.Action.TheVariants.{Set, Probe}
 use Rattle.dae_ir.specs.declared.stream.Branch.TheVariants.{Silent}
-use Rattle.dae_ir.proofs.Laws.{memory_kept}
+use Rattle.dae_ir.proofs.Laws.{memory_kept, same_room}
 use Rattle.dae_select_walks.specs.Facts.{Facts, Hold, any, unknown, bounds_in, is_good, with_bounds, facts_behind, facts_in_first, facts_in_second, facts_past_if, facts_at_turn, facts_at_step, facts_past_loop, Outs, outs, FactsGo, LeavesOnly}
 use Rattle.dae_ir.specs.Deeds.{probed}
 use Rattle.dae_select_walks.proofs.LawsOfWalks.{operand_is, good_is, returned_facts, deed_facts, facts_go, branch_lies}
 use Rattle.dae_elide.specs.Elided.{as_actions, is_known, itself, elided}
-
--- a variable that is set to itself
-put_itself : (v : ℕ) (e : Env) → put true v (e v) e ≡ e
-put_itself v e = fun_ext (λ u. by u (nat_eq u v) refl) where
-  by : (u : ℕ) (b : Bool) → nat_eq u v ≡ b → (if b then e v else e u) ≡ e u
-  by u true h = let same : u ≡ v = grind (arith, nat_tests) in ap e (sym same)
-  by u false h = refl
 
 module _ (p q : Program) (frames : (g : ℕ) → q.frame g ≡ p.frame g) (limits : q.limit ≡ p.limit) (memory : ℕ) (chosen : VariableSet) (counted : ℕ → Bool) (calls calls' : Calls)
     (enters : (g : ℕ) (xs : List ℕ) (w : World) → length w.memory ≡ memory → calls' g xs w ≡ calls g xs w)
@@ -89,11 +81,6 @@ module _ (p q : Program) (frames : (g : ℕ) → q.frame g ≡ p.frame g) (limit
   checked_ends None facts o f g e w h size k = k e (ticked w) (h refl) size
   checked_ends (Some code) facts o f g e w h size k = (refl, tt)
 
-  same_room : (g : ℕ) (e : Env) (w : World) → fault q (Room g) w e ≡ fault p (Room g) w e
-  same_room g e w =
-      ap (λ (limit : ℕ). passed (nat_lt limit (w.depth + 1) || nat_lt (length w.memory) (w.top + q.frame g))) limits
-      ∙ ap (λ (frame : ℕ). passed (nat_lt p.limit (w.depth + 1) || nat_lt (length w.memory) (w.top + frame))) (frames g)
-
   -- of a place, that stays
   stays : (width : Width) (v : ℕ) (facts : Facts) (o : Outs) (f g : Run Env) (e : Env) (w : World) → Hold facts e → length w.memory ≡ memory → Goes (facts_behind memory (Probe (Good width (Variable v))) facts) o f g
       → Ends o (checked (misplaced width (e v) (length w.memory)) e (ticked w) ▷ f) (checked (misplaced width (e v) (length w.memory)) e (ticked w) ▷ g)
@@ -111,7 +98,7 @@ module _ (p q : Program) (frames : (g : ℕ) → q.frame g ≡ p.frame g) (limit
       let passes : Ends o (checked None e (ticked w) ▷ f) (checked None e (ticked w) ▷ g) =
       subst (λ (c : Option ℕ). Ends o (checked c e (ticked w) ▷ f) (checked c e (ticked w) ▷ g)) none both in
       subst (λ (c : Option ℕ). Ends o (checked c e (ticked w) ▷ f) (g (put true v (e v) e) (ticked w))) (sym none)
-      (subst (λ (d : Env). Ends o (checked None e (ticked w) ▷ f) (g d (ticked w))) (sym (put_itself v e)) passes)
+      (subst (λ (d : Env). Ends o (checked None e (ticked w) ▷ f) (g d (ticked w))) (sym (own_put v e)) passes)
 
   -- ---- accesses and calls
 
@@ -132,7 +119,7 @@ module _ (p q : Program) (frames : (g : ℕ) → q.frame g ≡ p.frame g) (limit
       let r : Result Env = calls g (values xs e) (called xs w) in
       let kept = keeps g (values xs e) (called xs w) in
       let first : Result Env = within (fault p (Room g) w e) w (ended (λ (x : Env). put true v (x 0) e) w r) ▷ c in
-      subst (λ (z : Option ℕ). Ends o first (within z w (ended (λ (x : Env). put true v (x 0) e) w (calls' g (values xs e) (called xs w))) ▷ d)) (sym (same_room g e w))
+      subst (λ (z : Option ℕ). Ends o first (within z w (ended (λ (x : Env). put true v (x 0) e) w (calls' g (values xs e) (called xs w))) ▷ d)) (sym (same_room p q frames limits g e w))
       (subst (λ (s : Result Env). Ends o first (within (fault p (Room g) w e) w (ended (λ (x : Env). put true v (x 0) e) w s) ▷ d)) (sym (enters g (values xs e) (called xs w) size))
       (call_ends (fault p (Room g) w e) v r facts o c d e w h (kept.size ∙ size) k))
 
@@ -163,7 +150,7 @@ module _ (p q : Program) (frames : (g : ℕ) → q.frame g ≡ p.frame g) (limit
   same_run (Do place (Expect (Zero x)) k) facts o go e w h size =
       checked_ends (if nat_eq (value x e) 0 then Some 1 else None) facts o (old k) (new (elided memory chosen facts k)) e w (λ none. h) size (same_run k facts o go)
   same_run (Do place (Expect (Room g)) k) facts o go e w h size =
-      subst (λ (c : Option ℕ). Ends o (checked (fault p (Room g) w e) e (ticked w) ▷ old k) (checked c e (ticked w) ▷ new (elided memory chosen facts k))) (sym (same_room g e w))
+      subst (λ (c : Option ℕ). Ends o (checked (fault p (Room g) w e) e (ticked w) ▷ old k) (checked c e (ticked w) ▷ new (elided memory chosen facts k))) (sym (same_room p q frames limits g e w))
       (checked_ends (fault p (Room g) w e) facts o (old k) (new (elided memory chosen facts k)) e w (λ none. h) size (same_run k facts o go))
   same_run (Do place (Expect Frame) k) facts o go e w h size =
       checked_ends (passed (nat_lt (length w.memory) w.top)) facts o (old k) (new (elided memory chosen facts k)) e w (λ none. h) size (same_run k facts o go)

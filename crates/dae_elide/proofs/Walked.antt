@@ -3,10 +3,9 @@ use Rattle.std.proofs.Common.{◌≡◌, ℕ, ◌+◌, ◌<◌, ◌≤◌, List,
 use Rattle.std.specs.Prelude.{Vec}
 use Rattle.std.specs.declared.alloc.Global.{Global}
 use Rattle.dae_base.specs.declared.Place.{Place}
-use Rattle.dae_ir.specs.Code.{Done}
 use Rattle.dae_ir.specs.Classes.{VariableSet}
-use Rattle.dae_ir.specs.Form.{Form, before, form_of}
-use Rattle.dae_ir.specs.Streams.{Actions, actions_of, onto, step_onto, mark}
+use Rattle.dae_ir.specs.Form.{Form, form_of}
+use Rattle.dae_ir.specs.Streams.{actions_of, onto, mark}
 use Rattle.dae_ir.specs.declared.form.Function.{Function}
 use Rattle.dae_ir.specs.declared.form.Test.{Test}
 use Rattle.dae_ir.specs.declared.form.Statement.{Statement}
@@ -14,17 +13,11 @@ use Rattle.dae_ir.specs.declared.form.Statement.TheVariants as statement
 use Rattle.dae_ir.specs.declared.stream.Branch.TheVariants.{Silent}
 use Rattle.dae_ir.specs.declared.stream.Step.{Step}
 use Rattle.dae_ir.specs.declared.stream.Step.TheVariants as step
-use Rattle.dae_ir.proofs.Laws.{before_if, before_loop, onto_if, onto_loop, rest, rest_one, rest_end, all_before, before_end, form_before}
+use Rattle.dae_ir.proofs.Laws.{before_if, before_loop, onto_if, onto_loop, rest, rest_one, rest_end, all_before, before_end, form_before, onto_push}
 use Rattle.dae_select_walks.specs.Facts.{Facts, facts_in_first, facts_in_second, facts_past_if, facts_at_turn, facts_behind_turn, facts_past_loop}
 use Rattle.dae_elide.specs.Elided.{as_actions, elided}
 use Rattle.dae_elide.specs.Forms.{IsElidedFunction, AreElidedFunctions}
 use Rattle.dae_elide.specs.Walked.{IsLike, IsElided}
-
--- ---- lists
-
-onto_end : (xs : List Step) (s : Step) (k : Actions) → onto (xs ++ s ∷ []) k ≡ onto xs (step_onto s k)
-onto_end [] s k = refl
-onto_end (x ∷ xs) s k = ap (step_onto x) (onto_end xs s k)
 
 -- ---- steps like statements
 
@@ -45,7 +38,7 @@ AreLike ss i steps = onto steps (as_actions (form_of (drop i ss))) ≡ as_action
 pub like_next : (ss : List Statement) (i : ℕ) (s : Statement) (s' : Step) (steps steps' : List Step) → i < length ss → s ≡ get_or ss i s → IsLike s s' → steps' ≡ steps ++ s' ∷ [] → AreLike ss i steps → AreLike ss (i + 1) steps'
 like_next ss i s s' steps steps' lt is like longer so_far =
     ap (λ (xs : List Step). onto xs (as_actions (rest (i + 1) ss))) longer
-    ∙ onto_end steps s' (as_actions (rest (i + 1) ss))
+    ∙ onto_push steps s' (as_actions (rest (i + 1) ss))
     ∙ ap (onto steps) (sym (ap as_actions (rest_one ss i s lt is) ∙ like (rest (i + 1) ss)))
     ∙ so_far
 

@@ -1,9 +1,11 @@
--- Lists of statements that are walked over one after the other.
+-- Lists of statements that are walked over one after the other, and steps that grow at their end.
 use Rattle.std.proofs.Common.{◌≡◌, ℕ, ◌+◌, ◌<◌, ◌≤◌, List, [], ◌∷◌, ◌++◌, length, drop, drop_of_length-le, get_or, refl, ap}
 use Rattle.dae_base.proofs.Laws.{drop_at}
 use Rattle.dae_ir.specs.Code.{Done}
 use Rattle.dae_ir.specs.Form.{Form, before, form_of}
+use Rattle.dae_ir.specs.Streams.{Actions, onto, step_onto}
 use Rattle.dae_ir.specs.declared.form.Statement.{Statement}
+use Rattle.dae_ir.specs.declared.stream.Step.{Step}
 
 -- the form of the statements from number i on
 abbrev pub rest : ℕ → List Statement → Form
@@ -27,3 +29,7 @@ before_end (x ∷ xs) s k = ap (before x) (before_end xs s k)
 pub form_before : (xs : List Statement) → form_of xs ≡ all_before xs Done
 form_before [] = refl
 form_before (x ∷ xs) = ap (before x) (form_before xs)
+
+pub onto_push : (xs : List Step) (s : Step) (k : Actions) → onto (xs ++ s ∷ []) k ≡ onto xs (step_onto s k)
+onto_push [] s k = refl
+onto_push (x ∷ xs) s k = ap (step_onto x) (onto_push xs s k)

@@ -1,8 +1,8 @@
 -- How many places lists of steps have.
 use Rattle.std.proofs.Common.{◌≡◌, ℕ, zero, suc, ◌+◌, ◌-◌, ◌^◌, ◌<◌, ◌≤◌, List, [], ◌∷◌, length, drop, get_or, ap, sym, ◌∙◌, arith}
-use Rattle.std.specs.Prelude.{Vec, min}
+use Rattle.std.specs.Prelude.{Vec}
 use Rattle.std.specs.declared.alloc.Global.{Global}
-use Rattle.dae_base.proofs.Laws.{drop_at}
+use Rattle.dae_base.proofs.Laws.{drop_at, least_more, stopped, stopped_sum}
 use Rattle.dae_ir.specs.Code.{Done}
 use Rattle.dae_ir.specs.Streams.{Actions, actions_of, step_onto}
 use Rattle.dae_ir.specs.declared.stream.Mark.{Mark}
@@ -44,18 +44,6 @@ room_for_step steps j s before now some le is e room =
     let one = from_places steps j s some le is in let all = later_places steps (j - 1) in omega (arith, e, room, one, all)
 
 -- ---- sums that stop at a number
-
-least_sum : (m a b : ℕ) → min (min a m + min b m) m ≡ min (a + b) m
-least_sum m a b = omega arith
-
-least_more : (m a : ℕ) → 1 ≤ m → min (min a m + 1) m ≡ min (a + 1) m
-least_more m a some = omega arith
-
-abbrev stopped : ℕ → ℕ
-stopped n = min n (2 ^ 64 - 1)
-
-stopped_sum : (x y a b r : ℕ) → a ≡ stopped x → b ≡ stopped y → r ≡ stopped (a + b) → r ≡ stopped (x + y)
-stopped_sum x y a b r e d s = s ∙ ap (λ (n : ℕ). stopped (n + b)) e ∙ ap (λ (n : ℕ). stopped (stopped x + n)) d ∙ least_sum (2 ^ 64 - 1) x y
 
 stopped_more : (x y z a b both r : ℕ) → z ≡ x + y + 1 → a ≡ stopped x → b ≡ stopped y → both ≡ stopped (a + b) → r ≡ stopped (both + 1) → r ≡ stopped z
 stopped_more x y z a b both r is e d sum one =

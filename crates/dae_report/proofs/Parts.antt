@@ -1,9 +1,10 @@
 -- How much there is to count, and that the numbers have room for it.
 use Rattle.std.proofs.Common.{◌≡◌, ℕ, ◌+◌, ◌-◌, ◌^◌, ◌<◌, ◌≤◌, Bool, true, false, List, [], ◌∷◌, ◌++◌, length, take, drop, get_or, ap, sym, ◌∙◌, arith}
-use Rattle.std.specs.Prelude.{Vec, min, not, ◌&&◌}
+use Rattle.std.specs.Prelude.{Vec, not, ◌&&◌}
 use Rattle.std.specs.declared.alloc.Global.{Global}
 use Rattle.std.proofs.lemmas.List.{take_all, take-append-drop}
 use Rattle.dae_base.specs.declared.Place.{Place}
+use Rattle.dae_base.proofs.Laws.{least_more, stopped, stopped_sum}
 use Rattle.dae_ir.specs.Classes.{Classes, is_by_a}
 use Rattle.dae_ir.specs.Code.{Done, Do, If, Loop}
 use Rattle.dae_ir.specs.Form.{Form, form_of, before}
@@ -48,19 +49,6 @@ parts_loop : (place : Place) (p q : Vec Statement Global) → parts_of_form (bef
 parts_loop place p q = ap parts_of_form (before_loop place p q Done) ∙ omega arith
 
 -- ---- sums that stop at a number
-
-least_sum : (m a b : ℕ) → min (min a m + min b m) m ≡ min (a + b) m
-least_sum m a b = omega arith
-
-least_more : (m a : ℕ) → 1 ≤ m → min (min a m + 1) m ≡ min (a + 1) m
-least_more m a some = omega arith
-
--- a word of 64 bits, or 2^64 - 1
-abbrev stopped : ℕ → ℕ
-stopped n = min n (2 ^ 64 - 1)
-
-stopped_sum : (x y a b r : ℕ) → a ≡ stopped x → b ≡ stopped y → r ≡ stopped (a + b) → r ≡ stopped (x + y)
-stopped_sum x y a b r e d s = s ∙ ap (λ (n : ℕ). stopped (n + b)) e ∙ ap (λ (n : ℕ). stopped (stopped x + n)) d ∙ least_sum (2 ^ 64 - 1) x y
 
 pub counted_further : (ss : List Statement) (i : ℕ) (s : Statement) (old more new : ℕ) → i < length ss → s ≡ get_or ss i s → old ≡ stopped (parts_of_form (form_of (take i ss))) → more ≡ stopped (parts_of_form (before s Done))
     → new ≡ stopped (old + more) → new ≡ stopped (parts_of_form (form_of (take (i + 1) ss)))

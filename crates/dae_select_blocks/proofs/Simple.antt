@@ -1,7 +1,6 @@
 -- The blocks of actions that go on to the next do them, wherever they stand.
 use Rattle.std.proofs.Common.{◌≡◌, ◌≢◌, ℕ, ◌+◌, ◌%◌, ◌^◌, ◌<◌, ◌≤◌, Bool, true, false, not, ◌&&◌, ◌||◌, List, [], Option, Some, None, length, refl, sym, ap, ◌∙◌, subst, arith}
-use Rattle.std.specs.Prelude.{nat_lt, nat_eq, if◌then◌else◌}
-use Rattle.std.proofs.Math.Path.{fun_ext}
+use Rattle.std.specs.Prelude.{nat_lt}
 use Rattle.std.proofs.lemmas.Bool.Decides.{nat_tests}
 use Rattle.std.proofs.lemmas.Bool.{or_right}
 use Rattle.dae_base.specs.declared.Side.TheVariants.{A, E}
@@ -11,7 +10,7 @@ use Rattle.dae_encode.specs.declared.Inst.{Inst}
 use Rattle.dae_ir.specs.Classes.{VariableSet}
 use Rattle.dae_meaning.specs.Worlds.{World}
 use Rattle.dae_meaning.specs.Variables.{Env}
-use Rattle.dae_meaning.specs.Variables as form
+use Rattle.dae_meaning.proofs.Laws.{own_put}
 use Rattle.dae_encode.specs.Processor.{Processor}
 use Rattle.dae_ir.specs.Form.{Program, value}
 use Rattle.dae_ir.specs.Programs.{side}
@@ -42,13 +41,6 @@ use Rattle.dae_select_blocks.proofs.Agreement.{Ready}
 use Rattle.dae_select_blocks.proofs.Jumps.{ready, stands_less}
 use Rattle.dae_select_blocks.proofs.Actions.{To, Does', set_done, issue_done, own_done, receive_done, address_done, datum_done, offer_done, accept_done, tell_done}
 use Rattle.dae_select_blocks.proofs.Checks.{emit_done, stop_a_done, stop_e_done, zero_done, place_done, bounds_done, check_room_done, frame_done, abort_done, hear_done}
-
--- a variable that is set to itself
-set_to_itself : (v : ℕ) (e : Env) → form.put true v (e v) e ≡ e
-set_to_itself v e = fun_ext (λ u. by u (nat_eq u v) refl) where
-  by : (u : ℕ) (b : Bool) → nat_eq u v ≡ b → (if b then e v else e u) ≡ e u
-  by u true h = let same : u ≡ v = grind (arith, nat_tests) in ap e (sym same)
-  by u false h = refl
 
 -- the actions that take or give no way but the next
 abbrev pub IsSimple : Action → Type 0
@@ -187,5 +179,5 @@ module _ (s : Setting) (plan : Plan) (variables : ℕ → ℕ) (fine : Fits s pl
       Does s most (deed program plan.by_a (Compute v (Same (Variable v))) w m.env) (λ env. At s plan program entries most widest f (exit (k + 0) live') (with_env env m)) p
   itself_done f v live live' known k less m w p h world facts =
       let here : k ≡ k + 0 = omega arith in
-      subst (λ (e : Env). Comes s most p (At s plan program entries most widest f (exit (k + 0) live') (with_env e m))) (sym (set_to_itself v m.env))
+      subst (λ (e : Env). Comes s most p (At s plan program entries most widest f (exit (k + 0) live') (with_env e m))) (sym (own_put v m.env))
       (comes_here s (h.0, stands_less s plan variables fine less (subst (λ (j : ℕ). Stands plan live m j p) here h.1)))

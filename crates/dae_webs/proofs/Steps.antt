@@ -3,8 +3,7 @@ use Rattle.std.proofs.Common.{◌≡◌, ℕ, zero, suc, ◌+◌, ◌<◌, ◌�
 use Rattle.std.specs.Prelude.{Vec, IfOk, Result, Ok, Err}
 use Rattle.std.specs.declared.alloc.Global.{Global}
 use Rattle.dae_base.specs.declared.Place.{Place}
-use Rattle.dae_ir.specs.Code.{Done}
-use Rattle.dae_ir.specs.Form.{Form, before, form_of}
+use Rattle.dae_ir.specs.Form.{Form, form_of}
 use Rattle.dae_ir.specs.Classes.{has_test}
 use Rattle.dae_ir.specs.declared.form.Test.{Test}
 use Rattle.dae_ir.specs.declared.form.Statement.{Statement}
