@@ -13,9 +13,9 @@ folder of the independent one, which is in Python.
     initialisers FIRST COUNT    programs of initialisers.py, from these seeds
     texts FILE                  texts in hexadecimal, one a line
 
-The option --tight runs each accepted program also with each queue at its budget, under each schedule, and with each queue one
-below its budget. --budget compares the line of budgets (without reuse of loads, with all seven queues; where a condition is
-a comma the other tests its value, and the program its right part, so that a budget may differ). --first asks for the very
+The option --tight runs each accepted program also with each queue at the budget that it prints, under each schedule, and with
+each queue one below that. --budget compares the line of budgets (OTHER renames no variables by webs and reuses no loads; and
+where a condition is a comma it tests its value, and the program its right part: so a budget may differ). --first asks for the very
 refusal that the other gives, where several are right. --begin asks only whether a program is accepted, and begins it.
 --vary chooses sizes of memory, limits of calls and caps. --keep=FOLDER keeps each text that differs. Accepted texts with more
 than so much work (MOST_WORK) are only run a little.
@@ -107,6 +107,12 @@ def run(words, seconds=120):
     return done.returncode, done.stdout, done.stderr.decode("latin-1").split("\n")[:-1]
 
 
+def printed(notes):
+    """The budget of each queue that a run says, none where it says none."""
+    words = (notes[:1] or [""])[0].split()
+    return {q: int(n) for q, n in zip(words[1::2], words[2::2])} if words[:1] == ["budget"] else dict.fromkeys(QUEUES, 0)
+
+
 def shown_in(result, r):
     """A stretch of memory to be shown: where something is, if anything is."""
     at = [i for i in range(16, min(len(result.memory), 4096)) if result.memory[i]]
@@ -143,7 +149,7 @@ def see(names, texts, place, r, say):
     for schedule in schedules:
         see_run(due, names, [], schedule, r, say)
     if Options.tight:
-        depths = due.depths()
+        depths = printed(run(["run", "--steps=1", *names])[2])
         least = ["--%s=%d" % (q, max(1, depths[q])) for q in QUEUES]
         for schedule in schedules:
             see_run(due, names, least, schedule, r, say)
@@ -176,7 +182,7 @@ def see_run(due, names, options, schedule, r, say):
             " ".join(words), wanted, [result.line, shown], status, notes,
             "differs" if out != result.output else "is right",
             len(part), result.output[len(part):len(part) + 40], out[len(part):len(part) + 40]))
-    if Options.budget or options:
+    if Options.budget:
         depths = due.depths()
         line = "budget " + " ".join("%s %d" % (q, depths[q]) for q in QUEUES)
         if notes[:1] != [line]:
