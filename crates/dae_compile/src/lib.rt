@@ -12,5 +12,5 @@ pub use programs::compile_program;
 
 mod compiling;
 mod generating;
-mod passes;
+mod passing;
 mod programs;

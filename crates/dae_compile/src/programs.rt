@@ -11,7 +11,7 @@ ghost use Rattle.dae_ir.specs.SetFirst.{IsFunctionSetFirst};
 ghost use Rattle.dae_lower_programs.specs.Lowered.{HasRoom};
 ghost use Rattle.dae_compile.specs.Compiled.{AreCompiledFrom, HasFewVariables, HasTooMuchPrivate, HasTooMuchCode, IsFinalForm};
 
-use crate::passes::{reuse_loads, without_commons, without_known_checks};
+use crate::passing::{reuse_loads, without_commons, without_known_checks};
 use crate::{Compiled, generate};
 use dae_alias::{forms_are_reused, reuse_stays_small};
 use dae_base::{Items, Text};

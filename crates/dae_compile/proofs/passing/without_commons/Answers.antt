@@ -1,7 +1,7 @@
 use Rattle.std.proofs.Common.{List, subst}
 use Rattle.dae_ir.specs.declared.stream.Class.{Class}
 use Rattle.dae_commons.specs.Forms.{IsCommoningOf}
-use Rattle.dae_compile.proofs.passes.without_commons.Goals as goal
+use Rattle.dae_compile.proofs.passing.without_commons.Goals as goal
 
 pub returns : goal.returns
 returns c = record {
