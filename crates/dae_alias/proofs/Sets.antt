@@ -81,9 +81,6 @@ pub begun_once : (s t : Known) → t ≡ nothing → IsSetOnceMore s t
 begun_once s t is = subst (λ (k : Known). IsSetOnceMore s k) (sym is) (nothing_once s)
 
 -- before statement i of a list each was set at most i times in its stretch
-pub begun_seldom : (s : Known) → s ≡ nothing → (v : ℕ) → s.times v ≤ 0
-begun_seldom s is = subst (λ (k : Known). (v : ℕ) → k.times v ≤ 0) (sym is) (λ v. omega arith)
-
 pub further_seldom : (s t : Known) (i : ℕ) → ((v : ℕ) → s.times v ≤ i) → IsSetOnceMore s t → (v : ℕ) → t.times v ≤ i + 1
 further_seldom s t i few once v = let a = few v in let b = once v in omega (arith, a, b)
 
