@@ -5,4 +5,4 @@ pub mod Steps
 mod Distinct
 pub mod Noted
 pub mod Whole
-mod Used
+mod UsedNumbers

@@ -2,7 +2,7 @@ use Rattle.std.proofs.Common.{length, ◌∙◌}
 use Rattle.dae_types_kinds.specs.declared.tables.Entity.TheVariants as entity
 use Rattle.dae_types_plans.specs.Steps.{parameter_types}
 use Rattle.dae_types_typed.specs.Sound.{is_used, tables_of}
-use Rattle.dae_types_sound.proofs.Used.{told, untold}
+use Rattle.dae_types_sound.proofs.UsedNumbers.{told, untold}
 use Rattle.dae_types_sound.proofs.tables.used_count.Goals as goal
 
 pub returns-then-contains : goal.returns-then-contains

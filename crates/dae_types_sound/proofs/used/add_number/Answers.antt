@@ -1,4 +1,4 @@
-use Rattle.dae_types_sound.proofs.Used.{none_added, number_added}
+use Rattle.dae_types_sound.proofs.UsedNumbers.{none_added, number_added}
 use Rattle.dae_types_sound.proofs.used.add_number.Goals as goal
 
 pub returns-in-Ok : goal.returns-in-Ok

@@ -2,7 +2,7 @@ use Rattle.std.proofs.Common.{ℕ, ◌||◌, nat_eq, Option, ap, ◌∙◌}
 use Rattle.indexmap.specs.IndexSet.{contains}
 use Rattle.dae_types_kinds.specs.declared.tables.Entity.TheVariants as entity
 use Rattle.dae_types_sound.specs.Used.{has_number, used_object}
-use Rattle.dae_types_sound.proofs.Used.{object_tells, used_begin, used_end, used_more}
+use Rattle.dae_types_sound.proofs.UsedNumbers.{object_tells, used_begin, used_end, used_more}
 use Rattle.dae_types_sound.proofs.used.used_objects.Goals as goal
 
 pub loop-used-init : goal.loop-used-init
