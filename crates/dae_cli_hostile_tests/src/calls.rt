@@ -30,12 +30,13 @@ pub fn status_in(row: &str) -> u8 {
 
 /// How many pieces a part has.
 pub fn pieces_in(row: &str, at: usize) -> usize {
-    let pieces = part(row, at);
-    if pieces.is_empty() {
-        0
-    } else {
-        pieces.split('^').count()
+    let mut count: usize = 0;
+    for piece in part(row, at).split('^') {
+        if !piece.is_empty() {
+            count = count.saturating_add(1);
+        }
     }
+    count
 }
 
 /// The image of a row, in hexadecimal.
