@@ -23,14 +23,14 @@ lone_are =
 
 by_row : (rows : List (ℕ × Sign)) → AreAlone rows → (b : ℕ) (rest : List ℕ) (g : Sign) → sign_among rows b ≡ Some g → sign_of (b ∷ rest) ≡ one g
 by_row [] alone b rest g e = (let none : None ≡ Some g = e in absurd cc)
-by_row (r ∷ rows) alone b rest g e = by (nat_eq b r.0) refl e
+by_row (r ∷ rows) alone b rest g e = by (nat_eq b r.0) (by_row rows alone.1 b rest g) refl e
   where
-    by : (t : Bool) → nat_eq b r.0 ≡ t → cond t (Some r.1) (sign_among rows b) ≡ Some g → sign_of (b ∷ rest) ≡ one g
-    by true p found =
+    by : (t : Bool) → (sign_among rows b ≡ Some g → sign_of (b ∷ rest) ≡ one g) → nat_eq b r.0 ≡ t → cond t (Some r.1) (sign_among rows b) ≡ Some g → sign_of (b ∷ rest) ≡ one g
+    by true behind p found =
         let some : Some r.1 ≡ Some g = found in
         let same : r.1 ≡ g = cc in
         ap (λ (k : ℕ). sign_of (k ∷ rest)) (eqb-true b r.0 p) ∙ alone.0 rest ∙ ap one same
-    by false p later = by_row rows alone.1 b rest g later
+    by false behind p later = behind later
 
 -- at the front of some bytes
 pub record IsAlone (bytes : List ℕ) (g : Sign) : Type 0 where

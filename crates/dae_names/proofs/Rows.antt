@@ -6,11 +6,11 @@ use Rattle.dae_names.specs.Latest.{latest_of}
 
 latest_within : (ns : List ℕ) (n at : ℕ) → latest_of ns n ≡ Some at → at < length ns
 latest_within [] n at e = (let none : None ≡ Some at = e in absurd cc)
-latest_within (m ∷ ns) n at e = by (nat_eq m n) e
+latest_within (m ∷ ns) n at e = by (nat_eq m n) (latest_within ns n at) e
   where
-    by : (b : Bool) → cond b (Some (length ns)) (latest_of ns n) ≡ Some at → at < length (m ∷ ns)
-    by true e = (let here : length ns ≡ at = cc in omega arith)
-    by false e = (let behind : at < length ns = latest_within ns n at e in omega arith)
+    by : (b : Bool) → (latest_of ns n ≡ Some at → at < length ns) → cond b (Some (length ns)) (latest_of ns n) ≡ Some at → at < length (m ∷ ns)
+    by true rest e = (let here : length ns ≡ at = cc in omega arith)
+    by false rest e = (let behind : at < length ns = rest e in omega arith)
 
 get_before : {X : Type 0} (xs ys : List X) (k : ℕ) → k < length xs → slice_get (xs ++ ys) k ≡ slice_get xs k
 get_before [] ys k lt = absurd (omega arith)
@@ -47,7 +47,7 @@ module _ {X : Type 0} (f : X → ℕ) where
 
   latest_row : (rs : List X) (n : ℕ) → find (λ x. nat_eq (f x) n) rs ≡ row_at (reverse rs) (latest_of (map f rs) n)
   latest_row [] n = refl
-  latest_row (r ∷ rs) n = by (nat_eq (f r) n) ∙ sym (ap (λ (xs : List X). row_at xs (latest_of (map f (r ∷ rs)) n)) (reverse-cons r rs))
+  latest_row (r ∷ rs) n = by (nat_eq (f r) n) (latest_row rs n) ∙ sym (ap (λ (xs : List X). row_at xs (latest_of (map f (r ∷ rs)) n)) (reverse-cons r rs))
     where
       long : length (map f rs) ≡ length (reverse rs)
       long = length-map rs f ∙ sym (length-reverse rs)
@@ -56,9 +56,9 @@ module _ {X : Type 0} (f : X → ℕ) where
       before None e = refl
       before (Some at) e = sym (get_before (reverse rs) (r ∷ []) at (omega (arith, latest_within (map f rs) n at e, long)))
 
-      by : (b : Bool) → cond b (Some r) (find (λ x. nat_eq (f x) n) rs) ≡ row_at (reverse rs ++ r ∷ []) (cond b (Some (length (map f rs))) (latest_of (map f rs) n))
-      by true = sym (ap (slice_get (reverse rs ++ r ∷ [])) long ∙ get_behind (reverse rs) r)
-      by false = latest_row rs n ∙ before (latest_of (map f rs) n) refl
+      by : (b : Bool) → find (λ x. nat_eq (f x) n) rs ≡ row_at (reverse rs) (latest_of (map f rs) n) → cond b (Some r) (find (λ x. nat_eq (f x) n) rs) ≡ row_at (reverse rs ++ r ∷ []) (cond b (Some (length (map f rs))) (latest_of (map f rs) n))
+      by true rest = sym (ap (slice_get (reverse rs ++ r ∷ [])) long ∙ get_behind (reverse rs) r)
+      by false rest = rest ∙ before (latest_of (map f rs) n) refl
 
   none_in_nothing : (start n : ℕ) → find (λ (x : X). nat_eq (f x) n) (drop start []) ≡ None
   none_in_nothing start n = ap (find (λ (x : X). nat_eq (f x) n)) (drop_all start [] (omega arith))
@@ -67,21 +67,21 @@ module _ {X : Type 0} (f : X → ℕ) where
   none_push [] zero n r none other = ap (λ (b : Bool). cond b (Some r) None) other
   none_push [] (suc start) n r none other = none_in_nothing start n
   none_push (x ∷ xs) (suc start) n r none other = none_push xs start n r none other
-  none_push (x ∷ xs) zero n r none other = by (nat_eq (f x) n) none
+  none_push (x ∷ xs) zero n r none other = by (nat_eq (f x) n) (λ e. none_push xs zero n r e other) none
     where
-      by : (b : Bool) → cond b (Some x) (find (λ x. nat_eq (f x) n) xs) ≡ None → cond b (Some x) (find (λ x. nat_eq (f x) n) (xs ++ r ∷ [])) ≡ None
-      by true e = (let some : Some x ≡ None = e in absurd cc)
-      by false e = none_push xs zero n r e other
+      by : (b : Bool) → (find (λ x. nat_eq (f x) n) xs ≡ None → find (λ x. nat_eq (f x) n) (xs ++ r ∷ []) ≡ None) → cond b (Some x) (find (λ x. nat_eq (f x) n) xs) ≡ None → cond b (Some x) (find (λ x. nat_eq (f x) n) (xs ++ r ∷ [])) ≡ None
+      by true rest e = (let some : Some x ≡ None = e in absurd cc)
+      by false rest e = rest e
 
   none_behind : (rs : List X) (start n : ℕ) → IsBefore start (latest_of (map f rs) n) → find (λ x. nat_eq (f x) n) (drop start (reverse rs)) ≡ None
   none_behind [] start n h = none_in_nothing start n
-  none_behind (r ∷ rs) start n h = ap (λ (xs : List X). find (λ x. nat_eq (f x) n) (drop start xs)) (reverse-cons r rs) ∙ by (nat_eq (f r) n) refl h
+  none_behind (r ∷ rs) start n h = ap (λ (xs : List X). find (λ x. nat_eq (f x) n) (drop start xs)) (reverse-cons r rs) ∙ by (nat_eq (f r) n) (none_behind rs start n) refl h
     where
-      by : (b : Bool) → nat_eq (f r) n ≡ b → IsBefore start (cond b (Some (length (map f rs))) (latest_of (map f rs) n)) → find (λ x. nat_eq (f x) n) (drop start (reverse rs ++ r ∷ [])) ≡ None
-      by true same before =
+      by : (b : Bool) → (IsBefore start (latest_of (map f rs) n) → find (λ x. nat_eq (f x) n) (drop start (reverse rs)) ≡ None) → nat_eq (f r) n ≡ b → IsBefore start (cond b (Some (length (map f rs))) (latest_of (map f rs) n)) → find (λ x. nat_eq (f x) n) (drop start (reverse rs ++ r ∷ [])) ≡ None
+      by true rest same before =
           let lt : length (map f rs) < start = before in
           ap (find (λ x. nat_eq (f x) n)) (drop_all start (reverse rs ++ r ∷ []) (omega (arith, length-append (reverse rs) (r ∷ []), length-reverse rs, length-map rs f)))
-      by false other before = none_push (reverse rs) start n r (none_behind rs start n before) other
+      by false rest other before = none_push (reverse rs) start n r (rest before) other
 
   -- ---- of rows in their order
 

@@ -96,11 +96,11 @@ bound_of (Some b) = Some b.bound
 
 bound_as_found : {B : Type 0} → (rs : List (Binding B)) (name : ℕ) → bound_to (map pair_of rs) name ≡ bound_of (find (λ b. nat_eq (number_of b) name) rs)
 bound_as_found [] name = refl
-bound_as_found (r ∷ rs) name = by (nat_eq r.name name)
+bound_as_found (r ∷ rs) name = by (nat_eq r.name name) (bound_as_found rs name)
   where
-    by : (t : Bool) → cond t (Some r.bound) (bound_to (map pair_of rs) name) ≡ bound_of (cond t (Some r) (find (λ b. nat_eq (number_of b) name) rs))
-    by true = refl
-    by false = bound_as_found rs name
+    by : (t : Bool) → bound_to (map pair_of rs) name ≡ bound_of (find (λ b. nat_eq (number_of b) name) rs) → cond t (Some r.bound) (bound_to (map pair_of rs) name) ≡ bound_of (cond t (Some r) (find (λ b. nat_eq (number_of b) name) rs))
+    by true rest = refl
+    by false rest = rest
 
 -- ---- what is true of a scope, as it changes
 

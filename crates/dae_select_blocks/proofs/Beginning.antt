@@ -85,11 +85,11 @@ first_has top x n r numbers c here rest = by (nat_eq n x) refl
 
 runs_residents : (s : Setting) (private : ℕ) (to : ℕ → Env → Processor → Type 0) {c : Contents} {d : Deed} (top : ℕ) (numbers : List ℕ) (is : List Inst) → length numbers < top → top < 28 → AllByRecursion (λ n. n < 2 ^ 32) numbers → c.register 0 ≡ 0 → ((j : ℕ) → c.register j < 2 ^ 32) →
     ((c' : Contents) → Wrote top numbers c c' → Runs s private to is c' d) → Runs s private to (residents_code top numbers ++ is) c d
-runs_residents s private to {c} top [] is some high small zero fits run = run c (record { words = λ i. refl; above = λ j l. refl; below = λ j l. refl; has = λ n r e. absurd (let none : None ≡ Some r = e in cc); fits = fits })
-runs_residents s private to {c} top (x ∷ numbers) is some high small zero fits run =
-    rw append_assoc (runs_number s private to top x (residents_code (top - 1) numbers ++ is) zero (omega arith) high small.0 (
+runs_residents s private to {c} top [] is some high small none fits run = run c (record { words = λ i. refl; above = λ j l. refl; below = λ j l. refl; has = λ n r e. absurd (let no : None ≡ Some r = e in cc); fits = fits })
+runs_residents s private to {c} top (x ∷ numbers) is some high small none fits run =
+    rw append_assoc (runs_number s private to top x (residents_code (top - 1) numbers ++ is) none (omega arith) high small.0 (
     let like = like_put top x c small.0 fits in
-    runs_residents s private to {c = put top x c} (top - 1) numbers is (omega arith) (omega arith) small.1 (like.registers 0 (omega arith) ∙ zero) like.fits (λ c2 rest.
+    runs_residents s private to {c = put top x c} (top - 1) numbers is (omega arith) (omega arith) small.1 (like.registers 0 (omega arith) ∙ none) like.fits (λ c2 rest.
     let here : c2.register top ≡ x = rest.above top (omega arith) ∙ put_same top x c (omega arith) high in
     run c2 (record {
       words = λ i. rest.words i;
@@ -130,10 +130,10 @@ module _ (s : Setting) (plan : Plan) (variables : ℕ → ℕ) (fine : Fits s pl
       by true e c wrote =
           let most = fine.common in let few = fine.few in
           let to : ℕ → Env → Processor → Type 0 = λ k env q. Begun plan first k q in
-          let zero : c.register 0 ≡ 0 = wrote.below 0 (omega arith) in
+          let none : c.register 0 ≡ 0 = wrote.below 0 (omega arith) in
           let c1 : Contents = put 4 (plan.memory - 16) c in
-          let one : plus (c1.register 0) (word (pos 1)) ≡ 1 = rw zero refl in
-          runs_number s plan.private to 4 (plan.memory - 16) (Addi 10 0 (pos 1) ∷ []) zero (omega arith) (omega arith) (omega arith) (
+          let one : plus (c1.register 0) (word (pos 1)) ≡ 1 = rw none refl in
+          runs_number s plan.private to 4 (plan.memory - 16) (Addi 10 0 (pos 1) ∷ []) none (omega arith) (omega arith) (omega arith) (
           runs_quiet s plan.private to (computes s plan.private to {c = c1} (Addi 10 0 (pos 1)) 10 0 0 (λ x y. plus x (word (pos 1))) refl (omega arith) (omega arith) (omega arith) (plus_small (c1.register 0) 1)) (rw one (
           runs_nothing s plan.private to (λ k q shows. record {
             contents = put 10 1 c1;

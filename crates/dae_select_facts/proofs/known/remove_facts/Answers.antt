@@ -11,11 +11,11 @@ stays set fact = not (is_about set fact)
 
 stays_is_less : (set : VariableSet) (facts : List Fact) → filter (stays set) facts ≡ less set facts
 stays_is_less set [] = refl
-stays_is_less set (fact ∷ facts) = by (is_about set fact)
+stays_is_less set (fact ∷ facts) = by (is_about set fact) (stays_is_less set facts)
   where
-    by : (b : Bool) → cond (not b) (fact ∷ filter (stays set) facts) (filter (stays set) facts) ≡ (if b then less set facts else fact ∷ less set facts)
-    by true = stays_is_less set facts
-    by false = ap (λ (fs : List Fact). fact ∷ fs) (stays_is_less set facts)
+    by : (b : Bool) → filter (stays set) facts ≡ less set facts → cond (not b) (fact ∷ filter (stays set) facts) (filter (stays set) facts) ≡ (if b then less set facts else fact ∷ less set facts)
+    by true rest = rest
+    by false rest = ap (λ (fs : List Fact). fact ∷ fs) rest
 
 pub returns : goal.returns
 returns c =

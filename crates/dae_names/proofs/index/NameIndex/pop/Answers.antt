@@ -13,6 +13,6 @@ pub returns-in-Some : goal.returns-in-Some
 returns-in-Some c =
     rw (← c.self.view_is) (names_cut c.self.inside.entries.items c.pop.new.self.items c.self.inside.entries.len c.self.inside.entries.ok.0 c.in-Some.ensures.rest)
 
-pub returns-in-None : goal.returns-in-None
-returns-in-None c =
-    rw (← c.self.view_is) (names_cut c.self.inside.entries.items c.pop.new.self.items c.self.inside.entries.len c.self.inside.entries.ok.0 c.in-None.ensures.rest)
+pub returns-in_default : goal.returns-in_default
+returns-in_default c =
+    rw (← c.self.view_is) (names_cut c.self.inside.entries.items c.pop.new.self.items c.self.inside.entries.len c.self.inside.entries.ok.0 c.pop.ensures.rest)
