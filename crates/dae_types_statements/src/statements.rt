@@ -351,10 +351,7 @@ fn arms(
     ensures { FollowsBy view_arms checker.new result
         (plan_arms around unarmed (views_statements list.now)) checker.old }
 {
-    let mut arming = Arming {
-        seen: Vec::new(checker.alloc),
-        arms: Vec::new(checker.alloc),
-    };
+    let mut arming = Arming::new(checker.alloc);
     for one in list {
         arming = labelled(checker, around, arming, one)?;
     }
