@@ -122,7 +122,7 @@ pub fn read_member(
         → ShowsMembers members ms → Steps machine.old result machine.new (members_followed b ms) }
 {
     if has_members(&members) && machine.rest.take_sign(Sign::RightBrace).is_some() {
-        return Ok(Some(close_structure(machine.alloc, body, members)?));
+        return Ok(Some(close_structure(body, members)?));
     }
     machine.push(Frame::Specifiers(SpecifiersFrame::ForMember(body, members)))?;
     let before = no_specifiers(machine.alloc);
@@ -130,18 +130,14 @@ pub fn read_member(
 }
 
 /// Behind the brace that closes a structure.
-fn close_structure(
-    alloc: Global,
-    body: Body,
-    members: Read<Vec<Member>>,
-) -> Result<Doing, AllocError>
+fn close_structure(body: Body, members: Read<Vec<Member>>) -> Result<Doing, AllocError>
     ensures { (b : plain.Body) (ms : List lists.MemberLine) → ShowsBody body b
         → ShowsMembers members ms
         → IfOk result (λ d. ShowsDoing d (plain.specifying (with_whole b.seen)
         (StructureBody b.place b.tag b.brace (members_onto ms no_members_tree) ∷ b.before))) }
 {
     let seen = body.seen;
-    let more = with_structure_body(alloc, body, members)?;
+    let more = with_structure_body(body, members)?;
     Ok(Doing::Specifying(seen.with_whole(), more))
 }
 
@@ -196,7 +192,7 @@ pub fn read_behind_enumerator(
         return Ok(Some(Doing::Entering(body, list)));
     }
     if machine.rest.take_sign(Sign::RightBrace).is_some() {
-        return Ok(Some(close_enumeration(machine.alloc, body, list, TrailingComma::Absent)?));
+        return Ok(Some(close_enumeration(body, list, TrailingComma::Absent)?));
     }
     Ok(None)
 }
@@ -213,14 +209,13 @@ pub fn read_behind_comma(
         → Steps machine.old result machine.new (comma_followed b es e) }
 {
     if machine.rest.take_sign(Sign::RightBrace).is_some() {
-        return Ok(Some(close_enumeration(machine.alloc, body, list, TrailingComma::Present)?));
+        return Ok(Some(close_enumeration(body, list, TrailingComma::Present)?));
     }
     Ok(Some(Doing::Enumerating(body, list)))
 }
 
 /// Behind the brace that closes an enumeration.
 fn close_enumeration(
-    alloc: Global,
     body: Body,
     list: Read<Vec<Enumerator>>,
     comma: TrailingComma,
@@ -231,6 +226,6 @@ fn close_enumeration(
         (enumerators_onto es no_enumerators_tree) (has_comma comma) ∷ b.before))) }
 {
     let seen = body.seen;
-    let more = with_enumeration_body(alloc, body, list, comma)?;
+    let more = with_enumeration_body(body, list, comma)?;
     Ok(Doing::Specifying(seen.with_whole(), more))
 }

@@ -39,7 +39,7 @@ pub fn for_declaration(
 {
     let none = no_items(machine.alloc);
     if let Some(end) = machine.rest.take_sign(Sign::Semicolon) {
-        let whole = declaration(machine.alloc, specified, none, end)?;
+        let whole = declaration(specified, none, end)?;
         return Ok(Some(Doing::GaveDeclaration(whole)));
     }
     machine.push(Frame::Declarator(DeclaratorFrame::OfItem(function_body, specified, none)))?;
@@ -212,7 +212,7 @@ pub fn read_behind_item(
     let Some(end) = machine.rest.take_sign(Sign::Semicolon) else {
         return Ok(None);
     };
-    let whole = declaration(machine.alloc, specified, items, end)?;
+    let whole = declaration(specified, items, end)?;
     Ok(Some(Doing::GaveDeclaration(whole)))
 }
 

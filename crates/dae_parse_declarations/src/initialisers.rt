@@ -42,7 +42,7 @@ pub fn read_list(
         Steps machine.old result machine.new (list_followed place xs) }
 {
     if machine.rest.take_sign(Sign::RightBrace).is_some() {
-        let whole = initialiser_list(machine.alloc, place, list, TrailingComma::Present)?;
+        let whole = initialiser_list(place, list, TrailingComma::Present)?;
         return Ok(Some(Doing::GaveInitialiser(whole)));
     }
     machine.push(Frame::Initialiser(InitialiserFrame::InList(place, list)))?;
@@ -67,7 +67,7 @@ pub fn in_list(
     if machine.rest.take_sign(Sign::RightBrace).is_none() {
         return Ok(None);
     }
-    let whole = initialiser_list(machine.alloc, place, list, TrailingComma::Absent)?;
+    let whole = initialiser_list(place, list, TrailingComma::Absent)?;
     Ok(Some(Doing::GaveInitialiser(whole)))
 }
 

@@ -34,7 +34,7 @@ pub fn named(alloc: Global, name: Name) -> Result<Declared, AllocError>
     ensures { IfOk result (λ r. ShowsDeclared r (tree.Named name)) }
 {
     let place = name.place;
-    let read = over(alloc, place, flat(alloc, Declarator::Named(name)))?;
+    let read = over(place, flat(alloc, Declarator::Named(name)))?;
     Ok(Declared {
         read,
         name: Some(name.number),
@@ -61,7 +61,7 @@ pub fn pointer(
         bare: _,
         parameters,
     } = declared;
-    let Read { tree, depths } = over(alloc, place, read)?;
+    let Read { tree, depths } = over(place, read)?;
     let tree = match tree {
         Some(d) => Some(Declarator::Pointer(place, qualifiers, Box::new(alloc, d)?)),
         None => None,
@@ -87,7 +87,7 @@ pub fn grouped(alloc: Global, place: Place, declared: Declared) -> Result<Declar
         bare,
         parameters,
     } = declared;
-    let Read { tree, depths } = over(alloc, place, read)?;
+    let Read { tree, depths } = over(place, read)?;
     let tree = match tree {
         Some(d) => Some(Declarator::Grouped(place, Box::new(alloc, d)?)),
         None => None,
@@ -118,7 +118,7 @@ pub fn unsized_array(
         parameters,
     } = declared;
     let first = read.depths.first_or(place);
-    let Read { tree, depths } = over(alloc, first, read)?;
+    let Read { tree, depths } = over(first, read)?;
     let tree = match tree {
         Some(d) => Some(Declarator::Unsized(Box::new(alloc, d)?, place)),
         None => None,
@@ -151,7 +151,7 @@ pub fn sized_array(
     } = declared;
     let first = read.depths.first_or(place);
     let parts = beside(read, size.read)?;
-    let Read { tree, depths } = over(alloc, first, parts)?;
+    let Read { tree, depths } = over(first, parts)?;
     let tree = match tree {
         Some((d, size)) => Some(Declarator::Sized(Box::new(alloc, d)?, place, size)),
         None => None,
@@ -182,7 +182,7 @@ pub fn empty_function(
         parameters,
     } = declared;
     let first = read.depths.first_or(place);
-    let Read { tree, depths } = over(alloc, first, read)?;
+    let Read { tree, depths } = over(first, read)?;
     let tree = match tree {
         Some(d) => Some(Declarator::Empty(Box::new(alloc, d)?, place)),
         None => None,
@@ -214,7 +214,7 @@ fn void_function(
         parameters,
     } = declared;
     let first = read.depths.first_or(place);
-    let Read { tree, depths } = over(alloc, first, read)?;
+    let Read { tree, depths } = over(first, read)?;
     let tree = match tree {
         Some(d) => Some(Declarator::Void(Box::new(alloc, d)?, place, void)),
         None => None,
@@ -253,7 +253,7 @@ fn parameter_function(
     } = declared;
     let first = read.depths.first_or(place);
     let parts = beside(read, list)?;
-    let Read { tree, depths } = over(alloc, first, parts)?;
+    let Read { tree, depths } = over(first, parts)?;
     let tree = match tree {
         Some((d, list)) => Some(Declarator::Function(Box::new(alloc, d)?, place, list)),
         None => None,

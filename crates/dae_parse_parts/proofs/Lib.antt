@@ -1,4 +1,3 @@
 mod Holding
 pub mod Laws
-mod Cutting
 mod NamesShown

@@ -56,7 +56,6 @@ pub fn empty_statement(alloc: Global, place: Place) -> Result<Read<Box<Statement
     ensures { IfOk result (λ r. ShowsStatement r (tree.Nothing place)) }
 {
     over(
-        alloc,
         place,
         flat(alloc, Box::new(alloc, Statement::Empty(place))?),
     )
@@ -257,7 +256,6 @@ pub fn break_statement(
     ensures { IfOk result (λ r. ShowsStatement r (tree.Break place end)) }
 {
     over(
-        alloc,
         place,
         flat(alloc, Box::new(alloc, Statement::Break(place, end))?),
     )
@@ -272,7 +270,6 @@ pub fn continue_statement(
     ensures { IfOk result (λ r. ShowsStatement r (tree.Continue place end)) }
 {
     over(
-        alloc,
         place,
         flat(alloc, Box::new(alloc, Statement::Continue(place, end))?),
     )
