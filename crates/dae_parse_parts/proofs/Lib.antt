@@ -1,3 +1,4 @@
 mod Holding
 pub mod Laws
 mod NamesShown
+mod Reaching
