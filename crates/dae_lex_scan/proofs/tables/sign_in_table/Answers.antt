@@ -4,7 +4,7 @@ use Rattle.dae_lex_scan.proofs.Longest.{longest}
 use Rattle.dae_tree.specs.Tables.{first_row, IsLongestRow}
 use Rattle.dae_tree.specs.declared.pieces.PieceKind.{PieceKind}
 use Rattle.dae_tree.specs.declared.signs.TheConstants.{SIGNS}
-use Rattle.dae_lex_scan.proofs.tables.sign_at.Goals as goal
+use Rattle.dae_lex_scan.proofs.tables.sign_in_table.Goals as goal
 
 both : (o : Option (ℕ × PieceKind)) (n : ℕ) → IfSome o (λ f. 0 < f.0) → IfSome o (λ f. f.0 ≤ n) → IfSome o (λ f. (0 < f.0) × (f.0 ≤ n))
 both None n a b = tt
