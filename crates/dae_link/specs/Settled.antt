@@ -1,4 +1,4 @@
--- What is settled of a side before its functions have places: homes, frames and private memory.
+-- What is settled of a side before its functions have places: homes, frames, private memory, and numbers that stay in registers.
 use Rattle.std.specs.Prelude.{◌≡◌, ◌⊎◌, ℕ, ◌-◌, ◌*◌, ◌^◌, ◌≤◌, ◌<◌, List, length}
 use Rattle.std.specs.List.{AllByRecursion, AllZip}
 use Rattle.dae_ir.specs.Streams.{actions_of}
@@ -10,6 +10,7 @@ use Rattle.dae_regalloc.specs.Given.{AreFew, IsRegister}
 use Rattle.dae_regalloc.specs.Seen.{AreBelow}
 use Rattle.dae_select_calls.specs.declared.layouts.FunctionLayout.{FunctionLayout}
 use Rattle.dae_select_calls.specs.declared.layouts.Layouts.{Layouts}
+use Rattle.dae_link.specs.Residents.{AreResidents}
 
 -- where around no place of the function more than 18 variables are live, each has a register
 abbrev pub KeepsInRegisters : StreamFunction → FunctionLayout → Type 0
@@ -61,3 +62,4 @@ pub record AreUnplaced (stream : Stream) (all : Layouts) : Type 0 where
   pub few : (n : ℕ) → 19 ≤ n → AllByRecursion (IsFrameWithin n) all.functions → all.largest ≤ n
   pub private : all.private ≡ all.limit * all.largest
   pub low : all.private ≤ 2 ^ 28
+  pub residents : AreResidents all.functions all.residents

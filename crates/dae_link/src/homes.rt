@@ -1,4 +1,4 @@
-// What is settled of a side before its functions have places: homes, frames and private memory.
+// What is settled of a side before its functions have places: homes, frames, private memory, and numbers that stay in registers.
 
 ghost use Rattle.std.specs.Prelude.{◌≡◌, ◌≢◌, ℕ, ◌-◌, ◌*◌, ◌≤◌, ◌<◌, ◌^◌, ◌∷◌, [], length, IfOk, IfErr};
 ghost use Rattle.std.specs.List.{AllByRecursion, AllZip};
@@ -7,6 +7,7 @@ ghost use Rattle.dae_link.specs.Settled.{IsLayoutOf, IsFrameWithin, AreTooMany, 
 ghost use Rattle.dae_link.specs.declared.error.CodeError.TheVariants as errors;
 
 use crate::error::CodeError;
+use crate::residents::residents_of;
 use crate::{MOST_FRAME, MOST_PRIVATE};
 use dae_base::Items;
 use dae_ir::{Stream, StreamFunction};
@@ -83,7 +84,7 @@ fn private_words(calls: u16, largest: u32) -> Result<u32, CodeError>
     Ok(words as u32)
 }
 
-/// The homes and frames of a stream's functions, all at word 0.
+/// The homes and frames of a stream's functions, all at word 0, and the numbers that stay in registers.
 pub fn unplaced_layouts(alloc: Global, stream: &Stream) -> Result<Layouts, CodeError>
     ensures layouts { IfOk result (λ layouts. AreUnplaced stream.now layouts) }
     ensures code { IfErr result (λ e. e ≢ errors.Code) }
@@ -92,6 +93,7 @@ pub fn unplaced_layouts(alloc: Global, stream: &Stream) -> Result<Layouts, CodeE
     let functions = layouts_of(alloc, stream.functions.as_slice())?;
     let largest = largest_frame(functions.as_slice());
     let private = private_words(stream.calls, largest)?;
+    let residents = residents_of(alloc, stream.functions.as_slice(), functions.as_slice())?;
     Ok(Layouts {
         side: stream.side,
         functions: Items::from_vec(functions),
@@ -100,5 +102,6 @@ pub fn unplaced_layouts(alloc: Global, stream: &Stream) -> Result<Layouts, CodeE
         private,
         limit: stream.calls,
         memory: stream.memory,
+        residents: Items::from_vec(residents),
     })
 }

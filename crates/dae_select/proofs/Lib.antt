@@ -2,3 +2,4 @@ mod Counted
 mod Stacked
 mod Sizes
 mod InFront
+mod Untaken
