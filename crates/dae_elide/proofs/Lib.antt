@@ -1,0 +1,4 @@
+mod Running
+mod Elides
+mod Lasting
+mod Programs

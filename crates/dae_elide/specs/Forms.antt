@@ -1,0 +1,53 @@
+-- Whole forms without the checks of places that are known to pass, and what is true of them.
+use Rattle.std.specs.Prelude.{◌≡◌, ℕ, List, [], ◌∷◌, length, slice_get, Some}
+use Rattle.std.specs.List.{AllByRecursion}
+use Rattle.dae_ir.specs.Form.{form_of}
+use Rattle.dae_ir.specs.Classes.{Classes, AreAddressesClosed}
+use Rattle.dae_ir.specs.Programs.{outcome, program_of}
+use Rattle.dae_ir.specs.Scope.{IsScoped}
+use Rattle.dae_ir.specs.SetFirst.{IsFunctionSetFirst}
+use Rattle.dae_ir.specs.Sizes.{own_loads, conditions_a}
+use Rattle.dae_ir.specs.declared.form.Function.{Function}
+use Rattle.dae_ir.specs.declared.form.Ir.{Ir}
+use Rattle.dae_select_walks.specs.Facts.{unknown}
+use Rattle.dae_elide.specs.Elided.{elided}
+
+-- g is f without its known checks, where common memory has so many addresses
+pub record IsElidedFunction (memory : ℕ) (f g : Function) : Type 0 where
+  pub name : g.name ≡ f.name
+  pub parameters : g.parameters ≡ f.parameters
+  pub variables : g.variables ≡ f.variables
+  pub frame : g.frame ≡ f.frame
+  pub body : form_of g.body ≡ elided memory unknown (form_of f.body)
+
+abbrev pub AreElidedFunctions : ℕ → List Function → List Function → Type 0
+AreElidedFunctions memory [] [] = Unit {0}
+AreElidedFunctions memory [] (g ∷ gs) = ⊥
+AreElidedFunctions memory (f ∷ fs) [] = ⊥
+AreElidedFunctions memory (f ∷ fs) (g ∷ gs) = IsElidedFunction memory f g × AreElidedFunctions memory fs gs
+
+pub record IsElisionOf (ir new : Ir) : Type 0 where
+  pub memory : new.memory ≡ ir.memory
+  pub frames : new.frames ≡ ir.frames
+  pub calls : new.calls ≡ ir.calls
+  pub main : new.main ≡ ir.main
+  pub functions : AreElidedFunctions ir.memory ir.functions new.functions
+
+-- In a memory as large as the form's it ends just as the form does, under each bound on turns. It is as well made, and sets each
+-- variable before it reads it. What keeps what leads to addresses in the form does so in it, and by that each function has as many
+-- loads into variables that lead to addresses, and as many conditions that A decides.
+pub record KeepsOutcome (ir new : Ir) : Type 0 where
+  pub meaning : (n : ℕ) (memory : List ℕ) → length memory ≡ ir.memory
+      → outcome new n memory ≡ outcome ir n memory
+  pub scoped : IsScoped new
+  pub first : AllByRecursion IsFunctionSetFirst ir.functions
+      → AllByRecursion IsFunctionSetFirst new.functions
+  pub access : (of : ℕ → Classes) → AreAddressesClosed (program_of ir) (λ k. (of k).s)
+      → AreAddressesClosed (program_of new) (λ k. (of k).s)
+  pub counts : (c : Classes) (k : ℕ) (f g : Function)
+      → slice_get ir.functions k ≡ Some f → slice_get new.functions k ≡ Some g
+      → (own_loads c (form_of g.body) ≡ own_loads c (form_of f.body))
+      × (conditions_a c (form_of g.body) ≡ conditions_a c (form_of f.body))
+
+abbrev pub ChecksAreElided : Type 0
+ChecksAreElided = (ir new : Ir) → IsScoped ir → IsElisionOf ir new → KeepsOutcome ir new

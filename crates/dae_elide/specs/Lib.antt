@@ -1,0 +1,2 @@
+pub mod Elided
+pub mod Forms
