@@ -2,3 +2,4 @@ mod Running
 mod Elides
 mod Lasting
 mod Programs
+mod Walked

@@ -1,9 +1,9 @@
 -- Whole forms without the checks of places that are known to pass.
-use Rattle.std.proofs.Common.{◌≡◌, ℕ, zero, suc, Bool, List, [], ◌∷◌, length, Option, Some, refl, ap, sym, ◌∙◌, subst, arith}
+use Rattle.std.proofs.Common.{◌≡◌, ℕ, zero, suc, Bool, false, List, [], ◌∷◌, length, Option, Some, refl, ap, sym, ◌∙◌, subst, arith}
 use Rattle.std.specs.Prelude.{slice_get, IsTrue}
 use Rattle.std.specs.List.{AllByRecursion}
 use Rattle.dae_meaning.specs.Worlds.{World}
-use Rattle.dae_meaning.specs.Variables.{parameters_set}
+use Rattle.dae_meaning.specs.Variables.{VariableSet, parameters_set}
 use Rattle.dae_ir.specs.Code.{Each}
 use Rattle.dae_ir.specs.Form.{Form, form_of, calls_of, all_loads}
 use Rattle.dae_ir.specs.Classes.{Classes, is_by_a}
@@ -24,9 +24,17 @@ use Rattle.dae_elide.proofs.Lasting.{KeepsArguments, names_in, stays_same, close
 
 module _ (memory : ℕ) where
   body_elides : (f g : Function) → IsElidedFunction memory f g → Elides (form_of f.body) (form_of g.body)
-  body_elides f g r = subst (λ (c : Form). Elides (form_of f.body) c) (sym r.body) (code_elides memory (form_of f.body) unknown)
+  body_elides f g r = subst (λ (c : Form). Elides (form_of f.body) c) (sym r.body) (code_elides memory r.chosen (form_of f.body) unknown)
 
-  bodies : (fs gs : List Function) → AreElidedFunctions memory fs gs → (k : ℕ) → body_in (slice_get gs k) ≡ elided memory unknown (body_in (slice_get fs k))
+  -- the variables that were chosen in a function
+  abbrev chosen_in : (fs gs : List Function) → AreElidedFunctions memory fs gs → ℕ → VariableSet
+  chosen_in [] [] a k = λ v. false
+  chosen_in [] (g ∷ gs) a k = absurd a
+  chosen_in (f ∷ fs) [] a k = absurd a
+  chosen_in (f ∷ fs) (g ∷ gs) a zero = let r = a.0 in r.chosen
+  chosen_in (f ∷ fs) (g ∷ gs) a (suc k) = chosen_in fs gs a.1 k
+
+  bodies : (fs gs : List Function) (a : AreElidedFunctions memory fs gs) (k : ℕ) → body_in (slice_get gs k) ≡ elided memory (chosen_in fs gs a k) unknown (body_in (slice_get fs k))
   bodies [] [] a k = refl
   bodies [] (g ∷ gs) a k = absurd a
   bodies (f ∷ fs) [] a k = absurd a
@@ -95,7 +103,7 @@ module _ (memory : ℕ) where
   -- ---- what leads to addresses
 
   elides_at : (fs gs : List Function) → AreElidedFunctions memory fs gs → (k : ℕ) → Elides (body_in (slice_get fs k)) (body_in (slice_get gs k))
-  elides_at fs gs a k = subst (λ (c : Form). Elides (body_in (slice_get fs k)) c) (sym (bodies fs gs a k)) (code_elides memory (body_in (slice_get fs k)) unknown)
+  elides_at fs gs a k = subst (λ (c : Form). Elides (body_in (slice_get fs k)) c) (sym (bodies fs gs a k)) (code_elides memory (chosen_in fs gs a k) (body_in (slice_get fs k)) unknown)
 
   abbrev Counts : Classes → Form → Form → Type 0
   Counts c old new = (own_loads c new ≡ own_loads c old) × (conditions_a c new ≡ conditions_a c old)
@@ -117,7 +125,7 @@ module _ (ir new : Ir) (scoped : IsScoped ir) (of : IsElisionOf ir new) where
       ap (λ (w : World). calls_of (program_of new) all_loads n new.calls new.main [] w) (at_start memory)
       ∙ ap (λ (f : ℕ). calls_of (program_of new) all_loads n new.calls f [] (start ir memory)) of.main
       ∙ ap (λ (c : ℕ). calls_of (program_of new) all_loads n c ir.main [] (start ir memory)) of.calls
-      ∙ same_calls (program_of ir) (program_of new) (frames ir.memory ir.functions new.functions of.functions) of.calls ir.memory (bodies ir.memory ir.functions new.functions of.functions) all_loads n ir.calls ir.main [] (start ir memory) size
+      ∙ same_calls (program_of ir) (program_of new) (frames ir.memory ir.functions new.functions of.functions) of.calls ir.memory (chosen_in ir.memory ir.functions new.functions of.functions) (bodies ir.memory ir.functions new.functions of.functions) all_loads n ir.calls ir.main [] (start ir memory) size
 
   arguments : KeepsArguments ir.functions new.functions
   arguments = record { count = lengths ir.memory ir.functions new.functions of.functions; takes = takes_same ir.memory ir.functions new.functions of.functions }

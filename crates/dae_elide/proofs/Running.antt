@@ -1,5 +1,5 @@
 -- A form without the checks that are known to pass does just what the form does.
-use Rattle.std.proofs.Common.{◌≡◌, ℕ, zero, suc, ◌+◌, Bool, true, false, nat_eq, if◌then◌else◌, List, [], length, Option, Some, None, refl, ap, sym, ◌∙◌, subst, arith}
+use Rattle.std.proofs.Common.{◌≡◌, ℕ, zero, suc, ◌+◌, Bool, true, false, ◌&&◌, nat_eq, if◌then◌else◌, List, [], length, Option, Some, None, refl, ap, sym, ◌∙◌, subst, arith}
 use Rattle.std.specs.Prelude.{nat_lt, ◌||◌}
 use Rattle.std.proofs.Math.Path.{fun_ext}
 use Rattle.std.proofs.lemmas.Bool.{and_parts}
@@ -9,7 +9,7 @@ use Rattle.dae_base.specs.declared.Width.{Width}
 use Rattle.dae_base.proofs.Laws.{stored_length}
 use Rattle.dae_meaning.specs.Worlds.{World, KeepsMemory, ticked, fetched, back}
 use Rattle.dae_meaning.specs.Results.{Result, At, Over, Next, Leaves, Skips, Returns, Run, ◌▷◌, ◌↻◌, turns, world_of, within, checked}
-use Rattle.dae_meaning.specs.Variables.{Env, put, entered}
+use Rattle.dae_meaning.specs.Variables.{Env, VariableSet, put, entered}
 use Rattle.dae_meaning.specs.Operations.{misplaced, passed}
 use Rattle.dae_ir.specs.Code.{Done, Do, If, Loop, exec}
 use Rattle.dae_ir.specs.Form.{Form, Program, Calls, value, values, holds, computed, fault, called, deeper, ended, with_stored, with_printed, meaning, calls_of}
@@ -33,7 +33,7 @@ put_itself v e = fun_ext (λ u. by u (nat_eq u v) refl) where
   by u true h = let same : u ≡ v = grind (arith, nat_tests) in ap e (sym same)
   by u false h = refl
 
-module _ (p q : Program) (frames : (g : ℕ) → q.frame g ≡ p.frame g) (limits : q.limit ≡ p.limit) (memory : ℕ) (counted : ℕ → Bool) (calls calls' : Calls)
+module _ (p q : Program) (frames : (g : ℕ) → q.frame g ≡ p.frame g) (limits : q.limit ≡ p.limit) (memory : ℕ) (chosen : VariableSet) (counted : ℕ → Bool) (calls calls' : Calls)
     (enters : (g : ℕ) (xs : List ℕ) (w : World) → length w.memory ≡ memory → calls' g xs w ≡ calls g xs w)
     (keeps : (g : ℕ) (xs : List ℕ) (w : World) → KeepsMemory w (world_of (calls g xs w))) (bound : ℕ) where
   abbrev old : Form → Run Env
@@ -138,39 +138,39 @@ module _ (p q : Program) (frames : (g : ℕ) → q.frame g ≡ p.frame g) (limit
 
   -- ---- code
 
-  pub same_run : (code : Form) (facts : Facts) (o : Outs) → FactsGo memory facts (as_actions code) o → Goes facts o (old code) (new (elided memory facts code))
+  pub same_run : (code : Form) (facts : Facts) (o : Outs) → FactsGo memory facts (as_actions code) o → Goes facts o (old code) (new (elided memory chosen facts code))
   same_run Done facts o go e w h size = (refl, (go e h, size))
   same_run (Do place (Assign v x) k) facts o go e w h size =
       same_run k (facts_behind memory (Set v x) facts) o go (put true v (computed x w.frame e) e) (ticked w) (deed_facts p true (Set v x) w e facts memory size h) size
   same_run (Do place (Load v kind x) k) facts o go e w h size =
       let y = loaded kind (value x e) w.memory in
-      within_ends (misplaced (width_of kind) (value x e) (length w.memory)) (with_bounds v any facts) o (old k) (new (elided memory (with_bounds v any facts) k)) (put true v y e) w (fetched (counted v) w)
+      within_ends (misplaced (width_of kind) (value x e) (length w.memory)) (with_bounds v any facts) o (old k) (new (elided memory chosen (with_bounds v any facts) k)) (put true v y e) w (fetched (counted v) w)
       (returned_facts memory (Some v) (Some y) 0 [] facts e h) size (same_run k (with_bounds v any facts) o go)
   same_run (Do place (Store width x y) k) facts o go e w h size =
-      within_ends (misplaced width (value x e) (length w.memory)) facts o (old k) (new (elided memory facts k)) e w (with_stored width (value x e) (value y e) w)
+      within_ends (misplaced width (value x e) (length w.memory)) facts o (old k) (new (elided memory chosen facts k)) e w (with_stored width (value x e) (value y e) w)
       h (stored_length width (value x e) (value y e) w.memory ∙ size) (same_run k facts o go)
   same_run (Do place (Print spelling x) k) facts o go e w h size = same_run k facts o go e (with_printed spelling (value x e) w) h size
-  same_run (Do place (Expect (Good width (Variable v))) k) facts o go e w h size = by (is_known memory facts width v) refl where
+  same_run (Do place (Expect (Good width (Variable v))) k) facts o go e w h size = by (is_known memory chosen facts width v) refl where
     known : Facts
     known = facts_behind memory (Probe (Good width (Variable v))) facts
 
-    by : (b : Bool) → is_known memory facts width v ≡ b
-        → Ends o (old (Do place (Expect (Good width (Variable v))) k) e w) (new (Do place (if b then itself v else Expect (Good width (Variable v))) (elided memory known k)) e w)
-    by true is = leaves width v facts o (old k) (new (elided memory known k)) e w (and_parts (nat_lt 0 v) (is_good memory width (bounds_in facts v)) is).1 h size (same_run k known o go)
-    by false is = stays width v facts o (old k) (new (elided memory known k)) e w h size (same_run k known o go)
+    by : (b : Bool) → is_known memory chosen facts width v ≡ b
+        → Ends o (old (Do place (Expect (Good width (Variable v))) k) e w) (new (Do place (if b then itself v else Expect (Good width (Variable v))) (elided memory chosen known k)) e w)
+    by true is = leaves width v facts o (old k) (new (elided memory chosen known k)) e w (and_parts (chosen v && nat_lt 0 v) (is_good memory width (bounds_in facts v)) is).1 h size (same_run k known o go)
+    by false is = stays width v facts o (old k) (new (elided memory chosen known k)) e w h size (same_run k known o go)
   same_run (Do place (Expect (Good width (Number n))) k) facts o go e w h size =
-      checked_ends (misplaced width n (length w.memory)) facts o (old k) (new (elided memory facts k)) e w (λ none. h) size (same_run k facts o go)
+      checked_ends (misplaced width n (length w.memory)) facts o (old k) (new (elided memory chosen facts k)) e w (λ none. h) size (same_run k facts o go)
   same_run (Do place (Expect (Zero x)) k) facts o go e w h size =
-      checked_ends (if nat_eq (value x e) 0 then Some 1 else None) facts o (old k) (new (elided memory facts k)) e w (λ none. h) size (same_run k facts o go)
+      checked_ends (if nat_eq (value x e) 0 then Some 1 else None) facts o (old k) (new (elided memory chosen facts k)) e w (λ none. h) size (same_run k facts o go)
   same_run (Do place (Expect (Room g)) k) facts o go e w h size =
-      subst (λ (c : Option ℕ). Ends o (checked (fault p (Room g) w e) e (ticked w) ▷ old k) (checked c e (ticked w) ▷ new (elided memory facts k))) (sym (same_room g e w))
-      (checked_ends (fault p (Room g) w e) facts o (old k) (new (elided memory facts k)) e w (λ none. h) size (same_run k facts o go))
+      subst (λ (c : Option ℕ). Ends o (checked (fault p (Room g) w e) e (ticked w) ▷ old k) (checked c e (ticked w) ▷ new (elided memory chosen facts k))) (sym (same_room g e w))
+      (checked_ends (fault p (Room g) w e) facts o (old k) (new (elided memory chosen facts k)) e w (λ none. h) size (same_run k facts o go))
   same_run (Do place (Expect Frame) k) facts o go e w h size =
-      checked_ends (passed (nat_lt (length w.memory) w.top)) facts o (old k) (new (elided memory facts k)) e w (λ none. h) size (same_run k facts o go)
+      checked_ends (passed (nat_lt (length w.memory) w.top)) facts o (old k) (new (elided memory chosen facts k)) e w (λ none. h) size (same_run k facts o go)
   same_run (Do place (Expect Abort) k) facts o go e w h size = (refl, tt)
   same_run (Do place Break k) facts o go e w h size = (refl, (go e h, size))
   same_run (Do place Continue k) facts o go e w h size = (refl, (go e h, size))
-  same_run (Do place (Call v g xs) k) facts o go e w h size = calls_end v g xs facts o (old k) (new (elided memory (with_bounds v any facts) k)) e w h size (same_run k (with_bounds v any facts) o go)
+  same_run (Do place (Call v g xs) k) facts o go e w h size = calls_end v g xs facts o (old k) (new (elided memory chosen (with_bounds v any facts) k)) e w h size (same_run k (with_bounds v any facts) o go)
   same_run (Do place (Return x) k) facts o go e w h size = (refl, tt)
   same_run (Do place (Halt x) k) facts o go e w h size = (refl, tt)
   same_run (If place t a b k) facts o go e w h size = by (holds t e) refl where
@@ -179,19 +179,19 @@ module _ (p q : Program) (frames : (g : ℕ) → q.frame g ≡ p.frame g) (limit
 
     by : (c : Bool) → holds t e ≡ c
         → Ends o ((if c then old a e (ticked w) else old b e (ticked w)) ▷ old k)
-        ((if c then new (elided memory (facts_in_first (Silent t) facts) a) e (ticked w) else new (elided memory (facts_in_second (Silent t) facts) b) e (ticked w)) ▷ new (elided memory past k))
+        ((if c then new (elided memory chosen (facts_in_first (Silent t) facts) a) e (ticked w) else new (elided memory chosen (facts_in_second (Silent t) facts) b) e (ticked w)) ▷ new (elided memory chosen past k))
     by true is =
-        then_ends o past _ _ (old k) (new (elided memory past k))
+        then_ends o past _ _ (old k) (new (elided memory chosen past k))
         (same_run a (facts_in_first (Silent t) facts) (outs past o.leaves o.skips) go.0 e (ticked w) (branch_lies (Silent t) true facts e h is) size) (same_run k past o go.2)
     by false is =
-        then_ends o past _ _ (old k) (new (elided memory past k))
+        then_ends o past _ _ (old k) (new (elided memory chosen past k))
         (same_run b (facts_in_second (Silent t) facts) (outs past o.leaves o.skips) go.1 e (ticked w) (branch_lies (Silent t) false facts e h is) size) (same_run k past o go.2)
   same_run (Loop place b s k) facts o go e w h size =
       let turn : Facts = facts_at_turn memory (as_actions b) (as_actions s) facts in
       let step : Facts = facts_at_step memory (as_actions b) (as_actions s) facts in
       let past : Facts = facts_past_loop (as_actions b) (as_actions s) facts in
-      then_ends o past _ _ (old k) (new (elided memory past k))
-      (turns_end o turn step past (old b) (old s) (new (elided memory turn b)) (new (elided memory step s)) (same_run b turn (outs step past step) go.1) (same_run s step (outs turn past turn) go.2) bound e w (go.0 e h) size)
+      then_ends o past _ _ (old k) (new (elided memory chosen past k))
+      (turns_end o turn step past (old b) (old s) (new (elided memory chosen turn b)) (new (elided memory chosen step s)) (same_run b turn (outs step past step) go.1) (same_run s step (outs turn past turn) go.2) bound e w (go.0 e h) size)
       (same_run k past o go.3)
 
 -- ---- calls inside one another
@@ -199,7 +199,7 @@ module _ (p q : Program) (frames : (g : ℕ) → q.frame g ≡ p.frame g) (limit
 nothing_known : (e : Env) → Hold unknown e
 nothing_known e = record { outer = tt; inner = tt }
 
-module _ (p q : Program) (frames : (g : ℕ) → q.frame g ≡ p.frame g) (limits : q.limit ≡ p.limit) (memory : ℕ) (bodies : (g : ℕ) → q.body g ≡ elided memory unknown (p.body g)) (counted : Counting) where
+module _ (p q : Program) (frames : (g : ℕ) → q.frame g ≡ p.frame g) (limits : q.limit ≡ p.limit) (memory : ℕ) (chosen : ℕ → VariableSet) (bodies : (g : ℕ) → q.body g ≡ elided memory (chosen g) unknown (p.body g)) (counted : Counting) where
   at_entry : (g : ℕ) (w : World) → deeper q g w ≡ deeper p g w
   at_entry g w = ap (λ (frame : ℕ). record w { frame = w.top; top = w.top + frame; depth = w.depth + 1 }) (frames g)
 
@@ -213,6 +213,6 @@ module _ (p q : Program) (frames : (g : ℕ) → q.frame g ≡ p.frame g) (limit
       let o : Outs = outs unknown unknown unknown in
       let go : FactsGo memory unknown (as_actions body) o =
       facts_go memory (as_actions body) unknown o (record { next = λ e l. nothing_known e; leaves = λ e l. nothing_known e; skips = λ e l. nothing_known e }) in
-      let run = same_run p q frames limits memory (counted g) inner inner' (λ g' ys v s. same_calls n limit g' ys v s) (λ g' ys v. memory_kept p counted n limit g' ys v) n body unknown o go e (deeper p g w) (nothing_known e) size in
+      let run = same_run p q frames limits memory (chosen g) (counted g) inner inner' (λ g' ys v s. same_calls n limit g' ys v s) (λ g' ys v. memory_kept p counted n limit g' ys v) n body unknown o go e (deeper p g w) (nothing_known e) size in
       ap (λ (c : Form). exec (meaning q (counted g) inner') n c e (deeper q g w)) (bodies g)
-      ∙ ap (λ (v : World). exec (meaning q (counted g) inner') n (elided memory unknown body) e v) (at_entry g w) ∙ run.0
+      ∙ ap (λ (v : World). exec (meaning q (counted g) inner') n (elided memory (chosen g) unknown body) e v) (at_entry g w) ∙ run.0

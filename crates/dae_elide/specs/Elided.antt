@@ -3,6 +3,7 @@
 use Rattle.std.specs.Prelude.{ℕ, Bool, ◌&&◌, nat_lt, [], Some, if◌then◌else◌}
 use Rattle.dae_base.specs.declared.Width.{Width}
 use Rattle.dae_ir.specs.Code.{Done, Do, If, Loop}
+use Rattle.dae_ir.specs.Classes.{VariableSet}
 use Rattle.dae_ir.specs.Form.{Form}
 use Rattle.dae_ir.specs.Streams.{Actions, mark}
 use Rattle.dae_ir.specs.declared.form.Operand.TheVariants.{Variable}
@@ -38,29 +39,29 @@ as_actions (Loop place body step k) = Loop (mark place 0) (as_actions body) (as_
 
 -- ---- the form without its known checks
 
--- each word of the variable is a good address. Variable 0 is never set but by a return
-abbrev pub is_known : ℕ → Facts → Width → ℕ → Bool
-is_known memory facts width v = nat_lt 0 v && is_good memory width (bounds_in facts v)
+-- the variable is one of those that were chosen, and each of its words is a good address. Variable 0 is never set but by a return
+abbrev pub is_known : ℕ → VariableSet → Facts → Width → ℕ → Bool
+is_known memory chosen facts width v = (chosen v && nat_lt 0 v) && is_good memory width (bounds_in facts v)
 
 abbrev pub itself : ℕ → Item
 itself v = Assign v (Same (Variable v))
 
-abbrev pub elided_check : ℕ → Facts → Check → Item
-elided_check memory facts (Place width (Variable v)) = if is_known memory facts width v then itself v else Expect (Place width (Variable v))
-elided_check memory facts check = Expect check
+abbrev pub elided_check : ℕ → VariableSet → Facts → Check → Item
+elided_check memory chosen facts (Place width (Variable v)) = if is_known memory chosen facts width v then itself v else Expect (Place width (Variable v))
+elided_check memory chosen facts check = Expect check
 
-abbrev pub elided_item : ℕ → Facts → Item → Item
-elided_item memory facts (Expect check) = elided_check memory facts check
-elided_item memory facts item = item
+abbrev pub elided_item : ℕ → VariableSet → Facts → Item → Item
+elided_item memory chosen facts (Expect check) = elided_check memory chosen facts check
+elided_item memory chosen facts item = item
 
--- where common memory has so many addresses, and this is known where the form begins
-abbrev pub elided : ℕ → Facts → Form → Form
-elided memory facts Done = Done
-elided memory facts (Do place item k) = Do place (elided_item memory facts item) (elided memory (facts_behind memory (as_action item) facts) k)
-elided memory facts (If place t p q k) =
-    If place t (elided memory (facts_in_first (Silent t) facts) p) (elided memory (facts_in_second (Silent t) facts) q)
-    (elided memory (facts_past_if (Silent t) (as_actions p) (as_actions q) facts) k)
-elided memory facts (Loop place body step k) =
-    Loop place (elided memory (facts_at_turn memory (as_actions body) (as_actions step) facts) body)
-    (elided memory (facts_at_step memory (as_actions body) (as_actions step) facts) step)
-    (elided memory (facts_past_loop (as_actions body) (as_actions step) facts) k)
+-- where common memory has so many addresses, these variables are chosen, and this is known where the form begins
+abbrev pub elided : ℕ → VariableSet → Facts → Form → Form
+elided memory chosen facts Done = Done
+elided memory chosen facts (Do place item k) = Do place (elided_item memory chosen facts item) (elided memory chosen (facts_behind memory (as_action item) facts) k)
+elided memory chosen facts (If place t p q k) =
+    If place t (elided memory chosen (facts_in_first (Silent t) facts) p) (elided memory chosen (facts_in_second (Silent t) facts) q)
+    (elided memory chosen (facts_past_if (Silent t) (as_actions p) (as_actions q) facts) k)
+elided memory chosen facts (Loop place body step k) =
+    Loop place (elided memory chosen (facts_at_turn memory (as_actions body) (as_actions step) facts) body)
+    (elided memory chosen (facts_at_step memory (as_actions body) (as_actions step) facts) step)
+    (elided memory chosen (facts_past_loop (as_actions body) (as_actions step) facts) k)

@@ -2,7 +2,7 @@
 use Rattle.std.specs.Prelude.{◌≡◌, ℕ, List, [], ◌∷◌, length, slice_get, Some}
 use Rattle.std.specs.List.{AllByRecursion}
 use Rattle.dae_ir.specs.Form.{form_of}
-use Rattle.dae_ir.specs.Classes.{Classes, AreAddressesClosed}
+use Rattle.dae_ir.specs.Classes.{VariableSet, Classes, AreAddressesClosed}
 use Rattle.dae_ir.specs.Programs.{outcome, program_of}
 use Rattle.dae_ir.specs.Scope.{IsScoped}
 use Rattle.dae_ir.specs.SetFirst.{IsFunctionSetFirst}
@@ -12,13 +12,14 @@ use Rattle.dae_ir.specs.declared.form.Ir.{Ir}
 use Rattle.dae_select_walks.specs.Facts.{unknown}
 use Rattle.dae_elide.specs.Elided.{elided}
 
--- g is f without its known checks, where common memory has so many addresses
+-- g is f without the checks of some variables that are known to pass, where common memory has so many addresses
 pub record IsElidedFunction (memory : ℕ) (f g : Function) : Type 0 where
+  pub chosen : VariableSet
   pub name : g.name ≡ f.name
   pub parameters : g.parameters ≡ f.parameters
   pub variables : g.variables ≡ f.variables
   pub frame : g.frame ≡ f.frame
-  pub body : form_of g.body ≡ elided memory unknown (form_of f.body)
+  pub body : form_of g.body ≡ elided memory chosen unknown (form_of f.body)
 
 abbrev pub AreElidedFunctions : ℕ → List Function → List Function → Type 0
 AreElidedFunctions memory [] [] = Unit {0}

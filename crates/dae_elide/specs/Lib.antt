@@ -1,2 +1,3 @@
 pub mod Elided
 pub mod Forms
+pub mod Walked
