@@ -451,10 +451,17 @@ module _ (plan : Plan) (variables : ℕ → ℕ) (good : (f v : ℕ) → IsHome 
     needed_uses short true false false width x live leaves skips is = before_any (action_uses short (Probe (Place width x)) live leaves skips is)
     needed_uses short true true aligned width x live leaves skips is = record { only = tt; some = λ q e no alone. no refl e }
 
+    -- a variable that is set to itself uses none
+    itself_uses : (short told same : Bool) (v u : ℕ) (live : VariableSet) (leaves skips : ℕ) → IsOfSide by_a' (Compute v (Same (Variable u))) →
+        UsesBefore by_a' told None (needed_code plan variables f (if same then Nothing else All) (Compute v (Same (Variable u))) live (jump_over short leaves) (jump_over short skips))
+    itself_uses short told true v u live leaves skips is = before_any (no_queue by_a' [] tt)
+    itself_uses short told false v u live leaves skips is = before_any (action_uses short (Compute v (Same (Variable u))) live leaves skips is)
+
     alone_uses : (short : Bool) (known : Facts) (a : Action) (k : Actions) (live : VariableSet) (leaves skips : ℕ) → IsOfSide by_a' a →
         UsesBefore by_a' (tells_within 24 k) (action_queue by_a' a) (needed_code plan variables f (need_of plan.memory known a k) a live (jump_over short leaves) (jump_over short skips))
     alone_uses short known (Probe (Place width x)) k live leaves skips is =
         needed_uses short (tells_within 24 k) (is_good plan.memory width (operand_bounds known x)) (is_aligned width (operand_bounds known x)) width x live leaves skips is
+    alone_uses short known (Compute v (Same (Variable u))) k live leaves skips is = itself_uses short (tells_within 24 k) (nat_eq u v) v u live leaves skips is
     alone_uses short known a k live leaves skips is = before_any (action_uses short a live leaves skips is)
 
     -- the block of an action, where things stand so before it and so behind it

@@ -1,6 +1,7 @@
 -- The blocks of actions that go on to the next do them, wherever they stand.
 use Rattle.std.proofs.Common.{◌≡◌, ◌≢◌, ℕ, ◌+◌, ◌%◌, ◌^◌, ◌<◌, ◌≤◌, Bool, true, false, not, ◌&&◌, ◌||◌, List, [], Option, Some, None, length, refl, sym, ap, ◌∙◌, subst, arith}
-use Rattle.std.specs.Prelude.{nat_lt}
+use Rattle.std.specs.Prelude.{nat_lt, nat_eq, if◌then◌else◌}
+use Rattle.std.proofs.Math.Path.{fun_ext}
 use Rattle.std.proofs.lemmas.Bool.Decides.{nat_tests}
 use Rattle.std.proofs.lemmas.Bool.{or_right}
 use Rattle.dae_base.specs.declared.Side.TheVariants.{A, E}
@@ -9,15 +10,19 @@ use Rattle.dae_base.specs.Words.{size}
 use Rattle.dae_encode.specs.declared.Inst.{Inst}
 use Rattle.dae_ir.specs.Classes.{VariableSet}
 use Rattle.dae_meaning.specs.Worlds.{World}
+use Rattle.dae_meaning.specs.Variables.{Env}
+use Rattle.dae_meaning.specs.Variables as form
 use Rattle.dae_encode.specs.Processor.{Processor}
 use Rattle.dae_ir.specs.Form.{Program, value}
 use Rattle.dae_ir.specs.Programs.{side}
 use Rattle.dae_ir.specs.Deeds.{Halts, deed, probed, stopped}
 use Rattle.dae_ir.specs.declared.form.Operand.{Operand}
+use Rattle.dae_ir.specs.declared.form.Operand.TheVariants.{Variable}
+use Rattle.dae_ir.specs.declared.form.Value.TheVariants.{Same}
 use Rattle.dae_ir.specs.declared.form.Check.TheVariants.{Place, Zero, Room, Frame, Abort}
 use Rattle.dae_ir.specs.declared.stream.Action.{Action}
 use Rattle.dae_ir.specs.declared.stream.Action.TheVariants.{Set as Compute, Issue, Own, Receive, Address, Datum, Offer, Accept, Emit, Probe, Tell, Hear, Stop, Break, Continue, Call, Return}
-use Rattle.dae_select_walks.specs.Walks.{Setting}
+use Rattle.dae_select_walks.specs.Walks.{Setting, Comes}
 use Rattle.dae_select_walks.specs.Does.{Does}
 use Rattle.dae_select_walks.specs.Live.{Ways, with_all, reads, sets, in_option, after, before}
 use Rattle.dae_select_walks.specs.Layout.{CodeAt}
@@ -37,6 +42,13 @@ use Rattle.dae_select_blocks.proofs.Agreement.{Ready}
 use Rattle.dae_select_blocks.proofs.Jumps.{ready, stands_less}
 use Rattle.dae_select_blocks.proofs.Actions.{To, Does', set_done, issue_done, own_done, receive_done, address_done, datum_done, offer_done, accept_done, tell_done}
 use Rattle.dae_select_blocks.proofs.Checks.{emit_done, stop_a_done, stop_e_done, zero_done, place_done, bounds_done, check_room_done, frame_done, abort_done, hear_done}
+
+-- a variable that is set to itself
+set_to_itself : (v : ℕ) (e : Env) → form.put true v (e v) e ≡ e
+set_to_itself v e = fun_ext (λ u. by u (nat_eq u v) refl) where
+  by : (u : ℕ) (b : Bool) → nat_eq u v ≡ b → (if b then e v else e u) ≡ e u
+  by u true h = let same : u ≡ v = grind (arith, nat_tests) in ap e (sym same)
+  by u false h = refl
 
 -- the actions that take or give no way but the next
 abbrev pub IsSimple : Action → Type 0
@@ -168,3 +180,12 @@ module _ (s : Setting) (plan : Plan) (variables : ℕ → ℕ) (fine : Fits s pl
       let passes = good_is plan.memory width (operand_bounds known y) (value y m.env) (operand_is known m.env y facts) good in
       let here : k ≡ k + 0 = omega arith in
       rw (world.memory, passes) (comes_here s (h.0, stands_less s plan variables fine less (subst (λ (j : ℕ). Stands plan live m j p) here h.1)))
+
+  -- and so does a variable that is set to itself
+  pub itself_done : (f v : ℕ) (live live' : VariableSet) (known : Facts) (k : ℕ) → ((u : ℕ) → live' u ≡ true → live u ≡ true) →
+      (m : Moment) (w : World) (p : Processor) → At s plan program entries most widest f (exit k live) m p → IsWorldOf plan m w → Hold known m.env →
+      Does s most (deed program plan.by_a (Compute v (Same (Variable v))) w m.env) (λ env. At s plan program entries most widest f (exit (k + 0) live') (with_env env m)) p
+  itself_done f v live live' known k less m w p h world facts =
+      let here : k ≡ k + 0 = omega arith in
+      subst (λ (e : Env). Comes s most p (At s plan program entries most widest f (exit (k + 0) live') (with_env e m))) (sym (set_to_itself v m.env))
+      (comes_here s (h.0, stands_less s plan variables fine less (subst (λ (j : ℕ). Stands plan live m j p) here h.1)))

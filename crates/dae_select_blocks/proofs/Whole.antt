@@ -46,7 +46,7 @@ use Rattle.dae_select_blocks.specs.Fits.{Fits}
 use Rattle.dae_select_blocks.specs.Wanted.{IsWanted, IsWantedBranch, IsPlanOf, IsRight}
 use Rattle.dae_select_blocks.proofs.Runs.{code_take, code_drop}
 use Rattle.dae_select_blocks.proofs.Uses.{takes_load_left, takes_load_right, takes_copy_left, takes_copy_right}
-use Rattle.dae_select_blocks.proofs.Simple.{IsSimple, around, e_side, simple_done, placed_done, passed_done}
+use Rattle.dae_select_blocks.proofs.Simple.{IsSimple, around, e_side, simple_done, placed_done, passed_done, itself_done}
 use Rattle.dae_select_blocks.proofs.Pairs.{passed_on, by_pairs, entered_at, Suits, suits_behind, AreLateNumbers, late_first, late_second, late_sent, early_first, early_second}
 use Rattle.dae_select_blocks.proofs.Lengths.{back_branch_long}
 use Rattle.dae_select_blocks.proofs.Jumps.{goes_if, jump_long, back_long, hears_some, leads_over, turns_over, turns_back, stands_less, silent_done, tells_done, hears_done, AllLong, GoesFrom, ahead_long, ahead_goes, back_long_all, back_goes}
@@ -207,7 +207,22 @@ module _ (s : Setting) (plan : Plan) (variables : ℕ → ℕ) (fine : Fits s pl
         stays true c e = refl
         stays false c e = rw e refl
 
+    itself_step : (f : ℕ) (known : Facts) (mark : Mark) (v u : ℕ) (k : Actions) (x : Exits) (leaves skips here : ℕ) (same : Bool) → nat_eq u v ≡ same → StepDone f known (if same then Nothing else All) Settled mark x leaves skips here (Compute v (Same (Variable u))) k Settled
+    itself_step f known mark v u k x leaves skips here false e = plain_step f known mark (Compute v (Same (Variable u))) k x leaves skips here
+    itself_step f known mark v u k x leaves skips here true e =
+        let is : u ≡ v = grind (arith, nat_tests) in
+        subst (λ (z : ℕ). StepDone f known Nothing Settled mark x leaves skips here (Compute v (Same (Variable z))) k Settled) (sym is)
+        (λ suits numbers settled wanted more right rights at low small to_leave to_skip near close. (
+          itself_done s plan variables fine program is_plan entries most widest f v (before (Compute v (Same (Variable v))) (live k (ways_of x)) (ways_of x)) (live k (ways_of x)) known here (λ w l. still (nat_eq w v) (live k (ways_of x) w) l),
+          tt,
+        ))
+      where
+        still : (b c : Bool) → c ≡ true → (b || (c && not b)) ≡ true
+        still true c e = refl
+        still false c e = rw e refl
+
     alone_step : (f : ℕ) (known : Facts) (mark : Mark) (a : Action) (k : Actions) (x : Exits) (leaves skips here : ℕ) → StepDone f known (need_of plan.memory known a k) Settled mark x leaves skips here a k Settled
+    alone_step f known mark (Compute v (Same (Variable u))) k x leaves skips here = itself_step f known mark v u k x leaves skips here (nat_eq u v) refl
     alone_step f known mark (Probe (Place width y)) k x leaves skips here = passed_step f known mark width y k x leaves skips here (tells_within 24 k) (is_good plan.memory width (operand_bounds known y)) refl
     alone_step f known mark a k x leaves skips here = plain_step f known mark a k x leaves skips here
 

@@ -1,8 +1,9 @@
 // What is known along a list of steps, and how much of their blocks is needed.
 
-ghost use Rattle.std.specs.Prelude.{◌≡◌, IfOk};
+ghost use Rattle.std.specs.Prelude.{◌≡◌, IfOk, if◌then◌else◌, nat_eq};
 ghost use Rattle.dae_ir.specs.Streams.{actions_of};
 ghost use Rattle.dae_select_walks.specs.Facts.{needed, tells_within};
+ghost use Rattle.dae_select_walks.specs.declared.Need.TheVariants.{All, Nothing};
 ghost use Rattle.dae_select_facts.specs.Knowns.{facts_by};
 ghost use Rattle.dae_select_facts.specs.Along.{facts_after, need_of_step, IsBefore, AreBefore};
 
@@ -10,7 +11,7 @@ use crate::bounds::{is_aligned, is_good};
 use crate::known::{Known, facts_behind, operand_bounds, unknown};
 use crate::through::{facts_past_if, facts_past_loop};
 use dae_base::Width;
-use dae_ir::{Action, Check, Step};
+use dae_ir::{Action, Check, Operand, Step, Value};
 use dae_select_walks::{Bounds, Fact, Need};
 use std::alloc::{AllocError, Global};
 
@@ -70,6 +71,17 @@ fn need_within(memory: u32, width: Width, bounds: Bounds, rest: &[Step]) -> Need
     }
 }
 
+/// What is needed of the block of a copy: nothing where the variable is set to itself.
+fn need_of_copy(variable: u32, from: u32) -> Need
+    ensures { result ≡ (if nat_eq from variable then Nothing else All) }
+{
+    if from == variable {
+        Need::Nothing
+    } else {
+        Need::All
+    }
+}
+
 /// What is needed of the block of a step, behind which these come.
 pub fn need_of(memory: u32, known: &Known, step: &Step, rest: &[Step]) -> Need
     ensures { result
@@ -79,6 +91,9 @@ pub fn need_of(memory: u32, known: &Known, step: &Step, rest: &[Step]) -> Need
         Step::Act(_, Action::Probe(Check::Place(width, operand))) => {
             let bounds = operand_bounds(known, *operand);
             need_within(memory, *width, bounds, rest)
+        }
+        Step::Act(_, Action::Set(variable, Value::Same(Operand::Variable(from)))) => {
+            need_of_copy(*variable, *from)
         }
         Step::Act(_, _) | Step::If(_, _, _, _) | Step::Loop(_, _, _) => Need::All,
     }
