@@ -1,0 +1,13 @@
+pub mod Tables
+pub mod Inside
+pub mod Owning
+pub mod Simulation
+pub mod Accesses
+pub mod Scoping
+pub mod Ordering
+pub mod Measures
+pub mod Staying
+pub mod Programs
+pub mod Steps
+pub mod Wholes
+pub mod Arguments
