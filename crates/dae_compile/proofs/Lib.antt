@@ -1,5 +1,6 @@
 mod Accesses
 mod Fitting
+mod Passes
 mod Small
 mod Names
 mod Own

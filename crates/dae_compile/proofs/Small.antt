@@ -12,11 +12,11 @@ use Rattle.dae_program.specs.declared.program.Program.{Program}
 use Rattle.dae_program.specs.Lawful.{is_lawful, is_lawful_in, is_lawful_memory, is_main, is_ready, is_well_placed, spares}
 use Rattle.dae_ir.specs.Code.{Done, Do, If, Loop}
 use Rattle.dae_ir.specs.Form.{Form, form_of}
-use Rattle.dae_ir.specs.Sizes.{bit, form_size, item_weight}
+use Rattle.dae_ir.specs.Sizes.{bit, form_size, is_load_into, item_weight}
 use Rattle.dae_ir.specs.declared.form.Function.{Function as FormFunction}
 use Rattle.dae_ir.specs.declared.form.Ir.{Ir}
 use Rattle.dae_ir.specs.declared.form.Item.{Item}
-use Rattle.dae_ir.specs.declared.form.Item.TheVariants.{Call, Load}
+use Rattle.dae_ir.specs.declared.form.Item.TheVariants.{Assign, Load, Store, Print, Expect, Break, Continue, Call, Return, Halt}
 use Rattle.dae_select_walks.specs.Homes.{frame_words}
 use Rattle.dae_compile.specs.Generated.{calls_of_form, is_call, words_of_form, words_of_functions, HasFramesWithin, HaveAtMost, IsShort, NeedsTooMuch}
 use Rattle.dae_lower_formed.specs.Formed.{AreFormsOf, IsFormOf, IsLowered}
@@ -28,6 +28,10 @@ use Rattle.dae_alias.specs.Forms.{AreReused, IsReusedFunction}
 use Rattle.dae_alias.specs.Laws.{ReuseStaysSmall}
 use Rattle.dae_alias.specs.Reuse.{loads_in as reuse_loads, reused}
 use Rattle.dae_alias.specs.Stretches.{nothing}
+use Rattle.dae_webs.specs.Current.{own_webs}
+use Rattle.dae_webs.specs.Renamed.{renamed_code}
+use Rattle.dae_webs.specs.Forms.{IsRenamedOrSame, AreRenamedFunctions}
+use Rattle.dae_webs.specs.Laws.{IsBlind, RenamingKeepsSizes}
 use Rattle.dae_lower_formed.specs.Code.{loaded_burden, loads_in}
 use Rattle.dae_compile.specs.Compiled.{IsCompiledFrom, IsFinalForm, HasTooMuchPrivate, HasTooMuchCode}
 use Rattle.dae_compile.specs.Sizes.{private_beside, words_beside, AreSmallBy, IsSmallBy, IsSmallBeside}
@@ -52,8 +56,53 @@ same_loads (Do mark item k) = let h = same_loads k in omega (arith, h)
 same_loads (If mark test p q k) = let h = same_loads p in let g = same_loads q in let f = same_loads k in omega (arith, h, g, f)
 same_loads (Loop mark body step k) = let h = same_loads body in let g = same_loads step in let f = same_loads k in omega (arith, h, g, f)
 
--- a function whose loads are reused has an item and a variable more for at most every second load
-reused_small : ReuseStaysSmall → (f g : FormFunction) → IsReusedFunction f g → IsSmallBy f g
+call_blind : IsBlind (λ item. bit (is_call item))
+call_blind o m (Assign v x) = refl
+call_blind o m (Load v kind x) = refl
+call_blind o m (Store width x y) = refl
+call_blind o m (Print spelling x) = refl
+call_blind o m (Expect check) = refl
+call_blind o m Break = refl
+call_blind o m Continue = refl
+call_blind o m (Call v g xs) = refl
+call_blind o m (Return x) = refl
+call_blind o m (Halt x) = refl
+
+load_blind : IsBlind (λ item. bit (is_load_into (λ v. true) item))
+load_blind o m (Assign v x) = refl
+load_blind o m (Load v kind x) = refl
+load_blind o m (Store width x y) = refl
+load_blind o m (Print spelling x) = refl
+load_blind o m (Expect check) = refl
+load_blind o m Break = refl
+load_blind o m Continue = refl
+load_blind o m (Call v g xs) = refl
+load_blind o m (Return x) = refl
+load_blind o m (Halt x) = refl
+
+-- code that is as large, and has as many calls and loads, weighs the same
+same_weight : (c d : Form) → form_size c ≡ form_size d → calls_of_form c ≡ calls_of_form d → loads_in c ≡ loads_in d → loaded_burden c ≡ loaded_burden d
+same_weight c d size calls loads = let w = weighs c in let z = weighs d in omega (arith, size, calls, loads, w, z)
+
+-- a function whose variables are renamed weighs the same, and has as many loads
+renamed_weighs : RenamingKeepsSizes → (f g : FormFunction) → IsRenamedOrSame f g
+    → (loaded_burden (form_of g.body) ≡ loaded_burden (form_of f.body)) × (loads_in (form_of g.body) ≡ loads_in (form_of f.body))
+renamed_weighs sizes f g (inl same) = (ap (λ (h : FormFunction). loaded_burden (form_of h.body)) same, ap (λ (h : FormFunction). loads_in (form_of h.body)) same)
+renamed_weighs sizes f g (inr r) =
+    let s = sizes r.starts 0 (own_webs 0 f.variables) (form_of f.body) in
+    let calls = s.tallies (λ item. bit (is_call item)) (λ t. 0) call_blind (λ m t. refl) in
+    let loads = s.tallies (λ item. bit (is_load_into (λ v. true) item)) (λ t. 0) load_blind (λ m t. refl) in
+    let weight = same_weight (renamed_code r.starts 0 (own_webs 0 f.variables) (form_of f.body)) (form_of f.body) s.size calls loads in
+    (subst (λ (c : Form). loaded_burden c ≡ loaded_burden (form_of f.body)) (sym r.body) weight, subst (λ (c : Form). loads_in c ≡ loads_in (form_of f.body)) (sym r.body) loads)
+
+-- and at most every second variable beyond 9 more
+renamed_variables : (f g : FormFunction) → IsRenamedOrSame f g → 2 * g.variables ≤ 2 * f.variables + (f.variables - 9)
+renamed_variables f g (inl same) = let e : g.variables ≡ f.variables = ap (λ (h : FormFunction). h.variables) same in omega (arith, e)
+renamed_variables f g (inr r) = r.most
+
+-- a function whose loads are then reused has an item and a variable more for at most every second load
+reused_small : ReuseStaysSmall → (f g : FormFunction) → IsReusedFunction f g
+    → (28 * form_size (form_of g.body) + 42 * calls_of_form (form_of g.body) ≤ 14 * loaded_burden (form_of f.body)) × (2 * g.variables ≤ 2 * f.variables + loads_in (form_of f.body))
 reused_small small f g is =
     let s = small is.holders (form_of f.body) in
     let size = s.size in
@@ -61,17 +110,29 @@ reused_small small f g is =
     let calls : calls_of_form (reused is.holders nothing [] 0 (form_of f.body)) ≡ calls_of_form (form_of f.body) = s.others (λ item. bit (is_call item)) (λ t. 0) (λ v kind x. refl) (λ v u. refl) in
     let w = weighs (form_of f.body) in
     let l = same_loads (form_of f.body) in
-    let more = is.variables in
-    record {
-      words = subst (λ (c : Form). 28 * form_size c + 42 * calls_of_form c ≤ 14 * loaded_burden (form_of f.body)) (sym is.body) (omega (arith, size, half, calls, w, l));
-      variables = omega (arith, half, l, more);
-    }
+    let more = is.variables in (
+      subst (λ (c : Form). 28 * form_size c + 42 * calls_of_form c ≤ 14 * loaded_burden (form_of f.body)) (sym is.body) (omega (arith, size, half, calls, w, l)),
+      omega (arith, half, l, more),
+    )
 
-pub functions_small : ReuseStaysSmall → (fs gs : List FormFunction) → AreReused fs gs → AreSmallBy fs gs
-functions_small small [] [] is = tt
-functions_small small [] (g ∷ gs) is = absurd is
-functions_small small (f ∷ fs) [] is = absurd is
-functions_small small (f ∷ fs) (g ∷ gs) is = (reused_small small f g is.0, functions_small small fs gs is.1)
+final_small : RenamingKeepsSizes → ReuseStaysSmall → (f h g : FormFunction) → IsRenamedOrSame f h → IsReusedFunction h g → IsSmallBy f g
+final_small sizes small f h g named is =
+    let weight = renamed_weighs sizes f h named in
+    let more = renamed_variables f h named in
+    let by = reused_small small h g is in
+    let words = by.0 in
+    let variables = by.1 in
+    let burdens = weight.0 in
+    let loads = weight.1 in
+    record { words = omega (arith, words, burdens); variables = omega (arith, more, variables, loads) }
+
+pub functions_small : RenamingKeepsSizes → ReuseStaysSmall → (fs hs gs : List FormFunction) → AreRenamedFunctions fs hs → AreReused hs gs → AreSmallBy fs gs
+functions_small sizes small [] [] [] named is = tt
+functions_small sizes small [] [] (g ∷ gs) named is = absurd is
+functions_small sizes small [] (h ∷ hs) gs named is = absurd named
+functions_small sizes small (f ∷ fs) [] gs named is = absurd named
+functions_small sizes small (f ∷ fs) (h ∷ hs) [] named is = absurd is
+functions_small sizes small (f ∷ fs) (h ∷ hs) (g ∷ gs) named is = (final_small sizes small f h g named.0 is.0, functions_small sizes small fs hs gs named.1 is.1)
 
 words_weigh : (fs gs : List FormFunction) → AreSmallBy fs gs → words_of_functions gs ≤ 14 * burdens_of fs
 words_weigh [] [] is = omega arith

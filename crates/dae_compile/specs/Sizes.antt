@@ -1,5 +1,5 @@
 -- How small a final form is beside the lowered one, and the image of several texts beside these.
-use Rattle.std.specs.Prelude.{ℕ, ◌+◌, ◌*◌, ◌≤◌, List, [], ◌∷◌, length}
+use Rattle.std.specs.Prelude.{ℕ, ◌+◌, ◌-◌, ◌*◌, ◌≤◌, List, [], ◌∷◌, length}
 use Rattle.dae_image.specs.declared.Image.{Image}
 use Rattle.dae_ir.specs.Form.{form_of}
 use Rattle.dae_ir.specs.Sizes.{form_size}
@@ -12,11 +12,12 @@ use Rattle.dae_sizes.specs.Sources.{AreUpTo, tokens_in, bytes_in}
 
 -- A function of a final form, beside that of the lowered one: the words that bound its code, 28 a unit of size and 42 more a
 -- call, are at most what the lowered code weighs, 14 for each half of an item, with a half more for each load; and it has at
--- most one variable more for every second load.
+-- most one variable more for every second variable beyond 9 and for every second load.
 pub record IsSmallBy (f g : Function) : Type 0 where
   pub words : 28 * form_size (form_of g.body) + 42 * calls_of_form (form_of g.body)
       ≤ 14 * loaded_burden (form_of f.body)
-  pub variables : 2 * g.variables ≤ 2 * f.variables + loads_in (form_of f.body)
+  pub variables : 2 * g.variables
+      ≤ 2 * f.variables + (f.variables - 9) + loads_in (form_of f.body)
 
 abbrev pub AreSmallBy : List Function → List Function → Type 0
 AreSmallBy [] [] = Unit {0}

@@ -19,6 +19,7 @@ use dae_ir::Ir;
 use dae_link::CodeError;
 use dae_lower_programs::lower;
 use dae_program::Program;
+use dae_webs::{forms_are_renamed, rename_webs, renaming_keeps_sizes};
 use std::alloc::{AllocError, Global};
 
 // A byte is below 256.
@@ -26,18 +27,22 @@ fn see_bytes(bytes: &[u8])
     ensures { All (λ b. b < 256) bytes.now }
 {}
 
-/// A final form of a program, with at most so many calls inside one another: the lowered form with its loads reused. It is well
-/// made, sets each variable before it reads it, and has room in its memory. An error is want of memory.
+/// A final form of a program, with at most so many calls inside one another: the lowered form with its variables renamed by webs,
+/// and then with its loads reused. It is well made, sets each variable before it reads it, and has room in its memory. An error is
+/// want of memory.
 fn final_form(alloc: Global, program: &Program, calls: u16) -> Result<Ir, AllocError>
     ensures made { IfOk result (IsFinalForm program.now calls) }
     ensures scoped { IfOk result IsScoped }
     ensures first { IfOk result (λ ir. AllByRecursion IsFunctionSetFirst ir.functions) }
     ensures room { IfOk result (HasRoom program.now) }
 {
+    forms_are_renamed();
+    renaming_keeps_sizes();
     forms_are_reused();
     reuse_stays_small();
     let lowered = lower(alloc, program, calls)?;
-    let ir = reuse(alloc, lowered)?;
+    let renamed = rename_webs(alloc, lowered)?;
+    let ir = reuse(alloc, renamed)?;
     Ok(ir)
 }
 

@@ -1,5 +1,5 @@
 -- How small the functions, the form and the code of a program are beside the tokens of its files.
-use Rattle.std.specs.Prelude.{◌≡◌, ℕ, ◌+◌, ◌*◌, ◌≤◌, Bool, List, [], ◌∷◌}
+use Rattle.std.specs.Prelude.{◌≡◌, ℕ, ◌+◌, ◌-◌, ◌*◌, ◌≤◌, Bool, List, [], ◌∷◌}
 use Rattle.std.specs.List.{AllByRecursion}
 use Rattle.dae_tree.specs.Depth.{greatest_length}
 use Rattle.dae_tree.specs.Files.{Contents}
@@ -51,9 +51,11 @@ FormsAreFew =
     (files : List Contents) (ir : Ir) → IsForm files ir →
     AreFrom (λ (x : Source) (g : FormFunction). IsDefinition x.external × (7 + g.variables ≤ 4 * tokens x.external) × (loads_in (form_of g.body) ≤ g.variables)) (sources_in files) ir.functions
 
--- twice a frame of 19 words, one for each variable and one for every second load has at most 16 words for each token
+-- twice a frame of 19 words, one for each variable, one for every second variable beyond 9 and one for every second load has at
+-- most 16 words for each token
 abbrev pub HasFrameWithin : ℕ → FormFunction → Type 0
-HasFrameWithin n g = 38 + (2 * g.variables + loads_in (form_of g.body)) ≤ 16 * n + 1
+HasFrameWithin n g =
+    38 + (2 * g.variables + (g.variables - 9) + loads_in (form_of g.body)) ≤ 16 * n + 1
 
 abbrev pub FramesAreSmall : Type 0
 FramesAreSmall =
