@@ -32,6 +32,7 @@ use Rattle.dae_webs.specs.Current.{own_webs}
 use Rattle.dae_webs.specs.Renamed.{renamed_code}
 use Rattle.dae_webs.specs.Forms.{IsRenamedOrSame, AreRenamedFunctions}
 use Rattle.dae_webs.specs.Laws.{IsBlind, RenamingKeepsSizes}
+use Rattle.dae_elide.specs.Forms.{IsElidedFunction, AreElidedFunctions, ElisionKeepsSizes}
 use Rattle.dae_lower_formed.specs.Code.{loaded_burden, loads_in}
 use Rattle.dae_compile.specs.Compiled.{IsCompiledFrom, IsFinalForm, HasTooMuchPrivate, HasTooMuchCode}
 use Rattle.dae_compile.specs.Sizes.{private_beside, words_beside, AreSmallBy, IsSmallBy, IsSmallBeside}
@@ -115,24 +116,38 @@ reused_small small f g is =
       omega (arith, half, l, more),
     )
 
-final_small : RenamingKeepsSizes → ReuseStaysSmall → (f h g : FormFunction) → IsRenamedOrSame f h → IsReusedFunction h g → IsSmallBy f g
-final_small sizes small f h g named is =
+-- a function whose known checks are elided weighs the same, and has as many loads
+elided_weighs : ElisionKeepsSizes → (memory : ℕ) (f g : FormFunction) → IsElidedFunction memory f g
+    → (loaded_burden (form_of g.body) ≡ loaded_burden (form_of f.body)) × (loads_in (form_of g.body) ≡ loads_in (form_of f.body))
+elided_weighs sizes memory f g r =
+    let s = sizes memory f g r in
+    let calls = s.tallies (λ item. bit (is_call item)) (λ t. 0) (λ width v. refl) in
+    let loads = s.tallies (λ item. bit (is_load_into (λ v. true) item)) (λ t. 0) (λ width v. refl) in
+    (same_weight (form_of g.body) (form_of f.body) s.size calls loads, loads)
+
+final_small : RenamingKeepsSizes → ElisionKeepsSizes → ReuseStaysSmall → (memory : ℕ) (f h e g : FormFunction) → IsRenamedOrSame f h → IsElidedFunction memory h e → IsReusedFunction e g → IsSmallBy f g
+final_small sizes elides small memory f h e g named elided is =
     let weight = renamed_weighs sizes f h named in
     let more = renamed_variables f h named in
-    let by = reused_small small h g is in
+    let weight' = elided_weighs elides memory h e elided in
+    let count = elided.variables in
+    let by = reused_small small e g is in
     let words = by.0 in
     let variables = by.1 in
-    let burdens = weight.0 in
-    let loads = weight.1 in
-    record { words = omega (arith, words, burdens); variables = omega (arith, more, variables, loads) }
+    let burdens = weight'.0 ∙ weight.0 in
+    let loads = weight'.1 ∙ weight.1 in
+    record { words = omega (arith, words, burdens); variables = omega (arith, more, variables, loads, count) }
 
-pub functions_small : RenamingKeepsSizes → ReuseStaysSmall → (fs hs gs : List FormFunction) → AreRenamedFunctions fs hs → AreReused hs gs → AreSmallBy fs gs
-functions_small sizes small [] [] [] named is = tt
-functions_small sizes small [] [] (g ∷ gs) named is = absurd is
-functions_small sizes small [] (h ∷ hs) gs named is = absurd named
-functions_small sizes small (f ∷ fs) [] gs named is = absurd named
-functions_small sizes small (f ∷ fs) (h ∷ hs) [] named is = absurd is
-functions_small sizes small (f ∷ fs) (h ∷ hs) (g ∷ gs) named is = (final_small sizes small f h g named.0 is.0, functions_small sizes small fs hs gs named.1 is.1)
+pub functions_small : RenamingKeepsSizes → ElisionKeepsSizes → ReuseStaysSmall → (memory : ℕ) (fs hs es gs : List FormFunction) → AreRenamedFunctions fs hs → AreElidedFunctions memory hs es → AreReused es gs → AreSmallBy fs gs
+functions_small sizes elides small memory [] [] [] [] named elided is = tt
+functions_small sizes elides small memory [] [] [] (g ∷ gs) named elided is = absurd is
+functions_small sizes elides small memory [] [] (e ∷ es) gs named elided is = absurd elided
+functions_small sizes elides small memory [] (h ∷ hs) es gs named elided is = absurd named
+functions_small sizes elides small memory (f ∷ fs) [] es gs named elided is = absurd named
+functions_small sizes elides small memory (f ∷ fs) (h ∷ hs) [] gs named elided is = absurd elided
+functions_small sizes elides small memory (f ∷ fs) (h ∷ hs) (e ∷ es) [] named elided is = absurd is
+functions_small sizes elides small memory (f ∷ fs) (h ∷ hs) (e ∷ es) (g ∷ gs) named elided is =
+    (final_small sizes elides small memory f h e g named.0 elided.0 is.0, functions_small sizes elides small memory fs hs es gs named.1 elided.1 is.1)
 
 words_weigh : (fs gs : List FormFunction) → AreSmallBy fs gs → words_of_functions gs ≤ 14 * burdens_of fs
 words_weigh [] [] is = omega arith

@@ -15,10 +15,12 @@ use crate::{Compiled, generate};
 use dae_alias::{forms_are_reused, reuse, reuse_stays_small};
 use dae_base::{Items, Text};
 use dae_compile_promise::image_keeps_meaning;
+use dae_elide::{checks_are_elided, elide_checks, elision_keeps_sizes};
 use dae_ir::Ir;
 use dae_link::CodeError;
 use dae_lower_programs::lower;
 use dae_program::Program;
+use dae_slice::classes;
 use dae_webs::{forms_are_renamed, rename_webs, renaming_keeps_sizes};
 use std::alloc::{AllocError, Global};
 
@@ -28,7 +30,7 @@ fn see_bytes(bytes: &[u8])
 {}
 
 /// A final form of a program, with at most so many calls inside one another: the lowered form with its variables renamed by webs,
-/// and then with its loads reused. It is well made, sets each variable before it reads it, and has room in its memory. An error is
+/// without the checks that are known to pass, and with its loads reused. It is well made, sets each variable before it reads it, and has room in its memory. An error is
 /// want of memory.
 fn final_form(alloc: Global, program: &Program, calls: u16) -> Result<Ir, AllocError>
     ensures made { IfOk result (IsFinalForm program.now calls) }
@@ -38,11 +40,15 @@ fn final_form(alloc: Global, program: &Program, calls: u16) -> Result<Ir, AllocE
 {
     forms_are_renamed();
     renaming_keeps_sizes();
+    checks_are_elided();
+    elision_keeps_sizes();
     forms_are_reused();
     reuse_stays_small();
     let lowered = lower(alloc, program, calls)?;
     let renamed = rename_webs(alloc, lowered)?;
-    let ir = reuse(alloc, renamed)?;
+    let tables = classes(alloc, &renamed)?;
+    let elided = elide_checks(alloc, renamed, tables.as_slice())?;
+    let ir = reuse(alloc, elided)?;
     Ok(ir)
 }
 

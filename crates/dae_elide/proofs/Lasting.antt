@@ -11,7 +11,7 @@ use Rattle.dae_ir.specs.Classes.{VariableSet, AddressesKept}
 use Rattle.dae_ir.specs.Rounds.{is_jump, stays}
 use Rattle.dae_ir.specs.Scope.{TestIn, ItemIn, TakesArguments, is_return, is_end, closes, never_returns}
 use Rattle.dae_ir.specs.SetFirst.{form_flow, IsSetFirst, assured, with_set}
-use Rattle.dae_ir.specs.Sizes.{tally}
+use Rattle.dae_ir.specs.Sizes.{form_size, item_weight, tally}
 use Rattle.dae_ir.specs.declared.form.Operand.TheVariants.{Variable}
 use Rattle.dae_ir.specs.declared.form.Check.TheVariants.{Place, Zero, Room, Frame, Abort}
 use Rattle.dae_ir.specs.declared.form.Function.{Function}
@@ -130,3 +130,10 @@ module _ (f : Item → ℕ) (t : Test → ℕ) (alike : (width : Width) (v : ℕ
   counts_same c d (Drops place width v k k' some h) = rw (alike width v, counts_same k k' h) refl
   counts_same c d (Tests place test a a' b b' k k' i j h) = rw (counts_same a a' i, counts_same b b' j, counts_same k k' h) refl
   counts_same c d (Turns place b b' s s' k k' i j h) = rw (counts_same b b' i, counts_same s s' j, counts_same k k' h) refl
+
+pub size_same : (c d : Form) → Elides c d → form_size d ≡ form_size c
+size_same c d Ends = refl
+size_same c d (Keeps place item k k' h) = ap (λ (n : ℕ). item_weight item + n) (size_same k k' h)
+size_same c d (Drops place width v k k' some h) = ap (λ (n : ℕ). 1 + n) (size_same k k' h)
+size_same c d (Tests place test a a' b b' k k' i j h) = rw (size_same a a' i, size_same b b' j, size_same k k' h) refl
+size_same c d (Turns place b b' s s' k k' i j h) = rw (size_same b b' i, size_same s s' j, size_same k k' h) refl

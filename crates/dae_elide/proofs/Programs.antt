@@ -15,10 +15,10 @@ use Rattle.dae_ir.specs.declared.form.Function.{Function}
 use Rattle.dae_ir.specs.declared.form.Ir.{Ir}
 use Rattle.dae_select_walks.specs.Facts.{unknown}
 use Rattle.dae_elide.specs.Elided.{elided}
-use Rattle.dae_elide.specs.Forms.{IsElidedFunction, AreElidedFunctions, IsElisionOf, KeepsOutcome, ChecksAreElided}
+use Rattle.dae_elide.specs.Forms.{IsElidedFunction, AreElidedFunctions, IsElisionOf, KeepsOutcome, ElisionKeepsSizes, ChecksAreElided}
 use Rattle.dae_elide.proofs.Running.{same_calls}
 use Rattle.dae_elide.proofs.Elides.{Elides, code_elides}
-use Rattle.dae_elide.proofs.Lasting.{KeepsArguments, names_in, stays_same, closes_same, never_same, first_kept, addresses_kept, counts_same}
+use Rattle.dae_elide.proofs.Lasting.{KeepsArguments, names_in, stays_same, closes_same, never_same, first_kept, addresses_kept, counts_same, size_same}
 
 -- ---- functions one by one
 
@@ -147,6 +147,15 @@ module _ (ir new : Ir) (scoped : IsScoped ir) (of : IsElisionOf ir new) where
     access = λ sets closed f. addresses_kept (λ k. (sets k).s) (sets f).s (body_in (slice_get ir.functions f)) (body_in (slice_get new.functions f)) (elides_at ir.memory ir.functions new.functions of.functions f) (closed f);
     counts = counted_at;
   }
+
+pub elision_keeps_sizes : ElisionKeepsSizes
+elision_keeps_sizes memory f g r =
+    let h = body_elides memory f g r in
+    record {
+      variables = r.variables;
+      size = size_same (form_of f.body) (form_of g.body) h;
+      tallies = λ count tests alike. counts_same count tests alike (form_of f.body) (form_of g.body) h;
+    }
 
 pub checks_are_elided : ChecksAreElided
 checks_are_elided ir new scoped of = keeps ir new scoped of

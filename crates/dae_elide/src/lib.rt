@@ -2,7 +2,7 @@
 // fewer messages tell that checks have passed.
 #![tactic(auto)]
 
-pub use theorems::checks_are_elided;
+pub use theorems::{checks_are_elided, elision_keeps_sizes};
 pub use whole::elide_checks;
 
 mod eliding;
