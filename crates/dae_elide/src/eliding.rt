@@ -112,9 +112,10 @@ fn elide_statement(
         Statement::Simple(place, item) => {
             let action = action_like(alloc, item);
             let item = elide_item(alloc, memory, classes, &known, item)?;
+            let past = facts_behind(alloc, memory, known, &action)?;
             Ok(Elided {
                 statement: Statement::Simple(*place, item),
-                known: facts_behind(alloc, memory, known, &action)?,
+                known: past,
             })
         }
         Statement::If(place, test, yes, no) => {
@@ -123,15 +124,17 @@ fn elide_statement(
             let first = elide_list(alloc, memory, classes, in_first, yes)?;
             let in_second = facts_in_list(alloc, branch, Edge::Else, &known)?;
             let second = elide_list(alloc, memory, classes, in_second, no)?;
-            let (yes, no) = (steps_like(alloc, yes)?, steps_like(alloc, no)?);
-            let past = facts_past_if(alloc, branch, yes.as_slice(), no.as_slice(), &known)?;
+            let one = steps_like(alloc, yes)?;
+            let other = steps_like(alloc, no)?;
+            let past = facts_past_if(alloc, branch, one.as_slice(), other.as_slice(), &known)?;
             Ok(Elided {
                 statement: Statement::If(*place, *test, first, second),
                 known: past,
             })
         }
         Statement::Loop(place, body, step) => {
-            let (turn, again) = (steps_like(alloc, body)?, steps_like(alloc, step)?);
+            let turn = steps_like(alloc, body)?;
+            let again = steps_like(alloc, step)?;
             let (turn, again) = (turn.as_slice(), again.as_slice());
             let at_turn = facts_at_turn(alloc, memory, turn, again, &known)?;
             let at_step = facts_behind_turn(alloc, turn, &at_turn)?;

@@ -6,7 +6,7 @@ ghost use Rattle.dae_ir.specs.Streams.{actions_of};
 ghost use Rattle.dae_elide.specs.Elided.{as_action, as_actions};
 ghost use Rattle.dae_elide.specs.Walked.{IsLike};
 
-use dae_base::{Items, Place};
+use dae_base::Items;
 use dae_ir::{Action, Branch, Item, Mark, Statement, Step};
 use std::alloc::{AllocError, Global};
 
@@ -30,29 +30,35 @@ pub fn action_like(alloc: Global, item: &Item) -> Action
     }
 }
 
-fn mark_at(place: Place) -> Mark
-    ensures mark { result ≡ record { place = place; group = 0 } }
-{
-    Mark { place, group: 0 }
-}
-
 #[cycle(like)]
 fn step_like(alloc: Global, statement: &Statement) -> Result<Step, AllocError>
     ensures { IfOk result (IsLike statement.now) }
 {
     match statement {
         Statement::Simple(place, item) => {
-            Ok(Step::Act(mark_at(*place), action_like(alloc, item)))
+            let mark = Mark {
+                place: *place,
+                group: 0,
+            };
+            Ok(Step::Act(mark, action_like(alloc, item)))
         }
         Statement::If(place, test, yes, no) => {
             let first = steps_like(alloc, yes)?;
             let second = steps_like(alloc, no)?;
-            Ok(Step::If(mark_at(*place), Branch::Silent(*test), first, second))
+            let mark = Mark {
+                place: *place,
+                group: 0,
+            };
+            Ok(Step::If(mark, Branch::Silent(*test), first, second))
         }
         Statement::Loop(place, body, step) => {
             let first = steps_like(alloc, body)?;
             let second = steps_like(alloc, step)?;
-            Ok(Step::Loop(mark_at(*place), first, second))
+            let mark = Mark {
+                place: *place,
+                group: 0,
+            };
+            Ok(Step::Loop(mark, first, second))
         }
     }
 }
