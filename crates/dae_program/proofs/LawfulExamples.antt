@@ -34,59 +34,60 @@ function parameters frame body = record {
 abbrev program : List Statement → List (Option Slot) → ℕ → List Statement → Bool
 program main parameters frame body = is_lawful 64 20 (1 ∷ (2 ∷ (3 ∷ (4 ∷ [])))) links (function [] 0 main ∷ (function parameters frame body ∷ [])) 0
 
-abbrev held : Global → Expression → Box Expression Global
-held g e = record { ptr = 0; alloc = g; value = e }
+-- the box with another value
+abbrev held : Box Expression Global → Expression → Box Expression Global
+held b e = record { ptr = b.ptr; alloc = b.alloc; value = e }
 
-abbrev stops : Global → List Statement
-stops g = statement.Evaluate here (held g (expression.Abort here)) ∷ []
+abbrev stops : Box Expression Global → List Statement
+stops b = statement.Evaluate here (held b (expression.Abort here)) ∷ []
 
-abbrev steps : Global → ℕ → List Statement
-steps g v = statement.Evaluate here (held g (expression.Step here kind.I32 (target.Variable v) 1 Prefix)) ∷ []
+abbrev steps : Box Expression Global → ℕ → List Statement
+steps b v = statement.Evaluate here (held b (expression.Step here kind.I32 (target.Variable v) 1 Prefix)) ∷ []
 
 abbrev slot : ℕ → List (Option Slot)
 slot offset = Some (record { offset = offset; width = width.B4 }) ∷ (None ∷ [])
 
-lawful : (g : Global) → program (stops g) (slot 4) 8 (steps g 2) ≡ true
-lawful g = refl
+lawful : (b : Box Expression Global) → program (stops b) (slot 4) 8 (steps b 2) ≡ true
+lawful b = refl
 
 -- a variable that is read before it is set, as it is no parameter
-unset : (g : Global) → program (stops g) (None ∷ []) 8 (steps g 2) ≡ false
-unset g = refl
+unset : (b : Box Expression Global) → program (stops b) (None ∷ []) 8 (steps b 2) ≡ false
+unset b = refl
 
 -- the result is set by a return alone, and there is no variable 3
-result_set : (g : Global) → program (stops g) (slot 4) 8 (steps g 0) ≡ false
-result_set g = refl
+result_set : (b : Box Expression Global) → program (stops b) (slot 4) 8 (steps b 0) ≡ false
+result_set b = refl
 
-no_variable : (g : Global) → program (stops g) (slot 4) 8 (steps g 3) ≡ false
-no_variable g = refl
+no_variable : (b : Box Expression Global) → program (stops b) (slot 4) 8 (steps b 3) ≡ false
+no_variable b = refl
 
 -- a parameter past the frame's end, or not at a multiple of its width, and a frame of 6 bytes
-past_frame : (g : Global) → program (stops g) (slot 8) 8 (steps g 2) ≡ false
-past_frame g = refl
+past_frame : (b : Box Expression Global) → program (stops b) (slot 8) 8 (steps b 2) ≡ false
+past_frame b = refl
 
-uneven : (g : Global) → program (stops g) (slot 2) 8 (steps g 2) ≡ false
-uneven g = refl
+uneven : (b : Box Expression Global) → program (stops b) (slot 2) 8 (steps b 2) ≡ false
+uneven b = refl
 
-uneven_frame : (g : Global) → program (stops g) (slot 0) 6 (steps g 2) ≡ false
-uneven_frame g = refl
+uneven_frame : (b : Box Expression Global) → program (stops b) (slot 0) 6 (steps b 2) ≡ false
+uneven_frame b = refl
 
 -- a break outside of a loop, and a return in main
-break_outside : (g : Global) → program (stops g) (slot 4) 8 (statement.Break here ∷ []) ≡ false
-break_outside g = refl
+break_outside : (b : Box Expression Global) → program (stops b) (slot 4) 8 (statement.Break here ∷ []) ≡ false
+break_outside b = refl
 
-return_in_main : (g : Global) → program (statement.Return here None ∷ []) (slot 4) 8 (steps g 2) ≡ false
-return_in_main g = refl
+return_in_main : (b : Box Expression Global) → program (statement.Return here None ∷ []) (slot 4) 8 (steps b 2) ≡ false
+return_in_main b = refl
 
 -- a main with a parameter, and none
-main_with_parameter : (g : Global) → is_lawful 64 20 [] links (function (None ∷ []) 0 (stops g) ∷ []) 0 ≡ false
-main_with_parameter g = refl
+main_with_parameter : (b : Box Expression Global) → is_lawful 64 20 [] links (function (None ∷ []) 0 (stops b) ∷ []) 0 ≡ false
+main_with_parameter b = refl
 
-no_main : (g : Global) → is_lawful 64 20 [] links (function [] 0 (stops g) ∷ []) 1 ≡ false
-no_main g = refl
+no_main : (b : Box Expression Global) → is_lawful 64 20 [] links (function [] 0 (stops b) ∷ []) 1 ≡ false
+no_main b = refl
 
 -- a file that can call main, and data that reach into the frames
-main_called : (g : Global) → is_lawful 64 20 [] links (function [] 0 (stops g) ∷ (function [] 0 (stops g) ∷ [])) 1 ≡ false
-main_called g = refl
+main_called : (b : Box Expression Global) → is_lawful 64 20 [] links (function [] 0 (stops b) ∷ (function [] 0 (stops b) ∷ [])) 1 ≡ false
+main_called b = refl
 
-data_too_long : (g : Global) → is_lawful 64 16 (0 ∷ []) links (function [] 0 (stops g) ∷ []) 0 ≡ false
-data_too_long g = refl
+data_too_long : (b : Box Expression Global) → is_lawful 64 16 (0 ∷ []) links (function [] 0 (stops b) ∷ []) 0 ≡ false
+data_too_long b = refl
