@@ -5,7 +5,7 @@ use Rattle.dae_parse_parts.proofs.scope.Scope.close.Goals as goal
 
 pub invariant_of-self : goal.invariant_of-self
 invariant_of-self g c =
-    scope_closed c.self.inside.bindings.items c.self.inside.index c.pop.new.self.items c.self.inside.starts.items c.in-Some.start c.in-Some.ensures.items c.self.invariant c.truncate.new.self.items c.truncate-2.new.self c.truncate.ensures.items c.truncate-2.ensures
+    scope_closed c.self.inside.bindings.items c.self.inside.index c.pop.new.self.items c.self.inside.starts.items c.in-Some.start c.in-Some.ensures.items c.self.invariant c.truncate.new.self.items c.truncate-in-Some.new.self c.truncate.ensures.items c.truncate-in-Some.ensures
 
 pub returns-in-Some : goal.returns-in-Some
 returns-in-Some g c =

@@ -9,7 +9,7 @@ index-binding-requires g c =
 
 pub returns-in-Some : goal.returns-in-Some
 returns-in-Some g c =
-    rw (← c.self.view_is) (bound_found c.self.inside.bindings.items c.self.inside.index c.self.inside.starts.items c.self.invariant c.args.name c.in-Some.at c.index-binding.result c.in-Some.ensures c.index-binding.ensures)
+    rw (← c.self.view_is) (bound_found c.self.inside.bindings.items c.self.inside.index c.self.inside.starts.items c.self.invariant c.args.name c.in-Some.at c.index-binding.result.now c.in-Some.ensures c.index-binding.ensures)
 
 pub returns-in-None : goal.returns-in-None
 returns-in-None g c =

@@ -9,7 +9,7 @@ index-requires c =
 
 pub returns-in-Some : goal.returns-in-Some
 returns-in-Some c =
-    rw (← c.self.view_is) (named_found c.self.inside.rows.items c.self.inside.index c.self.invariant c.args.name c.in-Some.at c.index.result c.in-Some.ensures c.index.ensures)
+    rw (← c.self.view_is) (named_found c.self.inside.rows.items c.self.inside.index c.self.invariant c.args.name c.in-Some.at c.index.result.now c.in-Some.ensures c.index.ensures)
 
 pub returns-in-None : goal.returns-in-None
 returns-in-None c =
